@@ -1,28 +1,42 @@
 # Completes the words of ztso in bash: source scripts/completion.bash. Made by tools/commands.
 _ztso() {
-    local word=${COMP_WORDS[COMP_CWORD]} command=${COMP_WORDS[1]} options=
-    if ((COMP_CWORD == 1)); then
-        COMPREPLY=($(compgen -W 'run replay move shrink chart debug try threads channel steps asm dis' -- "$word"))
-        return
-    fi
+    local word=${COMP_WORDS[COMP_CWORD]} last=${COMP_WORDS[COMP_CWORD - 1]} command=${COMP_WORDS[1]}
+    local at position=0 options='' words='' inputs=()
+    for ((at = 2; at < COMP_CWORD; at++)); do
+        case ${COMP_WORDS[at]} in
+        --svg | --finish) ;;
+        --*) ((++at)) ;;
+        *) ((++position)) ;;
+        esac
+    done
     case $command in
-    run) options='--buffer' ;;
-    replay) options='--buffer' ;;
-    move) options='--buffer' ;;
-    shrink) options='--buffer' ;;
-    chart) options='--buffer --svg' ;;
-    debug) options='--buffer' ;;
-    try) options='--buffer --seed --runs --length --skip --jobs' ;;
-    threads) options='--buffer --turns' ;;
-    channel) options='--buffer --base --stride --finish' ;;
-    steps) options='--buffer' ;;
+    run) inputs=(files files) options='--buffer' ;;
+    replay) inputs=(files files) options='--buffer' ;;
+    move) inputs=(files files) options='--buffer' ;;
+    shrink) inputs=(files files) options='--buffer' ;;
+    chart) inputs=(files files) options='--buffer --svg' ;;
+    debug) inputs=(files files) options='--buffer' ;;
+    try) inputs=(files) options='--buffer --seed --runs --length --skip --jobs' ;;
+    threads) inputs=(files) options='--buffer --turns' ;;
+    channel) inputs=('lamport fastforward' '' files) options='--buffer --base --stride --finish' ;;
+    steps) inputs=() options='--buffer' ;;
+    asm) inputs=() options='' ;;
+    dis) inputs=() options='' ;;
     esac
-    if [[ $word == -* ]]; then
-        COMPREPLY=($(compgen -W "$options" -- "$word"))
-    elif [[ $command == channel && COMP_CWORD -eq 2 ]]; then
-        COMPREPLY=($(compgen -W 'lamport fastforward' -- "$word"))
+    if ((COMP_CWORD == 1)); then
+        words='run replay move shrink chart debug try threads channel steps asm dis'
+    elif ((at > COMP_CWORD)); then
+        case $last in
+        --buffer) words='1 2 4 16' ;;
+        esac
+    elif [[ $word == -* ]]; then
+        words=$options
+    elif [[ ${inputs[position]-} == files ]]; then
+        compopt -o default
     else
-        COMPREPLY=($(compgen -f -- "$word"))
+        words=${inputs[position]-}
     fi
+    # shellcheck disable=SC2207 # the words have no blanks
+    COMPREPLY=($(compgen -W "$words" -- "$word"))
 }
-complete -o filenames -F _ztso ztso ./ztso scripts/try
+complete -F _ztso ztso ./ztso scripts/try

@@ -1,0 +1,28 @@
+# Completes the words of ztso in fish. Made by tools/commands.
+complete -c ztso -f
+complete -c ztso -n __fish_use_subcommand -a run -d 'the last state and the verdict'
+complete -c ztso -n __fish_use_subcommand -a replay -d 'what happened'
+complete -c ztso -n __fish_use_subcommand -a move -d 'the schedule\'s text of version 2'
+complete -c ztso -n __fish_use_subcommand -a shrink -d 'a schedule with the same outcome'
+complete -c ztso -n __fish_use_subcommand -a chart -d 'a picture of the run'
+complete -c ztso -n __fish_use_subcommand -a debug -d 'the answer to each command'
+complete -c ztso -n __fish_use_subcommand -a try -d 'the outcomes of N drawn schedules of L events'
+complete -c ztso -n __fish_use_subcommand -a threads -d 'the schedule that threads of the system made'
+complete -c ztso -n __fish_use_subcommand -a channel -d 'what the receiver reports'
+complete -c ztso -n __fish_use_subcommand -a steps -d 'the last state'
+complete -c ztso -n __fish_use_subcommand -a asm -d 'words in hex'
+complete -c ztso -n __fish_use_subcommand -a dis -d 'instructions'
+complete -c ztso -n '__fish_seen_subcommand_from run replay move shrink chart debug try threads' -F
+complete -c ztso -n '__fish_seen_subcommand_from channel; and not __fish_seen_subcommand_from lamport fastforward' -a 'lamport fastforward'
+complete -c ztso -n '__fish_seen_subcommand_from channel; and __fish_seen_subcommand_from lamport fastforward' -F
+complete -c ztso -n '__fish_seen_subcommand_from run replay move shrink chart debug try threads channel steps' -l buffer -x -a '1 2 4 16' -d 'a hart\'s store buffer holds N stores: 1, 2, 4 or 16; 4 if it is left out'
+complete -c ztso -n '__fish_seen_subcommand_from chart' -l svg -d 'the picture is written as SVG, for a browser'
+complete -c ztso -n '__fish_seen_subcommand_from try' -l seed -x -d 'the generator\'s seed, 0 to 18446744073709551615'
+complete -c ztso -n '__fish_seen_subcommand_from try' -l runs -x -d 'how many schedules are drawn, 1 to 100000'
+complete -c ztso -n '__fish_seen_subcommand_from try' -l length -x -d 'how many events each schedule has, 0 to 1048576'
+complete -c ztso -n '__fish_seen_subcommand_from try' -l skip -x -d 'the first K runs of the seed are passed over, 0 to 18446744073709551615; 0 if it is left out'
+complete -c ztso -n '__fish_seen_subcommand_from try' -l jobs -x -d 'J threads share the runs, 1 to 64, and the output is the same; 1 if it is left out'
+complete -c ztso -n '__fish_seen_subcommand_from threads' -l turns -x -d 'how many turns a thread takes at most, 0 to 10000000; 100000 if it is left out'
+complete -c ztso -n '__fish_seen_subcommand_from channel' -l base -x -d 'the first block begins at byte A of memory, a multiple of 4 below 4294967296; 0 if it is left out'
+complete -c ztso -n '__fish_seen_subcommand_from channel' -l stride -x -d 'each block begins T bytes after the one before it, a multiple of 4 and at least 16 + 4 RING; that if it is left out'
+complete -c ztso -n '__fish_seen_subcommand_from channel' -l finish -d 'after the schedule a plan runs, until each list is taken and each sender closed'

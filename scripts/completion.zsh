@@ -1,0 +1,100 @@
+#compdef ztso
+# Completes the words of ztso in zsh, as the file _ztso of a folder of fpath. Made by tools/commands.
+_ztso() {
+    if ((CURRENT == 2)); then
+        local -a commands=(
+            'run:the last state and the verdict'
+            'replay:what happened'
+            'move:the schedule'\''s text of version 2'
+            'shrink:a schedule with the same outcome'
+            'chart:a picture of the run'
+            'debug:the answer to each command'
+            'try:the outcomes of N drawn schedules of L events'
+            'threads:the schedule that threads of the system made'
+            'channel:what the receiver reports'
+            'steps:the last state'
+            'asm:words in hex'
+            'dis:instructions'
+        )
+        _describe command commands
+        return
+    fi
+    shift words
+    ((CURRENT--))
+    case $words[1] in
+    run)
+        _arguments \
+            '--buffer[a hart'\''s store buffer holds N stores: 1, 2, 4 or 16; 4 if it is left out]:N:(1 2 4 16)' \
+            '1:FILE:_files' \
+            '2:SCHEDULE:_files'
+        ;;
+    replay)
+        _arguments \
+            '--buffer[a hart'\''s store buffer holds N stores: 1, 2, 4 or 16; 4 if it is left out]:N:(1 2 4 16)' \
+            '1:FILE:_files' \
+            '2:SCHEDULE:_files'
+        ;;
+    move)
+        _arguments \
+            '--buffer[a hart'\''s store buffer holds N stores: 1, 2, 4 or 16; 4 if it is left out]:N:(1 2 4 16)' \
+            '1:FILE:_files' \
+            '2:SCHEDULE:_files'
+        ;;
+    shrink)
+        _arguments \
+            '--buffer[a hart'\''s store buffer holds N stores: 1, 2, 4 or 16; 4 if it is left out]:N:(1 2 4 16)' \
+            '1:FILE:_files' \
+            '2:SCHEDULE:_files'
+        ;;
+    chart)
+        _arguments \
+            '--buffer[a hart'\''s store buffer holds N stores: 1, 2, 4 or 16; 4 if it is left out]:N:(1 2 4 16)' \
+            '--svg[the picture is written as SVG, for a browser]' \
+            '1:FILE:_files' \
+            '2:SCHEDULE:_files'
+        ;;
+    debug)
+        _arguments \
+            '--buffer[a hart'\''s store buffer holds N stores: 1, 2, 4 or 16; 4 if it is left out]:N:(1 2 4 16)' \
+            '1:FILE:_files' \
+            '2:SCHEDULE:_files'
+        ;;
+    try)
+        _arguments \
+            '--buffer[a hart'\''s store buffer holds N stores: 1, 2, 4 or 16; 4 if it is left out]:N:(1 2 4 16)' \
+            '--seed[the generator'\''s seed, 0 to 18446744073709551615]:S:()' \
+            '--runs[how many schedules are drawn, 1 to 100000]:N:()' \
+            '--length[how many events each schedule has, 0 to 1048576]:L:()' \
+            '--skip[the first K runs of the seed are passed over, 0 to 18446744073709551615; 0 if it is left out]:K:()' \
+            '--jobs[J threads share the runs, 1 to 64, and the output is the same; 1 if it is left out]:J:()' \
+            '1:FILE:_files'
+        ;;
+    threads)
+        _arguments \
+            '--buffer[a hart'\''s store buffer holds N stores: 1, 2, 4 or 16; 4 if it is left out]:N:(1 2 4 16)' \
+            '--turns[how many turns a thread takes at most, 0 to 10000000; 100000 if it is left out]:T:()' \
+            '1:FILE:_files'
+        ;;
+    channel)
+        _arguments \
+            '--buffer[a hart'\''s store buffer holds N stores: 1, 2, 4 or 16; 4 if it is left out]:N:(1 2 4 16)' \
+            '--base[the first block begins at byte A of memory, a multiple of 4 below 4294967296; 0 if it is left out]:A:()' \
+            '--stride[each block begins T bytes after the one before it, a multiple of 4 and at least 16 + 4 RING; that if it is left out]:T:()' \
+            '--finish[after the schedule a plan runs, until each list is taken and each sender closed]' \
+            '1:KIND:(lamport fastforward)' \
+            '2:RING:()' \
+            '3:SCHEDULE:_files'
+        ;;
+    steps)
+        _arguments \
+            '--buffer[a hart'\''s store buffer holds N stores: 1, 2, 4 or 16; 4 if it is left out]:N:(1 2 4 16)'
+        ;;
+    asm)
+        _message 'no more words'
+        ;;
+    dis)
+        _message 'no more words'
+        ;;
+    esac
+}
+_ztso "$@"

@@ -1,0 +1,73 @@
+"""What scripts/install and tools/package put below a prefix: each file's place there with what it is made of.
+
+Below share/ztso the folders have the names that they have in the repository, so that the links of the pages and the
+commands that they show hold there too.
+"""
+
+import os
+from pathlib import Path
+from typing import NamedTuple
+
+TOP = Path(__file__).resolve().parent.parent
+SHARE = "share/ztso"
+# where zsh looks for completions of what Debian's packages hold, and elsewhere
+ZSH, ZSH_OF_DEBIAN = "share/zsh/site-functions/_ztso", "share/zsh/vendor-completions/_ztso"
+COMMANDS = {
+    "bin/ztso": "ztso",
+    "bin/ztso-explain": "tools/explain",
+    "bin/ztso-page": "scripts/ztso-page",
+    "lib/ztso/at-terminal": "scripts/at-terminal",
+    # what the page calls
+    **{f"{SHARE}/tools/{name}": f"tools/{name}"
+       for name in ("page", "from-c", "from-herd", "reference/ztso", "reference/explore")},
+}
+TEXTS = {
+    "lib/ztso/usage.awk": "scripts/usage.awk",
+    "share/man/man1/ztso.1": "docs/ztso.1",
+    "share/bash-completion/completions/ztso": "scripts/completion.bash",
+    ZSH: "scripts/completion.zsh",
+    "share/fish/vendor_completions.d/ztso.fish": "scripts/completion.fish",
+    **{f"{SHARE}/{name}": name for name in ("VERSION", "README.md", "CHANGELOG.md", "docs/commands.tsv")},
+}
+# the folders of the pages, the shelf, the examples and what the page is made of, with what their files are; programs of
+# the examples need the repository's tools, and stay there
+FOLDERS = {
+    "docs": (".md", ".png", ".svg"),
+    "litmus": (".litmus", ".schedule", ".md"),
+    "examples": (".litmus", ".schedule", ".steps", ".lists", ".asm", ".words", ".c", ".h", ".S", ".ld", ".log",
+                 ".md"),
+    "tools/page_parts": (".py", ".html", ".css", ".js", ".svg"),
+    "tools/bring_parts": (".py", ".c", ".h"),
+    "tools/reference": (".py",),
+}
+LEFT_OUT = ("out", "trials", "__pycache__")
+
+
+class File(NamedTuple):
+    place: str
+    content: bytes
+    executable: bool
+
+
+def below(folder, suffixes):
+    """The files of a folder of the repository, by their names from its top."""
+    for at, folders, names in os.walk(TOP / folder):
+        folders[:] = sorted(name for name in folders if name not in LEFT_OUT and not name.startswith("."))
+        there = (Path(at, name) for name in sorted(names))
+        yield from (path.relative_to(TOP).as_posix() for path in there if path.suffix in suffixes)
+
+
+def files(program):
+    """Each file below a prefix, sorted by its place, with this program."""
+    yield from sorted([
+        File("lib/ztso/ztso", Path(program).read_bytes(), True),
+        *(File(f"share/man/man1/{name}.1", b".so man1/ztso.1\n", False) for name in ("ztso-explain", "ztso-page")),
+        *(File(place, (TOP / name).read_bytes(), True) for place, name in COMMANDS.items()),
+        *(File(place, (TOP / name).read_bytes(), False) for place, name in TEXTS.items()),
+        *(File(f"{SHARE}/{name}", (TOP / name).read_bytes(), False)
+          for folder, suffixes in FOLDERS.items() for name in below(folder, suffixes)),
+    ])
+
+
+def version():
+    return (TOP / "VERSION").read_text().strip()

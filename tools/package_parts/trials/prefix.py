@@ -1,0 +1,153 @@
+"""Installing below a prefix, and taking that away again."""
+
+import signal
+import subprocess
+
+import tree
+
+from . import SB, below, call, install, workplace
+
+
+def part(count, program):
+    with workplace(program) as (folder, alone):
+        prefix, elsewhere = folder / "a prefix/with blanks", folder / "elsewhere"
+        elsewhere.mkdir()
+        (folder / "a prefix").mkdir()
+        status, said, faults = install("--prefix", prefix, "--program", alone)
+        count.told("installs", status == 0 and not faults and str(prefix / "bin") in said, said + faults)
+        whole = contents(prefix)
+        runs(count, prefix, elsewhere, alone)
+        manual(count, prefix / "share/man", elsewhere)
+        page(count, prefix, elsewhere)
+        whole_parts(count, prefix / "share/ztso")
+        count.same("what is installed stays as it is", contents(prefix), whole)
+        repairs(count, prefix, alone, whole)
+        taken_away(count, prefix, alone)
+    with workplace(program) as (folder, alone):
+        refusals(count, folder, alone)
+
+
+def contents(prefix):
+    """The files below a prefix, with their contents and who may run them."""
+    return {name: ((prefix / name).read_bytes(), (prefix / name).stat().st_mode)
+            for name in below(prefix) if (prefix / name).is_file()}
+
+
+def runs(count, prefix, elsewhere, alone):
+    """What is installed runs from any folder, and by a link."""
+    words = ["run", *(prefix / "share/ztso" / name for name in SB)]
+    wanted = call(alone, *words)
+    count.told("the witness holds", wanted[0] == 0 and wanted[1].endswith("\nHolds\n"), wanted)
+    count.same("runs from another folder", call(prefix / "bin/ztso", *words, folder=elsewhere), wanted)
+    (elsewhere / "linked").symlink_to(prefix / "bin/ztso")
+    count.same("runs by a link", call("./linked", *words, folder=elsewhere), wanted)
+    path = {"PATH": f"{prefix / 'bin'}:/usr/bin:/bin"}
+    count.same("runs by the PATH", call("ztso", "asm", text="nop\n", folder=elsewhere, variables=path),
+               (0, "00000013\n", ""))
+    status, said, _ = call(prefix / "bin/ztso-explain", "ztso: refused 24 at line 4", folder=elsewhere)
+    count.same("explains", (status, said.split("\n")[0]), (0, "24 BadInstr"))
+    (prefix / "lib/ztso/ztso").rename(elsewhere / "ztso")
+    status, said, faults = call(prefix / "bin/ztso", *words)
+    count.same("without its program", (status, said, faults.startswith("ztso: ") and faults.count("\n")), (70, "", 1))
+    (elsewhere / "ztso").rename(prefix / "lib/ztso/ztso")
+
+
+def manual(count, folder, elsewhere):
+    """The manual page opens, by each command's name."""
+    if not count.there("man", "the manual page"):
+        return
+    for name in ("ztso", "ztso-explain", "ztso-page"):
+        status, said, faults = call("man", "-M", folder, name, folder=elsewhere,
+                                    variables={"MANPAGER": "cat", "PAGER": "cat", "MANWIDTH": "100", "LC_ALL": "C"})
+        wanted = "ztso - run small RISC-V programs under the memory model Ztso"
+        good = status == 0 and wanted in said and "ztso run FILE SCHEDULE [--buffer N]" in said
+        count.told(f"man {name}", good, said + faults)
+
+
+def page(count, prefix, elsewhere):
+    """The page for the browser starts, and ends when it is told to."""
+    served = subprocess.Popen([prefix / "bin/ztso-page"], cwd=elsewhere, text=True,
+                              stdin=subprocess.DEVNULL, stdout=subprocess.PIPE, stderr=subprocess.PIPE)
+    address = served.stdout.readline()
+    served.send_signal(signal.SIGTERM)
+    _, faults = served.communicate(timeout=60)
+    count.told("ztso-page", address.startswith("http://127.0.0.1:") and served.returncode == 0, address + faults)
+
+
+def whole_parts(count, share):
+    """The pages that the commands name are there, and the page for the browser has all its parts."""
+    rows = [line.split("\t") for line in (share / "docs/commands.tsv").read_text().splitlines()]
+    named = sorted({row[4].split("#")[0] for row in rows if row[0] == "command"})
+    count.same("pages that are named", [name for name in named if not (share / name).is_file()], [])
+    parts = "tools/page_parts"
+    wanted = [name for name in below(tree.TOP / parts) if not {"trials", "__pycache__"} & set(name.split("/"))]
+    count.same("the parts of the page", below(share / parts), wanted)
+
+
+def repairs(count, prefix, alone, whole):
+    """A second call puts right what is missing, changed or of another version."""
+    (prefix / "bin/ztso").unlink()
+    (prefix / "lib/ztso/ztso").chmod(0o644)
+    (prefix / "share/ztso/VERSION").write_text("0.0.1\n")
+    (prefix / "share/man/man1/ztso.1").unlink()
+    (prefix / "share/man/man1/ztso.1").symlink_to(prefix / "bin/ztso-explain")
+    old = prefix / "share/ztso/old/page.md"
+    old.parent.mkdir()
+    old.write_text("of another version\n")
+    with open(prefix / "share/ztso/installed", "a", encoding="ascii") as file:
+        file.write("share/ztso/old/\nshare/ztso/old/page.md\n")
+    status, said, faults = install("--prefix", prefix, "--program", alone)
+    count.told("a second call", status == 0 and ", 4 of them new or put right\n" in said, said + faults)
+    count.same("repairs", (contents(prefix) == whole, old.parent.exists()), (True, False))
+    status, said, faults = install("--prefix", prefix, "--program", alone)
+    count.told("a third call", status == 0 and ", 0 of them new or put right\n" in said, said + faults)
+
+
+def taken_away(count, prefix, alone):
+    """Nothing is left, except files of others with their folders."""
+    own = prefix / "share/ztso/litmus/own.litmus"
+    own.write_text("of the user\n")
+    status, said, faults = install("--uninstall", "--prefix", prefix)
+    count.told("says which folder stays",
+               status == 0 and f"\n  {own.parent} stays" in said and said.count("\n") == 2, said + faults)
+    count.same("leaves what is the user's", below(prefix),
+               ["share", "share/ztso", "share/ztso/litmus", "share/ztso/litmus/own.litmus"])
+    install("--prefix", prefix, "--program", alone)
+    own.unlink()
+    status, _, faults = install("--uninstall", "--prefix", prefix)
+    # the folders that were there when it was installed again were made by nobody
+    count.same("takes all away", (status, faults, below(prefix)), (0, "", ["share", "share/ztso", "share/ztso/litmus"]))
+    for name in ("share/ztso/litmus", "share/ztso", "share", ""):
+        (prefix / name).rmdir()
+    install("--prefix", prefix, "--program", alone)
+    install("--uninstall", "--prefix", prefix)
+    count.same("leaves nothing", (prefix.exists(), prefix.parent.exists()), (False, True))
+    status, said, faults = install("--uninstall", "--prefix", prefix)
+    count.same("nothing to take away", (status, said, faults.count("\n")), (1, "", 1))
+
+
+def refusals(count, folder, alone):
+    """A line says what is wrong, and nothing was changed."""
+    prefix = folder / "prefix"
+    foreign = prefix / "bin/ztso"
+    foreign.parent.mkdir(parents=True)
+    foreign.write_text("of somebody else\n")
+    refused(count, "a file of somebody else", prefix, str(foreign), "--program", alone)
+    count.same("it stays alone", below(prefix), ["bin", "bin/ztso"])
+    foreign.unlink()
+    refused(count, "no program", prefix, "is no program", "--program", folder)
+    refused(count, "no prefix", "", "--prefix", "--program", alone)
+    (folder / "file").write_text("")
+    refused(count, "a prefix that is a file", folder / "file", str(folder / "file"), "--program", alone)
+    listed = prefix / "share/ztso/installed"
+    listed.parent.mkdir(parents=True)
+    for place in ("../victim", "/etc/victim", "share/../../victim"):
+        listed.write_text(f"{place}\n")
+        (folder / "victim").write_text("")
+        refused(count, f"a list with {place}", prefix, str(listed), "--uninstall")
+        count.told("the file stays", (folder / "victim").exists())
+
+
+def refused(count, name, prefix, why, *words):
+    status, said, faults = install("--prefix", prefix, *words)
+    count.told(name, (status, said, faults.count("\n")) == (1, "", 1) and why in faults, f"{status} {said}{faults}")

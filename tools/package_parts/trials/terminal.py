@@ -1,0 +1,167 @@
+"""What the wrapper `ztso` adds where standard error is a terminal, in a checkout and where it is installed; and that it
+adds nothing elsewhere."""
+
+import shutil
+import subprocess
+
+import tree
+from kit import terminal
+
+from . import SB, SECONDS, Typed, call, install, is_binary, workplace
+
+BAD = "ztso: bad command line\n"
+RUN = """\
+usage: ztso run FILE SCHEDULE [--buffer N]
+  reads       a litmus text and a schedule
+  prints      the last state and the verdict
+  --buffer N  a hart's store buffer holds N stores: 1, 2, 4 or 16; 4 if it is
+              left out
+"""
+UNKNOWN = """\
+ztso: refused 2 at line 1
+  The mnemonic isn't known, or a text in a register's place is no register.
+"""
+NO_HEADER = """\
+ztso: refused 21 at line 1
+  The first line that isn't blank isn't `RISCV` and a name.
+"""
+READ_FAILED = """\
+ztso: read failed
+  A file can't be opened or read, or standard input can't be read.
+"""
+DRAWN = ("--seed", "1", "--runs", "10", "--length", "20")
+
+
+class Place:
+    """A folder with the wrapper, and what it names there."""
+
+    def __init__(self, name, wrapper, pages, explain, manual):
+        self.name, self.wrapper, self.pages, self.explain, self.manual = name, wrapper, pages, explain, manual
+
+
+def part(count, program):
+    with workplace(program) as (folder, alone):
+        prefix, top = folder / "prefix", checkout(folder / "checkout", alone)
+        install("--prefix", prefix, "--program", alone)
+        (folder / "bad.litmus").write_text("no test\n")
+        share = prefix / "share/ztso"
+        places = [
+            Place("installed", prefix / "bin/ztso", share, prefix / "bin/ztso-explain", "man ztso"),
+            Place("in a checkout", top / "ztso", top, top / "tools/explain", f"man {top}/docs/ztso.1")]
+        for place in places:
+            in_a_pipe(count, place, folder)
+            after_bad_words(count, place, folder)
+            after_faults(count, place, folder)
+            nothing_added(count, place, folder, alone)
+        short_names(count, places, prefix, top)
+        if is_binary(program):
+            progress(count, places[0], share)
+            prompt(count, places[0], share)
+
+
+def checkout(top, program):
+    """A folder like a checkout, in which nothing is to be built."""
+    for name in ("scripts", "tools", "crates/ztso/out"):
+        (top / name).mkdir(parents=True)
+    for name in ("ztso", "VERSION", "scripts/at-terminal", "scripts/usage.awk", "tools/explain"):
+        shutil.copy(tree.TOP / name, top / name)
+    for name in ("docs", "litmus"):
+        (top / name).symlink_to(tree.TOP / name)
+    (top / "scripts/build").write_text("#!/bin/sh\n")
+    (top / "scripts/build").chmod(0o755)
+    (top / "crates/ztso/out/ztso").symlink_to(program)
+    return top
+
+
+def at_terminal(words, folder, text="", before=""):
+    """The status, standard output, and what a terminal shows of standard error."""
+    line = ["sh", "-c", f'{before}exec "$0" "$@"', *map(str, words)]
+    done, written = terminal.run(line, cwd=folder, input=text.encode(), stdout=subprocess.PIPE, timeout=SECONDS)
+    return done.returncode, done.stdout.decode(), terminal.shown(written)[0].decode()
+
+
+def in_a_pipe(count, place, folder):
+    for words in ((), ("--help",), ("run",), ("run", "--help"), ("help",)):
+        count.same(f"{place.name}, {words} in a pipe", call(place.wrapper, *words, folder=folder, text=""), (2, "", BAD))
+    count.same(f"{place.name}, a refusal in a pipe", call(place.wrapper, "asm", folder=folder, text="mov x1,x2\n"),
+               (2, "", UNKNOWN.split("\n")[0] + "\n"))
+
+
+def after_bad_words(count, place, folder):
+    """The commands, or a command's words and options."""
+    rows = [line.split("\t") for line in (tree.TOP / "docs/commands.tsv").read_text().splitlines() if line[0] != "#"]
+    names = [row[1].split()[0] for row in rows if row[0] == "command"]
+    for words in ((), ("--help",), ("help",), ("no-command",)):
+        status, said, shown = at_terminal([place.wrapper, *words], folder)
+        lines = shown.split("\n")
+        count.same(f"{place.name}, {words}", (status, said, lines[0]), (2, "", BAD.strip()))
+        listed, end = lines[2:2 + len(names)], lines[2 + len(names):]
+        count.same(f"{place.name}, the commands after {words}", [line.split()[0] for line in listed], names)
+        count.same(f"{place.name}, the end after {words}", end, [
+            f"`ztso COMMAND --help`: its words and options; more: {place.manual}",
+            f"litmus tests: {place.pages}/litmus", ""])
+    more = f"more: {place.manual}; {place.pages}/docs/formats.md\n"
+    for words in (("run",), ("run", "a", "b", "c"), ("help", "run")):
+        count.same(f"{place.name}, {words}", at_terminal([place.wrapper, *words], folder), (2, "", BAD + RUN + more))
+    for name in names:
+        status, said, shown = at_terminal([place.wrapper, name, "--help"], folder, before="stty cols 64 <&2; ")
+        taken = [row[1] for row in rows if row[0] == "option" and name in row[2].split()]
+        count.told(f"{place.name}, {name} --help",
+                   (status, said) == (2, "") and shown.startswith(f"{BAD}usage: ztso {name}")
+                   and all(f"\n  {option} " in shown for option in taken)
+                   and all(len(line) < 64 for line in shown.split("\n") if not line.startswith("more: ")), shown)
+
+
+def after_faults(count, place, folder):
+    """The first line of the fault's section, and how to read the rest."""
+    trials = (
+        (("asm",), "mov x1,x2\n", 2, UNKNOWN, "2"),
+        (("run", "bad.litmus", "none"), "", 2, NO_HEADER, "21"),
+        (("try", "bad.litmus", *DRAWN), "", 2, NO_HEADER, "21"),
+        (("debug", "bad.litmus", "none"), "q\n", 2, NO_HEADER, "21"),
+        (("run", "none", "none"), "", 3, READ_FAILED, "read failed"))
+    for words, text, status, shown, what in trials:
+        count.same(f"{place.name}, {' '.join(words)}", at_terminal([place.wrapper, *words], folder, text),
+                   (status, "", f"{shown}  {place.explain} {what}: an example, and what to do\n"))
+
+
+def nothing_added(count, place, folder, alone):
+    """Where there is no fault, where the line can't be asked for again, and where standard output is closed."""
+    sb = [place.pages / "litmus/store-buffering" / name for name in ("sb.litmus", "sb/0-0.schedule", "sb/1-1.schedule")]
+    for words, text in (
+            (("run", sb[0], sb[1]), ""), (("run", sb[0], sb[2]), ""), (("try", sb[0], *DRAWN), ""),
+            (("debug", sb[0], sb[1]), "s\nbad\nq\n"), (("asm",), "nop\n"),
+            (("try", "/dev/stdin", *DRAWN), "no test\n")):
+        count.same(f"{place.name}, {words[0]} adds nothing", at_terminal([place.wrapper, *words], folder, text),
+                   call(alone, *words, folder=folder, text=text))
+    closed = "exec >&-; "
+    wanted = call("sh", "-c", f'{closed}exec "$0" "$@"', alone, "asm", text="nop\n", folder=folder)
+    count.same(f"{place.name}, closed output", at_terminal([place.wrapper, "asm"], folder, "nop\n", closed), wanted)
+
+
+def short_names(count, places, prefix, top):
+    """What is named is short where that can be typed."""
+    _, _, shown = at_terminal(["./ztso", "asm"], top, "mov x1,x2\n")
+    count.same("in the checkout itself", shown, f"{UNKNOWN}  tools/explain 2: an example, and what to do\n")
+    _, _, shown = at_terminal([places[0].wrapper, "asm"], top, "mov x1,x2\n", f"PATH='{prefix}/bin':$PATH; ")
+    count.same("on the PATH", shown, f"{UNKNOWN}  ztso-explain 2: an example, and what to do\n")
+
+
+def progress(count, place, share):
+    """`try` still sees that it is at a terminal."""
+    words = [place.wrapper, "try", share / SB[0], "--seed", "1", "--runs", "100000", "--length", "1000"]
+    done, written = terminal.run(list(map(str, words)), stdout=subprocess.PIPE, timeout=SECONDS)
+    shown, gone = terminal.shown(written)
+    count.told("the progress of try", shown == b"" and gone.startswith(b"runs ") and done.stdout, (shown, gone))
+
+
+def prompt(count, place, share):
+    """`debug` asks for a line before one is typed."""
+    typed = Typed([place.wrapper, "debug", *(share / name for name in SB)], share)
+    try:
+        asked = typed.until(b"\n> ")
+        typed.type("s\nq\n")
+        said = typed.until(b"store 0 0 1")
+    finally:
+        typed.end()
+    count.told("the prompt of debug", asked.endswith(b"\n> ") and b"store 0 0 1" in said, said)
