@@ -4,3 +4,4 @@ pub mod WholeWords
 pub mod MemoryBytes
 pub mod Joined
 pub mod Untouched
+pub mod Written

@@ -1,5 +1,5 @@
 -- Byte addresses of words, and what a memory and a buffer keep.
-use Rattle.std.specs.Prelude.{ℕ, ◌≡◌, ◌*◌, ◌%◌, ◌<◌, ◌≤◌, ◌++◌, List, length, drop, replicate, All}
+use Rattle.std.specs.Prelude.{ℕ, ◌≡◌, ◌==◌, ◌*◌, ◌%◌, ◌<◌, ◌≤◌, ◌++◌, Bool, true, false, List, [], ◌∷◌, length, drop, replicate, All}
 use Rattle.memory.specs.declared.writes.Write.{Write}
 use Rattle.memory.specs.Writes.{WritesInWord}
 
@@ -32,3 +32,15 @@ pub record IsBuffer (B : ℕ) (stores : List Write) : Type 0 where
   pub capacity : B ≤ 64
   pub within : length stores ≤ B
   pub in_words : All WritesInWord stores
+
+-- a word and the written ones after it, where the word itself may be the opening's
+abbrev pub unless_untouched : (same : Bool) → ℕ → List ℕ → List ℕ
+unless_untouched true word [] = []
+unless_untouched true word (later ∷ others) = word ∷ later ∷ others
+unless_untouched false word others = word ∷ others
+
+-- the words up to the last that differs from the opening's at its place
+abbrev pub written_since : (first words : List ℕ) → List ℕ
+written_since [] words = []
+written_since (f ∷ first) [] = []
+written_since (f ∷ first) (w ∷ words) = unless_untouched (f == w) w (written_since first words)

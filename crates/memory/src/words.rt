@@ -1,7 +1,7 @@
 //! The words that all harts share.
 
-ghost use Rattle.std.specs.Prelude.{◌≡◌, ◌+◌, ◌*◌, ◌/◌, ◌<◌, ◌≤◌, ◌++◌, length, drop, replicate, slice_index, slice_set, IfOk};
-ghost use Rattle.memory.specs.Words.{IsAddress, opened_words, opened_memory};
+ghost use Rattle.std.specs.Prelude.{◌≡◌, ◌+◌, ◌*◌, ◌/◌, ◌<◌, ◌≤◌, ◌++◌, length, take, drop, replicate, slice_index, slice_set, IfOk};
+ghost use Rattle.memory.specs.Words.{IsAddress, opened_words, opened_memory, written_since};
 ghost use Rattle.memory.specs.Writes.{write, over, byte_of, IsInWord};
 
 use crate::writes::{Write, byte_at};
@@ -99,6 +99,15 @@ impl<const M: usize> Memory<M> {
         Vec::from_slice(alloc, &self.words[..self.untouched])
     }
 
+    /// The words up to the last that differs from the opening's.
+    pub fn written(&self) -> &[u32]
+        ensures value { result.now ≡ written_since self.now.first self.now.words }
+        ensures few { length result.now ≤ M }
+    {
+        let len = written_len(&self.words, &self.first, self.untouched);
+        &self.words[..len]
+    }
+
     /// Makes the words these, and the opening's after them. It takes no memory.
     pub fn restore(&mut self, saved: &[u32])
         requires { length saved.now ≤ M }
@@ -108,6 +117,21 @@ impl<const M: usize> Memory<M> {
         put_first(&mut self.words, saved);
         self.untouched = saved.len();
     }
+}
+
+/// How many words there are up to the last that differs from the opening's, where from `untouched` on none does.
+fn written_len(words: &[u32], first: &[u32], untouched: usize) -> usize
+    requires len { length words.now ≡ length first.now }
+    requires place { untouched ≤ length words.now }
+    requires same { drop untouched words.now ≡ drop untouched first.now }
+    ensures value { take result words.now ≡ written_since first.now words.now }
+    ensures within { result ≤ untouched }
+{
+    let mut len = untouched;
+    while len > 0 && words[len - 1] == first[len - 1] {
+        len -= 1;
+    }
+    len
 }
 
 /// These words, and zeros up to `M` words.

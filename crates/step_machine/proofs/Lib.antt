@@ -23,3 +23,6 @@ pub mod Banking
 pub mod Changed
 pub mod Snapshots
 pub mod Unpacked
+pub mod Packing
+pub mod Nexts
+pub mod TakingLaws

@@ -57,7 +57,7 @@ less_room hs n all h v is = let some : n ≤ v.room = all h v is in omega arith
 entry_room : (c : Config) (e : Entry) (n : ℕ) → AllHaveRoom n c.harts → AllHaveRoom (n - 1) (after_entry c e).harts
 entry_room c e n all = grind (arith, less_room, step_room)
 
-entry_count : (c : Config) (e : Entry) → length (after_entry c e).harts ≡ length c.harts
+pub entry_count : (c : Config) (e : Entry) → length (after_entry c e).harts ≡ length c.harts
 entry_count c e = grind (arith, length-step_at)
 
 -- openings

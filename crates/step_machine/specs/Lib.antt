@@ -11,4 +11,5 @@ pub mod Placing
 pub mod Banks
 pub mod Ranges
 pub mod Standing
+pub mod Positions
 pub mod Snapshots

@@ -8,6 +8,8 @@ ghost use Rattle.step_machine.specs.Legal.{IsOfHarts, WellFormed, Legal};
 ghost use Rattle.step_machine.specs.Paths.{PathOf};
 ghost use Rattle.step_machine.specs.MemoryEntries.{memory_of};
 ghost use Rattle.step_machine.specs.Placing.{diary_of, placed, IsMemory, Parts};
+ghost use Rattle.step_machine.specs.Positions.{IsSoundMachine, AreOfOneOpening, position_of, outcome_at, next_position, packed, put_at};
+ghost use Rattle.step_machine.specs.inner.Config.{Config, outcome_of, after_outcome};
 ghost use Rattle.step_machine.specs.Runs.{Happens, Run, IsOwnRun};
 ghost use Rattle.step_machine.specs.WordReads.{AllWriteWords, OpensWithWords, word_in_memory, word_read};
 ghost use Rattle.step_machine.specs.declared.events.Entry.{Entry};
@@ -46,4 +48,14 @@ pub fn laws_of_placing()
     ensures own { (ds : List (List Entry)) (us : List Entry) → Parts ds us → (h : ℕ) → own h (placed ds us) ≡ diary_of ds h }
     ensures memory { (ds : List (List Entry)) (us : List Entry) → All IsMemory us → Parts ds us → memory_of (placed ds us) ≡ us }
     ensures kept { (B M : ℕ) (o : Start) (ds : List (List Entry)) (us : List Entry) → length ds ≡ length o.harts → All IsMemory us → Legal B (history_of o us) → Parts ds us → ((h : ℕ) → h < length o.harts → PathOf M (slice_get o.harts h) (diary_of ds h)) → WellFormed B M (history_of o (placed ds us)) }
+{}
+
+/// The laws of positions. What an event answers, and the position after it, depend on the position alone. The
+/// words of a machine's position say where it stands: a machine of the same opening that is put at them stands
+/// there, and two machines of one opening with the same words stand at the same position. It does nothing.
+pub fn laws_of_positions()
+    ensures outcome { (B : ℕ) (c : Config) (ev : Event) → outcome_of B c ev ≡ outcome_at B (position_of c) ev }
+    ensures next { (B : ℕ) (c : Config) (ev : Event) → position_of (after_outcome c (outcome_of B c ev)) ≡ next_position B (position_of c) ev }
+    ensures back { (B M : ℕ) (c d : Config) → AreOfOneOpening c d → IsSoundMachine B M c → IsSoundMachine B M d → position_of (put_at B M c (packed d)) ≡ position_of d }
+    ensures one { (B M : ℕ) (c d : Config) → AreOfOneOpening c d → IsSoundMachine B M c → IsSoundMachine B M d → packed c ≡ packed d → position_of c ≡ position_of d }
 {}

@@ -19,6 +19,7 @@ mod packed;
 pub mod snapshot;
 mod standing;
 mod stores;
+mod taking;
 
 pub use bank::Bank;
 pub use events::{Entry, Event, Outcome};

@@ -22,6 +22,8 @@ use memory::writes::Write;
 use std::alloc::{AllocError, Global};
 use std::marker::Model;
 
+mod packing;
+
 /// For how many steps a hart gets room that has none.
 const STEPS_AT_ONCE: usize = 64;
 

@@ -34,6 +34,7 @@ impl<const B: usize, const M: usize> MachineState<B, M> {
     pub fn step(&mut self, event: Event) -> Result<Outcome, AllocError>
         ensures ok { IfOk result (λ o. MovesBy B M event o self.old self.new) }
         ensures err { OnErr result (StaysPut B M self.old self.new) }
+        ensures harts { length self.new.harts ≡ length self.old.harts }
     {
         self.reserve_for(event)?;
         Ok(self.happen(event))

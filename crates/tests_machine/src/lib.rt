@@ -26,6 +26,8 @@ mod of_records;
 #[cfg(test)]
 mod of_shrink;
 #[cfg(test)]
+mod of_states;
+#[cfg(test)]
 mod of_step_machine;
 #[cfg(test)]
 mod of_ztso_axioms;
