@@ -41,5 +41,6 @@ mod writer;
 pub use assembling::assemble;
 pub use draft::Draft;
 pub use faults::{AsmError, AsmFault};
+pub use line::{Line, parts};
 pub use rv_decode::register_named;
 pub use writer::write_instr;

@@ -32,10 +32,10 @@ pub record AboutOf : Type 0 where
 
 -- ---- below the lines
 
--- `never landed: P0 x := 1 [1]`
+-- `still pending: P0 x := 1 [1]`
 abbrev pub pending_line : AboutOf → (h : ℕ) → RowWrite → List ℕ
 pending_line about h w =
-    codes "never landed: P" ++ decimal h ++ codes " " ++ part_text about.names w.write.addr w.write.width
+    codes "still pending: P" ++ decimal h ++ codes " " ++ part_text about.names w.write.addr w.write.width
     ++ codes " := " ++ decimal w.write.value ++ codes " [" ++ decimal (w.row + 1) ++ codes "]"
 
 abbrev pub pending_text : AboutOf → (h : ℕ) → Option RowWrite → List ℕ

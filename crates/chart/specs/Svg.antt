@@ -46,21 +46,34 @@ text_open = codes "<text xml:space='preserve' lengthAdjust='spacingAndGlyphs' te
 unfoldable pub text_place : (class : List ℕ) → (cell line cells : ℕ) → List ℕ
 text_place class cell line cells =
     decimal (8 * cells) ++ codes "' x='" ++ decimal (x_of cell) ++ codes "' y='" ++ decimal (baseline line)
-    ++ codes "' class='" ++ class ++ codes "'>"
+    ++ codes "' class='" ++ class ++ codes "'"
 
--- a text from a cell on; nothing where it is empty
-abbrev pub text_svg : (class : List ℕ) → (cell line : ℕ) → List ℕ → List ℕ
-text_svg class cell line text =
+-- a text from a cell on, with further attributes; nothing where it is empty
+abbrev pub text_with : (class : List ℕ) → (cell line : ℕ) → (attributes : List ℕ) → List ℕ → List ℕ
+text_with class cell line attributes text =
     if length text == 0 then []
-    else text_open ++ text_place class cell line (length text) ++ flat_map escaped text ++ codes "</text>\n"
+    else text_open ++ text_place class cell line (length text) ++ attributes ++ codes ">" ++ flat_map escaped text ++ codes "</text>\n"
+
+abbrev pub text_svg : (class : List ℕ) → (cell line : ℕ) → List ℕ → List ℕ
+text_svg class cell line text = text_with class cell line [] text
 
 abbrev pub weight_class : Weight → List ℕ
 weight_class Quiet = codes "quiet"
 weight_class Loud = codes "loud"
 weight_class Bold = codes "bold"
 
+-- a row is found by its number
+abbrev pub row_id : (number : List ℕ) → List ℕ
+row_id number = codes " id='row-" ++ flat_map escaped number ++ codes "'"
+
+-- what is quiet is a row's number
+abbrev pub attributes_of : Weight → List ℕ → List ℕ
+attributes_of Quiet text = row_id text
+attributes_of Loud text = []
+attributes_of Bold text = []
+
 abbrev pub mark_svg : (line : ℕ) → MarkOf → List ℕ
-mark_svg line m = text_svg (weight_class m.weight) m.at line m.text
+mark_svg line m = text_with (weight_class m.weight) m.at line (attributes_of m.weight m.text) m.text
 
 -- ---- strokes
 

@@ -66,7 +66,7 @@ fn pending_line(
 ) -> Result<String, AllocError>
     ensures { IfOk result (λ line. string_bytes line ≡ line_of_pending about.now hart pending) }
 {
-    let mut line = format!(in alloc; "never landed: P{hart} ")?;
+    let mut line = format!(in alloc; "still pending: P{hart} ")?;
     push_part(
         &mut line,
         &about.names,
@@ -170,7 +170,7 @@ fn verdict_line(alloc: Global, about: &About) -> Result<String, AllocError>
     verdict_text(alloc, &about.verdict, &about.condition)
 }
 
-/// The lines below a run's rows: the pending stores that never landed, the last values and the verdict.
+/// The lines below a run's rows: the stores that are still pending, the last values and the verdict.
 fn foot(alloc: Global, about: &About, entries: &[Entry]) -> Result<Vec<String>, AllocError>
     ensures { IfOk result (λ lines. map string_bytes lines.items ≡ foot_of about.now entries.now) }
 {

@@ -213,7 +213,7 @@ pub fn lanes_of(alloc: Global, shape: Shape, rows: &[Row]) -> Result<Vec<Laned>,
     Ok(lanes)
 }
 
-/// What is held below the last row: the lines of stores that never landed.
+/// What is held below the last row: the lines of stores that are still pending.
 #[tactic(auto, using(crate::proofs::LaneLaws::held_next))]
 pub fn held_at_end(alloc: Global, shape: Shape, rows: &[Row]) -> Result<Vec<Held>, AllocError>
     ensures { IfOk result (λ held. held.items ≡ held_after_rows shape rows.now) }

@@ -146,7 +146,7 @@ fn open_strokes(alloc: Global, places: &Places, held: &[Held]) -> Result<Vec<Str
     Ok(strokes)
 }
 
-/// A line below the last row, where a store never landed.
+/// A line below the last row, where a store is still pending.
 fn push_open(
     alloc: Global,
     out: &mut Vec<Line>,

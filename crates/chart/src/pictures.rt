@@ -30,7 +30,7 @@ pub enum Sign {
     Joins,
     /// The end of the line of a store that has no lane.
     Cut,
-    /// A pending store that never landed, below the last row.
+    /// A store that is still pending, below the last row.
     Open,
 }
 

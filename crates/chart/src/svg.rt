@@ -1,9 +1,9 @@
 //! A picture in SVG 1.1.
 
-ghost use Rattle.std.specs.Prelude.{◌≡◌, ◌++◌, ◌+◌, ◌<◌, ◌^◌, map, IfOk, OnOk};
+ghost use Rattle.std.specs.Prelude.{◌≡◌, ◌++◌, ◌+◌, ◌<◌, ◌^◌, codes, map, IfOk, OnOk};
 ghost use Rattle.std.specs.List.{flat_map};
 ghost use Rattle.std.specs.String.{string_bytes};
-ghost use Rattle.chart.specs.Svg.{x_of as x_of_cell, y_of as y_of_line, baseline as baseline_of, escaped, text_open, text_place, text_svg, weight_class, mark_svg, path_svg, hart_class as class_with_hart, hart_path, level_path as level_path_of, level_svg, hart_level, open_svg, above_by_sign, stroke_svg, line_svg, widest as widest_of, width_svg, height_svg, said_line, style_svg, size_svg, root_start, root_svg, title_start, title_svg, counts_svg, desc_svg, back_start, back_svg, group_start, rule_svg, heads_group, body_group, foot_group, texts_svg, lines_svg, front_svg, inside_svg, picture_svg};
+ghost use Rattle.chart.specs.Svg.{x_of as x_of_cell, y_of as y_of_line, baseline as baseline_of, escaped, text_open, text_place, text_with, text_svg, row_id, mark_svg, path_svg, hart_class as class_with_hart, hart_path, level_path as level_path_of, level_svg, hart_level, open_svg, above_by_sign, stroke_svg, line_svg, widest as widest_of, width_svg, height_svg, said_line, style_svg, size_svg, root_start, root_svg, title_start, title_svg, counts_svg, desc_svg, back_start, back_svg, group_start, rule_svg, heads_group, body_group, foot_group, texts_svg, lines_svg, front_svg, inside_svg, picture_svg};
 
 use crate::pictures::{Line, Mark, Picture, Sign, Stroke, Weight};
 use crate::text::{push_byte, shown};
@@ -77,7 +77,16 @@ fn push_text_place(
     let x = x_of(cell);
     let y = baseline(line);
     let length = 8 * cells as u128;
-    write!(out, "{length}' x='{x}' y='{y}' class='{class}'>")
+    write!(out, "{length}' x='{x}' y='{y}' class='{class}'")
+}
+
+/// The inside of a text, after its attributes.
+fn push_text_inside(out: &mut String, text: &str) -> Result<(), AllocError>
+    ensures { OnOk result (string_bytes out.new ≡ string_bytes out.old ++ codes ">" ++ flat_map escaped text.now ++ codes "</text>\n") }
+{
+    out.push_str(">")?;
+    push_bytes(out, text.as_bytes())?;
+    out.push_str("</text>\n")
 }
 
 /// A text of a line from a cell on; nothing where it is empty.
@@ -95,24 +104,39 @@ fn push_text(
     }
     push_text_open(out)?;
     push_text_place(out, class, cell, line, text.len())?;
-    push_bytes(out, text.as_bytes())?;
-    out.push_str("</text>\n")
+    push_text_inside(out, text)
 }
 
-fn class_of(weight: Weight) -> &'static str
-    ensures { result.now ≡ weight_class weight }
+/// The id by which a row is found, of its number.
+fn push_row_id(out: &mut String, number: &str) -> Result<(), AllocError>
+    ensures { OnOk result (string_bytes out.new ≡ string_bytes out.old ++ row_id number.now) }
 {
-    match weight {
-        Weight::Quiet => "quiet",
-        Weight::Loud => "loud",
-        Weight::Bold => "bold",
+    out.push_str(" id='row-")?;
+    push_bytes(out, number.as_bytes())?;
+    out.push_str("'")
+}
+
+/// The number of a row; nothing where it is empty.
+fn push_number(out: &mut String, cell: usize, line: usize, number: &str) -> Result<(), AllocError>
+    ensures { OnOk result (string_bytes out.new ≡ string_bytes out.old ++ text_with (codes "quiet") cell line (row_id number.now) number.now) }
+{
+    if number.is_empty() {
+        return Ok(());
     }
+    push_text_open(out)?;
+    push_text_place(out, "quiet", cell, line, number.len())?;
+    push_row_id(out, number)?;
+    push_text_inside(out, number)
 }
 
 fn push_mark(out: &mut String, line: usize, mark: &Mark) -> Result<(), AllocError>
     ensures { OnOk result (string_bytes out.new ≡ string_bytes out.old ++ mark_svg line mark.now) }
 {
-    push_text(out, class_of(mark.weight), mark.at, line, &mark.text)
+    match mark.weight {
+        Weight::Quiet => push_number(out, mark.at, line, &mark.text),
+        Weight::Loud => push_text(out, "loud", mark.at, line, &mark.text),
+        Weight::Bold => push_text(out, "bold", mark.at, line, &mark.text),
+    }
 }
 
 /// A path that begins at the left end of a stroke, in the middle of its line.

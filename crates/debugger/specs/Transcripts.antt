@@ -1,13 +1,10 @@
 -- The command `debug`: what a user's lines print in turn.
-use Rattle.std.specs.Prelude.{ℕ, ◌≡◌, Bool, true, false, List, [], ◌∷◌, ◌++◌, Option, None, Some, MatchOption, MatchBool, Result, Ok, Err}
+use Rattle.std.specs.Prelude.{ℕ, ◌≡◌, Bool, true, false, List, [], ◌∷◌, ◌++◌, Option, None, Some, MatchOption, MatchBool, Result}
 use Rattle.std.specs.Str.Lines.{lines}
-use Rattle.std.specs.Io.KnownBytes.{Appends}
 use Rattle.step_machine.specs.declared.events.Event.{Event}
 use Rattle.litmus.specs.LitmusTests.{LitmusTest}
 use Rattle.debugger.specs.declared.debug.command.Command.{Command}
 use Rattle.debugger.specs.declared.debug.command.Command.TheVariants as command
-use Rattle.engine_parts.specs.declared.fault.Fault.{Fault}
-use Rattle.engine_parts.specs.declared.fault.Fault.TheVariants.{ReadFailed, WriteFailed, NoMemory, Refused}
 use Rattle.engine_parts.specs.declared.fault.Refusal.{Refusal}
 use Rattle.texts.specs.Cutting.{tokens}
 use Rattle.engine_parts.specs.Histories.{ByEvents}
@@ -16,6 +13,7 @@ use Rattle.debugger.specs.Commands.{command_in}
 use Rattle.debugger.specs.DebugText.{unknown_line}
 use Rattle.debugger.specs.Debugging.{Answers}
 use Rattle.engine_parts.specs.Engines.{Output}
+pub use Rattle.engine_parts.specs.Interactive.{EndsInteractive, OnRefused, OnStopped, OnUnwritten}
 
 -- whether a line ends the transcript
 abbrev pub quits : Option Command → Bool
@@ -56,17 +54,6 @@ PrintsSome B M None debugger points out = (done : List (List ℕ)) × (line : Li
 PrintsSome B M (Some bytes) debugger points out = (done : List (List ℕ)) × (line : List ℕ) × (rest : List (List ℕ))
     × (lines bytes ≡ done ++ line ∷ rest) × Transcript B M (done ++ line ∷ []) debugger points out
 
--- this holds where a read failed or memory ran out
-abbrev pub OnStopped : {V : Type 0} → Result V Fault → Type 0 → Type 0
-OnStopped (Err ReadFailed) P = P
-OnStopped (Err NoMemory) P = P
-OnStopped other P = Unit {0}
-
--- this holds where a write failed
-abbrev pub OnUnwritten : {V : Type 0} → Result V Fault → Type 0 → Type 0
-OnUnwritten (Err WriteFailed) P = P
-OnUnwritten other P = Unit {0}
-
 -- what the user's lines print at a test's opening; there is no other value
 abbrev pub IsTranscript : (B M : ℕ) → (input : Option (List ℕ)) → LitmusTest → List Event → (answer : Output) → Type 0
 IsTranscript B M input test events answer = Prints B M input (at_start test.opening events) [] answer.0
@@ -83,17 +70,3 @@ IsDebugFront B M input = ByEvents (λ test events answer. PrintsFront B M input 
 -- and what the first of them print, one line at least
 abbrev pub IsDebugSome : (B M : ℕ) → (input : Option (List ℕ)) → (file schedule : List ℕ) → Result Output Refusal → Type 0
 IsDebugSome B M input = ByEvents (λ test events answer. PrintsSome B M input (at_start test.opening events) [] answer.0)
-
--- How an engine ends that writes as it reads: it wrote an output that is an answer together with what it
--- returned, or a refusal is the answer and nothing was written. Where a read or a write failed or memory
--- ran out nothing is said.
-abbrev pub EndsInteractive : {V W : Type 0} → (Result (List ℕ × V) Refusal → Type 0) → Result V Fault
-    → (contents : W → Option (List ℕ)) → (old new : W) → Type 0
-EndsInteractive IsAnswer (Ok v) contents old new = (out : List ℕ) × IsAnswer (Ok (out, v)) × Appends (contents old) (contents new) out
-EndsInteractive IsAnswer (Err (Refused refusal)) contents old new = IsAnswer (Err refusal) × (new ≡ old)
-EndsInteractive IsAnswer failed contents old new = Unit {0}
-
--- this holds where an input was refused
-abbrev pub OnRefused : Result (Unit {0}) Fault → Type 0 → Type 0
-OnRefused (Err (Refused refusal)) P = P
-OnRefused other P = Unit {0}

@@ -69,7 +69,8 @@ pub fn debug_engine<const B: usize, const M: usize, F: Read, S: Read, C: BufRead
     requires capacity { B ≤ 64 }
     requires words { MAX_LOCATIONS ≤ M }
     requires size { M ≤ 65536 }
-    ensures ends { EndsInteractive (AnswersBoth (IsDebugAnswer B M (C.remaining commands.old)) (F.remaining file.old) (S.remaining schedule.old)) result W.contents writer.old writer.new }
+    ensures ends { EndsInteractive (AnswersBoth (IsDebugAnswer B M (C.remaining commands.old)) (F.remaining file.old)
+        (S.remaining schedule.old)) result W.contents writer.old writer.new }
     ensures unread { HasNoTest (F.remaining file.old) → schedule.new ≡ schedule.old }
     ensures unasked { OnRefused result (commands.new ≡ commands.old) }
 

@@ -30,9 +30,6 @@ too_many known left after before chunk count was is within many = grind (arith, 
 pub weaker : (known : Option (List ℕ)) (P Q : List ℕ → Type 0) → ((bytes : List ℕ) → P bytes → Q bytes) → OfInput known P → OfInput known Q
 weaker known P Q more holds = grind arith
 
-no_write : (known : Option (List ℕ)) → OfInput known (λ bytes. ⊥) → ⊥
-no_write known is = grind arith
-
 -- ---- an input, and what answers it
 
 -- what `?` makes of a fault is that fault

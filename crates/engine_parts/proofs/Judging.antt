@@ -1,7 +1,6 @@
 -- An input that is judged.
-use Rattle.std.proofs.Common.{arith, ◌≡◌, ℕ, ◌<◌, ◌≤◌, ltb, Bool, true, false, List, length, Result, Ok, Err, refl, subst, ◌∙◌}
-use Rattle.std.specs.Prelude.{nat_lt, if◌then◌else◌}
-use Rattle.std.specs.Str.{IsUtf8, is_utf8}
+use Rattle.std.proofs.Common.{arith, ◌≡◌, ℕ, ◌<◌, ◌≤◌, ltb, List, length, Result, Ok, Err, refl, subst, ◌∙◌}
+use Rattle.std.specs.Str.{IsUtf8}
 use Rattle.std.proofs.lemmas.Bool.{cases_Bool, le-ltb, lt-ltb, ltb-false}
 use Rattle.std.proofs.lemmas.Str.{IsUtf8-from_is_utf8, is_utf8-from_IsUtf8}
 use Rattle.engine_parts.specs.declared.fault.Refusal.{Refusal}
@@ -18,7 +17,8 @@ pub judged_no_text : {V : Type 0} (value_at : List ℕ → Result V Refusal) (in
 judged_no_text value_at input few none = grind (arith, cases_Bool, IsUtf8-from_is_utf8, le-ltb)
 
 -- what is past the limit too
-pub judged_large : {V : Type 0} (value_at : List ℕ → Result V Refusal) (input : List ℕ) → 1048576 < length input → judged value_at input ≡ Err too_large
+pub judged_large : {V : Type 0} (value_at : List ℕ → Result V Refusal) (input : List ℕ) → 1048576 < length input
+    → judged value_at input ≡ Err too_large
 judged_large value_at input many = rw (lt-ltb 1048576 (length input) many) refl
 
 -- what is judged well is a text within the limit, and well by its own rules
@@ -39,15 +39,3 @@ judged_as_text input text e =
     let (few, is_text, is) = judged_well (λ bytes. Ok bytes) input text e in
     let same = ok_is Refusal input text is in
     (same, subst (λ (bytes : List ℕ). length bytes ≤ 1048576) same few, subst IsUtf8 same is_text)
-
-guarded : {V W : Type 0} (large is_text : Bool) (value : Result V Refusal) (other : W) (refusal : Refusal)
-    → (if large then Err too_large else (if is_text then Ok other else Err not_text)) ≡ Err refusal
-    → (if large then Err too_large else (if is_text then value else Err not_text)) ≡ Err refusal
-guarded true is_text value other refusal e = grind arith
-guarded false true value other refusal e = grind arith
-guarded false false value other refusal e = grind arith
-
--- and one that is refused as a text is refused so by every rule
-pub refused_as_text : {V : Type 0} (value_at : List ℕ → Result V Refusal) (input : List ℕ) (refusal : Refusal)
-    → judged (λ bytes. Ok bytes) input ≡ Err refusal → judged value_at input ≡ Err refusal
-refused_as_text value_at input refusal e = guarded (nat_lt 1048576 (length input)) (is_utf8 input) (value_at input) input refusal e

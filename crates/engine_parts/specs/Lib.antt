@@ -3,6 +3,7 @@ pub mod Input
 pub mod LineFaults
 pub mod StateText
 pub mod Engines
+pub mod Interactive
 pub mod Tests
 pub mod Schedules
 pub mod Histories

@@ -20,10 +20,7 @@ fn test_of_text(alloc: Global, text: &str) -> Result<Test, Fault>
     ensures found { IfOk result (λ test. IsTestOf text.now test) }
     ensures exact { (line : ℕ) × Answers content_of result (test_of line text.now) }
 {
-    match litmus_reader::read(alloc, text) {
-        Ok(test) => Ok(test),
-        Err(error) => Err(Fault::from(error)),
-    }
+    Ok(litmus_reader::read(alloc, text)?)
 }
 
 /// The test of the input that a reader gives.

@@ -35,6 +35,14 @@ pub fn check_fault(error: CheckError) -> Fault
     }
 }
 
+impl From<CheckError> for Fault {
+    ghost from_gives = { λ error fault. fault ≡ fault_of_check error };
+
+    fn from(error: CheckError) -> Fault {
+        check_fault(error)
+    }
+}
+
 /// The machine that a schedule of either version makes of the test's opening. A record is checked as it
 /// runs: it is refused by [`DIFFERS`] at the first event whose outcome isn't the run's.
 pub fn machine_of_schedule<const B: usize, const M: usize>(
@@ -52,14 +60,8 @@ pub fn machine_of_schedule<const B: usize, const M: usize>(
 {
     let opening = test.opening(alloc)?;
     match schedule {
-        Schedule::Plain(events) => match replay(alloc, opening, &events) {
-            Ok(machine) => Ok(machine),
-            Err(_) => Err(Fault::NoMemory),
-        },
-        Schedule::Record(steps) => match replay_checked(alloc, opening, &steps) {
-            Ok(machine) => Ok(machine),
-            Err(error) => Err(check_fault(error)),
-        },
+        Schedule::Plain(events) => Ok(replay(alloc, opening, &events)?),
+        Schedule::Record(steps) => Ok(replay_checked(alloc, opening, &steps)?),
     }
 }
 
@@ -78,14 +80,8 @@ pub fn state_of_schedule<const B: usize, const M: usize>(
 {
     let opening = test.opening(alloc)?;
     match schedule {
-        Schedule::Plain(events) => match replay_state(alloc, &opening, &events) {
-            Ok(machine) => Ok(machine),
-            Err(_) => Err(Fault::NoMemory),
-        },
-        Schedule::Record(steps) => match check_record(alloc, &opening, &steps) {
-            Ok(machine) => Ok(machine),
-            Err(error) => Err(check_fault(error)),
-        },
+        Schedule::Plain(events) => Ok(replay_state(alloc, &opening, &events)?),
+        Schedule::Record(steps) => Ok(check_record(alloc, &opening, &steps)?),
     }
 }
 
@@ -103,14 +99,11 @@ pub fn record_of_schedule<const B: usize, const M: usize>(
 {
     let opening = test.opening(alloc)?;
     match schedule {
-        Schedule::Plain(events) => match record::<B, M>(alloc, opening, &events) {
-            Ok(steps) => Ok(steps),
-            Err(_) => Err(Fault::NoMemory),
-        },
-        Schedule::Record(steps) => match check_record::<B, M>(alloc, &opening, &steps) {
-            Ok(_) => Ok(steps),
-            Err(error) => Err(check_fault(error)),
-        },
+        Schedule::Plain(events) => Ok(record::<B, M>(alloc, opening, &events)?),
+        Schedule::Record(steps) => {
+            check_record::<B, M>(alloc, &opening, &steps)?;
+            Ok(steps)
+        }
     }
 }
 

@@ -37,10 +37,7 @@ fn schedule_of_text(alloc: Global, text: &str) -> Result<Schedule, Fault>
     ensures harts { IfOk result (λ schedule. OfHarts (events_said (said_of schedule))) }
     ensures few { IfOk result (λ schedule. length (events_said (said_of schedule)) ≤ MAX_EVENTS) }
 {
-    match read_either(alloc, text) {
-        Ok(schedule) => Ok(schedule),
-        Err(error) => Err(Fault::from(error)),
-    }
+    Ok(read_either(alloc, text)?)
 }
 
 /// The schedule of either version that a reader gives. A record's outcomes are not checked here.

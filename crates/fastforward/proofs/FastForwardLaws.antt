@@ -8,7 +8,8 @@ use Rattle.poll_close.proofs.Blocks.{IsBlock, Within, word_of, slot_of}
 use Rattle.poll_close.proofs.BlockLaws.{BlockLaws, Begins, opens_with}
 use Rattle.poll_close.proofs.Outlines.{Right, also, sends}
 use Rattle.poll_close.proofs.ChannelLaws.{opens, keeps, cleans, goes, stays}
-use Rattle.fastforward.specs.Listing.{sender_code, fastforward}
+use Rattle.poll_close.specs.Listing.{words_of}
+use Rattle.fastforward.specs.Listing.{listing, fastforward}
 use Rattle.fastforward.specs.FastForward.{fastforward_blocks, fastforward_means}
 use Rattle.fastforward.specs.Invariant.Numbers.{Numbers, Landed, Ordered, Words}
 use Rattle.fastforward.specs.Invariant.Sender.{sender}
@@ -29,7 +30,7 @@ nothing = record {
   landed = record { slots = 0; mark = 0; nulls = 0; tails = 0; done = 0 };
 }
 
-begins : (k : Block) → IsBlock k → Begins fastforward_blocks nothing k (opens_with sender_code k)
+begins : (k : Block) → IsBlock k → Begins fastforward_blocks nothing k (opens_with (words_of listing.sender) k)
 begins k is = record {
   order = omega (arith, is.some_slot);
   words = record { mark = refl; tail = omega (arith, zero-mod k.size); done = refl; full = λ j from below. omega arith; empty = λ j from below. refl };

@@ -1,13 +1,14 @@
 -- The tables mean the listings.
 use Rattle.std.specs.Prelude.{◌≡◌, refl, Some, map}
 use Rattle.rv_decode.specs.Meaning.{meaning}
-use Rattle.fastforward.specs.Listing.{sender_code, sender_lines, receiver_code, receiver_lines}
+use Rattle.poll_close.specs.Listing.{words_of, lines_of}
+use Rattle.fastforward.specs.Listing.{listing}
 
 -- by the decoder's own function, on numerals
-pub sender_decoded : map meaning sender_code ≡ map Some sender_lines
+pub sender_decoded : map meaning (words_of listing.sender) ≡ map Some (lines_of listing.sender)
 unfolding meaning
 sender_decoded = refl
 
-pub receiver_decoded : map meaning receiver_code ≡ map Some receiver_lines
+pub receiver_decoded : map meaning (words_of listing.receiver) ≡ map Some (lines_of listing.receiver)
 unfolding meaning
 receiver_decoded = refl

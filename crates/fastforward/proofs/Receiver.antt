@@ -16,7 +16,8 @@ use Rattle.poll_close.proofs.Blocks.{IsBlock, offset_low, word_of, word_from, sl
 use Rattle.poll_close.proofs.BlockLaws.{found_in, Changes, Right_at}
 use Rattle.poll_close.proofs.Distance.{flags, far_off}
 use Rattle.poll_close.proofs.ReceiverMoves as step
-use Rattle.fastforward.specs.Listing.{middle, receiver_lines}
+use Rattle.poll_close.specs.Listing.{lines_of}
+use Rattle.fastforward.specs.Listing.{middle, listing}
 use Rattle.fastforward.specs.FastForward.{fastforward_blocks}
 use Rattle.fastforward.specs.Invariant.Numbers.{Numbers, nulls, Ordered, Words}
 use Rattle.fastforward.specs.Invariant.Middle.{Loaded, Empty}
@@ -26,7 +27,7 @@ use Rattle.fastforward.proofs.ReceiverActs.{stores_null}
 
 module _ (k : Block) (i count : ℕ) (n : Numbers) (word : ℕ → ℕ) (r : ReceiverRegisters) (v : ℕ) (is : IsBlock k)
     (order : Ordered k n) (words : Words k n.landed word) where
-  at : (j : ℕ) {instr : Instr} → slice_get (map Some receiver_lines) j ≡ Some (Some instr)
+  at : (j : ℕ) {instr : Instr} → slice_get (map Some (lines_of listing.receiver)) j ≡ Some (Some instr)
       → IsAt (receiving middle (whole_of k count) (4 * j) r) instr
   at j found = step.at_of middle receiver_decoded (whole_of k count) r j found
 

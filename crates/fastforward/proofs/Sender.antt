@@ -3,7 +3,7 @@ use Rattle.std.proofs.Common.{ℕ, suc, ◌+◌, ◌*◌, ◌<◌, ◌≤◌, �
 use Rattle.std.proofs.Common.{length, drop, length-drop, Some, None, refl, sym, ◌∙◌, ap, subst, arith, lit<}
 use Rattle.std.specs.Prelude.{slice_index, map}
 use Rattle.std.specs.List.{slice_get}
-use Rattle.std.proofs.lemmas.Bool.{cases_lt, cases_eq}
+use Rattle.std.proofs.lemmas.Bool.{cases_lt, cases_eq, not-false}
 use Rattle.std.proofs.lemmas.Bool.Decides.{nat_tests}
 use Rattle.rv_decode.specs.declared.instruction.Instr.{Instr}
 use Rattle.hart.specs.declared.need.Need.TheVariants as need
@@ -20,8 +20,8 @@ use Rattle.poll_close.proofs.Blocks.{IsBlock, IsWordOf, offset_low, word_of, slo
 use Rattle.poll_close.proofs.BlockLaws.{found_in}
 use Rattle.poll_close.proofs.Outlines.{Sender}
 use Rattle.poll_close.proofs.Outlines as outline
-use Rattle.poll_close.proofs.Progress.{not_false}
-use Rattle.fastforward.specs.Listing.{sender_code, sender_lines}
+use Rattle.poll_close.specs.Listing.{words_of, lines_of}
+use Rattle.fastforward.specs.Listing.{listing}
 use Rattle.fastforward.specs.FastForward.{fastforward_blocks}
 use Rattle.fastforward.specs.Invariant.Stores.{sender_stores}
 use Rattle.fastforward.specs.Invariant.Numbers.{Sent, Numbers, sent, gone, Ordered, Words}
@@ -77,10 +77,11 @@ module _ (k : Block) (is : IsBlock k) (n : Numbers) (order : Ordered k n) (word 
       ]
 
 abbrev pub fastforward_sender : Sender fastforward_blocks
-fastforward_sender = record { lines = sender_lines; decoded = sender_decoded }
+fastforward_sender = record { lines = lines_of listing.sender; decoded = sender_decoded }
 
 module _ (k : Block) (n : Numbers) (word : ℕ → ℕ) (v : ℕ) (r : SenderRegisters) (is : IsBlock k) (order : Ordered k n) (words : Words k n.landed word) where
-  at : (j : ℕ) {i : Instr} → slice_get (map Some sender_lines) j ≡ Some (Some i) → IsAt (running sender_code (fixed k) (4 * j) r (drop n.sender.asked k.list)) i
+  at : (j : ℕ) {i : Instr} → slice_get (map Some (lines_of listing.sender)) j ≡ Some (Some i)
+      → IsAt (running (words_of listing.sender) (fixed k) (4 * j) r (drop n.sender.asked k.list)) i
   at j found = outline.at fastforward_blocks fastforward_sender k n word v r j found
 
   goes : {here : ℕ} → outline.GoesBy fastforward_blocks fastforward_sender k n word v r here
@@ -104,14 +105,14 @@ module _ (k : Block) (n : Numbers) (word : ℕ → ℕ) (v : ℕ) (r : SenderReg
             let before : length (drop n.sender.asked k.list) ≡ _ = length-drop n.sender.asked k.list in
             let after : length (drop (suc n.sender.asked) k.list) ≡ _ = length-drop (suc n.sender.asked) k.list in
             goes 0x08 (need.Next (Some w)) made (λ u. record r { x10 = w; x11 = 1 }) tt
-            (line_04-word sender_code (lit< tt) (fixed k) r
+            (line_04-word (words_of listing.sender) (lit< tt) (fixed k) r
             (λ inbox. outline.at_in fastforward_blocks fastforward_sender k n word v r r inbox 1 refl) h.2 k.list
             n.sender.asked (omega (arith, h.0.taken))) (omega arith) refl
             (record { unmarked = h.0.unmarked; index = h.1; answer = inl (refl, omega (arith, h.0.taken), more, ap (slice_index k.list) h.0.taken) })
             (λ free. omega (arith, before, after, more, h.0.taken))
         | inr all ↦
             goes 0x08 (need.Next None) n.sender (λ u. record r { x11 = 0 }) tt
-            (line_04-none sender_code (lit< tt) (fixed k) r
+            (line_04-none (words_of listing.sender) (lit< tt) (fixed k) r
             (λ inbox. outline.at_in fastforward_blocks fastforward_sender k n word v r r inbox 1 refl) h.2 k.list
             n.sender.asked (omega (arith, h.0.taken))) order refl
             (record { unmarked = h.0.unmarked; index = h.1; answer = inr (refl, h.0.taken, omega (arith, all, order.stored_all)) })
@@ -149,7 +150,7 @@ module _ (k : Block) (n : Numbers) (word : ℕ → ℕ) (v : ℕ) (r : SenderReg
             (read ∙ ap (found_in (unsent_of fastforward_blocks k n) word) place),
       )
       (λ free. let zero_is : (v == 0) ≡ true = ap (λ w. w == 0)
-      (read ∙ ap (λ ps. found_in ps word (r.x28 + 16)) free.0) ∙ not_false (word (r.x28 + 16) == 0) free.1 in
+      (read ∙ ap (λ ps. found_in ps word (r.x28 + 16)) free.0) ∙ not-false (word (r.x28 + 16) == 0) free.1 in
       rw zero_is (omega arith))
       find
 

@@ -4,7 +4,8 @@
 
 #![tactic(auto)]
 
-ghost use Rattle.fastforward.specs.Listing.{sender_lines, receiver_lines};
+ghost use Rattle.poll_close.specs.Listing.{lines_of};
+ghost use Rattle.fastforward.specs.Listing.{listing};
 ghost use Rattle.fastforward.specs.Listing.{fastforward};
 ghost use Rattle.poll_close.specs.Means.{AllMean};
 
@@ -69,6 +70,6 @@ impl<const B: usize, const M: usize> Finish<B, M> for FastForward {
 /// Each word of the ring's tables means its line's instruction. It does nothing.
 #[tactic(auto, using(crate::proofs::Means::sender_decoded, crate::proofs::Means::receiver_decoded, poll_close::proofs::Lines::all_mean))]
 pub fn tables_mean()
-    ensures sender { AllMean fastforward.sender sender_lines }
-    ensures receiver { AllMean fastforward.receiver receiver_lines }
+    ensures sender { AllMean fastforward.sender (lines_of listing.sender) }
+    ensures receiver { AllMean fastforward.receiver (lines_of listing.receiver) }
 {}

@@ -122,7 +122,8 @@ fn run_all<G: Gate + Sync, R: Threads + Wait + Sync, const B: usize, const M: us
             requires { (handles.items ≡ []) × (back.items ≡ []) × (vec_len held ≤ vec_capacity handles) × (vec_len held ≤ vec_capacity back) }
             ensures few { vec_len result.0 ≤ vec_len held }
             ensures refused { result.1 ≡ false → vec_len result.0 < vec_len held }
-            ensures ran { result.1 ≡ true → AllZip (λ s r. Ran (G.is_open gate.entry.now) turns s r.1 r.2 r.0.seat) (map (λ h. h.seat) held.items) result.0.items }
+            ensures ran { result.1 ≡ true → AllZip (λ s r. Ran (G.is_open gate.entry.now) turns s r.1 r.2 r.0.seat)
+                (map (λ h. h.seat) held.items) result.0.items }
         {
             let (handles, started) = start_all(scope, rt, shared, gate, turns, held, handles);
             (join_all(rt, handles, back), started)
@@ -132,7 +133,8 @@ fn run_all<G: Gate + Sync, R: Threads + Wait + Sync, const B: usize, const M: us
 
 /// Whether a thread found no memory.
 fn lacked_memory<const M: usize>(back: &[Returned<M>]) -> bool
-    ensures { MatchBool result ((k : ℕ) × (k < length back.now) × HoldsAt (λ r. r.1 ≡ ending.NoMemory) back.now k) (All (λ r. r.1 ≡ ending.NoMemory → ⊥) back.now) }
+    ensures { MatchBool result ((k : ℕ) × (k < length back.now) × HoldsAt (λ r. r.1 ≡ ending.NoMemory) back.now k)
+        (All (λ r. r.1 ≡ ending.NoMemory → ⊥) back.now) }
 {
     for one in back {
         if one.1 == Ending::NoMemory {
@@ -145,7 +147,8 @@ fn lacked_memory<const M: usize>(back: &[Returned<M>]) -> bool
 /// The least hart of which an act found no such hart.
 #[tactic(auto, using(crate::proofs::Least::good_more, crate::proofs::Least::bad_more))]
 fn least_lost<const M: usize>(back: &[Returned<M>]) -> Option<u32>
-    ensures { Found (λ r. r.0.seat.hart) (λ r. r.0.seat.acts ≡ true → r.1 ≡ ending.NoHart → ⊥) (λ r. (r.0.seat.acts ≡ true) × (r.1 ≡ ending.NoHart)) back.now result }
+    ensures { Found (λ r. r.0.seat.hart) (λ r. r.0.seat.acts ≡ true → r.1 ≡ ending.NoHart → ⊥)
+        (λ r. (r.0.seat.acts ≡ true) × (r.1 ≡ ending.NoHart)) back.now result }
 {
     let mut least = None;
     for one in back {

@@ -8,7 +8,8 @@ use Rattle.poll_close.proofs.Blocks.{IsBlock, Within, base_word, word_of, slot_o
 use Rattle.poll_close.proofs.BlockLaws.{BlockLaws, Begins, Stepped, opens_with}
 use Rattle.poll_close.proofs.Outlines.{Right, also, sends}
 use Rattle.poll_close.proofs.ChannelLaws.{opens, keeps, cleans, goes, stays}
-use Rattle.lamport_ring.specs.Listing.{sender_code, lamport}
+use Rattle.poll_close.specs.Listing.{words_of}
+use Rattle.lamport_ring.specs.Listing.{listing, lamport}
 use Rattle.lamport_ring.specs.Lamport.{lamport_blocks, lamport_means}
 use Rattle.lamport_ring.specs.Invariant.Numbers.{Numbers, Landed, taken, Ordered, Words}
 use Rattle.lamport_ring.specs.Invariant.Sender.{sender}
@@ -28,7 +29,7 @@ nothing = record {
   landed = record { slots = 0; heads = 0; mark = 0; tails = 0; done = 0 };
 }
 
-begins : (k : Block) → IsBlock k → Begins lamport_blocks nothing k (opens_with sender_code k)
+begins : (k : Block) → IsBlock k → Begins lamport_blocks nothing k (opens_with (words_of listing.sender) k)
 begins k is = record {
   order = omega (arith, is.some_slot);
   words = record {

@@ -18,7 +18,8 @@ use Rattle.poll_close.proofs.Blocks.{IsBlock, offset_low, base_word, word_of, wo
 use Rattle.poll_close.proofs.BlockLaws.{Right_at}
 use Rattle.poll_close.proofs.Distance.{flags, far_off}
 use Rattle.poll_close.proofs.ReceiverMoves as step
-use Rattle.lamport_ring.specs.Listing.{middle, receiver_lines}
+use Rattle.poll_close.specs.Listing.{lines_of}
+use Rattle.lamport_ring.specs.Listing.{middle, listing}
 use Rattle.lamport_ring.specs.Lamport.{lamport_blocks}
 use Rattle.lamport_ring.specs.Invariant.Numbers.{Numbers, Ordered, Words}
 use Rattle.lamport_ring.proofs.Means.{receiver_decoded}
@@ -26,7 +27,7 @@ use Rattle.lamport_ring.proofs.ReceiverReads.{seen_head, seen_tail, seen_slot}
 
 module _ (k : Block) (i count : ℕ) (n : Numbers) (word : ℕ → ℕ) (r : ReceiverRegisters) (v : ℕ) (is : IsBlock k)
     (order : Ordered k n) (words : Words k n.landed word) where
-  at : (j : ℕ) {instr : Instr} → slice_get (map Some receiver_lines) j ≡ Some (Some instr)
+  at : (j : ℕ) {instr : Instr} → slice_get (map Some (lines_of listing.receiver)) j ≡ Some (Some instr)
       → IsAt (receiving middle (whole_of k count) (4 * j) r) instr
   at j found = step.at_of middle receiver_decoded (whole_of k count) r j found
 

@@ -23,7 +23,8 @@ use Rattle.poll_close.proofs.Blocks.{IsBlock, offset_low, word_of, slot_at}
 use Rattle.poll_close.proofs.BlockLaws.{found_in}
 use Rattle.poll_close.proofs.Outlines.{Sender}
 use Rattle.poll_close.proofs.Outlines as outline
-use Rattle.lamport_ring.specs.Listing.{sender_code, sender_lines}
+use Rattle.poll_close.specs.Listing.{words_of, lines_of}
+use Rattle.lamport_ring.specs.Listing.{listing}
 use Rattle.lamport_ring.specs.Lamport.{lamport_blocks}
 use Rattle.lamport_ring.specs.Invariant.Stores.{head_store, sender_stores}
 use Rattle.lamport_ring.specs.Invariant.Numbers.{Sent, Numbers, sent, gone, Ordered, Words}
@@ -39,10 +40,11 @@ tail_found k n word words =
     (λ j less. (λ same. omega arith, λ same. omega arith)) (λ same. omega arith) t x) ∙ words.tail
 
 abbrev pub lamport_sender : Sender lamport_blocks
-lamport_sender = record { lines = sender_lines; decoded = sender_decoded }
+lamport_sender = record { lines = lines_of listing.sender; decoded = sender_decoded }
 
 module _ (k : Block) (n : Numbers) (word : ℕ → ℕ) (v : ℕ) (r : SenderRegisters) (is : IsBlock k) (order : Ordered k n) (words : Words k n.landed word) where
-  at : (j : ℕ) {i : Instr} → slice_get (map Some sender_lines) j ≡ Some (Some i) → IsAt (running sender_code (fixed k) (4 * j) r (drop n.sender.asked k.list)) i
+  at : (j : ℕ) {i : Instr} → slice_get (map Some (lines_of listing.sender)) j ≡ Some (Some i)
+      → IsAt (running (words_of listing.sender) (fixed k) (4 * j) r (drop n.sender.asked k.list)) i
   at j found = outline.at lamport_blocks lamport_sender k n word v r j found
 
   goes : {here : ℕ} → outline.GoesBy lamport_blocks lamport_sender k n word v r here
@@ -66,7 +68,7 @@ module _ (k : Block) (n : Numbers) (word : ℕ → ℕ) (v : ℕ) (r : SenderReg
             let before : length (drop n.sender.asked k.list) ≡ _ = length-drop n.sender.asked k.list in
             let after : length (drop (suc n.sender.asked) k.list) ≡ _ = length-drop (suc n.sender.asked) k.list in
             goes 0x08 (need.Next (Some w)) made (λ u. record r { x10 = w; x11 = 1 }) tt
-            (line_04-word sender_code (lit< tt) (fixed k) r
+            (line_04-word (words_of listing.sender) (lit< tt) (fixed k) r
             (λ inbox. outline.at_in lamport_blocks lamport_sender k n word v r r inbox 1 refl) h.2 k.list
             n.sender.asked (omega (arith, h.0.taken))) (omega arith) refl
             (record {
@@ -78,7 +80,7 @@ module _ (k : Block) (n : Numbers) (word : ℕ → ℕ) (v : ℕ) (r : SenderReg
             (λ free. omega (arith, before, after, more, h.0.taken))
         | inr all ↦
             goes 0x08 (need.Next None) n.sender (λ u. record r { x11 = 0 }) tt
-            (line_04-none sender_code (lit< tt) (fixed k) r
+            (line_04-none (words_of listing.sender) (lit< tt) (fixed k) r
             (λ inbox. outline.at_in lamport_blocks lamport_sender k n word v r r inbox 1 refl) h.2 k.list
             n.sender.asked (omega (arith, h.0.taken))) order refl
             (record { heads = h.0.heads; unmarked = h.0.unmarked; index = h.1; answer = inr (refl, h.0.taken, omega (arith, all, order.stored_all)) })

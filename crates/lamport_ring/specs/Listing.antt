@@ -1,15 +1,14 @@
 -- The listings of Lamport's ring: the sender's, and the receiver's five lines of its own. The tables are their words.
-use Rattle.std.specs.Prelude.{ℕ, pos, negsuc, List, [], ◌∷◌}
+use Rattle.std.specs.Prelude.{pos, negsuc, List, [], ◌∷◌}
 use Rattle.rv_decode.specs.Meaning.{reg_of}
 use Rattle.rv_decode.specs.declared.instruction.BranchOp.TheVariants as branch
 use Rattle.rv_decode.specs.declared.instruction.ImmediateOp.TheVariants as immediate
 use Rattle.rv_decode.specs.declared.instruction.RegisterOp.TheVariants as register
 use Rattle.rv_decode.specs.declared.instruction.LoadOp.TheVariants as load
 use Rattle.rv_decode.specs.declared.instruction.StoreOp.TheVariants as store
-use Rattle.rv_decode.specs.declared.instruction.Instr.{Instr}
 use Rattle.rv_decode.specs.declared.instruction.Instr.TheVariants.{Jal, Branch, Load, Store, Immediate, Register, Ecall}
 use Rattle.poll_close.specs.Laws.{Ring}
-use Rattle.poll_close.specs.Listing.{Listed, line, words_of, lines_of, Middle, receiver_with}
+use Rattle.poll_close.specs.Listing.{Listed, line, Listing, words_of, Middle, receiver_with}
 
 abbrev pub sender_listing : List Listed
 sender_listing =
@@ -41,18 +40,9 @@ middle = record {
   at_24 = line 0x010E2583 (Load load.Word (reg_of 11) (reg_of 28) (pos 16));  -- lw x11,16(x28)
 }
 
-abbrev pub sender_code : List ℕ
-sender_code = words_of sender_listing
-
-abbrev pub sender_lines : List Instr
-sender_lines = lines_of sender_listing
-
-abbrev pub receiver_code : List ℕ
-receiver_code = words_of (receiver_with middle)
-
-abbrev pub receiver_lines : List Instr
-receiver_lines = lines_of (receiver_with middle)
+abbrev pub listing : Listing
+listing = record { sender = sender_listing; receiver = receiver_with middle }
 
 -- the ring: one slot stays free, so a ring has at least two
 abbrev pub lamport : Ring
-lamport = record { sender = sender_code; receiver = receiver_code; least = 2 }
+lamport = record { sender = words_of listing.sender; receiver = words_of listing.receiver; least = 2 }

@@ -4,7 +4,8 @@
 
 #![tactic(auto)]
 
-ghost use Rattle.lamport_ring.specs.Listing.{sender_lines, receiver_lines};
+ghost use Rattle.poll_close.specs.Listing.{lines_of};
+ghost use Rattle.lamport_ring.specs.Listing.{listing};
 ghost use Rattle.lamport_ring.specs.Listing.{lamport};
 ghost use Rattle.poll_close.specs.Means.{AllMean};
 
@@ -71,6 +72,6 @@ impl<const B: usize, const M: usize> Finish<B, M> for Lamport {
 /// Each word of the ring's tables means its line's instruction. It does nothing.
 #[tactic(auto, using(crate::proofs::Means::sender_decoded, crate::proofs::Means::receiver_decoded, poll_close::proofs::Lines::all_mean))]
 pub fn tables_mean()
-    ensures sender { AllMean lamport.sender sender_lines }
-    ensures receiver { AllMean lamport.receiver receiver_lines }
+    ensures sender { AllMean lamport.sender (lines_of listing.sender) }
+    ensures receiver { AllMean lamport.receiver (lines_of listing.receiver) }
 {}

@@ -16,3 +16,4 @@ pub mod Columns
 pub mod ConditionGrammar
 pub mod Grammar
 pub mod Headings
+pub mod Listings

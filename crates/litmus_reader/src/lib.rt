@@ -8,7 +8,8 @@
 //! of the text (`Reading`), part by part: `Header`, `Init`, `Rows`, `Table`, `Values`, `Condition`; it
 //! names a fault exactly where the text has no test ([`laws::refused_without_value`]). Both stand on the
 //! grammars of comments, items, conditions and programs in the crates below. [`read_heading`] answers a
-//! test's name and its condition's text (`specs/Headings.antt`). The line of a place is that
+//! test's name and its condition's text (`specs/Headings.antt`), [`read_listing`] the lines of its table's rows
+//! with what each cell defines and makes (`specs/Listings.antt`). The line of a place is that
 //! of `Lines`; which place a fault is met at is shown by tests and cases alone.
 //! This crate opens no file, runs no test, and knows no other form of litmus texts than its own:
 //! a header line, an init part, a table of assembly statements and a condition.
@@ -21,6 +22,7 @@ mod header;
 pub mod headings;
 mod init;
 pub mod laws;
+pub mod listings;
 mod locations;
 mod marks;
 mod opening;
@@ -32,4 +34,5 @@ mod table;
 
 pub use faults::{LitmusError, LitmusFault};
 pub use headings::{Heading, read_heading};
+pub use listings::{ListedCell, ListedRow, read_listing};
 pub use reading::read;

@@ -70,7 +70,7 @@ fn last_line(text: &[u8]) -> usize
 }
 
 /// How many lines end in these bytes.
-fn lines_in(bytes: &[u8]) -> usize
+pub fn lines_in(bytes: &[u8]) -> usize
     ensures count { result ≡ count_by (is_byte 10) bytes.now }
     ensures few { result ≤ length bytes.now }
 {

@@ -1,5 +1,5 @@
 -- What each step of the plan's loop keeps.
-use Rattle.std.proofs.Common.{◌≡◌, ◌≢◌, ℕ, zero, suc, ◌+◌, ◌-◌, ◌==◌, not, ◌≤◌, ◌<◌, inl, inr, ◌⊎◌, Bool, true, false}
+use Rattle.std.proofs.Common.{◌≡◌, ◌≢◌, ℕ, zero, suc, ◌+◌, ◌-◌, ◌==◌, ◌≤◌, ◌<◌, inl, inr, ◌⊎◌, Bool, true, false}
 use Rattle.std.proofs.Common.{if◌then◌else◌, ◌||◌, Some, None, List, [], ◌∷◌, ◌++◌, length, drop, refl, sym, ◌∙◌}
 use Rattle.std.proofs.Common.{ap, subst, arith}
 use Rattle.std.proofs.lemmas.Bool.{cases_eq, cases_lt}
@@ -14,7 +14,7 @@ use Rattle.step_machine.specs.History.{HartStart, Start, History, unrun, with_en
 use Rattle.step_machine.specs.Entries.{hart_of, is_land, pending, reported, store_of, land_of}
 use Rattle.step_machine.specs.Legal.{WellFormed}
 use Rattle.step_machine.specs.Runs.{Happens, Run, RunFrom, IsOwnRun, event_of}
-use Rattle.step_machine.proofs.Running.{shape_of, RunFrom-more, run-one}
+use Rattle.step_machine.proofs.Running.{shape_of, RunFrom-more, run-one, opening-run, opening_kept}
 use Rattle.step_machine.proofs.Follows.{land_follows}
 use Rattle.step_machine.proofs.Acts.{happens_some}
 use Rattle.step_machine.proofs.Balanced.{balanced}
@@ -29,8 +29,8 @@ use Rattle.poll_close.specs.Laws.{Ring, opening_over, Meaning, AcceptedAt, Opens
 use Rattle.poll_close.specs.Reports.{Clean}
 use Rattle.poll_close.specs.Standing.{Stands, lists_of}
 use Rattle.poll_close.proofs.Standing.{inboxes, stands-opens, stands-happens, stands-run, stands-clean}
-use Rattle.poll_close.specs.Layout.{Layout, opening_at}
-use Rattle.poll_close.specs.Delivery.{DeliversWhole}
+use Rattle.poll_close.specs.Layout.{Layout}
+use Rattle.poll_close.specs.Delivery.{DeliversWhole, DeliversWholeOver}
 use Rattle.poll_close.proofs.CleanReports.{closed_whole}
 use Rattle.poll_close.specs.Rankings.{Nearer, Decreases}
 use Rattle.poll_close.specs.Plans.{AllLanded, Finished, Finishes, CanFinish, is_closed, all_closed, ends_in_word, is_word, is_done, senders_of}
@@ -126,9 +126,6 @@ no_length (p ∷ ps) less = absurd (omega arith)
 pub all_again : (t new : History) (h : ℕ) → length new.opening.harts ≡ length t.opening.harts → AllLanded t
     → ((k : ℕ) → k ≢ h → pending k new.entries ≡ pending k t.entries) → pending h new.entries ≡ [] → AllLanded new
 all_again t new h harts all others none k within = grind (arith, cases_eq)
-
-pub not_done : (b d : Bool) → b ≡ d → not b ≡ true → d ≡ false
-not_done b d same on = grind arith
 
 -- one turn: the chosen hart has acted
 pub record Turned (ring : Ring) (means : Meaning) (B M : ℕ) (left : History → ℕ) (start : History) (evs : List Event) (t new : History) (h : ℕ) : Type 0 where
@@ -252,11 +249,20 @@ pub whole_delivered : (B M : ℕ) (o : Start) (events plan : List Event) (mid ne
     → new.opening ≡ o → reports ≡ reported 0 new.entries → Clean reports (lists_of new.opening) → DeliversWhole B M o (lists_of o) events reports
 whole_delivered B M o events plan mid new reports first second finishes none same answer clean = grind (arith, senders-count, run-one)
 
--- a channel that begins at such an opening was given these lists
-pub whole_at : (B M : ℕ) (sender receiver : List ℕ) (lists : List (List ℕ)) (l : Layout) (t : History) (events : List Event) (reports : List Report)
-    → t ≡ unrun (opening_at sender receiver lists l) → DeliversWhole B M t.opening (lists_of t.opening) events reports
-    → DeliversWhole B M (opening_at sender receiver lists l) lists events reports
-whole_at B M sender receiver lists l t events reports begins whole = grind (arith, inboxes sender l 0 lists)
+-- so of a channel over lists, which its opening was given
+pub whole_over : (ring : Ring) (means : Meaning) (B M : ℕ) (lists : List (List ℕ)) (l : Layout) (events plan : List Event) (mid new : History)
+    (reports : List Report) → Cleans ring means → Run B M (opening_over ring lists l) events mid → RunFrom B M mid plan new
+    → Finishes B M mid plan → (is_done mid ≡ true → plan ≡ []) → Stands ring means B M new → reports ≡ reported 0 new.entries
+    → DeliversWholeOver ring B M lists l events reports
+whole_over ring means B M lists l events plan mid new reports cleans run ran finishes none stands answer =
+    let o : Start = opening_over ring lists l in
+    let whole : DeliversWhole B M o (lists_of o) events reports = whole_delivered B M o events plan mid new reports run ran finishes none
+    (opening-run B M mid plan new ran ∙ opening_kept B M o events mid run) answer (rw answer (stands-clean ring means B M new cleans stands)) in
+    subst (λ (given : List (List ℕ)). DeliversWhole B M o given events reports) (inboxes ring.sender l 0 lists) whole
+
+pub whole-as : (B M : ℕ) (o p : Start) (lists : List (List ℕ)) (events : List Event) (reports : List Report) → o ≡ p
+    → DeliversWhole B M o lists events reports → DeliversWhole B M p lists events reports
+whole-as B M o p lists events reports is whole = subst (λ (q : Start). DeliversWhole B M q lists events reports) is whole
 
 -- a list that isn't empty, or is, as its length's test says
 pub some_left : {A : Type 0} {seen xs : List A} {b : Bool} → seen ≡ xs → b ≡ (length seen == 0) → b ≡ false → 0 < length xs

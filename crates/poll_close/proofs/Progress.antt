@@ -4,7 +4,7 @@ use Rattle.std.proofs.Common.{◌==◌, ℕ, zero, suc, ◌+◌, ◌-◌, ◌%�
 use Rattle.std.proofs.Common.{not, ◌&&◌, List, [], ◌∷◌, ◌++◌, length, length-take, Some}
 use Rattle.std.proofs.Common.{refl, sym, ◌∙◌, ap, subst, arith, add-one, append-nil, lit<}
 use Rattle.std.specs.Prelude.{slice_index}
-use Rattle.std.proofs.lemmas.Bool.{cases_eq, and_parts}
+use Rattle.std.proofs.lemmas.Bool.{cases_eq, and_parts, not-true, not-false}
 use Rattle.std.proofs.Math.Nat.{mul-div_cancel_left}
 use Rattle.hart.specs.State.{HartState}
 use Rattle.hart.specs.Steps.{need_of, advanced}
@@ -78,14 +78,8 @@ no_writes (x ∷ xs) none = cc
 running_is : (st : Status) → is_running st ≡ true → st ≡ status.Running
 running_is st is = grind arith
 
-not_true : (b : Bool) → not b ≡ true → b ≡ false
-not_true b is = grind arith
-
-pub not_false : (b : Bool) → not b ≡ false → b ≡ true
-not_false b is = grind arith
-
 not_ready : (a b : Bool) → (a && not b) ≡ false → a ≡ true → b ≡ true
-not_ready a b off on = grind (arith, not_false)
+not_ready a b off on = grind (arith, not-false)
 
 -- everything that is known of a channel's history, with nothing pending
 is_equal : (a b : ℕ) → (a == b) ≡ true → a ≡ b
@@ -179,7 +173,7 @@ module _ (m : BlockMeaning) (laws : BlockLaws m) (least : ℕ) (some_least : 1 �
         prog.nearer (block_of M S lists j) (ch.numbers j) s (word_in_memory t.opening t.entries) (value_of e)
         (are j within) (ch.parts j within).order (ch.parts j within).words (ch.parts j within).sender.holds running
         (unsent j within) (unread j within) (λ b inside wants. a.loaded b wants ∙ act_found b inside.aligned)
-        (not_true (p.waits s (word_in_memory t.opening t.entries)) is_on.1) in
+        (not-true (p.waits s (word_in_memory t.opening t.entries)) is_on.1) in
         let said : reported 0 (with_entry t e).entries ≡ rs = a.others 0 (omega arith) in
         rank_falls (with_entry t e) refl
         (sum_falls p (length lists) S.size lists rs (reported 0 (with_entry t e).entries) (λ h. state_of M t h) (λ h. state_of M (with_entry t e) h) j within
@@ -271,7 +265,7 @@ module _ (m : BlockMeaning) (laws : BlockLaws m) (least : ℕ) (some_least : 1 �
     running_st = grind (arith, is_equal, owing)
 
     idle_at : Idle m receiver_block b (length lists) ch.receiver.place (ch.numbers b) r rs (λ h. state_of M t h)
-    idle_at = grind (arith, took_is, shut_said, marked, not_true, ready, not_false, some_is_open, owing)
+    idle_at = grind (arith, took_is, shut_said, marked, not-true, ready, not-false, some_is_open, owing)
 
     receiver_falls : (e : Entry) → IsFor (event.Act 0) e → CanFollow B M t e → rank_of p M (with_entry t e) < rank_of p M t
     unfolding Keeps

@@ -7,7 +7,7 @@ use Rattle.step_machine.specs.History.{Start, History}
 use Rattle.step_machine.specs.Entries.{reported}
 use Rattle.step_machine.specs.Runs.{Run, RunFrom}
 use Rattle.poll_close.specs.Layout.{Layout}
-use Rattle.poll_close.specs.Laws.{Ring, opening_over}
+use Rattle.poll_close.specs.Laws.{Ring, AcceptedAt, opening_over}
 use Rattle.poll_close.specs.Reports.{taken, Clean}
 use Rattle.poll_close.specs.Plans.{is_closed, is_done}
 
@@ -38,3 +38,8 @@ DeliversOver ring B M lists l events reports = Delivers B M (opening_over ring l
 
 abbrev pub DeliversWholeOver : Ring → ℕ → ℕ → List (List ℕ) → Layout → List Event → List Report → Type 0
 DeliversWholeOver ring B M lists l events reports = DeliversWhole B M (opening_over ring lists l) lists events reports
+
+-- this holds of each channel of this kind, and of all events, whose run is this history
+abbrev pub OfEachRun : Ring → ℕ → ℕ → History → (List (List ℕ) → Layout → List Event → Type 0) → Type 0
+OfEachRun ring B M t Holds = (lists : List (List ℕ)) (l : Layout) (events : List Event) → AcceptedAt ring M lists l
+    → Run B M (opening_over ring lists l) events t → Holds lists l events

@@ -17,6 +17,11 @@ pub record Listed : Type 0 where
 abbrev pub line : ℕ → Instr → Listed
 line word means = record { word = word; means = means }
 
+-- a ring's listings
+pub record Listing : Type 0 where
+  pub sender : List Listed
+  pub receiver : List Listed
+
 abbrev pub words_of : List Listed → List ℕ
 words_of [] = []
 words_of (l ∷ ls) = l.word ∷ words_of ls

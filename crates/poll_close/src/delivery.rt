@@ -1,9 +1,10 @@
 //! Delivery.
 
 ghost use Rattle.std.specs.Prelude.{◌≡◌, ◌≤◌, ℕ, List, IfOk, IfErr, OnOk, map, length};
-ghost use Rattle.step_machine.specs.History.{History, FitsIn, unrun};
+ghost use Rattle.step_machine.specs.History.{History, FitsIn};
 ghost use Rattle.step_machine.specs.Entries.{reported};
 ghost use Rattle.step_machine.specs.Runs.{Run};
+ghost use Rattle.step_machine.specs.Standing.{StandsAt, OfEach};
 ghost use Rattle.step_machine.specs.declared.events.Event.{Event};
 ghost use Rattle.poll_close.specs.Layout.{Layout, dense};
 ghost use Rattle.poll_close.specs.Laws.{Accepted, AcceptedAt, opening_of, opening_over};
@@ -12,41 +13,51 @@ ghost use Rattle.poll_close.specs.Refusals.{Refuses, RefusesAt};
 ghost use Rattle.poll_close.specs.Reports.{Clean};
 ghost use Rattle.poll_close.specs.Going.{AllGoOn};
 ghost use Rattle.poll_close.specs.Touching.{AllTouch};
-ghost use Rattle.poll_close.specs.Delivery.{Delivers, DeliversOver, DeliversWhole, DeliversWholeOver};
-ghost use Rattle.poll_close.specs.Standing.{Stands, lists_of};
+ghost use Rattle.poll_close.specs.Delivery.{Delivers, DeliversOver, DeliversWhole, DeliversWholeOver, OfEachRun};
+ghost use Rattle.poll_close.specs.Standing.{Stands};
 ghost use Rattle.poll_close.specs.Plans.{CanFinish};
 
-use crate::channel::Channel;
 use crate::faults::{Refused, RefusedAt};
 use crate::kind::RingKind;
 use crate::openings::opening_at;
 use crate::place::Place;
-use crate::plans::Finish;
+use crate::plans::{Finish, whole_reports_of};
 use hart::need::Report;
 use std::alloc::{AllocError, Global};
-use step_machine::{Event, Machine, Opening};
+use step_machine::{Event, Machine, MachineState, Opening};
+
+/// What the receiver has reported where a channel of this kind stands, whatever events and lists led there.
+pub fn reports_of<K: RingKind, const B: usize, const M: usize>(
+    alloc: Global,
+    machine: &MachineState<B, M>,
+) -> Result<Vec<Report>, AllocError>
+    requires stands { (t : History) × StandsAt B M t machine.now × Stands K.ring K.meaning B M t }
+    ensures { IfOk result (λ r. OfEach B M machine.now (λ t. OfEachRun K.ring B M t (λ lists l events. DeliversOver K.ring B M lists l events r.items))) }
+{
+    K::laws();
+    Vec::from_slice(alloc, machine.reports(0))
+}
 
 /// What the receiver reports when these events run from this opening.
-fn reports_of<K: RingKind, const B: usize, const M: usize>(
+fn reports_after<K: RingKind, const B: usize, const M: usize>(
     alloc: Global,
-    opening: Opening,
+    opening: &Opening,
     lists: &[Vec<u32>],
     events: &[Event],
 ) -> Result<Vec<Report>, AllocError>
-    requires some_capacity { 1 ≤ B }
     requires capacity { B ≤ 64 }
-    requires some_word { 1 ≤ M }
     requires memory { M ≤ 65536 }
-    requires opens { (l : Layout) × AcceptedAt K.ring M (map (λ v. v.items) lists.now) l × (opening ≡ opening_over K.ring (map (λ v. v.items) lists.now) l) }
-    ensures { IfOk result (λ r. Delivers B M opening (map (λ v. v.items) lists.now) events.now r.items) }
+    requires opens { (l : Layout) × AcceptedAt K.ring M (map (λ v. v.items) lists.now) l
+        × (opening.now ≡ opening_over K.ring (map (λ v. v.items) lists.now) l) }
+    ensures { IfOk result (λ r. Delivers B M opening.now (map (λ v. v.items) lists.now) events.now r.items) }
 {
     K::laws();
-    let mut machine = Machine::<B, M>::open(alloc, opening)?;
+    let mut machine = MachineState::<B, M>::open(alloc, opening)?;
     match machine.run(events) {
         Ok(()) => {}
         Err((_, error)) => return Err(error),
     }
-    Vec::from_slice(alloc, machine.reports(0))
+    reports_of::<K, B, M>(alloc, &machine)
 }
 
 /// What the receiver of a channel of this kind at a place, over a memory that opens with these words, reports
@@ -68,7 +79,7 @@ pub fn deliver_at<K: RingKind, const B: usize, const M: usize>(
     ensures refused { IfErr result (λ e. RefusesAt K.ring M (map (λ v. v.items) lists.now) (layout_of place words.now) e) }
 {
     let opening = opening_at::<K>(alloc, lists, place, words, M)?;
-    Ok(reports_of::<K, B, M>(alloc, opening, lists, events)?)
+    Ok(reports_after::<K, B, M>(alloc, &opening, lists, events)?)
 }
 
 /// The same with rings of `ring` slots in the dense layout, where all memory is zero. Err as
@@ -94,25 +105,28 @@ pub fn deliver<K: RingKind, const B: usize, const M: usize>(
     }
 }
 
-/// What the receiver of a channel reports when these events run, and then its plan.
-fn whole_of<K: Finish<B, M>, const B: usize, const M: usize>(
+/// What the receiver reports when these events run from this opening, and then a plan.
+fn whole_reports_after<K: Finish<B, M>, const B: usize, const M: usize>(
     alloc: Global,
-    mut channel: Channel<K, B, M>,
+    opening: Opening,
+    lists: &[Vec<u32>],
     events: &[Event],
 ) -> Result<Vec<Report>, AllocError>
-    requires begins { channel.history ≡ unrun channel.history.opening }
-    ensures { IfOk result (λ r. DeliversWhole B M channel.history.opening (lists_of channel.history.opening) events.now r.items) }
+    requires some_capacity { 1 ≤ B }
+    requires capacity { B ≤ 64 }
+    requires some_word { 1 ≤ M }
+    requires memory { M ≤ 65536 }
+    requires opens { (l : Layout) × AcceptedAt K.RingKind.ring M (map (λ v. v.items) lists.now) l
+        × (opening ≡ opening_over K.RingKind.ring (map (λ v. v.items) lists.now) l) }
+    ensures { IfOk result (λ r. DeliversWhole B M opening (map (λ v. v.items) lists.now) events.now r.items) }
 {
-    match channel.run(events) {
+    laws_of_channels::<K>();
+    let mut machine = Machine::<B, M>::open(alloc, opening)?;
+    match machine.run(events) {
         Ok(()) => {}
         Err((_, error)) => return Err(error),
     }
-    let plan = channel.finish_plan(alloc)?;
-    match channel.run(&plan) {
-        Ok(()) => {}
-        Err((_, error)) => return Err(error),
-    }
-    Vec::from_slice(alloc, channel.reports())
+    whole_reports_of::<K, B, M>(alloc, &mut machine)
 }
 
 /// What the receiver of such a channel at a place, over a memory that opens with these words, reports
@@ -133,8 +147,8 @@ pub fn deliver_whole_at<K: Finish<B, M>, const B: usize, const M: usize>(
     ensures accepted { OnOk result (AcceptedAt K.RingKind.ring M (map (λ v. v.items) lists.now) (layout_of place words.now)) }
     ensures refused { IfErr result (λ e. RefusesAt K.RingKind.ring M (map (λ v. v.items) lists.now) (layout_of place words.now) e) }
 {
-    let channel = Channel::<K, B, M>::open_at(alloc, lists, place, words)?;
-    Ok(whole_of(alloc, channel, events)?)
+    let opening = opening_at::<K>(alloc, lists, place, words, M)?;
+    Ok(whole_reports_after::<K, B, M>(alloc, opening, lists, events)?)
 }
 
 /// The laws of channels of this kind, in any layout: each opening fits its memory, and in each run from it
@@ -142,10 +156,16 @@ pub fn deliver_whole_at<K: Finish<B, M>, const B: usize, const M: usize>(
 /// made the events. It does nothing.
 pub fn laws_of_channels<K: RingKind>()
     ensures fits { (M : ℕ) (lists : List (List ℕ)) (l : Layout) → AcceptedAt K.ring M lists l → FitsIn M (opening_over K.ring lists l) }
-    ensures clean { (B M : ℕ) (lists : List (List ℕ)) (l : Layout) (events : List Event) (t : History) → AcceptedAt K.ring M lists l → Run B M (opening_over K.ring lists l) events t → Clean (reported 0 t.entries) lists }
-    ensures stands { (B M : ℕ) (lists : List (List ℕ)) (l : Layout) (events : List Event) (t : History) → AcceptedAt K.ring M lists l → Run B M (opening_over K.ring lists l) events t → Stands K.ring K.meaning B M t }
-    ensures goes { (B M : ℕ) (lists : List (List ℕ)) (l : Layout) (events : List Event) (t : History) → AcceptedAt K.ring M lists l → Run B M (opening_over K.ring lists l) events t → AllGoOn t.entries }
-    ensures touches { (B M : ℕ) (lists : List (List ℕ)) (l : Layout) (events : List Event) (t : History) → AcceptedAt K.ring M lists l → Run B M (opening_over K.ring lists l) events t → AllTouch l (length lists) t.entries }
+    ensures clean { (B M : ℕ) (lists : List (List ℕ)) (l : Layout) (events : List Event) (t : History)
+        → AcceptedAt K.ring M lists l → Run B M (opening_over K.ring lists l) events t
+        → Clean (reported 0 t.entries) lists }
+    ensures stands { (B M : ℕ) (lists : List (List ℕ)) (l : Layout) (events : List Event) (t : History)
+        → AcceptedAt K.ring M lists l → Run B M (opening_over K.ring lists l) events t → Stands K.ring K.meaning B M t }
+    ensures goes { (B M : ℕ) (lists : List (List ℕ)) (l : Layout) (events : List Event) (t : History)
+        → AcceptedAt K.ring M lists l → Run B M (opening_over K.ring lists l) events t → AllGoOn t.entries }
+    ensures touches { (B M : ℕ) (lists : List (List ℕ)) (l : Layout) (events : List Event) (t : History)
+        → AcceptedAt K.ring M lists l → Run B M (opening_over K.ring lists l) events t
+        → AllTouch l (length lists) t.entries }
 {
     K::laws();
 }
@@ -154,8 +174,11 @@ pub fn laws_of_channels<K: RingKind>()
 /// to, further events finish it, where a buffer holds a store at least. It does nothing.
 #[tactic(auto, using(crate::proofs::Planning::can_finish, crate::proofs::Planning::run_can_finish))]
 pub fn laws_of_plans<K: Finish<B, M>, const B: usize, const M: usize>()
-    ensures standing { (capacity memory : ℕ) (t : History) → 1 ≤ capacity → Stands K.RingKind.ring K.RingKind.meaning capacity memory t → CanFinish capacity memory t }
-    ensures running { (capacity memory : ℕ) (lists : List (List ℕ)) (l : Layout) (events : List Event) (t : History) → 1 ≤ capacity → AcceptedAt K.RingKind.ring memory lists l → Run capacity memory (opening_over K.RingKind.ring lists l) events t → CanFinish capacity memory t }
+    ensures standing { (capacity memory : ℕ) (t : History) → 1 ≤ capacity
+        → Stands K.RingKind.ring K.RingKind.meaning capacity memory t → CanFinish capacity memory t }
+    ensures running { (capacity memory : ℕ) (lists : List (List ℕ)) (l : Layout) (events : List Event) (t : History)
+        → 1 ≤ capacity → AcceptedAt K.RingKind.ring memory lists l
+        → Run capacity memory (opening_over K.RingKind.ring lists l) events t → CanFinish capacity memory t }
 {
     K::laws();
     K::falls();

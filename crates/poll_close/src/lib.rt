@@ -14,9 +14,11 @@ pub mod place;
 pub mod plans;
 
 pub use channel::Channel;
-pub use delivery::{deliver, deliver_at, deliver_whole_at, laws_of_channels, laws_of_plans};
+pub use delivery::{
+    deliver, deliver_at, deliver_whole_at, laws_of_channels, laws_of_plans, reports_of,
+};
 pub use faults::{Refused, RefusedAt};
 pub use kind::RingKind;
 pub use openings::{MAX_SENDERS, opening, opening_at};
 pub use place::Place;
-pub use plans::{Finish, plan_of};
+pub use plans::{Finish, plan_of, whole_reports_of};

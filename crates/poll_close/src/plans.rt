@@ -1,7 +1,9 @@
 //! A plan that finishes a channel, whatever ran.
 
-ghost use Rattle.std.specs.Prelude.{◌≡◌, ◌≤◌, ◌<◌, ◌-◌, ℕ, Bool, List, [], true, length, IfOk};
+ghost use Rattle.std.specs.Prelude.{◌≡◌, ◌≤◌, ◌<◌, ◌-◌, ℕ, Bool, List, [], true, length, IfOk, OnOk};
 ghost use Rattle.hart.specs.declared.need.Report.{Report};
+ghost use Rattle.step_machine.specs.Runs.{RunFrom};
+ghost use Rattle.poll_close.specs.Delivery.{DeliversWholeOver, OfEachRun};
 ghost use Rattle.poll_close.specs.Standing.{Stands};
 ghost use Rattle.poll_close.specs.Rankings.{next_by, is_ready};
 ghost use Rattle.poll_close.specs.Plans.{Finishes, is_closed, all_closed, ends_in_word, is_word, is_done};
@@ -120,6 +122,8 @@ fn plan_in<K: Finish<B, M>, const B: usize, const M: usize>(
     requires stands { Stands K.RingKind.ring K.RingKind.meaning B M machine.old.history }
     ensures finishes { IfOk result (λ plan. Finishes B M machine.old.history plan.items) }
     ensures none { IfOk result (λ plan. is_done machine.old.history ≡ true → plan.items ≡ []) }
+    ensures ran { IfOk result (λ plan. RunFrom B M machine.old.history plan.items machine.new.history) }
+    ensures stands { OnOk result (Stands K.RingKind.ring K.RingKind.meaning B M machine.new.history) }
 {
     K::laws();
     K::falls();
@@ -157,4 +161,20 @@ pub fn plan_of<K: Finish<B, M>, const B: usize, const M: usize>(
     ensures none { IfOk result (λ plan. is_done machine.entry.history ≡ true → plan.items ≡ []) }
 {
     plan_in::<K, B, M>(alloc, &mut machine)
+}
+
+/// All that the receiver has reported once a plan has run after the machine's history, whatever events and
+/// lists made that. The machine ends where the plan leads.
+pub fn whole_reports_of<K: Finish<B, M>, const B: usize, const M: usize>(
+    alloc: Global,
+    machine: &mut Machine<B, M>,
+) -> Result<Vec<Report>, AllocError>
+    requires some_capacity { 1 ≤ B }
+    requires stands { Stands K.RingKind.ring K.RingKind.meaning B M machine.old.history }
+    ensures { IfOk result (λ r. OfEachRun K.RingKind.ring B M machine.old.history
+        (λ lists l events. DeliversWholeOver K.RingKind.ring B M lists l events r.items)) }
+{
+    K::laws();
+    plan_in::<K, B, M>(alloc, machine)?;
+    Vec::from_slice(alloc, machine.reports(0))
 }

@@ -129,9 +129,9 @@ row-numbers : (word : Written) (numbers : List ℕ) → row_text (word ∷ map n
 row-numbers word [] = sym (append-nil (word_text word))
 row-numbers word (n ∷ numbers) = ap (λ (rest : List ℕ). word_text word ++ 32 ∷ rest) (row-numbers (number n) numbers)
 
-pub numbers_written : (old name text new : List ℕ) (numbers : List ℕ) (n : ℕ) → length numbers ≤ n → text ≡ old ++ name ++ flat_map number_text (take n numbers)
-    → new ≡ text ++ 10 ∷ [] → new ≡ old ++ (row_text (plain name ∷ map number numbers) ++ 10 ∷ [])
-numbers_written old name text new numbers n past so_far written = rw (row-numbers (plain name) numbers) (grind (arith, take_all, append_assoc))
+pub numbers_written : (old name text : List ℕ) (numbers : List ℕ) (n : ℕ) → length numbers ≤ n → text ≡ old ++ name ++ flat_map number_text (take n numbers)
+    → text ≡ old ++ row_text (plain name ∷ map number numbers)
+numbers_written old name text numbers n past so_far = rw (row-numbers (plain name) numbers) (grind (arith, take_all, append_assoc))
 
 -- ---- equal outcomes
 

@@ -31,11 +31,12 @@ pub mod writing;
 
 pub use drawing::{draw, seeded};
 pub use faults::{AtByte, ScheduleError, ScheduleFault};
+pub use heads::{RECORD_HEAD, has_head};
 pub use laws::{
     longest_runs, one_value, outcomes_are_read_again, records_are_runs, records_can_be_written,
     refused_without_value, tokens_are_read_again,
 };
-pub use outcomes::{push_entry_line, push_outcome_line};
+pub use outcomes::{push_entry_line, push_outcome, push_outcome_line};
 pub use reading::{MAX_EVENTS, push_tokens_of, read_plain, read_tokens};
 pub use records::{read_record, write_record};
 pub use replaying::{CheckError, replay, replay_checked};

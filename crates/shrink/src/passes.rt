@@ -43,7 +43,8 @@ fn leave_out_pieces<const B: usize, const M: usize>(
     ensures part { IsPartOf events.new.items events.old.items }
     ensures went { result ≡ Ok true → length events.new.items < length events.old.items }
     ensures stayed { result ≡ Ok false → events.new.items ≡ events.old.items }
-    ensures none_can { result ≡ Ok false → (k : ℕ) → k * size < length events.new.items → EndsWith B M test.now (events_without (k * size) size events.new.items) last.now → ⊥ }
+    ensures none_can { result ≡ Ok false → (k : ℕ) → k * size < length events.new.items
+        → EndsWith B M test.now (events_without (k * size) size events.new.items) last.now → ⊥ }
 {
     let mut went = false;
     let mut from = 0;

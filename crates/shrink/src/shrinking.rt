@@ -30,7 +30,8 @@ fn shrink_from_end<const B: usize, const M: usize>(
 ) -> Result<Vec<Event>, ShrinkError>
     requires opening { machine.old.history.opening ≡ test.now.opening }
     requires names { length test.now.names ≤ M }
-    ensures shrunk { (given : List Event) → Run B M test.now.opening given machine.old.history → IfOk result (λ answer. IsShrunk B M test.now given answer.items) }
+    ensures shrunk { (given : List Event) → Run B M test.now.opening given machine.old.history
+        → IfOk result (λ answer. IsShrunk B M test.now given answer.items) }
     ensures refused { IfErr result (λ why. RefusesRun M machine.old.history why) }
 {
     if !is_finished(test, machine) {
@@ -55,7 +56,8 @@ pub fn shrink_run<const B: usize, const M: usize>(
 ) -> Result<Vec<Event>, ShrinkError>
     requires opening { machine.history.opening ≡ test.now.opening }
     requires names { length test.now.names ≤ M }
-    ensures shrunk { (given : List Event) → Run B M test.now.opening given machine.entry.history → IfOk result (λ answer. IsShrunk B M test.now given answer.items) }
+    ensures shrunk { (given : List Event) → Run B M test.now.opening given machine.entry.history
+        → IfOk result (λ answer. IsShrunk B M test.now given answer.items) }
     ensures refused { IfErr result (λ why. RefusesRun M machine.entry.history why) }
 {
     let mut again = machine;

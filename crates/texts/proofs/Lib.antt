@@ -1,6 +1,7 @@
 pub mod ResultLaws
 pub mod PieceLaws
 pub mod NumberLaws
+pub mod HexWords
 pub mod CuttingLaws
 pub mod TrimLaws
 pub mod TokenLaws

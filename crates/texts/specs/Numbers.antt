@@ -1,7 +1,8 @@
 -- Numbers in digits, with a sign or without.
-use Rattle.std.specs.Prelude.{◌≡◌, ℕ, ℤ, pos, neg_ℤ, ◌^◌, ◌<◌, ◌==◌, nat_lt, Bool, false, ◌&&◌, if◌then◌else◌, min, List, [], ◌∷◌, length, drop, slice_index, Option, Some, None, option_map}
+use Rattle.std.specs.Prelude.{◌≡◌, ℕ, ℤ, pos, neg_ℤ, ◌^◌, ◌-◌, ◌<◌, ◌==◌, nat_lt, Bool, false, ◌&&◌, if◌then◌else◌, min, List, [], ◌∷◌, ◌++◌, length, replicate, drop, slice_index, Option, Some, None, option_map}
 use Rattle.std.specs.List.{list_all}
 use Rattle.std.specs.Char.{is_digit}
+use Rattle.std.specs.Fmt.{digits}
 use Rattle.std.specs.Str.Parse.{IsNumeral, digits_value}
 
 -- One or more decimal digits say n.
@@ -20,6 +21,10 @@ pub data IsMagnitude : List ℕ → ℕ → Type 0 where
 -- Eight hex digits say the word n.
 abbrev pub IsHexWord : List ℕ → ℕ → Type 0
 IsHexWord digits n = (length digits ≡ 8) × SaysInHex digits n
+
+-- a word as 8 lower case hex digits
+abbrev pub hex_word : ℕ → List ℕ
+hex_word word = replicate (8 - length (digits 16 false word)) 48 ++ digits 16 false word
 
 -- A number from 2^32 on counts as 2^32, which passes every limit.
 abbrev pub capped : ℕ → ℕ

@@ -3,13 +3,14 @@ use Rattle.std.proofs.Common.{◌≡◌, ◌⊎◌, inl, inr, ℕ, Bool, true, f
 use Rattle.std.specs.Prelude.{Option, Some, None}
 use Rattle.hart.specs.declared.need.Report.{Report}
 use Rattle.step_machine.specs.History.{Start, History}
+use Rattle.step_machine.specs.Runs.{Run}
 use Rattle.step_machine.specs.declared.events.Event.{Event}
-use Rattle.recorder.specs.Versions.{Said, events_said}
+use Rattle.recorder.specs.Versions.{Said}
 use Rattle.recorder.specs.Versions.Said.{plain, recorded}
 use Rattle.recorder.specs.declared.replaying.CheckError.{CheckError}
 use Rattle.recorder.specs.declared.replaying.CheckError.TheVariants as check
-use Rattle.recorder.specs.Replaying.{DiffersAt, Differs}
-use Rattle.recorder.specs.Records.{Step}
+use Rattle.recorder.specs.Replaying.{IsRunRecord, DiffersAt, Differs}
+use Rattle.recorder.specs.Records.{Step, events_in}
 use Rattle.poll_close.specs.Laws.{AcceptedAt, Ring}
 use Rattle.poll_close.specs.Places.{layout_of}
 use Rattle.poll_close.specs.Refusals.{RefusesAt}
@@ -22,14 +23,14 @@ use Rattle.engine_parts.specs.declared.fault.Fault.TheVariants.{NoMemory, Refuse
 use Rattle.engine_parts.specs.declared.fault.Refusal.{Refusal}
 use Rattle.engine_parts.specs.Engines.{Output, OfInput, AnswersBoth}
 use Rattle.engine_parts.specs.Faults.{AnswersAs}
-use Rattle.engine_parts.specs.Histories.{Runs, fault_of_check}
+use Rattle.engine_parts.specs.Histories.{fault_of_check}
 use Rattle.engine_parts.specs.Schedules.{IsNoSchedule}
 use Rattle.ztso_engines.specs.Channels.{fault_from, IsUnfilled, IsDelivery, IsReported, IsUnreported, IsChannelAnswer, Reported, opening_over}
 use Rattle.ztso_engines.specs.Channels.IsChannelAnswer.{no_schedule, no_lists, unreported, delivered}
 use Rattle.engine_parts.specs.inner.Making.{Finds, FindsBy}
 use Rattle.engine_parts.specs.inner.Inputs.{IsReadAsSchedule}
 use Rattle.ztso_engines.specs.inner.Inputs.{IsReadAsLists}
-use Rattle.ztso_engines.specs.inner.Reporting.{Checks, IsChecked, Reports}
+use Rattle.ztso_engines.specs.inner.Reporting.{Reports}
 use Rattle.engine_parts.proofs.Endings.{answered_by, handed_on, weaker}
 
 -- ---- what a schedule and lists give
@@ -56,27 +57,34 @@ module _ (ring : Ring) (B M : ℕ) (place : Place) (lists : List (List ℕ)) whe
       ]
 
   -- where a record differs
-  pub differs : (steps : List Step) (o : Start) (error : CheckError) (fault : Fault) → o ≡ opening_over ring (layout_of place []) lists
-      → AcceptedAt ring M lists (layout_of place []) → fault ≡ fault_of_check error → Differs (DiffersAt B M o steps) error
-      → AnswersAs (Checks ring B M (layout_of place []) (recorded steps) lists) (λ (x : Unit {0}). x) (Err fault)
-  differs steps o check.NoMemory fault is within holds other = rw holds tt
-  differs steps o (check.Differs event) fault is within holds other =
+  pub differs : (finish : Bool) {X : Type 0} (view : X → List Report) (steps : List Step) (o : Start) (error : CheckError) (fault : Fault)
+      → o ≡ opening_over ring (layout_of place []) lists → AcceptedAt ring M lists (layout_of place []) → fault ≡ fault_of_check error
+      → Differs (DiffersAt B M o steps) error → AnswersAs (Reports ring B M (layout_of place []) finish (recorded steps) lists) view (Err fault)
+  differs finish view steps o check.NoMemory fault is within holds other = rw holds tt
+  differs finish view steps o (check.Differs event) fault is within holds other =
       rw holds (inr (record { within = within; differs = (event, subst (λ (s : Start). DiffersAt B M s steps event) is other, refl) }))
 
-  -- what is reported comes of a run, in which a record was checked
-  ran : (finish : Bool) (o : Start) (said : Said) (reports : List Report) → IsChecked B M o said → Reported finish B M o lists (events_said said) reports
-      → (history : History) × Runs B M o said (Ok history)
-  ran false o (plain events) reports checked is = (is.history, is.run)
-  ran true o (plain events) reports checked is = (is.middle, is.run)
-  ran finish o (recorded steps) reports checked is = checked
+  -- what is reported of events alone comes of their run
+  ran : (finish : Bool) (o : Start) (events : List Event) (reports : List Report) → Reported finish B M o lists events reports
+      → (history : History) × Run B M o events history
+  ran false o events reports is = (is.history, is.run)
+  ran true o events reports is = (is.middle, is.run)
 
-  pub all_reported : (finish : Bool) (said : Said) (events : List Event) (reports : List Report) → events ≡ events_said said
-      → IsChecked B M (opening_over ring (layout_of place []) lists) said → AcceptedAt ring M lists (layout_of place [])
+  pub events_reported : (finish : Bool) (events : List Event) (reports : List Report) → AcceptedAt ring M lists (layout_of place [])
       → Reported finish B M (opening_over ring (layout_of place []) lists) lists events reports
-      → IsReported ring B M (layout_of place []) finish said lists reports
-  all_reported finish said events reports same checked within is =
-      let delivers = subst (λ (evs : List Event). Reported finish B M (opening_over ring (layout_of place []) lists) lists evs reports) same is in
-      record { within = within; ran = ran finish _ said reports checked delivers; delivers = delivers }
+      → IsReported ring B M (layout_of place []) finish (plain events) lists reports
+  events_reported finish events reports within is = record { within = within; ran = ran finish _ events reports is; delivers = is }
+
+  -- and of a record, of the run in which it was checked
+  pub steps_reported : (finish : Bool) (steps : List Step) (o : Start) (t : History) (reports : List Report)
+      → ((p : Start) → IsRunRecord B M p steps t → Run B M p (events_in steps) t) → o ≡ opening_over ring (layout_of place []) lists
+      → AcceptedAt ring M lists (layout_of place []) → IsRunRecord B M o steps t
+      → (Run B M (opening_over ring (layout_of place []) lists) (events_in steps) t
+      → Reported finish B M (opening_over ring (layout_of place []) lists) lists (events_in steps) reports)
+      → IsReported ring B M (layout_of place []) finish (recorded steps) lists reports
+  steps_reported finish steps o t reports runs is within made delivers =
+      let checked = subst (λ (p : Start). IsRunRecord B M p steps t) is made in
+      record { within = within; ran = (t, checked); delivers = delivers (runs _ checked) }
 
 -- ---- what answers both
 
@@ -125,7 +133,8 @@ module _ (ring : Ring) (B M : ℕ) (place : Place) (finish : Bool) (first second
 
   module _ {X : Type 0} (seen : X → Output) (result : Result X Fault) (fault : Fault) (is : result ≡ Err fault) where
     pub schedule_fault : {Y : Type 0} (view : Y → Said) → FindsBy IsReadAsSchedule view first (Err fault) → Finds Answers seen result
-    schedule_fault view = handed_on (λ (a : Result Said Refusal). OfInput first (λ bytes. IsReadAsSchedule bytes a)) Answers view seen result fault answers_no_schedule is
+    schedule_fault view = handed_on (λ (a : Result Said Refusal). OfInput first (λ bytes. IsReadAsSchedule bytes a))
+        Answers view seen result fault answers_no_schedule is
 
     pub lists_fault : {Y : Type 0} (view : Y → List (List ℕ)) (said : Said) → ReadsSchedule said → FindsBy IsReadAsLists view second (Err fault)
         → Finds Answers seen result

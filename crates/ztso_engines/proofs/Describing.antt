@@ -14,21 +14,34 @@ use Rattle.engine_parts.proofs.LineFaulted.{at_line_ok}
 few_stay : (t : Scenario) (s : Statement) → length t.events ≤ 1048576 → MayCome t s → length (with_statement t s).events ≤ 1048576
 few_stay t s few fits = grind (arith, length-append)
 
-pub lines_sound : (t : Scenario) (number : ℕ) (left : List (List ℕ)) (scenario : Scenario) → length t.events ≤ 1048576 → after_lines t number left ≡ Ok scenario → LinesDescribe t left scenario
+pub lines_sound : (t : Scenario) (number : ℕ) (left : List (List ℕ)) (scenario : Scenario)
+    → length t.events ≤ 1048576 → after_lines t number left ≡ Ok scenario → LinesDescribe t left scenario
 unfolding after_lines
 lines_sound t number [] scenario few e = sym (ok_is Refusal t scenario e)
 lines_sound t number (line ∷ others) scenario few e =
     let first = bind_ok (at_line number (after_line t line)) (λ next. after_lines next (number + 1) others) scenario e in
     elim (line_made t line first.0 few (at_line_ok number (after_line t line) first.0 first.1)) [
-      | inl blank ↦ inl (blank.0, subst (λ (u : Scenario). LinesDescribe u others scenario) blank.1 (lines_sound first.0 (number + 1) others scenario (rw blank.1 few) first.2))
-      | inr said ↦ inr (said.0, said.1, said.2, subst (λ (u : Scenario). LinesDescribe u others scenario) said.3 (lines_sound first.0 (number + 1) others scenario (rw said.3 (few_stay t said.0 few said.2)) first.2))
+      | inl blank ↦ inl (
+        blank.0,
+        subst (λ (u : Scenario). LinesDescribe u others scenario) blank.1
+            (lines_sound first.0 (number + 1) others scenario (rw blank.1 few) first.2),
+      )
+      | inr said ↦ inr (
+        said.0,
+        said.1,
+        said.2,
+        subst (λ (u : Scenario). LinesDescribe u others scenario) said.3
+            (lines_sound first.0 (number + 1) others scenario (rw said.3 (few_stay t said.0 few said.2)) first.2),
+      )
     ]
 
-pub lines_read : (t : Scenario) (number : ℕ) (left : List (List ℕ)) (scenario : Scenario) → LinesDescribe t left scenario → after_lines t number left ≡ Ok scenario
+pub lines_read : (t : Scenario) (number : ℕ) (left : List (List ℕ)) (scenario : Scenario)
+    → LinesDescribe t left scenario → after_lines t number left ≡ Ok scenario
 unfolding after_lines
 lines_read t number [] scenario tell = ap (λ (u : Scenario). Ok u) (sym tell)
 lines_read t number (line ∷ others) scenario (inl blank) = rw (blank_read t line blank.0) (lines_read t (number + 1) others scenario blank.1)
-lines_read t number (line ∷ others) scenario (inr said) = rw (statement_read t line said.0 said.1 said.2) (lines_read (with_statement t said.0) (number + 1) others scenario said.3)
+lines_read t number (line ∷ others) scenario (inr said) = rw (statement_read t line said.0 said.1 said.2)
+    (lines_read (with_statement t said.0) (number + 1) others scenario said.3)
 
 pub text_sound : (M : ℕ) (text : List ℕ) (scenario : Scenario) → script_at M text ≡ Ok scenario → Describes M text scenario
 unfolding script_at

@@ -1,5 +1,7 @@
 -- A line of a steps text: what is read of it is what it says.
-use Rattle.std.proofs.Common.{◌≡◌, ℕ, ◌-◌, ◌/◌, ◌%◌, ◌<◌, ◌≤◌, false, not, ◌||◌, cond, eqb, ltb, leb, List, [], ◌∷◌, ◌++◌, length, set, Option, Some, None, Ok, Err, refl, sym, ap, subst, ◌∙◌, ◌⊎◌, inl, inr, arith}
+use Rattle.std.proofs.Common.{◌≡◌, ℕ, ◌-◌, ◌/◌, ◌%◌, ◌<◌, ◌≤◌, false, not, ◌||◌, cond, eqb, ltb, leb, List, [], ◌∷◌}
+use Rattle.std.proofs.Common.{◌++◌, length, set, Option, Some, None, Ok, Err, refl, sym, ap, subst, ◌∙◌, ◌⊎◌, inl, inr}
+use Rattle.std.proofs.Common.{arith}
 use Rattle.std.specs.Prelude.{codes}
 use Rattle.std.specs.List.{AllZip}
 use Rattle.std.proofs.lemmas.Bool.{cases_Bool}
@@ -20,7 +22,8 @@ use Rattle.texts.specs.Cutting.{tokens, first_cut}
 use Rattle.ztso_engines.specs.Scenario.{Scenario, Statement, hart, reg, word, steps, fresh, register_set, with_statement, MayCome}
 use Rattle.ztso_engines.specs.StepsText.{LineSays}
 use Rattle.engine_parts.specs.LineFaults.{bad_line}
-use Rattle.ztso_engines.specs.StepsReading.{two_numbers, three_numbers, with_hart, with_register, with_word, with_steps, keyword_named, by_keyword, by_cut, after_line}
+use Rattle.ztso_engines.specs.StepsReading.{two_numbers, three_numbers, with_hart, with_register, with_word, with_steps}
+use Rattle.ztso_engines.specs.StepsReading.{keyword_named, by_keyword, by_cut, after_line}
 use Rattle.texts.proofs.TokenLaws.{tokens_cut, tokens_uncut, tokens_first, tokens_none}
 use Rattle.ztso_engines.proofs.NumberWords.{code_settles, SayTwo, two_settles, Three, SayThree, three_settles}
 
@@ -43,7 +46,9 @@ named name k e = grind (arith, cases_Bool, bytes_eq-Decides, some_is)
 
 -- ---- what each kind of line changes
 
-hart_settles : (harts : List HartStart) (text : List (List ℕ)) → Settles (λ made. (code : List ℕ) × AllZip IsHexWord text code × (((length harts < 64) × (length code ≤ 4096)) × (made ≡ harts ++ fresh code ∷ []))) (with_hart harts text)
+hart_settles : (harts : List HartStart) (text : List (List ℕ))
+    → Settles (λ made. (code : List ℕ) × AllZip IsHexWord text code
+    × (((length harts < 64) × (length code ≤ 4096)) × (made ≡ harts ++ fresh code ∷ []))) (with_hart harts text)
 unfolding with_hart
 hart_settles harts text = grind (arith, settles_then, leb, ltb, code_settles, settles_unless, nat_tests, settles_ok)
 
@@ -51,7 +56,9 @@ hart_settles harts text = grind (arith, settles_then, leb, ltb, code_settles, se
 abbrev IsRegister : List HartStart → Three → Type 0
 IsRegister harts s = (s.0 < length harts) × (1 ≤ s.1) × (s.1 < 32)
 
-register_settles : (harts : List HartStart) (text : List (List ℕ)) → Settles (λ made. (s : Three) × SayThree text s × (IsRegister harts s × (made ≡ register_set harts s.0 s.1 s.2))) (with_register harts text)
+register_settles : (harts : List HartStart) (text : List (List ℕ))
+    → Settles (λ made. (s : Three) × SayThree text s × (IsRegister harts s × (made ≡ register_set harts s.0 s.1 s.2)))
+    (with_register harts text)
 unfolding with_register
 register_settles harts text =
     settles_then (SayThree text) (λ s made. IsRegister harts s × (made ≡ register_set harts s.0 s.1 s.2)) (three_numbers text)
@@ -65,7 +72,9 @@ register_settles harts text =
     fits : (h n : ℕ) → (h < length harts) × (1 ≤ n) × (n < 32) → (leb (length harts) h || eqb n 0 || leb 32 n) ≡ false
     fits h n register = grind (arith, nat_tests)
 
-word_settles : (memory : List ℕ) (text : List (List ℕ)) → Settles (λ made. (s : ℕ × ℕ) × SayTwo text s × (IsAddress (length memory) s.0 × (made ≡ set memory (s.0 / 4) s.1))) (with_word memory text)
+word_settles : (memory : List ℕ) (text : List (List ℕ)) → Settles
+    (λ made. (s : ℕ × ℕ) × SayTwo text s × (IsAddress (length memory) s.0 × (made ≡ set memory (s.0 / 4) s.1)))
+    (with_word memory text)
 unfolding with_word
 word_settles memory text =
     settles_then (SayTwo text) (λ s made. IsAddress (length memory) s.0 × (made ≡ set memory (s.0 / 4) s.1)) (two_numbers text)
@@ -79,7 +88,9 @@ word_settles memory text =
     fits : (a : ℕ) → IsAddress (length memory) a → (not (eqb (a % 4) 0) || leb (length memory) (a / 4)) ≡ false
     fits a address = grind (arith, nat_tests)
 
-steps_settle : (events : List Event) (text : List ℕ) → length events ≤ 1048576 → Settles (λ made. (more : List Event) × (IsTokensOf text more × (length more ≤ 1048576 - length events)) × (made ≡ events ++ more)) (with_steps events text)
+steps_settle : (events : List Event) (text : List ℕ) → length events ≤ 1048576 → Settles (λ made.
+    (more : List Event) × (IsTokensOf text more × (length more ≤ 1048576 - length events)) × (made ≡ events ++ more))
+    (with_steps events text)
 unfolding with_steps
 steps_settle events text few = grind (arith, settles_then, settles_map_err, further_settles, settles_ok)
 
@@ -115,7 +126,8 @@ module _ (t : Scenario) (line name rest : List ℕ) (made : Scenario) (cut : fir
   register_made : Makes keyword.Register
   register_made k e =
       let read = bind_ok (with_register t.harts (tokens rest)) (λ harts. Ok (record t { harts = harts })) made e in
-      let (s, (H, N, V, are, h, n, v), (fits, same)) = settled_found _ (with_register t.harts (tokens rest)) read.0 (register_settles t.harts (tokens rest)) read.1 in
+      let (s, (H, N, V, are, h, n, v), (fits, same)) = settled_found _ (with_register t.harts (tokens rest)) read.0
+      (register_settles t.harts (tokens rest)) read.1 in
       inr (
         reg s.0 s.1 s.2,
         (H, N, V, with_name line name rest keyword.Register cut k ∙ ap (λ (ws : List (List ℕ)). codes "reg" ∷ ws) are, h, n, v),
@@ -152,7 +164,8 @@ module _ (t : Scenario) (line name rest : List ℕ) (made : Scenario) (cut : fir
   name_made (Some keyword.Word) k few e = word_made k e
   name_made (Some keyword.Steps) k few e = steps_made few k e
 
-cut_made : (t : Scenario) (line : List ℕ) (made : Scenario) (cut : Option (List ℕ × List ℕ)) → first_cut line ≡ cut → length t.events ≤ 1048576 → by_cut t cut ≡ Ok made → LineMakes t line made
+cut_made : (t : Scenario) (line : List ℕ) (made : Scenario) (cut : Option (List ℕ × List ℕ)) → first_cut line ≡ cut
+    → length t.events ≤ 1048576 → by_cut t cut ≡ Ok made → LineMakes t line made
 cut_made t line made None cut few e = inl (tokens_uncut line cut, sym (ok_is ℕ t made e))
 cut_made t line made (Some (name, rest)) cut few e = name_made t line name rest made cut (keyword_named name) refl few e
 
@@ -166,25 +179,46 @@ hart_read : (t : Scenario) (line code : List ℕ) → LineSays line (hart code) 
 unfolding after_line
 hart_read t line code said fits =
     let first = tokens_first line (codes "hart") said.0 said.1 in
-    rw (first.1, first.2, settled_only _ (with_hart t.harts said.0) (t.harts ++ fresh code ∷ []) (hart_settles t.harts said.0) (code, said.2, (fits, refl))) refl
+    rw (
+      first.1,
+      first.2,
+      settled_only _ (with_hart t.harts said.0) (t.harts ++ fresh code ∷ []) (hart_settles t.harts said.0)
+          (code, said.2, (fits, refl)),
+    ) refl
 
-register_read : (t : Scenario) (line : List ℕ) (h n v : ℕ) → LineSays line (reg h n v) → MayCome t (reg h n v) → after_line t line ≡ Ok (with_statement t (reg h n v))
+register_read : (t : Scenario) (line : List ℕ) (h n v : ℕ) → LineSays line (reg h n v) → MayCome t (reg h n v)
+    → after_line t line ≡ Ok (with_statement t (reg h n v))
 unfolding after_line
 register_read t line h n v said fits =
     let first = tokens_first line (codes "reg") (said.0 ∷ said.1 ∷ said.2 ∷ []) said.3 in
     let text = said.0 ∷ said.1 ∷ said.2 ∷ [] in
-    rw (first.1, first.2, settled_only _ (with_register t.harts text) (register_set t.harts h n v) (register_settles t.harts text) ((h, n, v), (said.0, said.1, said.2, refl, said.4, said.5, said.6), (fits, refl))) refl
+    rw (
+      first.1,
+      first.2,
+      settled_only _ (with_register t.harts text) (register_set t.harts h n v) (register_settles t.harts text)
+          ((h, n, v), (said.0, said.1, said.2, refl, said.4, said.5, said.6), (fits, refl)),
+    ) refl
 
 word_read : (t : Scenario) (line : List ℕ) (a v : ℕ) → LineSays line (word a v) → MayCome t (word a v) → after_line t line ≡ Ok (with_statement t (word a v))
 unfolding after_line
 word_read t line a v said fits =
     let first = tokens_first line (codes "word") (said.0 ∷ said.1 ∷ []) said.2 in
     let text = said.0 ∷ said.1 ∷ [] in
-    rw (first.1, first.2, settled_only _ (with_word t.words text) (set t.words (a / 4) v) (word_settles t.words text) ((a, v), (said.0, said.1, refl, said.3, said.4), (fits, refl))) refl
+    rw (
+      first.1,
+      first.2,
+      settled_only _ (with_word t.words text) (set t.words (a / 4) v) (word_settles t.words text)
+          ((a, v), (said.0, said.1, refl, said.3, said.4), (fits, refl)),
+    ) refl
 
-steps_read : (t : Scenario) (line : List ℕ) (events : List Event) → LineSays line (steps events) → MayCome t (steps events) → after_line t line ≡ Ok (with_statement t (steps events))
+steps_read : (t : Scenario) (line : List ℕ) (events : List Event) → LineSays line (steps events)
+    → MayCome t (steps events) → after_line t line ≡ Ok (with_statement t (steps events))
 unfolding after_line
-steps_read t line events said fits = rw (said.1, settled_only _ (with_steps t.events said.0) (t.events ++ events) (steps_settle t.events said.0 (omega (arith, fits))) (events, (said.2, omega (arith, fits)), refl)) refl
+steps_read t line events said fits = rw (
+  said.1,
+  settled_only _ (with_steps t.events said.0) (t.events ++ events)
+      (steps_settle t.events said.0 (omega (arith, fits))) (events, (said.2, omega (arith, fits)), refl),
+) refl
 
 pub statement_read : (t : Scenario) (line : List ℕ) (s : Statement) → LineSays line s → MayCome t s → after_line t line ≡ Ok (with_statement t s)
 statement_read t line s said fits = grind (arith, hart_read, register_read, word_read, steps_read)

@@ -1,5 +1,6 @@
 -- What answers `channel` is one answer.
-use Rattle.std.proofs.Common.{◌≡◌, ℕ, zero, suc, ◌%◌, ◌≤◌, ◌<◌, inl, inr, Bool, false, List, [], ◌∷◌, All, length, Result, Ok, Err, refl, sym, ap, ap₂, ◌∙◌, subst, arith}
+use Rattle.std.proofs.Common.{◌≡◌, ℕ, zero, suc, ◌%◌, ◌≤◌, ◌<◌, inl, inr, Bool, false, List, [], ◌∷◌, All, length}
+use Rattle.std.proofs.Common.{Result, Ok, Err, refl, sym, ap, ap₂, ◌∙◌, subst, arith}
 use Rattle.std.specs.List.{flat_map}
 use Rattle.std.specs.Prelude.{slice_index}
 use Rattle.std.proofs.lemmas.Bool.{cases_eq}
@@ -84,7 +85,12 @@ module _ (ring : Ring) (M : ℕ) (l : Layout) (lists : List (List ℕ)) where
   all_pass : AcceptedAt ring M lists l → Passes 8
   all_pass is = (
     (
-      place_passes (record { has_ring = record { some_sender = is.some_sender; senders = is.senders; size = is.size }; base = is.base; stride = is.stride; room = is.room }),
+      place_passes (record {
+        has_ring = record { some_sender = is.some_sender; senders = is.senders; size = is.size };
+        base = is.base;
+        stride = is.stride;
+        room = is.room;
+      }),
       record { ends = is.ends; fits = is.fits; opens = is.opens },
     ),
     is.words,

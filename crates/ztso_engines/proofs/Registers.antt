@@ -9,12 +9,14 @@ use Rattle.ztso_engines.specs.StepsReading.{three_numbers, with_register}
 abbrev pub with_value : HartStart → (n v : ℕ) → HartStart
 with_value x n v = record x { registers = set x.registers n v }
 
-pub register_set_is : (harts : List HartStart) (h n v : ℕ) (x : HartStart) → h < length harts → x ≡ get_or harts h x → register_set harts h n v ≡ set harts h (with_value x n v)
+pub register_set_is : (harts : List HartStart) (h n v : ℕ) (x : HartStart) → h < length harts → x ≡ get_or harts h x
+    → register_set harts h n v ≡ set harts h (with_value x n v)
 register_set_is [] h n v x lt e = absurd (omega arith)
 register_set_is (first ∷ others) zero n v x lt e = ap (λ (y : HartStart). with_value y n v ∷ others) (sym e)
 register_set_is (first ∷ others) (suc h) n v x lt e = ap (λ (ys : List HartStart). first ∷ ys) (register_set_is others h n v x (omega arith) e)
 
 pub with_register_done : (harts : List HartStart) (text : List (List ℕ)) (h n v : ℕ) (x : HartStart)
-    → three_numbers text ≡ Ok (h, n, v) → h < length harts → (n ≡ 0 → ⊥) → n < 32 → x ≡ get_or harts h x → with_register harts text ≡ Ok (set harts h (with_value x n v))
+    → three_numbers text ≡ Ok (h, n, v) → h < length harts → (n ≡ 0 → ⊥) → n < 32 → x ≡ get_or harts h x
+    → with_register harts text ≡ Ok (set harts h (with_value x n v))
 unfolding with_register
 with_register_done harts text h n v x said lt some below e = grind (arith, leb, eqb, nat_tests, register_set_is)

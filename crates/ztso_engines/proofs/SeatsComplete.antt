@@ -1,5 +1,6 @@
 -- The seats of an opening are all there.
-use Rattle.std.proofs.Common.{◌≡◌, inl, inr, ℕ, zero, suc, ◌+◌, ◌≤◌, Bool, true, false, ltb, eqb, cond, List, [], ◌∷◌, length, count_by, Err, refl, sym, ◌∙◌, ap, subst, arith}
+use Rattle.std.proofs.Common.{◌≡◌, inl, inr, ℕ, zero, suc, ◌+◌, ◌≤◌, Bool, true, false, ltb, eqb, cond, List, [], ◌∷◌}
+use Rattle.std.proofs.Common.{length, count_by, Err, refl, sym, ◌∙◌, ap, subst, arith}
 use Rattle.std.specs.List.{list_any}
 use Rattle.std.proofs.lemmas.Bool.{cases_Bool, le-ltb, ltb-false, ne_eqb}
 use Rattle.std.proofs.lemmas.Bool.Decides.{nat_tests}
@@ -30,7 +31,8 @@ module _ (M : ℕ) (o : Start) (h : ℕ) where
   one_of_each n false is = rw is (refl, refl)
 
   -- a role of which each hart has one seat
-  one_seat : (role : SeatView → Bool) → ((n : ℕ) → count_by role (both_seats n) ≡ cond (eqb n h) 1 0) → (n : ℕ) → count_by role (seats_below M o n) ≡ cond (ltb h n) 1 0
+  one_seat : (role : SeatView → Bool) → ((n : ℕ) → count_by role (both_seats n) ≡ cond (eqb n h) 1 0) → (n : ℕ)
+      → count_by role (seats_below M o n) ≡ cond (ltb h n) 1 0
   one_seat role each zero = sym (ap (λ (b : Bool). cond b 1 0) (le-ltb h 0 (omega arith)))
   one_seat role each (suc n) =
       sum_by-append (λ (s : SeatView). cond (role s) 1 0) (seats_below M o n) (both_seats n)
@@ -53,7 +55,9 @@ module _ (M : ℕ) (o : Start) (h : ℕ) where
   ]
 
 -- what a run on threads refuses where all seats are there
-pub threads_refused : (B M n : ℕ) (q : LitmusTest) (o : Start) (seats : List SeatView) (e : Fault) → seats ≡ seats_of M o → o ≡ q.opening → Fails B M n o seats e → AnswersAs (IsThreadsGiven B M n q) text_and_value (Err (fault_of_threads e))
+pub threads_refused : (B M n : ℕ) (q : LitmusTest) (o : Start) (seats : List SeatView) (e : Fault)
+    → seats ≡ seats_of M o → o ≡ q.opening → Fails B M n o seats e
+    → AnswersAs (IsThreadsGiven B M n q) text_and_value (Err (fault_of_threads e))
 threads_refused B M n q o seats fault.NoMemory is opening fails = tt
 threads_refused B M n q o seats fault.NoThread is opening fails = (refl, inr (inr (inl refl)))
 threads_refused B M n q o seats (fault.Missing h) is opening (inl first) =

@@ -1,7 +1,7 @@
 -- The command `asm`: the words of an assembly text, a line each.
-use Rattle.std.specs.Prelude.{ℕ, ◌≡◌, ◌-◌, false, List, ◌∷◌, [], ◌++◌, length, replicate, Option, Result}
+use Rattle.std.specs.Prelude.{ℕ, ◌≡◌, List, ◌∷◌, [], ◌++◌, Option, Result}
 use Rattle.std.specs.List.{flat_map}
-use Rattle.std.specs.Fmt.{digits}
+use Rattle.texts.specs.Numbers.{hex_word}
 use Rattle.texts.specs.Results.{map_err}
 use Rattle.rv_decode.specs.declared.instruction.Instr.{Instr}
 use Rattle.assembler.specs.Drafts.{assembled}
@@ -19,13 +19,9 @@ refused_program result = map_err (refused_at fault_number) result
 unfoldable pub asm_at : List ℕ → Result (List (Option Instr)) Refusal
 asm_at text = refused_program (assembled text)
 
--- a word as 8 lower case hex digits
-abbrev pub hex_text : ℕ → List ℕ
-hex_text word = replicate (8 - length (digits 16 false word)) 48 ++ digits 16 false word
-
--- a word on a line of its own
+-- a word as 8 hex digits on a line of its own
 abbrev pub hex_line : ℕ → List ℕ
-hex_line word = hex_text word ++ 10 ∷ []
+hex_line word = hex_word word ++ 10 ∷ []
 
 -- What answers an input: the lines of the words that it is assembled to.
 abbrev pub IsAsmAnswer : List ℕ → Result Output Refusal → Type 0

@@ -1,15 +1,16 @@
 -- The command `move`: a schedule of either version as a text of version 2, with each event's outcome in the run.
 use Rattle.std.specs.Prelude.{ℕ, ◌≡◌, List, Result, Ok, Err}
 use Rattle.litmus.specs.LitmusTests.{LitmusTest}
-use Rattle.recorder.specs.Records.{Step, record_text}
+use Rattle.recorder.specs.Records.{Step, IsRecordOf, record_text}
 use Rattle.recorder.specs.Versions.{Said}
 use Rattle.engine_parts.specs.declared.fault.Refusal.{Refusal}
 use Rattle.engine_parts.specs.Engines.{Output}
 use Rattle.engine_parts.specs.Histories.{BySchedule, Records}
 
--- the one text of the record of the schedule's run from the test's opening; a record that differs has none
+-- The one text of the record of the schedule's run from the test's opening, which is read as this record again;
+-- a record that differs has none.
 abbrev pub IsMoved : (B M : ℕ) → LitmusTest → Said → Result Output Refusal → Type 0
-IsMoved B M test said (Ok answer) = (steps : List Step) × Records B M test.opening said (Ok steps) × (answer.0 ≡ record_text steps)
+IsMoved B M test said (Ok answer) = (steps : List Step) × Records B M test.opening said (Ok steps) × (answer.0 ≡ record_text steps) × IsRecordOf answer.0 steps
 IsMoved B M test said (Err refusal) = Records B M test.opening said (Err refusal)
 
 -- What answers a litmus text and a schedule of either version. A record is refused at the first event whose

@@ -17,7 +17,8 @@ LineSays line (steps events) = (tokens : List ℕ) × (first_cut line ≡ Some (
 -- From the top, each line says what may come there, or has no word and says nothing.
 abbrev pub LinesDescribe : Scenario → List (List ℕ) → Scenario → Type 0
 LinesDescribe before [] scenario = scenario ≡ before
-LinesDescribe before (line ∷ others) scenario = ((tokens line ≡ []) × LinesDescribe before others scenario) ⊎ ((s : Statement) × LineSays line s × MayCome before s × LinesDescribe (with_statement before s) others scenario)
+LinesDescribe before (line ∷ others) scenario = ((tokens line ≡ []) × LinesDescribe before others scenario)
+    ⊎ ((s : Statement) × LineSays line s × MayCome before s × LinesDescribe (with_statement before s) others scenario)
 
 -- The text describes this scenario for a machine with M words: its lines do, and there is a hart.
 pub record Describes (M : ℕ) (text : List ℕ) (scenario : Scenario) : Type 0 where

@@ -26,13 +26,10 @@ fn code_of(alloc: Global, text: &str) -> Result<Vec<u32>, Fault>
     ensures exact { Answers (λ code. map meaning code.items) result (asm_at text.now) }
     ensures plain { IfOk result (λ code. AllPlain code.items) }
 {
-    match assemble(alloc, text) {
-        Ok(code) => Ok(code),
-        Err(error) => Err(Fault::from(error)),
-    }
+    Ok(assemble(alloc, text)?)
 }
 
-#[tactic(auto, using(crate::proofs::HexTexts::eight_digits))]
+#[tactic(auto, using(texts::proofs::HexWords::eight_digits))]
 fn push_hex_line(out: &mut String, word: u32) -> Result<(), AllocError>
     ensures { OnOk result (string_bytes out.new ≡ string_bytes out.old ++ hex_line word) }
 {

@@ -14,7 +14,7 @@ ghost use Rattle.recorder.specs.Versions.Said.{recorded};
 ghost use Rattle.ztso_engines.specs.Channels.{report_line, fault_from, Reported, IsChannelAnswer};
 ghost use Rattle.engine_parts.specs.Schedules.{HasNoSchedule};
 ghost use Rattle.engine_parts.specs.inner.Making.{Finds, text_and_value};
-ghost use Rattle.ztso_engines.specs.inner.Reporting.{Checks, Reports};
+ghost use Rattle.ztso_engines.specs.inner.Reporting.{Reports};
 
 use crate::lists::read_lists;
 use engine_parts::fault::{Fault, Position};
@@ -24,9 +24,10 @@ use engine_parts::schedule::read_schedule;
 use hart::need::Report;
 use poll_close::plans::Finish;
 use poll_close::{
-    Place, Refused, RefusedAt, RingKind, deliver_at, deliver_whole_at, laws_of_channels, opening_at,
+    Place, Refused, RefusedAt, deliver_at, deliver_whole_at, laws_of_channels, opening_at,
+    reports_of, whole_reports_of,
 };
-use recorder::{Schedule, check_record};
+use recorder::{Schedule, check_record, records_are_runs, replay_checked};
 use std::alloc::{AllocError, Global};
 use std::io::{Read, Write};
 use step_machine::{Event, Outcome};
@@ -78,7 +79,8 @@ fn reports_of_events<K: Finish<B, M>, const B: usize, const M: usize>(
     requires capacity { B ≤ 64 }
     requires some_word { 1 ≤ M }
     requires size { M ≤ 65536 }
-    ensures reported { IfOk result (λ r. Reported finish B M (opening_at K.RingKind.ring.sender K.RingKind.ring.receiver (map (λ v. v.items) lists.now) (layout_of place [])) (map (λ v. v.items) lists.now) events.now r.items) }
+    ensures reported { IfOk result (λ r. Reported finish B M (opening_at K.RingKind.ring.sender K.RingKind.ring.receiver
+        (map (λ v. v.items) lists.now) (layout_of place [])) (map (λ v. v.items) lists.now) events.now r.items) }
     ensures accepted { OnOk result (AcceptedAt K.RingKind.ring M (map (λ v. v.items) lists.now) (layout_of place [])) }
     ensures refused { IfErr result (λ e. RefusesAt K.RingKind.ring M (map (λ v. v.items) lists.now) (layout_of place []) e) }
 {
@@ -89,54 +91,43 @@ fn reports_of_events<K: Finish<B, M>, const B: usize, const M: usize>(
     }
 }
 
-/// Runs a record from the opening over these lists. It is refused at the first event whose outcome isn't
-/// the run's.
-fn check_steps<K: RingKind, const B: usize, const M: usize>(
+/// What the receiver reports when the steps of a record run, and then a plan if the channel is to be finished. A
+/// record is refused at the first event whose outcome isn't the run's. It runs once; a history is kept only
+/// for a plan, whose end is counted by it.
+fn reports_of_steps<K: Finish<B, M>, const B: usize, const M: usize>(
     alloc: Global,
     place: Place,
+    finish: bool,
     lists: &[Vec<u32>],
     steps: &[(Event, Outcome)],
-) -> Result<(), Fault>
+) -> Result<Vec<Report>, Fault>
     requires some_capacity { 1 ≤ B }
     requires capacity { B ≤ 64 }
     requires some_word { 1 ≤ M }
     requires size { M ≤ 65536 }
-    ensures { AnswersAs (Checks K.ring B M (layout_of place []) (recorded steps.now) (map (λ v. v.items) lists.now)) (λ x. x) result }
+    ensures { AnswersAs (Reports K.RingKind.ring B M (layout_of place []) finish (recorded steps.now) (map (λ v. v.items) lists.now)) (λ r. r.items) result }
 {
     laws_of_channels::<K>();
+    records_are_runs();
     let opening = match opening_at::<K>(alloc, lists, place, &[], M) {
         Ok(opening) => opening,
         Err(why) => return Err(channel_fault(why)),
     };
-    match check_record::<B, M>(alloc, &opening, steps) {
-        Ok(_) => Ok(()),
-        Err(error) => Err(check_fault(error)),
+    if finish {
+        match replay_checked::<B, M>(alloc, opening, steps) {
+            Ok(mut machine) => Ok(whole_reports_of::<K, B, M>(alloc, &mut machine)?),
+            Err(error) => Err(check_fault(error)),
+        }
+    } else {
+        match check_record::<B, M>(alloc, &opening, steps) {
+            Ok(machine) => Ok(reports_of::<K, B, M>(alloc, &machine)?),
+            Err(error) => Err(check_fault(error)),
+        }
     }
 }
 
-/// Runs a schedule from the opening over these lists if it is a record, as [`check_steps`]. There is nothing
-/// to check of events alone.
-fn check<K: RingKind, const B: usize, const M: usize>(
-    alloc: Global,
-    place: Place,
-    lists: &[Vec<u32>],
-    said: &Schedule,
-) -> Result<(), Fault>
-    requires some_capacity { 1 ≤ B }
-    requires capacity { B ≤ 64 }
-    requires some_word { 1 ≤ M }
-    requires size { M ≤ 65536 }
-    ensures { AnswersAs (Checks K.ring B M (layout_of place []) (said_of said.now) (map (λ v. v.items) lists.now)) (λ x. x) result }
-{
-    match said {
-        Schedule::Plain(_) => Ok(()),
-        Schedule::Record(steps) => check_steps::<K, B, M>(alloc, place, lists, steps),
-    }
-}
-
-/// What the receiver reports when a schedule runs, and then a plan if the channel is to be finished. A
-/// record is checked first.
-fn reports_of<K: Finish<B, M>, const B: usize, const M: usize>(
+/// What the receiver reports when a schedule runs, and then a plan if the channel is to be finished.
+fn reports_of_schedule<K: Finish<B, M>, const B: usize, const M: usize>(
     alloc: Global,
     place: Place,
     finish: bool,
@@ -149,11 +140,16 @@ fn reports_of<K: Finish<B, M>, const B: usize, const M: usize>(
     requires size { M ≤ 65536 }
     ensures { AnswersAs (Reports K.RingKind.ring B M (layout_of place []) finish (said_of said) (map (λ v. v.items) lists.now)) (λ r. r.items) result }
 {
-    check::<K, B, M>(alloc, place, lists, &said)?;
-    let events = said.into_events(alloc)?;
-    match reports_of_events::<K, B, M>(alloc, place, finish, lists, &events) {
-        Ok(reports) => Ok(reports),
-        Err(why) => Err(channel_fault(why)),
+    match said {
+        Schedule::Plain(events) => {
+            match reports_of_events::<K, B, M>(alloc, place, finish, lists, &events) {
+                Ok(reports) => Ok(reports),
+                Err(why) => Err(channel_fault(why)),
+            }
+        }
+        Schedule::Record(steps) => {
+            reports_of_steps::<K, B, M>(alloc, place, finish, lists, &steps)
+        }
     }
 }
 
@@ -169,12 +165,13 @@ fn made<K: Finish<B, M>, const B: usize, const M: usize, S: Read, L: Read>(
     requires capacity { B ≤ 64 }
     requires some_word { 1 ≤ M }
     requires size { M ≤ 65536 }
-    ensures made { Finds (AnswersBoth (IsChannelAnswer K.RingKind.ring B M (layout_of place []) finish) (S.remaining schedule.old) (L.remaining input.old)) text_and_value result }
+    ensures made { Finds (AnswersBoth (IsChannelAnswer K.RingKind.ring B M (layout_of place []) finish)
+        (S.remaining schedule.old) (L.remaining input.old)) text_and_value result }
     ensures unread { HasNoSchedule (S.remaining schedule.old) → input.new ≡ input.old }
 {
     let said = read_schedule(alloc, schedule)?;
     let lists = read_lists(alloc, input)?;
-    let reports = reports_of::<K, B, M>(alloc, place, finish, &lists, said)?;
+    let reports = reports_of_schedule::<K, B, M>(alloc, place, finish, &lists, said)?;
     let text = reports_text(alloc, &reports)?;
     Ok((text, ()))
 }
@@ -206,7 +203,8 @@ pub fn channel_engine<K: Finish<B, M>, const B: usize, const M: usize, S: Read, 
     requires capacity { B ≤ 64 }
     requires some_word { 1 ≤ M }
     requires size { M ≤ 65536 }
-    ensures ends { EndsByBoth (IsChannelAnswer K.RingKind.ring B M (layout_of place []) finish) result (S.remaining schedule.old) (L.remaining input.old) W.contents writer.old writer.new }
+    ensures ends { EndsByBoth (IsChannelAnswer K.RingKind.ring B M (layout_of place []) finish) result
+        (S.remaining schedule.old) (L.remaining input.old) W.contents writer.old writer.new }
     ensures unread { HasNoSchedule (S.remaining schedule.old) → input.new ≡ input.old }
 {
     end_with(

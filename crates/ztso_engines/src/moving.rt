@@ -10,7 +10,7 @@ use engine_parts::command::{ScheduleCommand, schedule_engine};
 use engine_parts::fault::Fault;
 use engine_parts::running::record_of_schedule;
 use litmus::Test;
-use recorder::{Schedule, write_record};
+use recorder::{Schedule, records_can_be_written, write_record};
 use std::alloc::Global;
 use std::io::{Read, Write};
 
@@ -22,6 +22,7 @@ impl<const B: usize, const M: usize> ScheduleCommand<B, M> for Move {
     ghost is_answer = { IsMoved B M };
 
     fn answer(alloc: Global, test: &Test, said: Schedule) -> Result<(String, ()), Fault> {
+        records_can_be_written();
         let steps = record_of_schedule::<B, M>(alloc, test, said)?;
         let text = write_record(alloc, &steps)?;
         Ok((text, ()))
@@ -30,7 +31,7 @@ impl<const B: usize, const M: usize> ScheduleCommand<B, M> for Move {
 
 /// Reads a litmus text and then a schedule of either version, each to its end, runs the schedule from the
 /// test's opening with store buffers of `B` pairs and `M` words of memory, and writes its text of version 2:
-/// its events, each with its outcome in the run.
+/// its events, each with its outcome in the run. As a schedule this text is read as these again.
 ///
 /// Inputs are refused as [`crate::run::run_engine`] refuses them, a schedule of version 2 also where an
 /// outcome isn't the run's; then nothing was written. After a refused litmus text the schedule is not read.

@@ -4,7 +4,8 @@ use Rattle.std.proofs.Common.{ℕ, ◌+◌, ◌*◌, ◌<◌, ◌≤◌, ◌≡�
 use Rattle.std.specs.Prelude.{slice_index}
 use Rattle.poll_close.specs.Invariant.Blocks.{Block, offset}
 use Rattle.poll_close.specs.Invariant.Outlines.{Outline, row}
-use Rattle.fastforward.specs.Listing.{sender_code}
+use Rattle.poll_close.specs.Listing.{words_of}
+use Rattle.fastforward.specs.Listing.{listing}
 use Rattle.fastforward.specs.Invariant.Numbers.{Sent}
 
 -- between two words: all that it took are stored, and no mark
@@ -47,7 +48,7 @@ abbrev pub sender : Outline
 sender = record {
   Own = Sent;
   asked = λ n. n.asked;
-  code = sender_code;
+  code = words_of listing.sender;
   over = 0x3C;
   done = λ k n. Marked k n;
   rows =

@@ -4,7 +4,8 @@ use Rattle.std.proofs.Common.{ℕ, ◌+◌, ◌*◌, ◌<◌, ◌≤◌, ◌≡�
 use Rattle.std.specs.Prelude.{slice_index}
 use Rattle.poll_close.specs.Invariant.Blocks.{Block, offset}
 use Rattle.poll_close.specs.Invariant.Outlines.{Outline, row}
-use Rattle.lamport_ring.specs.Listing.{sender_code}
+use Rattle.poll_close.specs.Listing.{words_of}
+use Rattle.lamport_ring.specs.Listing.{listing}
 use Rattle.lamport_ring.specs.Invariant.Numbers.{Sent}
 
 -- between two words: all that it asked for are stored, with their heads, and no mark
@@ -55,7 +56,7 @@ abbrev pub sender : Outline
 sender = record {
   Own = Sent;
   asked = λ n. n.asked;
-  code = sender_code;
+  code = words_of listing.sender;
   over = 0x44;
   done = λ k n. Marked k n;
   rows =

@@ -4,12 +4,12 @@ use Rattle.recorder.specs.Versions.{plain, recorded}
 use Rattle.engine_parts.proofs.RunLaws.{opening_stays}
 use Rattle.engine_parts.proofs.running.state_of_schedule.Goals as goal
 
-pub returns-in-Ok-clause-harts : goal.returns-in-Ok-clause-harts
-returns-in-Ok-clause-harts g c =
-    let ran = rw c.in_ok-opening.ensures.copy at c.in-Ok.ensures in
+pub returns-in-Plain-clause-harts : goal.returns-in-Plain-clause-harts
+returns-in-Plain-clause-harts g c =
+    let ran = rw c.in_ok-opening.ensures.copy at c.in_ok-replay_state-in-Plain.ensures in
     ran.2.count ∙ ap (λ (o : Start). length o.harts) (opening_stays g.row.B g.row.M c.args.test.now.opening (plain c.deref.result.now) ran.0 ran.1)
 
-pub returns-in-Ok-check_record-clause-harts : goal.returns-in-Ok-check_record-clause-harts
-returns-in-Ok-check_record-clause-harts g c =
-    let ran = rw c.in_ok-opening.ensures.copy at c.in-Ok-check_record.ensures.checked in
+pub returns-clause-harts : goal.returns-clause-harts
+returns-clause-harts g c =
+    let ran = rw c.in_ok-opening.ensures.copy at c.in_ok-check_record-in-Record.ensures.checked in
     ran.2.count ∙ ap (λ (o : Start). length o.harts) (opening_stays g.row.B g.row.M c.args.test.now.opening (recorded c.deref-in-Record.result.now) ran.0 ran.1)

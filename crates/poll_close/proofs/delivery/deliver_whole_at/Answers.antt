@@ -1,6 +1,6 @@
--- The channel began at the opening that the clause names.
-use Rattle.poll_close.proofs.Planning.{whole_at}
+-- The opening that was made is the one that the clause names.
+use Rattle.poll_close.proofs.Planning.{whole-as}
 use Rattle.poll_close.proofs.delivery.deliver_whole_at.Goals as goal
 
 pub returns-clause-whole : goal.returns-clause-whole
-returns-clause-whole g c = whole_at g.row.B g.row.M _ _ _ _ _ _ _ c.in_ok-channel.ensures.value c.in_ok-whole_of.ensures
+returns-clause-whole g c = whole-as g.row.B g.row.M _ _ _ _ _ c.in_ok-opening.ensures.value c.in_ok-whole_reports_after.ensures

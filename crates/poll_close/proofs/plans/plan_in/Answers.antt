@@ -104,4 +104,6 @@ returns g c = record {
   finishes = planned-done c.laws.ensures.cleans c.loop-machine-2.invariant.0
       (let done : is_done c.loop-machine-2.machine.history ≡ true = cc in done);
   none = λ done. (let bad : true ≡ false = sym done ∙ sym c.is_finished.ensures ∙ c.if-is_finished.false in cc);
+  ran = c.loop-machine-2.invariant.0.run;
+  stands = c.loop-machine-2.invariant.0.stands;
 }

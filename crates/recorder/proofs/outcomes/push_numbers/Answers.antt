@@ -4,5 +4,5 @@ use Rattle.recorder.proofs.outcomes.push_numbers.Goals as goal
 
 pub returns : goal.returns
 returns c =
-    numbers_written (string_bytes c.args.out.now) c.args.name.now (string_bytes c.loop-number.out) _ c.args.numbers.now
-    c.loop-number.number-index c.loop-number-test.false c.loop-number.invariant c.in_ok-push_str-2.ensures.bytes
+    numbers_written (string_bytes c.args.out.now) c.args.name.now (string_bytes c.loop-number.out) c.args.numbers.now
+    c.loop-number.number-index c.loop-number-test.false c.loop-number.invariant

@@ -11,18 +11,23 @@ use Rattle.ztso_engines.proofs.channel.made.Goals as goal
 
 pub returns-in_err-said-clause-made : goal.returns-in_err-said-clause-made
 returns-in_err-said-clause-made g c =
-    schedule_fault g.K.RingKind.ring g.row.B g.row.M c.args.place c.args.finish _ _ _ c.from_residual.result c.in_err-said.field-0.0 (is_handed c.from_residual.result _ c.from_residual.ensures.1)
+    schedule_fault g.K.RingKind.ring g.row.B g.row.M c.args.place c.args.finish _ _ _ c.from_residual.result
+    c.in_err-said.field-0.0 (is_handed c.from_residual.result _ c.from_residual.ensures.1)
     (λ (said : Said). said) c.in_err-said.ensures.schedule
 
 pub returns-in_err-lists-clause-made : goal.returns-in_err-lists-clause-made
 returns-in_err-lists-clause-made g c =
-    lists_fault g.K.RingKind.ring g.row.B g.row.M c.args.place c.args.finish _ _ _ c.from_residual-in_err-lists.result c.in_err-lists.field-0.0 (is_handed c.from_residual-in_err-lists.result _ c.from_residual-in_err-lists.ensures.1)
+    lists_fault g.K.RingKind.ring g.row.B g.row.M c.args.place c.args.finish _ _ _
+    c.from_residual-in_err-lists.result c.in_err-lists.field-0.0
+    (is_handed c.from_residual-in_err-lists.result _ c.from_residual-in_err-lists.ensures.1)
     (λ (lists : List (List ℕ)). lists) (said_of c.in_ok-said.said) c.in_ok-said.ensures.schedule c.in_err-lists.ensures
 
 pub returns-in_err-reports-clause-made : goal.returns-in_err-reports-clause-made
 returns-in_err-reports-clause-made g c =
     reports_fault g.K.RingKind.ring g.row.B g.row.M c.args.place c.args.finish _ _ _ c.from_residual-in_err-reports.result c.in_err-reports.field-0.0
-    (is_handed c.from_residual-in_err-reports.result _ c.from_residual-in_err-reports.ensures.1) (λ (reports : Vec Report). reports.items) (said_of c.in_ok-said.said) (map (λ (list : Vec ℕ). list.items) c.in_ok-lists.lists.items) _
+    (is_handed c.from_residual-in_err-reports.result _ c.from_residual-in_err-reports.ensures.1)
+    (λ (reports : Vec Report). reports.items) (said_of c.in_ok-said.said)
+    (map (λ (list : Vec ℕ). list.items) c.in_ok-lists.lists.items) _
     c.in_ok-said.ensures.schedule c.in_ok-lists.ensures (ap (map (λ (list : Vec ℕ). list.items)) c.deref.ensures.value) c.in_err-reports.ensures
 
 pub returns-clause-made : goal.returns-clause-made

@@ -11,7 +11,10 @@ pub returns-clause-one : goal.returns-clause-one
 returns-clause-one c = one_code
 
 pub returns-clause-judged : goal.returns-clause-judged
-returns-clause-judged c = λ input code. (accepted_well dis_at SaysCode input code (code_found input code), accepted_judged dis_at SaysCode input code (code_read input code))
+returns-clause-judged c = λ input code. (
+  accepted_well dis_at SaysCode input code (code_found input code),
+  accepted_judged dis_at SaysCode input code (code_read input code),
+)
 
 pub returns-clause-again : goal.returns-clause-again
 returns-clause-again c = written_says

@@ -10,4 +10,7 @@ pub returns-clause-one : goal.returns-clause-one
 returns-clause-one c = one_lists
 
 pub returns-clause-judged : goal.returns-clause-judged
-returns-clause-judged c = λ input lists. (accepted_well lists_at SaysLists input lists (lists_found input lists), accepted_judged lists_at SaysLists input lists (lists_read input lists))
+returns-clause-judged c = λ input lists. (
+  accepted_well lists_at SaysLists input lists (lists_found input lists),
+  accepted_judged lists_at SaysLists input lists (lists_read input lists),
+)

@@ -11,4 +11,7 @@ pub returns-clause-one : goal.returns-clause-one
 returns-clause-one c = one_scenario
 
 pub returns-clause-judged : goal.returns-clause-judged
-returns-clause-judged c = λ M input scenario. (accepted_well (script_at M) (Describes M) input scenario (text_sound M input scenario), accepted_judged (script_at M) (Describes M) input scenario (text_read M input scenario))
+returns-clause-judged c = λ M input scenario. (
+  accepted_well (script_at M) (Describes M) input scenario (text_sound M input scenario),
+  accepted_judged (script_at M) (Describes M) input scenario (text_read M input scenario),
+)

@@ -10,4 +10,6 @@ returns g c = by_test (IsThreadsGiven g.row.B g.row.M c.args.turns) _ _ c.in_ok-
 
 pub returns-in_err-test : goal.returns-in_err-test
 returns-in_err-test g c =
-    by_no_test (IsThreadsGiven g.row.B g.row.M c.args.turns) text_and_value _ (λ (q : LitmusTest). q) c.from_residual.result c.in_err-test.field-0.0 (is_handed c.from_residual.result _ c.from_residual.ensures.1) c.in_err-test.ensures.test
+    by_no_test (IsThreadsGiven g.row.B g.row.M c.args.turns) text_and_value _ (λ (q : LitmusTest). q)
+    c.from_residual.result c.in_err-test.field-0.0 (is_handed c.from_residual.result _ c.from_residual.ensures.1)
+    c.in_err-test.ensures.test

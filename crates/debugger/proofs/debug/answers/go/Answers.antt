@@ -36,7 +36,8 @@ loop-event-preserved g c =
           (drop c.args.debugger.place c.args.debugger.schedule) true c.args.debugger xs new)
           (sym (append_assoc so_far.0 did.0 text))
           (so_far.2 (did.0 ++ text) new
-          (runs_more g.row.B g.row.M c.args.points.now c.loop-event.first c.loop-event.debugger c.in-Some.event did.0 c.in_ok-debugger.debugger text new (sym c.in-Some.ensures)
+          (runs_more g.row.B g.row.M c.args.points.now c.loop-event.first c.loop-event.debugger c.in-Some.event
+          did.0 c.in_ok-debugger.debugger text new (sym c.in-Some.ensures)
           free
           did.2
           h)),

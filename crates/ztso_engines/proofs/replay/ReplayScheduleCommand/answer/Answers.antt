@@ -20,4 +20,6 @@ returns g c = record {
 pub returns-in_err-machine : goal.returns-in_err-machine
 returns-in_err-machine g c =
     stopped_by (Runs g.row.B g.row.M c.args.test.now.opening (said_of c.args.said)) (AnswersRun g.row.B g.row.M IsReplay c.args.test.now (said_of c.args.said))
-    (λ (machine : Progress). machine.history) text_and_value c.from_residual.result c.in_err-machine.field-0.0 (λ refusal differs. differs) (is_handed c.from_residual.result _ c.from_residual.ensures.1) c.in_err-machine.ensures.ran
+    (λ (machine : Progress). machine.history) text_and_value c.from_residual.result c.in_err-machine.field-0.0
+    (λ refusal differs. differs) (is_handed c.from_residual.result _ c.from_residual.ensures.1)
+    c.in_err-machine.ensures.ran
