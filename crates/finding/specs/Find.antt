@@ -1,0 +1,48 @@
+-- The command `find`: a schedule that shows what a test asks about, where a search met one.
+use Rattle.std.specs.Prelude.{ℕ, ◌≡◌, ◌≤◌, Bool, true, false, List, [], Result, Ok, Err}
+use Rattle.step_machine.specs.declared.events.Event.{Event}
+use Rattle.step_machine.specs.History.{History}
+use Rattle.step_machine.specs.Runs.{Run}
+use Rattle.litmus.specs.Formulas.{truth}
+use Rattle.litmus.specs.LitmusTests.{LitmusTest}
+use Rattle.litmus.specs.Verdicts.{IsFinished, final_value}
+use Rattle.litmus.specs.declared.verdict.Quantifier.{Quantifier}
+use Rattle.litmus.specs.declared.verdict.Quantifier.TheVariants.{Exists, NotExists, ForAll}
+use Rattle.recorder.specs.Writing.{canon}
+use Rattle.engine_parts.specs.declared.fault.Refusal.{Refusal}
+use Rattle.engine_parts.specs.Tests.{ByTest}
+use Rattle.finding.specs.declared.finds.Found.{Found}
+use Rattle.finding.specs.declared.finds.Found.TheVariants.{Shown, NotFound}
+
+-- What the condition is in the outcome that is looked for: the one that `exists` and `~exists` ask about makes it
+-- true, and the one that refutes `forall` makes it false.
+abbrev pub wanted : Quantifier → Bool
+wanted Exists = true
+wanted NotExists = true
+wanted ForAll = false
+
+-- a history that is finished, and whose outcome is one that is looked for
+pub record EndsAsWanted (M : ℕ) (test : LitmusTest) (history : History) : Type 0 where
+  pub finished : IsFinished M history
+  pub condition : truth (final_value M history) test.condition ≡ wanted test.quantifier
+
+-- the run of these events from the test's opening, over store buffers of B pairs and a memory of M words, ends so
+pub record Shows (B M : ℕ) (test : LitmusTest) (events : List Event) : Type 0 where
+  pub history : History
+  pub ran : Run B M test.opening events history
+  pub ends : EndsAsWanted M test history
+
+-- The output is the canonical schedule of events that show such an outcome; or there is none, and this number of states
+-- was seen, which is within the limit.
+abbrev pub IsFound : (B M limit : ℕ) → LitmusTest → (out : List ℕ) → Found → Type 0
+IsFound B M limit test out Shown = (events : List Event) × Shows B M test events × (out ≡ canon events)
+IsFound B M limit test out (NotFound states) = (out ≡ []) × (1 ≤ states) × (states ≤ limit)
+
+-- what answers a test; none is refused
+abbrev pub IsFoundOf : (B M limit : ℕ) → LitmusTest → Result (List ℕ × Found) Refusal → Type 0
+IsFoundOf B M limit test (Ok answer) = IsFound B M limit test answer.0 answer.1
+IsFoundOf B M limit test (Err refusal) = ⊥
+
+-- what answers a litmus text
+abbrev pub IsFindAnswer : (B M limit : ℕ) → (file : List ℕ) → Result (List ℕ × Found) Refusal → Type 0
+IsFindAnswer B M limit file answer = ByTest (IsFoundOf B M limit) file answer

@@ -1,0 +1,200 @@
+//! The search: breadth first over the machine's states, so that it comes to each by as few events as lead there.
+//!
+//! It is proved safe and to end. What it finds is checked by whoever gets it.
+
+ghost use Rattle.std.specs.Prelude.{◌≡◌, ◌≤◌, ◌<◌, ◌+◌, IfOk, length};
+ghost use Rattle.recorder.specs.Schedule.{OfHarts};
+ghost use Rattle.step_machine.specs.declared.opening.TheConstants.{MAX_HARTS};
+ghost use Rattle.litmus.specs.declared.litmus_test.TheConstants.{MAX_LOCATIONS};
+ghost use Rattle.finding.specs.inner.Arriving.{IsWithin};
+
+use crate::arrivals::{Arrival, way_to};
+use crate::finds::ends_as_wanted;
+use crate::progress::SearchProgress;
+use litmus::Test;
+use recorder::MAX_EVENTS;
+use states::States;
+use std::alloc::{AllocError, Global};
+use step_machine::{Event, MachineState, Outcome};
+
+/// From how many states the search goes on between two reports.
+const REPORT_STATES: u32 = 1024;
+
+/// What a search came to.
+#[derive(Drop)]
+pub struct Searched {
+    /// How many distinct states it saw.
+    pub states: u32,
+    /// The events by which it came to an outcome that is looked for, if it did.
+    pub way: Option<Vec<Event>>,
+}
+
+/// All events of a machine with this number of harts. Of ways that are equally short the search takes the one that
+/// comes first in this order.
+fn events_of(alloc: Global, harts: u32) -> Result<Vec<Event>, AllocError>
+    requires { harts ≤ MAX_HARTS }
+    ensures { IfOk result (λ events. OfHarts events.items) }
+{
+    let mut events = Vec::new(alloc);
+    for hart in 0..harts {
+        events.push(Event::Act(hart))?;
+    }
+    for hart in 0..harts {
+        events.push(Event::Land(hart))?;
+    }
+    Ok(events)
+}
+
+/// Numbers the machine's state, and answers whether it is new and a finished one with an outcome that is looked for.
+fn meet<const B: usize, const M: usize>(
+    test: &Test,
+    machine: &MachineState<B, M>,
+    states: &mut States<B, M>,
+    arrivals: &mut Vec<Arrival>,
+    arrival: Arrival,
+) -> Result<bool, AllocError>
+    requires harts { length machine.now.harts ≡ length test.now.opening.harts }
+    requires names { length test.now.names ≤ M }
+    ensures kept { length states.old ≤ length states.new }
+    ensures next { length states.new ≤ length states.old + 1 }
+    ensures some { IfOk result (λ _. 1 ≤ length states.new) }
+{
+    let met = states.len();
+    if states.number(machine)? < met {
+        return Ok(false);
+    }
+    arrivals.push(arrival)?;
+    Ok(ends_as_wanted(test, machine))
+}
+
+/// Goes on from a state by each event, until there are `limit` states, and answers whether the newest state ends as
+/// wanted. An event that does nothing leads nowhere.
+fn go_on<const B: usize, const M: usize>(
+    test: &Test,
+    machine: &mut MachineState<B, M>,
+    states: &mut States<B, M>,
+    arrivals: &mut Vec<Arrival>,
+    events: &[Event],
+    from: u32,
+    limit: u32,
+) -> Result<bool, AllocError>
+    requires harts { length machine.old.harts ≡ length test.now.opening.harts }
+    requires names { length test.now.names ≤ M }
+    requires from { from < length states.old }
+    requires few { length states.old ≤ limit }
+    requires events { OfHarts events.now }
+    ensures harts { length machine.new.harts ≡ length machine.old.harts }
+    ensures kept { length states.old ≤ length states.new }
+    ensures few { length states.new ≤ limit }
+{
+    let mut is_there = false;
+    for event in events {
+        if states.len() >= limit as usize {
+            return Ok(false);
+        }
+        if !is_there {
+            states.put_back(from as usize, machine);
+            is_there = true;
+        }
+        if let Outcome::Did(_) = machine.step(*event)? {
+            is_there = false;
+            let arrival = Arrival::new(from, *event);
+            if meet(test, machine, states, arrivals, arrival)? {
+                return Ok(true);
+            }
+        }
+    }
+    Ok(false)
+}
+
+/// Goes on from each state in the order of their numbers, until one ends as wanted, `limit` are seen, or none is
+/// left. The machine stands at its opening.
+fn search_from<const B: usize, const M: usize, P: SearchProgress>(
+    alloc: Global,
+    test: &Test,
+    machine: &mut MachineState<B, M>,
+    states: &mut States<B, M>,
+    limit: u32,
+    progress: &mut P,
+) -> Result<Searched, AllocError>
+    requires harts { length machine.old.harts ≡ length test.now.opening.harts }
+    requires names { length test.now.names ≤ M }
+    requires none { length states.old ≡ 0 }
+    requires some_states { 1 ≤ limit }
+    ensures { IfOk result (IsWithin limit) }
+{
+    let events = events_of(alloc, machine.harts())?;
+    let mut arrivals = Vec::new(alloc);
+    let opening = Arrival::new(0, Event::Act(0));
+    if meet(test, machine, states, &mut arrivals, opening)? {
+        return Ok(Searched {
+            states: 1,
+            way: Some(Vec::new(alloc)),
+        });
+    }
+    // states from `level_end` on are behind more than `depth` events
+    let mut depth = 0;
+    let mut level_end = 1;
+    for from in 0..limit {
+        if from as usize == level_end {
+            level_end = states.len();
+            depth += 1;
+        }
+        if from as usize >= states.len() || depth as usize >= MAX_EVENTS {
+            break;
+        }
+        if from % REPORT_STATES == 0 {
+            progress.report(states.len() as u32, depth);
+        }
+        if go_on(test, machine, states, &mut arrivals, &events, from, limit)? {
+            let way = way_to(alloc, &arrivals, states.len() - 1, depth + 1)?;
+            return Ok(Searched {
+                states: states.len() as u32,
+                way: Some(way),
+            });
+        }
+    }
+    Ok(Searched {
+        states: states.len() as u32,
+        way: None,
+    })
+}
+
+/// The same with states of its own.
+fn search_machine<const B: usize, const M: usize, P: SearchProgress>(
+    alloc: Global,
+    test: &Test,
+    machine: &mut MachineState<B, M>,
+    limit: u32,
+    progress: &mut P,
+) -> Result<Searched, AllocError>
+    requires harts { length machine.old.harts ≡ length test.now.opening.harts }
+    requires names { length test.now.names ≤ M }
+    requires some_states { 1 ≤ limit }
+    ensures { IfOk result (IsWithin limit) }
+{
+    match States::new(alloc, machine) {
+        Ok(mut states) => search_from(alloc, test, machine, &mut states, limit, progress),
+        Err(error) => Err(error),
+    }
+}
+
+/// Searches the states that the test's machine reaches from its opening, of which it sees at most `limit`.
+pub fn search<const B: usize, const M: usize, P: SearchProgress>(
+    alloc: Global,
+    test: &Test,
+    limit: u32,
+    progress: &mut P,
+) -> Result<Searched, AllocError>
+    requires capacity { B ≤ 64 }
+    requires words { MAX_LOCATIONS ≤ M }
+    requires size { M ≤ 65536 }
+    requires some_states { 1 ≤ limit }
+    ensures { IfOk result (IsWithin limit) }
+{
+    let opening = test.opening(alloc)?;
+    match MachineState::<B, M>::open(alloc, &opening) {
+        Ok(mut machine) => search_machine(alloc, test, &mut machine, limit, progress),
+        Err(error) => Err(error),
+    }
+}
