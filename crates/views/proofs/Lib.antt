@@ -3,3 +3,4 @@ pub mod ShrinkLaws
 pub mod HeadedLaws
 pub mod FrontRuns
 pub mod ChartLaws
+pub mod ShowLaws

@@ -1,4 +1,7 @@
 pub mod Shrink
 pub mod About
 pub mod Chart
+pub mod Openings
+pub mod TestLines
+pub mod Show
 pub mod inner

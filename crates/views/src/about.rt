@@ -24,7 +24,7 @@ use std::alloc::{AllocError, Global};
 use step_machine::{Entry, Machine, Opening};
 
 /// Appends the text of the instruction that a word means, if it means one.
-fn push_meant(out: &mut String, word: u32) -> Result<(), AllocError>
+pub fn push_meant(out: &mut String, word: u32) -> Result<(), AllocError>
     ensures { OnOk result (string_bytes out.new ≡ string_bytes out.old ++ meant (meaning word)) }
 {
     match decode(word) {

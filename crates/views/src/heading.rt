@@ -19,7 +19,7 @@ use std::io::Read;
 /// The test of a text, and the text's heading. A text with a test has one, so that only memory can be
 /// missing for it.
 #[tactic(auto, unfolding(engine_parts::specs::Tests::test_of))]
-fn headed_of_text(alloc: Global, text: &str) -> Result<(Test, Heading), Fault>
+pub fn headed_of_text(alloc: Global, text: &str) -> Result<(Test, Heading), Fault>
     ensures test { IfOk result (λ read. IsTestOf text.now read.0) }
     ensures heading { IfOk result (λ read. IsHeading text.now (heading_of read.1)) }
     ensures exact { (line : ℕ) × Answers (λ read. content_of read.0) result (test_of line text.now) }

@@ -10,6 +10,8 @@ ghost use Rattle.chart.specs.Pictures.{IsClear};
 ghost use Rattle.engine_parts.specs.declared.fault.Refusal.{Refusal};
 ghost use Rattle.engine_parts.specs.Engines.{Output, AreAlike, AreOneAnswer};
 ghost use Rattle.views.specs.Chart.{Drawing, IsChartAnswer, IsChartOf};
+ghost use Rattle.views.specs.Show.{IsShowAnswer};
+ghost use Rattle.views.specs.declared.showing.Form.{Form};
 ghost use Rattle.views.specs.Shrink.{AreOfOneKind, IsShrink, IsShrinkAnswer};
 
 /// Two answers to one input are both schedules, or refusals of one number: a run is refused exactly where
@@ -32,4 +34,10 @@ pub fn one_chart()
 /// on another head. It does nothing.
 pub fn charts_are_clear()
     ensures { (B M : ℕ) (draws : Drawing) (file : List ℕ) (heading : HeadingOf) (test : LitmusTest) (said : Said) (answer : Output) → IsTestOf file test → (chart : IsChartOf B M draws heading test said answer) → All IsClear (layout chart.about chart.history.entries).body × IsClear (layout chart.about chart.history.entries).heads }
+{}
+
+/// Two answers of `show` to one input are one text, or refusals of one number. Of a refused litmus text it isn't
+/// said on which line its first fault stands. It does nothing.
+pub fn one_show()
+    ensures { (form : Form) (file : List ℕ) (a b : Result Output Refusal) → IsShowAnswer form file a → IsShowAnswer form file b → AreOneAnswer a b }
 {}

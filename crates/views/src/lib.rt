@@ -1,4 +1,4 @@
-//! Runs for people who look at them: the engines of the commands `shrink` and `chart`.
+//! Runs and tests for people who look at them: the engines of the commands `shrink`, `chart` and `show`.
 //!
 //! The contract: each engine's clause states what it writes for what its readers give, byte for byte, and
 //! what each fault means (`Ends` of `engine_parts/specs/Engines.antt`). This crate knows no command line,
@@ -10,4 +10,7 @@ mod about;
 pub mod charting;
 mod heading;
 pub mod laws;
+mod openings;
+pub mod showing;
 pub mod shrinking;
+mod test_lines;

@@ -1,0 +1,163 @@
+-- What answers a test and records, from what was judged and written.
+use Rattle.std.proofs.Common.{◌≡◌, ℕ, ◌++◌, Bool, false, List, [], Option, Some, None, Result, Ok, Err, refl, sym, ap, subst, ◌∙◌, ◌⊎◌, inl, inr}
+use Rattle.std.specs.Prelude.{◌==◌, IfErr, IfOk}
+use Rattle.std.specs.Io.KnownBytes.{Appends}
+use Rattle.std.proofs.lemmas.List.{append-nil}
+use Rattle.litmus.specs.LitmusTests.{LitmusTest}
+use Rattle.litmus_reader.specs.Grammar.{IsTestOf}
+use Rattle.engine_parts.specs.declared.fault.Fault.{Fault}
+use Rattle.engine_parts.specs.declared.fault.Fault.TheVariants.{ReadFailed, WriteFailed, NoMemory, Refused}
+use Rattle.engine_parts.specs.declared.fault.Refusal.{Refusal}
+use Rattle.engine_parts.specs.Engines.{Accepted, OfInput}
+use Rattle.engine_parts.specs.Interactive.{EndsInteractive, OnStopped, OnUnwritten}
+use Rattle.engine_parts.specs.Tests.ByTest.{no_test, of_test}
+use Rattle.engine_parts.specs.inner.Failures.{IsFailure}
+use Rattle.engine_parts.specs.inner.Inputs.{IsReadAsTest}
+use Rattle.engine_parts.specs.inner.Making.{FindsBy}
+use Rattle.engine_parts.proofs.Endings.{weaker}
+use Rattle.checking.specs.declared.tally.Tally.{Tally}
+use Rattle.checking.specs.RecordTexts.{is_left_out, texts_in, whole_lines}
+use Rattle.checking.specs.Judgements.{Judged, IsJudged}
+use Rattle.checking.specs.Reports.{report_line, reports_from}
+use Rattle.checking.specs.Outcomes.{IsTable}
+use Rattle.checking.specs.Checking.{IsCheckAnswer, IsChecked, IsCheckFront, IsFront, OfLines}
+use Rattle.checking.specs.inner.Reporting.{AllReported, Closes, SomeReported}
+use Rattle.checking.specs.inner.Reporting.Closes.{reported}
+use Rattle.checking.specs.inner.Tallies.{IsTallyOf, Tallies}
+use Rattle.checking.proofs.Goings.{appends_more, appends_nothing}
+
+-- ---- a text
+
+pub closes_by : (B M : ℕ) (test : LitmusTest) (text : List ℕ) (old new : Tally) (before after : Option (List ℕ)) (answer : Judged) (line : List ℕ)
+    → is_left_out text ≡ false → IsJudged B M test text answer → Tallies answer old new → line ≡ report_line new.judged answer
+    → Appends before after line → Closes B M test text old new before after
+closes_by B M test text old new before after answer line not_blank is tallies written appends =
+    reported answer not_blank is tallies
+    (subst (λ (out : List ℕ). Appends before after out) (written ∙ ap (λ (n : ℕ). report_line n answer) tallies.judged_are) appends)
+
+-- ---- all texts, and the table
+
+of_lines : (input : Option (List ℕ)) (P Q : List (List ℕ) → Type 0) → ((lines : List (List ℕ)) → P lines → Q lines) → OfLines input P → OfLines input Q
+of_lines None P Q more (lines, is) = (lines, more lines is)
+of_lines (Some bytes) P Q more is = more (whole_lines bytes) is
+
+module _ (B M : ℕ) (test : LitmusTest) (tally : Tally) (before mid : Option (List ℕ)) where
+  all_front : (lines : List (List ℕ)) (all : AllReported B M test lines tally before mid) → IsFront B M lines test (reports_from 1 all.answers)
+  all_front lines all = record {
+    done = texts_in lines;
+    rest = [];
+    texts = sym (append-nil (texts_in lines));
+    answers = all.answers;
+    are = all.are;
+    text = refl;
+  }
+
+  pub all_reported : (input : Option (List ℕ)) → OfLines input (λ lines. AllReported B M test lines tally before mid) → SomeReported B M test input before mid
+  all_reported None (lines, all) = (reports_from 1 all.answers, all.appends, (lines, all_front lines all))
+  all_reported (Some bytes) all = (reports_from 1 all.answers, all.appends, all_front (whole_lines bytes) all)
+
+  pub all_checked : (input : Option (List ℕ)) → OfLines input (λ lines. AllReported B M test lines tally before mid)
+      → (after : Option (List ℕ)) (text : List ℕ) (good : Bool)
+      → ((answers : List Judged) → IsTallyOf answers tally → IsTable test answers text) → good ≡ (tally.refused == 0) → Appends mid after text
+      → (out : List ℕ) × Appends before after out × OfLines input (λ lines. IsChecked B M lines test (out, good))
+  all_checked input reports after text good tabled judged appends = at input reports
+    where
+      checked : (lines : List (List ℕ)) (all : AllReported B M test lines tally before mid)
+          → IsChecked B M lines test (reports_from 1 all.answers ++ text, good)
+      checked lines all = record {
+        answers = all.answers;
+        are = all.are;
+        table = text;
+        tabled = tabled all.answers all.tallied;
+        text = refl;
+        good = judged ∙ ap (λ (n : ℕ). n == 0) all.tallied.refused_are;
+      }
+
+      at : (input : Option (List ℕ)) → OfLines input (λ lines. AllReported B M test lines tally before mid)
+          → (out : List ℕ) × Appends before after out × OfLines input (λ lines. IsChecked B M lines test (out, good))
+      at None (lines, all) =
+          (reports_from 1 all.answers ++ text, appends_more before mid after (reports_from 1 all.answers) text all.appends appends, (lines, checked lines all))
+      at (Some bytes) all = (
+        reports_from 1 all.answers ++ text,
+        appends_more before mid after (reports_from 1 all.answers) text all.appends appends,
+        checked (whole_lines bytes) all,
+      )
+
+-- nothing was written yet
+pub none_reported : (B M : ℕ) (test : LitmusTest) (input known : Option (List ℕ)) → SomeReported B M test input known known
+none_reported B M test input known = ([], appends_nothing known, at input)
+  where
+    front : (lines : List (List ℕ)) → IsFront B M lines test []
+    front lines = record { done = []; rest = texts_in lines; texts = refl; answers = []; are = refl; text = refl }
+
+    at : (input : Option (List ℕ)) → OfLines input (λ lines. IsFront B M lines test [])
+    at None = ([], front [])
+    at (Some bytes) = front (whole_lines bytes)
+
+-- ---- the whole
+
+module _ (B M : ℕ) (input known : Option (List ℕ)) {W : Type 0} (contents : W → Option (List ℕ)) where
+  abbrev Answers : Result (List ℕ × Bool) Refusal → Type 0
+  Answers answer = OfInput known (λ bytes. IsCheckAnswer B M input bytes answer)
+
+  abbrev Fronts : List ℕ → Type 0
+  Fronts out = OfInput known (λ bytes. IsCheckFront B M input bytes (Ok out))
+
+  module _ (test : LitmusTest) (read : OfInput known (λ bytes. Accepted IsTestOf bytes test)) where
+    front_of : (out : List ℕ) → OfLines input (λ lines. IsFront B M lines test out) → Fronts out
+    front_of out is = weaker known _ _ (λ bytes accepted. of_test test (Ok out) accepted is) read
+
+    pub ends_checked : (result : Result Bool Fault) (old new : W) → IfErr result IsFailure
+        → IfOk result (λ good. (out : List ℕ) × Appends (contents old) (contents new) out × OfLines input (λ lines. IsChecked B M lines test (out, good)))
+        → EndsInteractive Answers result contents old new
+    ends_checked (Ok good) old new fails (out, appends, is) =
+        (out, weaker known _ _ (λ bytes accepted. of_test test (Ok (out, good)) accepted is) read, appends)
+    ends_checked (Err (Refused r)) old new fails checked = absurd fails
+    ends_checked (Err ReadFailed) old new fails checked = tt
+    ends_checked (Err WriteFailed) old new fails checked = tt
+    ends_checked (Err NoMemory) old new fails checked = tt
+
+    pub left_checked : (result : Result Bool Fault) (before after : Option (List ℕ)) → OnStopped result (SomeReported B M test input before after)
+        → OnStopped result ((out : List ℕ) × Appends before after out × ((out ≡ []) ⊎ Fronts out))
+    left_checked (Ok good) before after is = tt
+    left_checked (Err (Refused r)) before after is = tt
+    left_checked (Err WriteFailed) before after is = tt
+    left_checked (Err ReadFailed) before after (out, appends, is) = (out, appends, inr (front_of out is))
+    left_checked (Err NoMemory) before after (out, appends, is) = (out, appends, inr (front_of out is))
+
+    pub unwritten_checked : (result : Result Bool Fault) → OnUnwritten result ((out : List ℕ) × OfLines input (λ lines. IsFront B M lines test out))
+        → OnUnwritten result ((out : List ℕ) × Fronts out)
+    unwritten_checked (Ok good) is = tt
+    unwritten_checked (Err (Refused r)) is = tt
+    unwritten_checked (Err ReadFailed) is = tt
+    unwritten_checked (Err NoMemory) is = tt
+    unwritten_checked (Err WriteFailed) (out, is) = (out, front_of out is)
+
+  -- no test was read
+  module _ (result : Result Bool Fault) (fault : Fault) (is : result ≡ Err fault)
+      (found : FindsBy IsReadAsTest (λ (test : LitmusTest). test) known (Err fault)) where
+    pub ends_refused : (old : W) → EndsInteractive Answers result contents old old
+    ends_refused old = rw is (at fault found)
+      where
+        at : (f : Fault) → FindsBy IsReadAsTest (λ (test : LitmusTest). test) known (Err f) → EndsInteractive Answers (Err f) contents old old
+        at (Refused r) bad = (weaker known _ _ (λ bytes none. no_test r none) bad, refl)
+        at ReadFailed bad = tt
+        at NoMemory bad = tt
+        at WriteFailed bad = tt
+
+    pub unwritten_refused : (P : Type 0) → OnUnwritten result P
+    unwritten_refused P = rw is (at fault found)
+      where
+        at : (f : Fault) → FindsBy IsReadAsTest (λ (test : LitmusTest). test) known (Err f) → OnUnwritten {V = Bool} (Err f) P
+        at (Refused r) bad = tt
+        at ReadFailed bad = tt
+        at NoMemory bad = tt
+        at WriteFailed bad = absurd bad
+
+pub nothing_left : (result : Result Bool Fault) (known : Option (List ℕ)) (Q : List ℕ → Type 0)
+    → OnStopped result ((out : List ℕ) × Appends known known out × ((out ≡ []) ⊎ Q out))
+nothing_left (Ok good) known Q = tt
+nothing_left (Err (Refused r)) known Q = tt
+nothing_left (Err WriteFailed) known Q = tt
+nothing_left (Err ReadFailed) known Q = ([], appends_nothing known, inl refl)
+nothing_left (Err NoMemory) known Q = ([], appends_nothing known, inl refl)

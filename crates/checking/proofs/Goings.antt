@@ -1,0 +1,237 @@
+-- Records that are judged as they are read.
+use Rattle.std.proofs.Common.{arith, ◌≡◌, ℕ, ◌+◌, ◌<◌, ◌≤◌, true, false, List, [], ◌∷◌, ◌++◌, length, length-append}
+use Rattle.std.proofs.Common.{Option, Some, None, refl, sym, ap, subst, ◌∙◌, append_assoc, inl, inr}
+use Rattle.std.specs.Prelude.{◌==◌, IfSome}
+use Rattle.std.specs.Io.BufRead.{take_through, drop_through, DropsThrough}
+use Rattle.std.specs.Io.KnownBytes.{Appends}
+use Rattle.std.proofs.lemmas.Bool.{cases_Bool}
+use Rattle.std.proofs.lemmas.List.{append-nil}
+use Rattle.litmus.specs.LitmusTests.{LitmusTest}
+use Rattle.checking.specs.declared.tally.Tally.{Tally}
+use Rattle.checking.specs.RecordTexts.{whole_lines, begins_record, is_left_out, unless_blank, texts_in}
+use Rattle.checking.specs.Judgements.{Judged, IsJudged, AreJudged}
+use Rattle.checking.specs.Reports.{report_line, reports_from}
+use Rattle.checking.specs.Checking.{IsFront, OfLines}
+use Rattle.checking.specs.inner.Holding.{IsHeld}
+use Rattle.checking.specs.inner.Reporting.{AllReported, Closes, SomeReported, TakesLine}
+use Rattle.checking.specs.inner.Reporting.Closes.{left_out, reported}
+use Rattle.checking.specs.inner.Reporting.TakesLine.{belongs, begins}
+use Rattle.checking.specs.inner.Tallies.{HasRoom, IsTallyOf}
+use Rattle.checking.proofs.TallyLaws.{has_room, tally_more}
+use Rattle.checking.proofs.TextLaws.{first_whole, texts_from, text_ends, text_goes_on, text_is_last, held_left_out, held_judged}
+
+-- ---- what a writer holds, where that is known
+
+pub appends_nothing : (known : Option (List ℕ)) → Appends known known []
+appends_nothing known = grind (arith, append-nil)
+
+pub appends_more : (old mid new : Option (List ℕ)) (xs ys : List ℕ) → Appends old mid xs → Appends mid new ys → Appends old new (xs ++ ys)
+appends_more old mid new xs ys a b = grind (arith, append_assoc)
+
+-- ---- one text more
+
+judged_more : (B M : ℕ) (test : LitmusTest) (texts : List (List ℕ)) (answers : List Judged) (text : List ℕ) (answer : Judged)
+    → AreJudged B M test texts answers → IsJudged B M test text answer → AreJudged B M test (texts ++ text ∷ []) (answers ++ answer ∷ [])
+judged_more B M test [] answers text answer is one = (answer, [], ap (λ (list : List Judged). list ++ answer ∷ []) is, one, refl)
+judged_more B M test (first ∷ texts) answers text answer is one =
+    (is.0, is.1 ++ answer ∷ [], ap (λ (list : List Judged). list ++ answer ∷ []) is.2, is.3, judged_more B M test texts is.1 text answer is.4 one)
+
+reports_more : (number : ℕ) (answers : List Judged) (answer : Judged)
+    → reports_from number (answers ++ answer ∷ []) ≡ reports_from number answers ++ report_line (number + length answers) answer
+reports_more number [] answer =
+    let same : number ≡ number + 0 = omega arith in
+    append-nil (report_line number answer) ∙ ap (λ (k : ℕ). report_line k answer) same
+reports_more number (first ∷ answers) answer =
+    let same : number + 1 + length answers ≡ number + length (first ∷ answers) = omega arith in
+    ap (λ (rest : List ℕ). report_line number first ++ rest)
+    (reports_more (number + 1) answers answer ∙ ap (λ (k : ℕ). reports_from (number + 1) answers ++ report_line k answer) same)
+    ∙ sym (append_assoc (report_line number first) (reports_from (number + 1) answers) (report_line (number + length (first ∷ answers)) answer))
+
+-- ---- line by line
+
+-- where the input is known, its lines are these and then those that are left of it
+abbrev AreDone : (input left : Option (List ℕ)) → List (List ℕ) → Type 0
+AreDone None left done = Unit {0}
+AreDone (Some bytes) None done = ⊥
+AreDone (Some bytes) (Some rest) done = whole_lines bytes ≡ done ++ whole_lines rest
+
+-- what was read next of what was left
+abbrev pub IsNext : (left next : Option (List ℕ)) → (line : List ℕ) → Type 0
+IsNext left next line = IfSome left (λ bytes. line ≡ take_through 10 bytes) × DropsThrough left next 10
+
+-- Some lines of the input were read. The texts in them were judged, except the last one, of which this is
+-- held: the writer has got a line for each.
+pub record Going (B M : ℕ) (test : LitmusTest) (input left before after : Option (List ℕ)) (held : List ℕ) (tally : Tally) (count : ℕ) : Type 0 where
+  done : List (List ℕ)
+  text : List ℕ
+  closed : List (List ℕ)
+  answers : List Judged
+  are_done : AreDone input left done
+  cut : (more : List (List ℕ)) → texts_in (done ++ more) ≡ closed ++ texts_from text more
+  holds : IsHeld text held
+  are : AreJudged B M test closed answers
+  tallied : IsTallyOf answers tally
+  appends : Appends before after (reports_from 1 answers)
+  few : length answers ≤ count
+
+pub going_nothing : (B M : ℕ) (test : LitmusTest) (input known : Option (List ℕ)) (tally : Tally) → IsTallyOf [] tally
+    → Going B M test input input known known [] tally 0
+unfolding texts_in
+going_nothing B M test input known tally is = record {
+  done = [];
+  text = [];
+  closed = [];
+  answers = [];
+  are_done = none_done input;
+  cut = λ more. refl;
+  holds = inl refl;
+  are = refl;
+  tallied = is;
+  appends = appends_nothing known;
+  few = omega arith;
+}
+  where
+    none_done : (input : Option (List ℕ)) → AreDone input input []
+    none_done None = tt
+    none_done (Some bytes) = refl
+
+no_byte : (bytes : List ℕ) → take_through 10 bytes ≡ [] → bytes ≡ []
+no_byte [] e = refl
+no_byte (byte ∷ bytes) e = elim (cases_Bool (byte == 10)) [
+  | inl is ↦ (let f : byte ∷ [] ≡ [] = rw is at e in cc)
+  | inr other ↦ (let f : byte ∷ take_through 10 bytes ≡ [] = rw other at e in cc)
+]
+
+module _ {B M : ℕ} {test : LitmusTest} {input left before after : Option (List ℕ)} {held : List ℕ} {tally : Tally} {count : ℕ}
+    (t : Going B M test input left before after held tally count) where
+  -- there is room for one more
+  pub going_room : count < 18446744073709551615 → HasRoom tally
+  going_room few = has_room t.answers tally t.tallied (omega (arith, t.few, few))
+
+  -- the lines of the first texts were written
+  pub going_so_far : SomeReported B M test input before after
+  going_so_far = (reports_from 1 t.answers, t.appends, at input left t.are_done)
+    where
+      front : (lines more : List (List ℕ)) → lines ≡ t.done ++ more → IsFront B M lines test (reports_from 1 t.answers)
+      front lines more is = record {
+        done = t.closed;
+        rest = texts_from t.text more;
+        texts = ap texts_in is ∙ t.cut more;
+        answers = t.answers;
+        are = t.are;
+        text = refl;
+      }
+
+      at : (input left : Option (List ℕ)) → AreDone input left t.done → OfLines input (λ lines. IsFront B M lines test (reports_from 1 t.answers))
+      at None left is = (t.done ++ [], front (t.done ++ []) [] refl)
+      at (Some bytes) None is = absurd is
+      at (Some bytes) (Some rest) is = front (whole_lines bytes) (whole_lines rest) is
+
+  -- the text that was read was closed
+  closed_more : (new : Tally) (later : Option (List ℕ)) → Closes B M test held tally new after later
+      → (more : List Judged) × AreJudged B M test (t.closed ++ unless_blank t.text) more × IsTallyOf more new
+      × Appends before later (reports_from 1 more) × (length more ≤ count + 1)
+  closed_more new later (left_out blank same stays) =
+      let is_blank : is_left_out t.text ≡ true = sym (held_left_out t.text held t.holds) ∙ blank in (
+        t.answers,
+        rw (is_blank, append-nil t.closed) t.are,
+        subst (IsTallyOf t.answers) (sym same) t.tallied,
+        subst (λ (known : Option (List ℕ)). Appends before known (reports_from 1 t.answers)) (sym stays) t.appends,
+        omega (arith, t.few),
+      )
+  closed_more new later (reported answer not_blank is tallies appends) =
+      let is_text : is_left_out t.text ≡ false = sym (held_left_out t.text held t.holds) ∙ not_blank in
+      let number : tally.judged + 1 ≡ 1 + length t.answers = omega (arith, t.tallied.judged_are) in
+      let counted = length-append t.answers (answer ∷ []) in (
+        t.answers ++ answer ∷ [],
+        rw is_text (judged_more B M test t.closed t.answers t.text answer t.are (held_judged B M test t.text held answer t.holds is)),
+        tally_more t.answers answer tally new t.tallied tallies,
+        subst (λ (out : List ℕ). Appends before later out)
+            (ap (λ (k : ℕ). reports_from 1 t.answers ++ report_line k answer) number ∙ sym (reports_more 1 t.answers answer))
+            (appends_more before after later (reports_from 1 t.answers) (report_line (tally.judged + 1) answer) t.appends appends),
+        omega (arith, counted, t.few),
+      )
+
+  -- the input has ended, and all is reported
+  pub going_ended : (next : Option (List ℕ)) (line : List ℕ) → IsNext left next line → line ≡ [] → (new : Tally) (later : Option (List ℕ))
+      → Closes B M test held tally new after later → OfLines input (λ lines. AllReported B M test lines new before later)
+  going_ended next line is_next none new later closes = at input left t.are_done is_next.0
+    where
+      all : (lines : List (List ℕ)) → lines ≡ t.done ++ [] → AllReported B M test lines new before later
+      all lines is =
+          let more = closed_more new later closes in record {
+            answers = more.0;
+            are = subst (λ (texts : List (List ℕ)). AreJudged B M test texts more.0)
+                (sym (ap texts_in is ∙ t.cut [] ∙ ap (λ (last : List (List ℕ)). t.closed ++ last) (text_is_last t.text))) more.1;
+            tallied = more.2;
+            appends = more.3;
+          }
+
+      at : (input left : Option (List ℕ)) → AreDone input left t.done → IfSome left (λ bytes. line ≡ take_through 10 bytes)
+          → OfLines input (λ lines. AllReported B M test lines new before later)
+      at None left is first = (t.done ++ [], all (t.done ++ []) refl)
+      at (Some bytes) None is first = absurd is
+      at (Some bytes) (Some rest) is first =
+          let ended = no_byte rest (sym first ∙ none) in
+          all (whole_lines bytes) (is ∙ ap (λ (xs : List ℕ). t.done ++ whole_lines xs) ended)
+
+  module _ (next : Option (List ℕ)) (line : List ℕ) (is_next : IsNext left next line) (some : line ≡ [] → ⊥) where
+    -- one line more was read
+    one_done : AreDone input next (t.done ++ line ∷ [])
+    one_done = at input left t.are_done is_next.0 is_next.1
+      where
+        at : (input left : Option (List ℕ)) → AreDone input left t.done → IfSome left (λ bytes. line ≡ take_through 10 bytes) → DropsThrough left next 10
+            → AreDone input next (t.done ++ line ∷ [])
+        at None left is first drops = tt
+        at (Some bytes) None is first drops = absurd is
+        at (Some bytes) (Some []) is first drops = absurd (some first)
+        at (Some bytes) (Some (byte ∷ rest)) is first drops =
+            rw drops
+            (is ∙ ap (λ (lines : List (List ℕ)). t.done ++ lines) (first_whole byte rest)
+            ∙ ap (λ (l : List ℕ). t.done ++ l ∷ whole_lines (drop_through 10 (byte ∷ rest))) (sym first)
+            ∙ sym (append_assoc t.done (line ∷ []) (whole_lines (drop_through 10 (byte ∷ rest)))))
+
+    -- it belongs to the text
+    going_on : begins_record line ≡ false → (new : List ℕ) → ((whole : List ℕ) → IsHeld whole held → IsHeld (whole ++ line) new)
+        → Going B M test input next before after new tally (count + 1)
+    going_on other new held_more = record {
+      done = t.done ++ line ∷ [];
+      text = t.text ++ line;
+      closed = t.closed;
+      answers = t.answers;
+      are_done = one_done;
+      cut = λ more. ap texts_in (append_assoc t.done (line ∷ []) more) ∙ t.cut (line ∷ more)
+          ∙ ap (λ (texts : List (List ℕ)). t.closed ++ texts) (text_goes_on t.text line more other);
+      holds = held_more t.text t.holds;
+      are = t.are;
+      tallied = t.tallied;
+      appends = t.appends;
+      few = omega (arith, t.few);
+    }
+
+    -- or it begins a record, and the text is closed
+    going_anew : begins_record line ≡ true → (newer : Tally) (later : Option (List ℕ)) → Closes B M test held tally newer after later
+        → (new : List ℕ) → IsHeld line new → Going B M test input next before later new newer (count + 1)
+    going_anew at_head newer later closes new is_held =
+        let more = closed_more newer later closes in record {
+          done = t.done ++ line ∷ [];
+          text = line;
+          closed = t.closed ++ unless_blank t.text;
+          answers = more.0;
+          are_done = one_done;
+          cut = λ rest. ap texts_in (append_assoc t.done (line ∷ []) rest) ∙ t.cut (line ∷ rest)
+              ∙ ap (λ (texts : List (List ℕ)). t.closed ++ texts) (text_ends t.text line rest at_head)
+              ∙ sym (append_assoc t.closed (unless_blank t.text) (texts_from line rest));
+          holds = is_held;
+          are = more.1;
+          tallied = more.2;
+          appends = more.3;
+          few = more.4;
+        }
+
+    -- either way it was taken
+    pub going_line : (new : List ℕ) (newer : Tally) (later : Option (List ℕ)) → TakesLine B M test line held new tally newer after later
+        → Going B M test input next before later new newer (count + 1)
+    going_line new newer later (belongs other held_more same stays) =
+        rw (same, stays) (going_on other new held_more)
+    going_line new newer later (begins at_head closes is) = going_anew at_head newer later closes new (inl is)

@@ -1,0 +1,157 @@
+-- Records answer one text: what is said of them is determined by the test and the input.
+use Rattle.std.proofs.Common.{◌≡◌, ℕ, Bool, true, false, List, [], ◌∷◌, ◌++◌, map, take, count_by, Some, Result, Ok, Err, refl, sym, ap, ap₂, ◌∙◌, subst}
+use Rattle.std.specs.Prelude.{◌==◌, ◌↔◌, Contains, IsTrue}
+use Rattle.std.specs.BTreeSet.{BTreeSet, contains}
+use Rattle.std.proofs.lemmas.Map.Lookups.{btree_set_from_contains, exact_bytes}
+use Rattle.std.proofs.lemmas.Map.Views.{btree_set_contains_iff}
+use Rattle.std.specs.List.{flat_map, slice_get}
+use Rattle.std.specs.Ordering.{nat_cmp}
+use Rattle.std.specs.Cmp.Lexicographic.{slice_cmp, nat_list_cmp_total}
+use Rattle.texts.proofs.FormatLaws.{settled_one, settled_only}
+use Rattle.texts.proofs.ResultLaws.{some_is}
+use Rattle.step_machine.specs.History.{Start, History, unrun}
+use Rattle.step_machine.specs.Runs.{Happens}
+use Rattle.step_machine.proofs.Running.{happens-one, run-one}
+use Rattle.litmus.specs.LitmusTests.{LitmusTest, left_sides}
+use Rattle.litmus.specs.Verdicts.{final_value}
+use Rattle.litmus.specs.declared.verdict.Verdict.{Verdict}
+use Rattle.litmus.proofs.VerdictLaws.{one_verdict}
+use Rattle.recorder.specs.Records.{Step, events_in, IsRecordOf, record_at}
+use Rattle.recorder.specs.Replaying.{IsRunRecord, DiffersAt}
+use Rattle.recorder.proofs.HeadLaws.{record_settles}
+use Rattle.recorder.proofs.RunRecords.{no_other, record_runs}
+use Rattle.engine_parts.specs.declared.fault.Refusal.{Refusal}
+use Rattle.engine_parts.specs.Engines.{AreOneAnswer, judged}
+use Rattle.engine_parts.proofs.OneInput.{alike_by_test, one_refusal, value_or_refusal}
+use Rattle.engine_parts.proofs.RunLaws.{one_place}
+use Rattle.checking.specs.EventLines.{line_of_event}
+use Rattle.checking.specs.RecordTexts.{texts_in, whole_lines}
+use Rattle.checking.specs.Judgements.{AreJudged, Difference, EndsAs, IsDifference, IsJudged, IsOfRun, IsSaidOf, Judged, judged_run, record_of}
+use Rattle.checking.specs.Judgements.Judged.{differing, no_record}
+use Rattle.checking.specs.Judgements.IsSaidOf.{of_run, of_difference}
+use Rattle.checking.specs.Judgements.IsJudged.{none, record_is}
+use Rattle.checking.specs.Reports.{reports_from}
+use Rattle.checking.specs.Outcomes.{AreOutcomes, IsTable, is_refused, is_unfinished, outcome_row, refused_line, unfinished_line}
+use Rattle.checking.specs.Checking.{IsCheckAnswer, IsChecked, IsCheckedOf}
+
+-- ---- one run of a record
+
+one_history : (B M : ℕ) (o : Start) (steps others : List Step) (t u : History) → steps ≡ others
+    → IsRunRecord B M o steps t → IsRunRecord B M o others u → t ≡ u
+one_history B M o steps others t u same is other =
+    run-one B M (unrun o) (events_in others) t u (record_runs B M o others t (subst (λ (xs : List Step). IsRunRecord B M o xs t) same is))
+    (record_runs B M o others u other)
+
+one_end : (M : ℕ) (q : LitmusTest) (t : History) (a b : Judged) → EndsAs M q a t → EndsAs M q b t → a ≡ b
+one_end M q t a b is other =
+    let verdicts : is.verdict ≡ other.verdict = one_verdict M q t is.verdict other.verdict is.judged other.judged in
+    is.says ∙ ap (λ (v : Verdict). judged_run v (map (final_value M t) (left_sides q.condition))) verdicts ∙ sym other.says
+
+one_of_run : (B M : ℕ) (q : LitmusTest) (steps : List Step) (a b : Judged) → IsOfRun B M q steps a → IsOfRun B M q steps b → a ≡ b
+one_of_run B M q steps a b is other =
+    let same : is.history ≡ other.history = one_history B M q.opening steps steps is.history other.history refl is.ran other.ran in
+    one_end M q other.history a b (subst (EndsAs M q a) same is.ends) other.ends
+
+-- ---- one first difference
+
+one_differing : (B M : ℕ) (o : Start) (steps : List Step) (i j : ℕ) → i ≡ j → (x : DiffersAt B M o steps i) (y : DiffersAt B M o steps j)
+    → (x.step ≡ y.step) × (x.outcome ≡ y.outcome)
+one_differing B M o steps i j places x y =
+    let said : x.step ≡ y.step = some_is x.step y.step (sym x.stands ∙ ap (slice_get steps) places ∙ y.stands) in
+    let before : x.before ≡ y.before =
+    one_history B M o (take i steps) (take j steps) x.before y.before (ap (λ (k : ℕ). take k steps) places) x.is_record y.is_record in
+    let here : Happens B M y.before y.step.0 x.outcome x.after =
+    subst (λ (s : Step). Happens B M y.before s.0 x.outcome x.after) said
+    (subst (λ (t : History). Happens B M t x.step.0 x.outcome x.after) before x.happens) in
+    (said, (happens-one B M y.before y.step.0 x.outcome y.outcome x.after y.after here y.happens).0)
+
+one_difference : (B M : ℕ) (q : LitmusTest) (text : List ℕ) (steps : List Step) (d e : Difference)
+    → IsDifference B M q text steps d → IsDifference B M q text steps e → d ≡ e
+one_difference B M q text steps d e is other =
+    let events : d.event ≡ e.event = one_place B M q.opening steps d.event e.event is.differs other.differs in
+    let same = one_differing B M q.opening steps d.event e.event events is.differs other.differs in
+    let lines : d.line ≡ e.line = is.line ∙ ap (line_of_event text) events ∙ sym other.line in
+    let said : d.step ≡ e.step = sym is.step ∙ same.0 ∙ other.step in
+    let found : d.found ≡ e.found = sym is.found ∙ same.1 ∙ other.found in
+    λ i. record { event = events i; line = lines i; step = said i; found = found i }
+
+-- ---- one judgement of a text
+
+one_said : (B M : ℕ) (q : LitmusTest) (text : List ℕ) (steps : List Step) (a b : Judged)
+    → IsSaidOf B M q text steps a → IsSaidOf B M q text steps b → a ≡ b
+one_said B M q text steps a b (of_run x is) (of_run y other) = one_of_run B M q steps x y is other
+one_said B M q text steps a b (of_run x is) (of_difference e other) = absurd (no_other B M q.opening steps is.history e.event is.ran other.differs)
+one_said B M q text steps a b (of_difference d is) (of_run y other) = absurd (no_other B M q.opening steps other.history d.event other.ran is.differs)
+one_said B M q text steps a b (of_difference d is) (of_difference e other) = ap differing (one_difference B M q text steps d e is other)
+
+read_record : (text : List ℕ) (steps : List Step) → IsRecordOf text steps → record_of text ≡ Ok steps
+unfolding record_of
+read_record text steps is = let found = settled_only (IsRecordOf text) (record_at text) steps (record_settles text) is in rw found refl
+
+one_judged : (B M : ℕ) (q : LitmusTest) (text : List ℕ) (a b : Judged) → IsJudged B M q text a → IsJudged B M q text b → a ≡ b
+one_judged B M q text a b (none r refused) (none s other) = ap no_record (one_refusal (judged record_of text) r s refused other)
+one_judged B M q text a b (none r refused) (record_is steps y also tells) =
+    absurd (value_or_refusal record_of IsRecordOf text steps r (read_record text steps) also refused)
+one_judged B M q text a b (record_is steps x is says) (none s refused) =
+    absurd (value_or_refusal record_of IsRecordOf text steps s (read_record text steps) is refused)
+one_judged B M q text a b (record_is steps x is says) (record_is others y also tells) =
+    let same : others ≡ steps = settled_one (IsRecordOf text) (record_at text) others steps (record_settles text) also.value_is is.value_is in
+    one_said B M q text steps x y says (subst (λ (xs : List Step). IsSaidOf B M q text xs y) same tells)
+
+one_list : (B M : ℕ) (q : LitmusTest) (texts : List (List ℕ)) (xs ys : List Judged) → AreJudged B M q texts xs → AreJudged B M q texts ys → xs ≡ ys
+one_list B M q [] xs ys are others = are ∙ sym others
+one_list B M q (text ∷ texts) xs ys (a, rest, same, is, are) (b, others, equal, also, tell) =
+    same ∙ ap₂ (λ (x : Judged) (xs : List Judged). x ∷ xs) (one_judged B M q text a b is also) (one_list B M q texts rest others are tell) ∙ sym equal
+
+-- ---- one ascending list of the same elements
+
+same_truth : (b c : Bool) → (IsTrue b → IsTrue c) → (IsTrue c → IsTrue b) → b ≡ c
+same_truth true true to from = refl
+same_truth true false to from = sym (to refl)
+same_truth false true to from = from refl
+same_truth false false to from = refl
+
+abbrev set_of : List (List ℕ) → BTreeSet (List ℕ)
+set_of xs = record { keys = xs }
+
+shown_or_not : (xs : List (List ℕ)) (outcome : List ℕ) → IsTrue (contains (slice_cmp nat_cmp) (set_of xs) outcome) ↔ Contains xs outcome
+shown_or_not xs outcome = btree_set_contains_iff nat_list_cmp_total exact_bytes (set_of xs) outcome
+
+one_outcomes : (answers : List Judged) (xs ys : List (List ℕ)) → AreOutcomes answers xs → AreOutcomes answers ys → xs ≡ ys
+one_outcomes answers xs ys is other =
+    btree_set_from_contains nat_list_cmp_total (set_of xs) (set_of ys) is.ascending other.ascending same exact_bytes
+  where
+    same : (outcome : List ℕ) → contains (slice_cmp nat_cmp) (set_of xs) outcome ≡ contains (slice_cmp nat_cmp) (set_of ys) outcome
+    same outcome = same_truth (contains (slice_cmp nat_cmp) (set_of xs) outcome) (contains (slice_cmp nat_cmp) (set_of ys) outcome)
+        (λ there. (shown_or_not ys outcome).1 ((other.all outcome).1 ((is.all outcome).0 ((shown_or_not xs outcome).0 there))))
+        (λ there. (shown_or_not xs outcome).1 ((is.all outcome).1 ((other.all outcome).0 ((shown_or_not ys outcome).0 there))))
+
+-- ---- one table and one text
+
+one_table : (q : LitmusTest) (answers : List Judged) (a b : List ℕ) → IsTable q answers a → IsTable q answers b → a ≡ b
+one_table q answers a b is other =
+    let outcomes : is.outcomes ≡ other.outcomes = one_outcomes answers is.outcomes other.outcomes is.shown other.shown in
+    is.is
+    ∙ ap (λ (xs : List (List ℕ)). flat_map (outcome_row q answers) xs ++ unfinished_line (count_by is_unfinished answers)
+    ++ refused_line (count_by is_refused answers)) outcomes
+    ∙ sym other.is
+
+one_checked : (B M : ℕ) (lines : List (List ℕ)) (q : LitmusTest) (a b : List ℕ × Bool) → IsChecked B M lines q a → IsChecked B M lines q b → a ≡ b
+one_checked B M lines q a b is other =
+    let answers : is.answers ≡ other.answers = one_list B M q (texts_in lines) is.answers other.answers is.are other.are in
+    let tables : is.table ≡ other.table =
+    one_table q other.answers is.table other.table (subst (λ (xs : List Judged). IsTable q xs is.table) answers is.tabled) other.tabled in
+    let texts : a.0 ≡ b.0 = is.text ∙ ap₂ (λ (xs : List Judged) (table : List ℕ). reports_from 1 xs ++ table) answers tables ∙ sym other.text in
+    let goods : a.1 ≡ b.1 = is.good ∙ ap (λ (xs : List Judged). count_by is_refused xs == 0) answers ∙ sym other.good in
+    λ i. (texts i, goods i)
+
+module _ (B M : ℕ) (records : List ℕ) where
+  one_of_test : (q : LitmusTest) (a b : Result (List ℕ × Bool) Refusal)
+      → IsCheckedOf B M (Some records) q a → IsCheckedOf B M (Some records) q b → AreOneAnswer a b
+  one_of_test q (Ok a) (Ok b) is other = one_checked B M (whole_lines records) q a b is other
+  one_of_test q (Ok a) (Err s) is never = absurd never
+  one_of_test q (Err r) b never other = absurd never
+
+  pub one_check : (file : List ℕ) (a b : Result (List ℕ × Bool) Refusal)
+      → IsCheckAnswer B M (Some records) file a → IsCheckAnswer B M (Some records) file b → AreOneAnswer a b
+  one_check = alike_by_test AreOneAnswer (λ r s e. e) (IsCheckedOf B M (Some records)) one_of_test

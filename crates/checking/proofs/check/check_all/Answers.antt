@@ -1,0 +1,71 @@
+use Rattle.std.proofs.Common.{◌==◌, arith, lit<}
+use Rattle.std.specs.String.{string_bytes}
+use Rattle.step_machine.specs.History.{unrun}
+use Rattle.engine_parts.proofs.Endings.{is_handed}
+use Rattle.checking.specs.declared.tally.Tally.{Tally}
+use Rattle.checking.proofs.Answering.{all_checked, all_reported, none_reported}
+use Rattle.checking.proofs.Differences.{ok_more}
+use Rattle.checking.proofs.Endings.{end_fails, end_stopped, hands_failure, hands_stop, hands_unwritten, stopped, unwritten, wrote}
+use Rattle.checking.proofs.OutcomeLaws.{tabled}
+use Rattle.checking.proofs.check.check_all.Goals as goal
+
+pub judge_all-requires : goal.judge_all-requires
+judge_all-requires g c = (
+  lit< tt,
+  ((unrun c.in_ok-opening.opening, c.in_ok-machine.ensures, c.in_ok-opening.ensures.copy), omega (arith, c.in_ok-opening.ensures.fits.names, c.requires.words)),
+)
+
+pub returns-in_err-opening-clause-left : goal.returns-in_err-opening-clause-left
+returns-in_err-opening-clause-left g c =
+    stopped c.from_residual.result _
+    (none_reported g.row.B g.row.M c.args.test.now (g.R.Read.remaining c.args.records.now) (g.W.Write.contents c.args.writer.now))
+
+pub returns-in_err-machine-clause-left : goal.returns-in_err-machine-clause-left
+returns-in_err-machine-clause-left g c =
+    stopped c.from_residual-in_err-machine.result _
+    (none_reported g.row.B g.row.M c.args.test.now (g.R.Read.remaining c.args.records.now) (g.W.Write.contents c.args.writer.now))
+
+pub returns-in_err-tally-clause-err : goal.returns-in_err-tally-clause-err
+returns-in_err-tally-clause-err g c =
+    hands_failure c.from_residual-in_err-tally.result _
+    (is_handed c.from_residual-in_err-tally.result _ c.from_residual-in_err-tally.ensures.1) c.in_err-tally.ensures.err
+
+pub returns-in_err-tally-clause-left : goal.returns-in_err-tally-clause-left
+returns-in_err-tally-clause-left g c =
+    hands_stop Tally c.from_residual-in_err-tally.result _
+    (is_handed c.from_residual-in_err-tally.result _ c.from_residual-in_err-tally.ensures.1) _ _ (λ some. some) c.in_err-tally.ensures.left
+
+pub returns-in_err-tally-clause-unwritten : goal.returns-in_err-tally-clause-unwritten
+returns-in_err-tally-clause-unwritten g c =
+    hands_unwritten Tally c.from_residual-in_err-tally.result _
+    (is_handed c.from_residual-in_err-tally.result _ c.from_residual-in_err-tally.ensures.1) _ c.in_err-tally.ensures.unwritten
+
+pub returns-in_err-text-clause-left : goal.returns-in_err-text-clause-left
+returns-in_err-text-clause-left g c =
+    stopped c.from_residual-in_err-text.result _
+    (all_reported g.row.B g.row.M c.args.test.now c.in_ok-tally.tally _ _ (g.R.Read.remaining c.args.records.now) c.in_ok-tally.ensures.judged)
+
+pub returns-clause-checked : goal.returns-clause-checked
+returns-clause-checked g c =
+    let tally = c.in_ok-tally.tally in
+    let table = c.in_ok-text.ensures in
+    ok_more c.end_with.result _ _
+    (λ good written. all_checked g.row.B g.row.M c.args.test.now tally (g.W.Write.contents c.args.writer.now) (g.W.Write.contents c.judge_all.new.writer)
+    (g.R.Read.remaining c.args.records.now) c.in_ok-tally.ensures.judged (g.W.Write.contents c.end_with.new.writer) (string_bytes c.in_ok-text.text) good
+    (λ answers is. tabled c.args.test.now answers tally (string_bytes c.in_ok-text.text) is table.ordered table.found table.lines) written.0 written.1)
+    (wrote (c.in_ok-text.text, tally.refused == 0) c.end_with.result g.W.Write.contents c.judge_all.new.writer c.end_with.new.writer c.end_with.ensures)
+
+pub returns-clause-err : goal.returns-clause-err
+returns-clause-err g c =
+    end_fails (c.in_ok-text.text, c.in_ok-tally.tally.refused == 0) c.end_with.result g.W.Write.contents
+    c.judge_all.new.writer c.end_with.new.writer c.end_with.ensures
+
+pub returns-clause-left : goal.returns-clause-left
+returns-clause-left g c =
+    end_stopped (c.in_ok-text.text, c.in_ok-tally.tally.refused == 0) c.end_with.result g.W.Write.contents
+    c.judge_all.new.writer c.end_with.new.writer c.end_with.ensures _
+
+pub returns-clause-unwritten : goal.returns-clause-unwritten
+returns-clause-unwritten g c =
+    let some = all_reported g.row.B g.row.M c.args.test.now c.in_ok-tally.tally _ _ (g.R.Read.remaining c.args.records.now) c.in_ok-tally.ensures.judged in
+    unwritten c.end_with.result _ (some.0, some.2)

@@ -1,0 +1,80 @@
+use Rattle.std.proofs.Common.{◌≡◌, ℕ, ◌<◌, List, [], ◌∷◌, length, rules, refl, lit<, arith}
+use Rattle.engine_parts.proofs.Endings.{is_handed}
+use Rattle.checking.proofs.Endings.{hands_read_failure, keeps_written, stopped, unwritten}
+use Rattle.checking.specs.inner.Reporting.{SomeReported}
+use Rattle.checking.proofs.Goings.{going_ended, going_line, going_nothing, going_room, going_so_far}
+use Rattle.checking.proofs.check.judge_all.Goals as goal
+
+no_items : (xs : List ℕ) → length xs ≡ 0 → xs ≡ []
+no_items [] e = refl
+no_items (x ∷ xs) e = absurd (omega (arith, e))
+
+pub loop-init : goal.loop-init
+loop-init g c = record {
+  going = rw c.new-text.ensures.items
+      (going_nothing g.row.B g.row.M c.args.test.now (g.R.Read.remaining c.args.records.now)
+      (g.W.Write.contents c.args.writer.now) c.new-tally.result c.new-tally.ensures);
+  stands = c.requires.stands;
+}
+
+pub returns-in_err-read_line-clause-err : goal.returns-in_err-read_line-clause-err
+returns-in_err-read_line-clause-err g c =
+    hands_read_failure c.from_residual.result _ (is_handed c.from_residual.result _ c.from_residual.ensures.1) c.in_err-read_line.ensures.err
+
+pub returns-in_err-read_line-clause-left : goal.returns-in_err-read_line-clause-left
+returns-in_err-read_line-clause-left g c = stopped c.from_residual.result _ (going_so_far c.loop.invariant.going)
+
+pub returns-in_err-read_line-clause-unwritten : goal.returns-in_err-read_line-clause-unwritten
+returns-in_err-read_line-clause-unwritten g c =
+    let so_far = going_so_far c.loop.invariant.going in unwritten c.from_residual.result _ (so_far.0, so_far.2)
+
+pub loop-preserved : goal.loop-preserved
+loop-preserved g c = record {
+  going = going_line c.loop.invariant.going (g.R.Read.remaining c.read_line.new.records) c.read_line.new.line.items
+      (c.in_ok-read_line.ensures.bytes, c.in_ok-read_line.ensures.rest) (λ none. grind arith)
+      c.take_line.new.text.items c.take_line.new.tally (g.W.Write.contents c.take_line.new.writer) c.in_ok-take_line.ensures.taken;
+  stands = c.in_ok-take_line.ensures.stands;
+}
+
+pub returns-clause-left : goal.returns-clause-left
+returns-clause-left g c = going_so_far c.loop.invariant.going
+
+pub close-requires : goal.close-requires
+close-requires g c =
+    let few : c.loop.counter < 18446744073709551615 = search rules in
+    (lit< tt, (c.loop.invariant.stands, (c.requires.names, going_room c.loop.invariant.going few)))
+
+pub take_line-requires : goal.take_line-requires
+take_line-requires g c =
+    let few : c.loop.counter < 18446744073709551615 = search rules in
+    (lit< tt, (c.loop.invariant.stands, (c.requires.names, going_room c.loop.invariant.going few)))
+
+pub returns-in_err-close-clause-left : goal.returns-in_err-close-clause-left
+returns-in_err-close-clause-left g c =
+    keeps_written (Unit {0}) c.from_residual-in_err-close.result _ (is_handed c.from_residual-in_err-close.result _ c.from_residual-in_err-close.ensures.1)
+    c.loop.writer c.close.new.writer
+    (λ w. SomeReported g.row.B g.row.M c.args.test.now (g.R.Read.remaining c.args.records.now) (g.W.Write.contents c.args.writer.now) (g.W.Write.contents w))
+    c.in_err-close.ensures.left (going_so_far c.loop.invariant.going)
+
+pub returns-in_err-close-clause-unwritten : goal.returns-in_err-close-clause-unwritten
+returns-in_err-close-clause-unwritten g c =
+    let so_far = going_so_far c.loop.invariant.going in unwritten c.from_residual-in_err-close.result _ (so_far.0, so_far.2)
+
+pub returns-then-is_empty-clause-judged : goal.returns-then-is_empty-clause-judged
+returns-then-is_empty-clause-judged g c =
+    let len : length c.read_line.new.line.items ≡ 0 = grind arith in
+    going_ended c.loop.invariant.going (g.R.Read.remaining c.read_line.new.records) c.read_line.new.line.items
+    (c.in_ok-read_line.ensures.bytes, c.in_ok-read_line.ensures.rest) (no_items c.read_line.new.line.items len)
+    c.close.new.tally (g.W.Write.contents c.close.new.writer) (rw c.deref.ensures.value at c.in_ok-close.ensures.closed)
+
+pub returns-in_err-take_line-clause-left : goal.returns-in_err-take_line-clause-left
+returns-in_err-take_line-clause-left g c =
+    keeps_written (Unit {0}) c.from_residual-in_err-take_line.result _
+    (is_handed c.from_residual-in_err-take_line.result _ c.from_residual-in_err-take_line.ensures.1)
+    c.loop.writer c.take_line.new.writer
+    (λ w. SomeReported g.row.B g.row.M c.args.test.now (g.R.Read.remaining c.args.records.now) (g.W.Write.contents c.args.writer.now) (g.W.Write.contents w))
+    c.in_err-take_line.ensures.left (going_so_far c.loop.invariant.going)
+
+pub returns-in_err-take_line-clause-unwritten : goal.returns-in_err-take_line-clause-unwritten
+returns-in_err-take_line-clause-unwritten g c =
+    let so_far = going_so_far c.loop.invariant.going in unwritten c.from_residual-in_err-take_line.result _ (so_far.0, so_far.2)

@@ -1,0 +1,10 @@
+use Rattle.checking.specs.Judgements.IsJudged.{none, record_is}
+use Rattle.checking.proofs.judging.judge.Goals as goal
+
+pub returns-in-Ok-judge_steps-clause-judged : goal.returns-in-Ok-judge_steps-clause-judged
+returns-in-Ok-judge_steps-clause-judged g c =
+    record_is c.in-Ok.steps.items _ c.in-Ok.ensures.found (rw c.deref.ensures.value at c.in-Ok-judge_steps.ensures.said)
+
+pub returns-in-Err-Refused-clause-judged : goal.returns-in-Err-Refused-clause-judged
+returns-in-Err-Refused-clause-judged g c =
+    none c.in-Err-Refused.refusal (rw c.in-Err-Refused.field-0-is at c.in-Err-Refused.ensures.exact)

@@ -1,0 +1,53 @@
+//! The text that is being read, line by line.
+
+ghost use Rattle.std.specs.Prelude.{◌≡◌, ◌++◌, ℕ, List, IfErr, IfSome, OnOk};
+ghost use Rattle.std.specs.Io.BufRead.{take_through, DropsThrough};
+ghost use Rattle.checking.specs.RecordTexts.{begins_record, is_left_out};
+ghost use Rattle.checking.specs.inner.Holding.{IsHeld};
+ghost use Rattle.engine_parts.specs.inner.Failures.{IsReadFailure};
+
+use engine_parts::fault::Fault;
+use engine_parts::input::INPUT_BYTES;
+use recorder::{RECORD_HEAD, has_head};
+use std::alloc::AllocError;
+use std::io::{BufRead, ErrorKind};
+use texts::Separators;
+use texts::cutting::is_all;
+
+/// The next line with its end, in the place of what the vector holds; nothing where no byte is left.
+pub fn read_line<R: BufRead>(records: &mut R, line: &mut Vec<u8>) -> Result<(), Fault>
+    ensures bytes { OnOk result (IfSome (R.remaining records.old) (λ bytes. line.new.items ≡ take_through 10 bytes)) }
+    ensures rest { OnOk result (DropsThrough (R.remaining records.old) (R.remaining records.new) 10) }
+    ensures err { IfErr result IsReadFailure }
+{
+    line.clear();
+    match records.read_until(b'\n', line) {
+        Ok(_) => Ok(()),
+        Err(error) if error.kind() == ErrorKind::OutOfMemory => Err(Fault::NoMemory),
+        Err(_) => Err(Fault::ReadFailed),
+    }
+}
+
+/// Whether a record begins at this line.
+pub fn begins_record(line: &[u8]) -> bool
+    ensures { result ≡ begins_record line.now }
+{
+    has_head(RECORD_HEAD, line)
+}
+
+/// Whether a text is left out that stands before the first record.
+pub fn is_left_out(text: &[u8]) -> bool
+    ensures { result ≡ is_left_out text.now }
+{
+    text.len() <= INPUT_BYTES && is_all(Separators::BlanksAndLineEnds, text)
+}
+
+/// Appends a line to a text. Of one that is too large already nothing more is kept.
+pub fn hold(text: &mut Vec<u8>, line: &[u8]) -> Result<(), AllocError>
+    ensures { OnOk result ((whole : List ℕ) → IsHeld whole text.old.items → IsHeld (whole ++ line.now) text.new.items) }
+{
+    if text.len() > INPUT_BYTES {
+        return Ok(());
+    }
+    text.extend_from_slice(line)
+}
