@@ -7,7 +7,7 @@ use Rattle.engine_parts.specs.declared.fault.Refusal.{Refusal}
 use Rattle.engine_parts.specs.Engines.{Ends}
 use Rattle.debugger.specs.Transcripts.{EndsInteractive, OnRefused, OnStopped, OnUnwritten}
 use Rattle.ztso.specs.declared.job.MachineCommand.TheVariants.{Debug}
-use Rattle.ztso.specs.Work.{LeavesCommands, WithStatus, done_status, ended_with}
+use Rattle.ztso.specs.Work.{IsRefusal, LeavesCommands, WithStatus, done_status, ended_with}
 
 answered : {V W : Type 0} (status : V → ℕ) (IsAnswer : Result (List ℕ × V) Refusal → Type 0) (r : Result V Fault) (contents : W → Option (List ℕ)) (old new : W)
     → Ends IsAnswer r contents old new → Ends (WithStatus status IsAnswer) (ended_with status r) contents old new
@@ -54,3 +54,14 @@ refused P (Err WriteFailed) h leaves = absurd leaves
 
 pub refused_with_status : (P : Type 0) (r : Result (Unit {0}) Fault) → OnRefused r P → (s : Result ℕ Fault) → s ≡ ended_with done_status r → LeavesCommands Debug s → P
 refused_with_status P r h s is leaves = refused P r h (subst (LeavesCommands Debug) is leaves)
+
+is_refusal : {V : Type 0} (status : V → ℕ) (r : Result V Fault) → IsRefusal (ended_with status r) → IsRefusal r
+is_refusal status (Ok v) h = h
+is_refusal status (Err (Refused refusal)) h = h
+is_refusal status (Err ReadFailed) h = h
+is_refusal status (Err NoMemory) h = h
+is_refusal status (Err WriteFailed) h = h
+
+pub unread_with_status : {V : Type 0} (status : V → ℕ) (P Q : Type 0) (r : Result V Fault) → (IsRefusal r → Q → P)
+    → (s : Result ℕ Fault) → s ≡ ended_with status r → IsRefusal s × Q → P
+unread_with_status status P Q r h s is leaves = h (is_refusal status r (subst IsRefusal is leaves.0)) leaves.1

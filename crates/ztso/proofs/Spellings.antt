@@ -6,7 +6,8 @@ use Rattle.clap.proofs.OnLiterals.{clap_on_literals}
 use Rattle.ztso.proofs.Pieces.{Piece, plain, other, text_in, ArePlain, IsCommand, said, pieces_fault, by_pieces}
 use Rattle.ztso.specs.CommandLines.{Answers, capacity_said, job_said, number_if_said, ring_said, ◌>>=◌}
 use Rattle.ztso.specs.Numbers.{number_within}
-use Rattle.ztso.specs.Spellings.{AsksFor, AsksForNumber, AsksForStride, AsksForStyle, AsksToFinish, IsOnFiles, IsSpelling, IsSpellingOf, IsWord, name_of, text_of}
+use Rattle.ztso.specs.Spellings.{AsksByFlag, AsksFor, AsksForNumber, AsksForStride, IsOnFiles, IsSpelling, IsSpellingOf}
+use Rattle.ztso.specs.Spellings.{IsWord, is_steps, is_svg, name_of, text_of}
 use Rattle.ztso.specs.declared.job.Ring.{Ring}
 use Rattle.ztso.specs.declared.job.Ring.TheVariants.{Lamport, FastForward}
 use Rattle.ztso.specs.declared.job.Command.{Command}
@@ -15,13 +16,15 @@ use Rattle.ztso.specs.declared.job.Capacity.{Capacity}
 use Rattle.ztso.specs.declared.job.Capacity.TheVariants.{One, Two, Four, Sixteen}
 use Rattle.ztso.specs.declared.job.Job.{Job}
 use Rattle.ztso.specs.declared.job.CodeCommand.TheVariants.{Asm, Dis}
-use Rattle.ztso.specs.declared.job.Command.TheVariants.{Code, Machine, Threads}
+use Rattle.ztso.specs.declared.job.Command.TheVariants.{Code, Machine, Find, Threads}
 use Rattle.ztso.specs.declared.job.MachineCommand.{MachineCommand}
-use Rattle.ztso.specs.declared.job.MachineCommand.TheVariants.{Steps, Run, Replay, Move, Shrink, Chart, Debug, Try, Channel}
+use Rattle.ztso.specs.declared.job.MachineCommand.TheVariants.{Steps, Run, Replay, Move, Shrink, Chart, Show, Check, Debug, Try, Channel}
 use Rattle.poll_close.specs.declared.place.Place.{Place}
 use Rattle.views.specs.declared.charting.Style.{Style}
 use Rattle.views.specs.declared.charting.Style.TheVariants.{Svg}
 use Rattle.views.specs.declared.charting.Style.TheVariants as style
+use Rattle.views.specs.declared.showing.Form.{Form}
+use Rattle.views.specs.declared.showing.Form.TheVariants as form
 use Rattle.tries.specs.declared.trials.Runs.{Runs}
 use Rattle.ztso.specs.Jobs.{Wanted, one_input, two_inputs}
 use Rattle.ztso.specs.Jobs.Input.{Standard, File}
@@ -65,8 +68,10 @@ record CapacitySpelled (capacity : Capacity) (options : List Text) : Type 0 wher
   are : ArePlain (tail_of tail text)
 
 capacity_spelled : (capacity : Capacity) (options : List Text) → AsksFor capacity options → CapacitySpelled capacity options
-capacity_spelled capacity options (inl default) = record { tail = none; text = []; is = default.0; says = ap (λ (c : Capacity). Some c) (sym default.1); are = tt }
-capacity_spelled capacity options (inr (inl is)) = record { tail = blank; text = text_of capacity; is = is; says = text_says capacity; are = (text_is_word capacity, tt) }
+capacity_spelled capacity options (inl default) =
+    record { tail = none; text = []; is = default.0; says = ap (λ (c : Capacity). Some c) (sym default.1); are = tt }
+capacity_spelled capacity options (inr (inl is)) =
+    record { tail = blank; text = text_of capacity; is = is; says = text_says capacity; are = (text_is_word capacity, tt) }
 capacity_spelled capacity options (inr (inr is)) = record { tail = equals; text = text_of capacity; is = is; says = text_says capacity; are = tt }
 
 abbrev machine_of : Option Capacity → Option MachineCommand → Option Command
@@ -130,6 +135,22 @@ number_spelled option usual default least most number words usually (inl silent)
 number_spelled option usual default least most number words usually (inr (said, words_are, says)) =
     given option said words _ words_are says.0 says.1
 
+-- ---- a flag
+
+-- what stands for a flag, if it is given, before other pieces
+abbrev flag_pieces : (flag : Text) → Bool → List Piece → List Piece
+flag_pieces flag false tail = tail
+flag_pieces flag true tail = other flag ∷ tail
+
+flag_plain : (flag : Text) (b : Bool) (tail : List Piece) → ArePlain tail → ArePlain (flag_pieces flag b tail)
+flag_plain flag false tail are = are
+flag_plain flag true tail are = are
+
+flag_texts : (flag : Text) (b : Bool) (words options : List Text) (tail : List Piece) → AsksByFlag flag b words → options ≡ map text_in tail
+    → words ++ options ≡ map text_in (flag_pieces flag b tail)
+flag_texts flag false words options tail asks is = ap₂ (λ (a b : List Text). a ++ b) asks is
+flag_texts flag true words options tail asks is = ap₂ (λ (a b : List Text). a ++ b) asks is
+
 -- ---- `asm`, `dis` and `steps`
 
 of_asm : (name : Text) → job_said (name ∷ codes "asm" ∷ []) ≡ Some (one_input (Code Asm) Standard)
@@ -186,7 +207,8 @@ on_files_is_command shrinking = (refl, refl)
 on_files_is_command debugging = (refl, refl)
 
 on_files_read : (command : OnFiles) (file schedule : Text) (tail : Tail) (t : Text)
-    → said (command_of command) (plain file ∷ plain schedule ∷ tail_of tail t) ≡ on_files_of file schedule (machine_of (capacity_at tail t) (Some (machine_command_of command)))
+    → said (command_of command) (plain file ∷ plain schedule ∷ tail_of tail t)
+    ≡ on_files_of file schedule (machine_of (capacity_at tail t) (Some (machine_command_of command)))
 unfolding clap_on_literals pieces_fault
 on_files_read running file schedule none t = refl
 on_files_read running file schedule blank t = refl
@@ -214,21 +236,18 @@ of_files name rest command capacity wanted (file, schedule, options, is, f, s, a
     let to = capacity_spelled capacity options asks in
     by_pieces name (command_of command) (plain file ∷ plain schedule ∷ tail_of to.tail to.text) rest wanted (on_files_is_command command) (f, (s, to.are))
     (is ∙ ap (λ (o : List Text). command_of command ∷ file ∷ schedule ∷ o) to.is)
-    (on_files_read command file schedule to.tail to.text ∙ on_files_says (machine_command_of command) file schedule capacity _ to.says ∙ ap (λ (w : Wanted). Some w) (sym wants))
+    (on_files_read command file schedule to.tail to.text
+    ∙ on_files_says (machine_command_of command) file schedule capacity _ to.says
+    ∙ ap (λ (w : Wanted). Some w) (sym wants))
 
 -- ---- `chart`
-
--- what stands for the style, before the capacity
-abbrev style_pieces : Style → List Piece → List Piece
-style_pieces style.Text tail = tail
-style_pieces Svg tail = other (codes "--svg") ∷ tail
 
 chart_is_command : IsCommand (codes "chart")
 unfolding clap_on_literals
 chart_is_command = (refl, refl)
 
 chart_read : (file schedule : Text) (drawn : Style) (tail : Tail) (t : Text)
-    → said (codes "chart") (plain file ∷ plain schedule ∷ style_pieces drawn (tail_of tail t))
+    → said (codes "chart") (plain file ∷ plain schedule ∷ flag_pieces (codes "--svg") (is_svg drawn) (tail_of tail t))
     ≡ on_files_of file schedule (machine_of (capacity_at tail t) (Some (Chart drawn)))
 unfolding clap_on_literals pieces_fault
 chart_read file schedule style.Text none t = refl
@@ -238,14 +257,42 @@ chart_read file schedule Svg none t = refl
 chart_read file schedule Svg blank t = refl
 chart_read file schedule Svg equals t = refl
 
-style_plain : (drawn : Style) (tail : List Piece) → ArePlain tail → ArePlain (style_pieces drawn tail)
-style_plain style.Text tail are = are
-style_plain Svg tail are = are
+-- ---- `show` and `check`
 
-style_texts : (drawn : Style) (first options : List Text) (tail : List Piece) → AsksForStyle drawn first → options ≡ map text_in tail
-    → first ++ options ≡ map text_in (style_pieces drawn tail)
-style_texts style.Text first options tail asks is = ap₂ (λ (a b : List Text). a ++ b) asks is
-style_texts Svg first options tail asks is = ap₂ (λ (a b : List Text). a ++ b) asks is
+show_is_command : IsCommand (codes "show")
+unfolding clap_on_literals
+show_is_command = (refl, refl)
+
+show_read : (file : Text) (told : Form) (tail : Tail) (t : Text)
+    → said (codes "show") (plain file ∷ flag_pieces (codes "--steps") (is_steps told) (tail_of tail t))
+    ≡ on_file_of file (machine_of (capacity_at tail t) (Some (Show told)))
+unfolding clap_on_literals pieces_fault
+show_read file form.Table none t = refl
+show_read file form.Table blank t = refl
+show_read file form.Table equals t = refl
+show_read file form.Steps none t = refl
+show_read file form.Steps blank t = refl
+show_read file form.Steps equals t = refl
+
+show_says : (told : Form) (file : Text) (capacity : Capacity) (found : Option Capacity) → found ≡ Some capacity
+    → on_file_of file (machine_of found (Some (Show told))) ≡ Some (one_input (Machine (Show told) capacity) (File file))
+show_says told file capacity found a = rw a refl
+
+check_is_command : IsCommand (codes "check")
+unfolding clap_on_literals
+check_is_command = (refl, refl)
+
+-- `check` reads standard input behind its file, as `channel` does
+check_read : (file : Text) (tail : Tail) (t : Text)
+    → said (codes "check") (plain file ∷ tail_of tail t) ≡ on_schedule_of file (machine_of (capacity_at tail t) (Some Check))
+unfolding clap_on_literals pieces_fault
+check_read file none t = refl
+check_read file blank t = refl
+check_read file equals t = refl
+
+check_says : (file : Text) (capacity : Capacity) (found : Option Capacity) → found ≡ Some capacity
+    → on_schedule_of file (machine_of found (Some Check)) ≡ Some (two_inputs (Machine Check capacity) (File file) Standard)
+check_says file capacity found a = rw a refl
 
 -- ---- `try`
 
@@ -300,11 +347,6 @@ one_job = refl
 
 -- ---- `channel`
 
--- what stands for the wish to finish, before the capacity
-abbrev finish_pieces : Bool → List Piece → List Piece
-finish_pieces false tail = tail
-finish_pieces true tail = other (codes "--finish") ∷ tail
-
 abbrev channel_pieces : (kind number schedule : Text) → List Piece → List Piece
 channel_pieces kind number schedule tail = plain kind ∷ plain number ∷ plain schedule ∷ tail
 
@@ -339,7 +381,7 @@ abbrev place_pieces : (base stride : Option Text) → List Piece → List Piece
 place_pieces base stride tail = number_pieces (codes "--base") base (number_pieces (codes "--stride") stride tail)
 
 channel_read : (kind number schedule : Text) (base stride : Option Text) (finish : Bool) (tail : Tail) (t : Text)
-    → said (codes "channel") (channel_pieces kind number schedule (place_pieces base stride (finish_pieces finish (tail_of tail t))))
+    → said (codes "channel") (channel_pieces kind number schedule (place_pieces base stride (flag_pieces (codes "--finish") finish (tail_of tail t))))
     ≡ carried kind number schedule (text_or (codes "0") base) stride finish (capacity_at tail t)
 unfolding clap_on_literals pieces_fault
 channel_read kind number schedule None None false none t = refl
@@ -379,13 +421,36 @@ stride_spelled None words silent = left_out (codes "--stride") words _ silent re
 stride_spelled (Some stride) words (said, words_are, says) =
     given (codes "--stride") said words _ words_are says.0 (ap (λ (found : Option ℕ). option_map (λ (n : ℕ). Some n) found) says.1)
 
-finish_plain : (finish : Bool) (tail : List Piece) → ArePlain tail → ArePlain (finish_pieces finish tail)
-finish_plain false tail are = are
-finish_plain true tail are = are
+-- ---- `find`
 
-finish_texts : (finish : Bool) (first options : List Text) (tail : List Piece) → AsksToFinish finish first → options ≡ map text_in tail → first ++ options ≡ map text_in (finish_pieces finish tail)
-finish_texts false first options tail asks is = ap₂ (λ (a b : List Text). a ++ b) asks is
-finish_texts true first options tail asks is = ap₂ (λ (a b : List Text). a ++ b) asks is
+find_is_command : IsCommand (codes "find")
+unfolding clap_on_literals
+find_is_command = (refl, refl)
+
+abbrev searched : (file : Text) → Option ℕ → Option Capacity → Option Wanted
+searched file count found = on_file_of file (do
+  states ← count
+  capacity ← found
+  Some (Find states capacity))
+
+searched_says : (file : Text) (states : ℕ) (capacity : Capacity) (count : Option ℕ) (found : Option Capacity)
+    → count ≡ Some states → found ≡ Some capacity → searched file count found ≡ Some (one_input (Find states capacity) (File file))
+searched_says file states capacity count found a b = rw (a, b) refl
+
+find_read : (file : Text) (states : Option Text) (tail : Tail) (t : Text)
+    → said (codes "find") (plain file ∷ number_pieces (codes "--states") states (tail_of tail t))
+    ≡ searched file (number_within 1 16777216 (text_or (codes "1000000") states)) (capacity_at tail t)
+unfolding clap_on_literals pieces_fault
+find_read file None none t = refl
+find_read file None blank t = refl
+find_read file None equals t = refl
+find_read file (Some number) none t = refl
+find_read file (Some number) blank t = refl
+find_read file (Some number) equals t = refl
+
+most_states : number_within 1 16777216 (codes "1000000") ≡ Some 1000000
+unfolding number_within
+most_states = refl
 
 -- ---- `threads`
 
@@ -421,8 +486,10 @@ most_turns = refl
 -- ---- each command
 
 spelled_of : (name : Text) (rest : List Text) (command : Command) (wanted : Wanted) → IsSpellingOf command wanted rest → job_said (name ∷ rest) ≡ Some wanted
-spelled_of name rest (Code Asm) wanted (is, wants) = ap (λ (words : List Text). job_said (name ∷ words)) is ∙ of_asm name ∙ ap (λ (w : Wanted). Some w) (sym wants)
-spelled_of name rest (Code Dis) wanted (is, wants) = ap (λ (words : List Text). job_said (name ∷ words)) is ∙ of_dis name ∙ ap (λ (w : Wanted). Some w) (sym wants)
+spelled_of name rest (Code Asm) wanted (is, wants) =
+    ap (λ (words : List Text). job_said (name ∷ words)) is ∙ of_asm name ∙ ap (λ (w : Wanted). Some w) (sym wants)
+spelled_of name rest (Code Dis) wanted (is, wants) =
+    ap (λ (words : List Text). job_said (name ∷ words)) is ∙ of_dis name ∙ ap (λ (w : Wanted). Some w) (sym wants)
 spelled_of name rest (Machine Steps capacity) wanted (options, is, asks, wants) =
     let to = capacity_spelled capacity options asks in
     by_pieces name (codes "steps") (tail_of to.tail to.text) rest wanted steps_is_command to.are (is ∙ ap (λ (o : List Text). codes "steps" ∷ o) to.is)
@@ -434,12 +501,27 @@ spelled_of name rest (Machine Shrink capacity) wanted spelling = of_files name r
 spelled_of name rest (Machine (Chart drawn) capacity) wanted (file, schedule, first, options, is, f, s, draws, asks, wants) =
     let to = capacity_spelled capacity options asks in
     let end = tail_of to.tail to.text in
-    by_pieces name (codes "chart") (plain file ∷ plain schedule ∷ style_pieces drawn end) rest wanted chart_is_command
-    (f, (s, style_plain drawn end to.are))
-    (is ∙ ap (λ (o : List Text). codes "chart" ∷ file ∷ schedule ∷ o) (style_texts drawn first options end draws to.is))
-    (chart_read file schedule drawn to.tail to.text ∙ on_files_says (Chart drawn) file schedule capacity _ to.says ∙ ap (λ (w : Wanted). Some w) (sym wants))
+    by_pieces name (codes "chart") (plain file ∷ plain schedule ∷ flag_pieces (codes "--svg") (is_svg drawn) end) rest wanted chart_is_command
+    (f, (s, flag_plain (codes "--svg") (is_svg drawn) end to.are))
+    (is ∙ ap (λ (o : List Text). codes "chart" ∷ file ∷ schedule ∷ o)
+    (flag_texts (codes "--svg") (is_svg drawn) first options end draws to.is))
+    (chart_read file schedule drawn to.tail to.text
+    ∙ on_files_says (Chart drawn) file schedule capacity _ to.says ∙ ap (λ (w : Wanted). Some w) (sym wants))
+spelled_of name rest (Machine (Show told) capacity) wanted (file, first, options, is, f, tells, asks, wants) =
+    let to = capacity_spelled capacity options asks in
+    let end = tail_of to.tail to.text in
+    by_pieces name (codes "show") (plain file ∷ flag_pieces (codes "--steps") (is_steps told) end) rest wanted show_is_command
+    (f, flag_plain (codes "--steps") (is_steps told) end to.are)
+    (is ∙ ap (λ (o : List Text). codes "show" ∷ file ∷ o) (flag_texts (codes "--steps") (is_steps told) first options end tells to.is))
+    (show_read file told to.tail to.text ∙ show_says told file capacity _ to.says ∙ ap (λ (w : Wanted). Some w) (sym wants))
+spelled_of name rest (Machine Check capacity) wanted (file, options, is, f, asks, wants) =
+    let to = capacity_spelled capacity options asks in
+    by_pieces name (codes "check") (plain file ∷ tail_of to.tail to.text) rest wanted check_is_command (f, to.are)
+    (is ∙ ap (λ (o : List Text). codes "check" ∷ file ∷ o) to.is)
+    (check_read file to.tail to.text ∙ check_says file capacity _ to.says ∙ ap (λ (w : Wanted). Some w) (sym wants))
 spelled_of name rest (Machine Debug capacity) wanted spelling = of_files name rest debugging capacity wanted spelling
-spelled_of name rest (Machine (Try seed runs) capacity) wanted (file, s, n, l, first, second, options, is, f, seed_is, runs_are, events_are, skips, jobs_are, asks, wants) =
+spelled_of name rest (Machine (Try seed runs) capacity) wanted
+    (file, s, n, l, first, second, options, is, f, seed_is, runs_are, events_are, skips, jobs_are, asks, wants) =
     let to = capacity_spelled capacity options asks in
     let jobs = number_spelled (codes "--jobs") (codes "1") 1 1 64 runs.jobs second one_job jobs_are in
     let skip = number_spelled (codes "--skip") (codes "0") 0 0 18446744073709551615 runs.skip first no_skip skips in
@@ -457,16 +539,24 @@ spelled_of name rest (Machine (Channel ring place finish) capacity) wanted
     let end = tail_of to.tail to.text in
     let base = number_spelled (codes "--base") (codes "0") 0 0 4294967295 place.base first no_base base_is in
     let stride = stride_spelled place.stride second stride_is in
-    let with_finish = finish_pieces finish end in
+    let with_finish = flag_pieces (codes "--finish") finish end in
     let with_stride = number_pieces (codes "--stride") stride.text with_finish in
     by_pieces name (codes "channel") (channel_pieces (name_of ring) number schedule (place_pieces base.text stride.text with_finish)) rest wanted
     channel_is_command
-    (kind_is_word ring, (slots_are.0, (s, base.are with_stride (stride.are with_finish (finish_plain finish end to.are)))))
+    (kind_is_word ring, (slots_are.0, (s, base.are with_stride (stride.are with_finish (flag_plain (codes "--finish") finish end to.are)))))
     (is ∙ ap (λ (o : List Text). codes "channel" ∷ name_of ring ∷ number ∷ schedule ∷ o)
-    (base.is (second ++ (third ++ options)) with_stride (stride.is (third ++ options) with_finish (finish_texts finish third options end finishes to.is))))
+    (base.is (second ++ (third ++ options)) with_stride (stride.is (third ++ options) with_finish
+    (flag_texts (codes "--finish") finish third options end finishes to.is))))
     (channel_read (name_of ring) number schedule base.text stride.text finish to.tail to.text
     ∙ carried_says ring place (name_of ring) number schedule _ _ finish capacity _ (kind_says ring) slots_are.1 base.says stride.says to.says
     ∙ ap (λ (w : Wanted). Some w) (sym wants))
+spelled_of name rest (Find states capacity) wanted (file, first, options, is, f, states_are, asks, wants) =
+    let to = capacity_spelled capacity options asks in
+    let number = number_spelled (codes "--states") (codes "1000000") 1000000 1 16777216 states first most_states states_are in
+    let end = tail_of to.tail to.text in
+    by_pieces name (codes "find") (plain file ∷ number_pieces (codes "--states") number.text end) rest wanted find_is_command (f, number.are end to.are)
+    (is ∙ ap (λ (o : List Text). codes "find" ∷ file ∷ o) (number.is options end to.is))
+    (find_read file number.text to.tail to.text ∙ searched_says file states capacity _ _ number.says to.says ∙ ap (λ (w : Wanted). Some w) (sym wants))
 spelled_of name rest (Threads turns capacity) wanted (file, first, options, is, f, turns_are, asks, wants) =
     let to = capacity_spelled capacity options asks in
     let number = number_spelled (codes "--turns") (codes "100000") 100000 0 10000000 turns first most_turns turns_are in

@@ -14,12 +14,14 @@ use Rattle.ztso.specs.declared.job.Ring.{Ring}
 use Rattle.ztso.specs.declared.job.Ring.TheVariants.{Lamport, FastForward}
 use Rattle.ztso.specs.declared.job.CodeCommand.TheVariants.{Asm, Dis}
 use Rattle.ztso.specs.declared.job.Command.{Command}
-use Rattle.ztso.specs.declared.job.Command.TheVariants.{Code, Machine, Threads}
+use Rattle.ztso.specs.declared.job.Command.TheVariants.{Code, Machine, Find, Threads}
 use Rattle.ztso.specs.declared.job.MachineCommand.{MachineCommand}
 use Rattle.views.specs.declared.charting.Style.{Style}
 use Rattle.views.specs.declared.charting.Style.TheVariants.{Svg}
 use Rattle.views.specs.declared.charting.Style.TheVariants as style
-use Rattle.ztso.specs.declared.job.MachineCommand.TheVariants.{Steps, Run, Replay, Move, Shrink, Chart, Debug, Try, Channel}
+use Rattle.views.specs.declared.showing.Form.{Form}
+use Rattle.views.specs.declared.showing.Form.TheVariants as form
+use Rattle.ztso.specs.declared.job.MachineCommand.TheVariants.{Steps, Run, Replay, Move, Shrink, Chart, Show, Check, Debug, Try, Channel}
 use Rattle.ztso.specs.Jobs.{Input, Wanted, one_input, two_inputs, wanted_by}
 use Rattle.ztso.specs.Jobs.Input.{Standard, File}
 use Rattle.ztso.specs.Numbers.{number_within}
@@ -73,6 +75,15 @@ chart_in options = do
   svg ← first_of (codes "svg") options
   Some (Chart (style_said svg))
 
+-- the form in which `show` tells a test, by its flag
+abbrev pub form_said : Text → Form
+form_said text = if flag_said text then form.Steps else form.Table
+
+abbrev pub show_in : List Row → Option MachineCommand
+show_in options = do
+  steps ← first_of (codes "steps") options
+  Some (Show (form_said steps))
+
 -- the ring of `channel`, from its words, its place, and whether it is to be finished
 abbrev pub channel_in : List Row → Option MachineCommand
 channel_in options = do
@@ -96,6 +107,14 @@ machine_in options found = do
   command ← found
   capacity ← capacity_in options
   Some (Machine command capacity)
+
+-- the search, from its options
+abbrev pub find_in : List Row → Option Command
+find_in options = do
+  states_text ← first_of (codes "states") options
+  states ← number_within 1 16777216 states_text
+  capacity ← capacity_in options
+  Some (Find states capacity)
 
 -- the run on threads, from its options
 abbrev pub threads_in : List Row → Option Command
@@ -126,6 +145,13 @@ on_file_and_schedule options found = do
   schedule ← file_in (codes "schedule") options
   Some (two_inputs command file schedule)
 
+-- a command on the file `file`, and then on standard input
+abbrev pub on_file_and_standard : List Row → Option Command → Option Wanted
+on_file_and_standard options found = do
+  command ← found
+  file ← file_in (codes "file") options
+  Some (two_inputs command file Standard)
+
 -- a command on the file `schedule`, and then on standard input
 abbrev pub on_schedule_and_standard : List Row → Option Command → Option Wanted
 on_schedule_and_standard options found = do
@@ -150,10 +176,13 @@ job_in p =
     else (if bytes_eq p.0 (codes "move") then on_file_and_schedule p.1 (machine_in p.1 (Some Move))
     else (if bytes_eq p.0 (codes "shrink") then on_file_and_schedule p.1 (machine_in p.1 (Some Shrink))
     else (if bytes_eq p.0 (codes "chart") then on_file_and_schedule p.1 (machine_in p.1 (chart_in p.1))
+    else (if bytes_eq p.0 (codes "show") then on_file p.1 (machine_in p.1 (show_in p.1))
+    else (if bytes_eq p.0 (codes "check") then on_file_and_standard p.1 (machine_in p.1 (Some Check))
+    else (if bytes_eq p.0 (codes "find") then on_file p.1 (find_in p.1)
     else (if bytes_eq p.0 (codes "debug") then on_file_and_schedule p.1 (machine_in p.1 (Some Debug))
     else (if bytes_eq p.0 (codes "try") then on_file p.1 (machine_in p.1 (try_in p.1))
     else (if bytes_eq p.0 (codes "channel") then on_schedule_and_standard p.1 (machine_in p.1 (channel_in p.1))
-    else (if bytes_eq p.0 (codes "threads") then on_file p.1 (threads_in p.1) else None)))))))))))
+    else (if bytes_eq p.0 (codes "threads") then on_file p.1 (threads_in p.1) else None))))))))))))))
 
 abbrev pub job_without : Kinds → Option (Text × List Row) → Option Wanted
 job_without [] found = option_and_then job_in found

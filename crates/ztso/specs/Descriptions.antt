@@ -95,6 +95,27 @@ chart_rules = word_wanted (codes "file") ∷ word_wanted (codes "schedule") ∷ 
 abbrev pub chart_command : App
 chart_command = with_rules (new_app (codes "chart")) chart_rules
 
+-- `show FILE [--steps] [--buffer B]`
+abbrev pub show_rules : List Rule
+show_rules = word_wanted (codes "file") ∷ flag (codes "steps") ∷ buffer_option ∷ []
+
+abbrev pub show_command : App
+show_command = with_rules (new_app (codes "show")) show_rules
+
+-- `check FILE [--buffer B]`
+abbrev pub check_rules : List Rule
+check_rules = word_wanted (codes "file") ∷ buffer_option ∷ []
+
+abbrev pub check_command : App
+check_command = with_rules (new_app (codes "check")) check_rules
+
+-- `find FILE [--states N] [--buffer B]`
+abbrev pub find_rules : List Rule
+find_rules = word_wanted (codes "file") ∷ option_or (codes "states") (codes "1000000") ∷ buffer_option ∷ []
+
+abbrev pub find_command : App
+find_command = with_rules (new_app (codes "find")) find_rules
+
 -- `channel KIND RING SCHEDULE [--base A] [--stride T] [--finish] [--buffer B]`
 abbrev pub channel_rules : List Rule
 channel_rules = word_wanted (codes "kind") ∷ word_wanted (codes "ring") ∷ word_wanted (codes "schedule")
@@ -117,7 +138,8 @@ with_commands app (command ∷ commands) = with_commands (with_subcommand app co
 abbrev pub ztso_commands : List App
 ztso_commands =
     steps_command ∷ asm_command ∷ dis_command ∷ schedule_command (codes "run") ∷ schedule_command (codes "replay") ∷ schedule_command (codes "move")
-    ∷ schedule_command (codes "shrink") ∷ chart_command ∷ schedule_command (codes "debug") ∷ try_command ∷ channel_command ∷ threads_command ∷ []
+    ∷ schedule_command (codes "shrink") ∷ chart_command ∷ show_command ∷ check_command ∷ find_command ∷ schedule_command (codes "debug")
+    ∷ try_command ∷ channel_command ∷ threads_command ∷ []
 
 abbrev pub ztso_command : App
 ztso_command = with_commands (new_app (codes "ztso")) ztso_commands

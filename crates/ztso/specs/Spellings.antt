@@ -7,12 +7,14 @@ use Rattle.ztso.specs.declared.job.Ring.{Ring}
 use Rattle.ztso.specs.declared.job.Ring.TheVariants.{Lamport, FastForward}
 use Rattle.ztso.specs.declared.job.Command.{Command}
 use Rattle.ztso.specs.declared.job.CodeCommand.TheVariants.{Asm, Dis}
-use Rattle.ztso.specs.declared.job.Command.TheVariants.{Code, Machine, Threads}
+use Rattle.ztso.specs.declared.job.Command.TheVariants.{Code, Machine, Find, Threads}
 use Rattle.ztso.specs.declared.job.MachineCommand.{MachineCommand}
 use Rattle.views.specs.declared.charting.Style.{Style}
 use Rattle.views.specs.declared.charting.Style.TheVariants.{Svg}
 use Rattle.views.specs.declared.charting.Style.TheVariants as style
-use Rattle.ztso.specs.declared.job.MachineCommand.TheVariants.{Steps, Run, Replay, Move, Shrink, Chart, Debug, Try, Channel}
+use Rattle.views.specs.declared.showing.Form.{Form}
+use Rattle.views.specs.declared.showing.Form.TheVariants as form
+use Rattle.ztso.specs.declared.job.MachineCommand.TheVariants.{Steps, Run, Replay, Move, Shrink, Chart, Show, Check, Debug, Try, Channel}
 use Rattle.recorder.specs.declared.reading.TheConstants.{MAX_EVENTS}
 use Rattle.ztso.specs.Jobs.{Wanted, one_input, two_inputs}
 use Rattle.ztso.specs.Jobs.Input.{Standard, File}
@@ -64,6 +66,10 @@ AsksForJobs jobs words = AsksForNumber (codes "--jobs") 1 1 64 jobs words
 abbrev pub AsksForTurns : ℕ → List Text → Type 0
 AsksForTurns turns words = AsksForNumber (codes "--turns") 100000 0 10000000 turns words
 
+-- the most states that are seen, 1,000,000 where nothing is said
+abbrev pub AsksForStates : ℕ → List Text → Type 0
+AsksForStates states words = AsksForNumber (codes "--states") 1000000 1 16777216 states words
+
 -- the base of a channel's blocks, address 0 where nothing is said
 abbrev pub AsksForBase : ℕ → List Text → Type 0
 AsksForBase base words = AsksForNumber (codes "--base") 0 0 4294967295 base words
@@ -73,15 +79,29 @@ abbrev pub AsksForStride : Option ℕ → List Text → Type 0
 AsksForStride None words = words ≡ []
 AsksForStride (Some stride) words = (said : Text) × (words ≡ codes "--stride" ∷ said ∷ []) × SaysNumber 0 4294967295 stride said
 
--- nothing, or `--finish`
-abbrev pub AsksToFinish : Bool → List Text → Type 0
-AsksToFinish false words = words ≡ []
-AsksToFinish true words = words ≡ codes "--finish" ∷ []
+-- nothing, or a flag
+abbrev pub AsksByFlag : (flag : Text) → Bool → List Text → Type 0
+AsksByFlag flag false words = words ≡ []
+AsksByFlag flag true words = words ≡ flag ∷ []
 
--- nothing, or `--svg`
+abbrev pub AsksToFinish : Bool → List Text → Type 0
+AsksToFinish finish words = AsksByFlag (codes "--finish") finish words
+
+-- whether the picture is SVG, and asked for by `--svg`
+abbrev pub is_svg : Style → Bool
+is_svg style.Text = false
+is_svg Svg = true
+
 abbrev pub AsksForStyle : Style → List Text → Type 0
-AsksForStyle style.Text words = words ≡ []
-AsksForStyle Svg words = words ≡ codes "--svg" ∷ []
+AsksForStyle drawn words = AsksByFlag (codes "--svg") (is_svg drawn) words
+
+-- whether a test is told as a steps text, which `--steps` asks for
+abbrev pub is_steps : Form → Bool
+is_steps form.Table = false
+is_steps form.Steps = true
+
+abbrev pub AsksForForm : Form → List Text → Type 0
+AsksForForm told words = AsksByFlag (codes "--steps") (is_steps told) words
 
 -- a command on two files
 abbrev pub IsOnFiles : (name : Text) → MachineCommand → Capacity → Wanted → List Text → Type 0
@@ -103,10 +123,17 @@ IsSpellingOf (Machine Run capacity) wanted words = IsOnFiles (codes "run") Run c
 IsSpellingOf (Machine Replay capacity) wanted words = IsOnFiles (codes "replay") Replay capacity wanted words
 IsSpellingOf (Machine Move capacity) wanted words = IsOnFiles (codes "move") Move capacity wanted words
 IsSpellingOf (Machine Shrink capacity) wanted words = IsOnFiles (codes "shrink") Shrink capacity wanted words
-IsSpellingOf (Machine (Chart style) capacity) wanted words =
+IsSpellingOf (Machine (Chart drawn) capacity) wanted words =
     (file schedule : Text) × (first options : List Text) × (words ≡ codes "chart" ∷ file ∷ schedule ∷ (first ++ options))
-    × IsWord file × IsWord schedule × AsksForStyle style first × AsksFor capacity options
-    × (wanted ≡ two_inputs (Machine (Chart style) capacity) (File file) (File schedule))
+    × IsWord file × IsWord schedule × AsksForStyle drawn first × AsksFor capacity options
+    × (wanted ≡ two_inputs (Machine (Chart drawn) capacity) (File file) (File schedule))
+IsSpellingOf (Machine (Show told) capacity) wanted words =
+    (file : Text) × (first options : List Text) × (words ≡ codes "show" ∷ file ∷ (first ++ options))
+    × IsWord file × AsksForForm told first × AsksFor capacity options
+    × (wanted ≡ one_input (Machine (Show told) capacity) (File file))
+IsSpellingOf (Machine Check capacity) wanted words =
+    (file : Text) × (options : List Text) × (words ≡ codes "check" ∷ file ∷ options) × IsWord file × AsksFor capacity options
+    × (wanted ≡ two_inputs (Machine Check capacity) (File file) Standard)
 IsSpellingOf (Machine Debug capacity) wanted words = IsOnFiles (codes "debug") Debug capacity wanted words
 IsSpellingOf (Machine (Try seed runs) capacity) wanted words =
     (file s n l : Text) × (first second options : List Text)
@@ -120,6 +147,10 @@ IsSpellingOf (Machine (Channel ring place finish) capacity) wanted words =
     × SaysNumber 0 4294967295 place.ring said × IsWord schedule
     × AsksForBase place.base first × AsksForStride place.stride second × AsksToFinish finish third × AsksFor capacity options
     × (wanted ≡ two_inputs (Machine (Channel ring place finish) capacity) (File schedule) Standard)
+IsSpellingOf (Find states capacity) wanted words =
+    (file : Text) × (first options : List Text) × (words ≡ codes "find" ∷ file ∷ (first ++ options))
+    × IsWord file × AsksForStates states first × AsksFor capacity options
+    × (wanted ≡ one_input (Find states capacity) (File file))
 IsSpellingOf (Threads turns capacity) wanted words =
     (file : Text) × (first options : List Text) × (words ≡ codes "threads" ∷ file ∷ (first ++ options))
     × IsWord file × AsksForTurns turns first × AsksFor capacity options

@@ -1,5 +1,5 @@
 -- How a job ends.
-use Rattle.std.specs.Prelude.{ℕ, ◌≡◌, ◌*◌, ◌⊎◌, Bool, true, false, List, [], Option, Result, Ok, Err}
+use Rattle.std.specs.Prelude.{ℕ, ◌≡◌, ◌*◌, ◌⊎◌, max, Bool, true, false, List, [], Option, Result, Ok, Err}
 use Rattle.std.specs.Io.KnownBytes.{Appends}
 use Rattle.rand_core.specs.Stream.{Stream}
 use Rattle.rand_core.specs.Steps.{stream_of, steps_u32}
@@ -11,14 +11,18 @@ use Rattle.litmus.specs.declared.verdict.Verdict.TheVariants.{Holds}
 use Rattle.engine_parts.specs.declared.fault.Fault.{Fault}
 use Rattle.engine_parts.specs.declared.fault.Fault.TheVariants.{Refused}
 use Rattle.engine_parts.specs.declared.fault.Refusal.{Refusal}
-use Rattle.engine_parts.specs.Engines.{AnswersBoth, Ends, OfInput}
+use Rattle.engine_parts.specs.Engines.{AnswersBoth, Ends, EndsBy, OfInput}
 use Rattle.ztso_engines.specs.Asm.{IsAsmAnswer}
 use Rattle.ztso_engines.specs.Dis.{IsDisAnswer}
 use Rattle.ztso_engines.specs.Steps.{IsStepsAnswer}
 use Rattle.engine_parts.specs.Tests.{HasNoTest}
 use Rattle.ztso_engines.specs.Run.{IsRunAnswer}
 use Rattle.ztso_engines.specs.Move.{IsMoveAnswer}
+use Rattle.checking.specs.Checking.{IsCheckAnswer, IsCheckFront}
+use Rattle.finding.specs.Find.{IsFindAnswer}
+use Rattle.finding.specs.declared.finds.Found.{Found}
 use Rattle.views.specs.Chart.{IsChartAnswer, drawing}
+use Rattle.views.specs.Show.{IsShowAnswer}
 use Rattle.views.specs.Shrink.{IsShrinkAnswer}
 use Rattle.ztso_engines.specs.Replay.{IsReplayAnswer}
 use Rattle.debugger.specs.Transcripts.{EndsInteractive, IsDebugAnswer, IsDebugFront, IsDebugSome, OnStopped, OnUnwritten}
@@ -37,8 +41,10 @@ use Rattle.ztso.specs.declared.job.Ring.TheVariants.{Lamport, FastForward}
 use Rattle.ztso.specs.declared.job.CodeCommand.{CodeCommand}
 use Rattle.ztso.specs.declared.job.CodeCommand.TheVariants.{Asm, Dis}
 use Rattle.ztso.specs.declared.job.MachineCommand.{MachineCommand}
-use Rattle.ztso.specs.declared.job.MachineCommand.TheVariants.{Steps, Run, Replay, Move, Shrink, Chart, Debug, Try, Channel}
+use Rattle.ztso.specs.declared.job.MachineCommand.TheVariants.{Steps, Run, Replay, Move, Shrink, Chart, Show, Check, Debug, Try, Channel}
+use Rattle.ztso.specs.declared.failure.Failure.{Failure}
 use Rattle.ztso.specs.declared.work.TheConstants.{WORDS}
+use Rattle.ztso.specs.Failures.{found_status}
 
 -- how many stores a buffer of this capacity holds
 abbrev pub stores_of : Capacity → ℕ
@@ -62,9 +68,9 @@ abbrev pub verdict_status : Verdict → ℕ
 verdict_status Holds = 0
 verdict_status other = 1
 
-abbrev pub tried_status : (is_good : Bool) → ℕ
-tried_status true = 0
-tried_status false = 1
+abbrev pub good_status : (is_good : Bool) → ℕ
+good_status true = 0
+good_status false = 1
 
 abbrev pub done_status : Unit {0} → ℕ
 done_status x = 0
@@ -106,9 +112,11 @@ IsAnswerOf B Replay given = WithStatusByBoth done_status (IsReplayAnswer B WORDS
 IsAnswerOf B Move given = WithStatusByBoth done_status (IsMoveAnswer B WORDS) given
 IsAnswerOf B Shrink given = WithStatusByBoth done_status (IsShrinkAnswer B WORDS) given
 IsAnswerOf B (Chart style) given = WithStatusByBoth done_status (IsChartAnswer B WORDS (drawing style)) given
+IsAnswerOf B (Show form) given = WithStatusBy done_status (IsShowAnswer form) given
+IsAnswerOf B Check given = WithStatusBy good_status (IsCheckAnswer B WORDS given.second) given
 IsAnswerOf B Debug given = WithStatusByBoth done_status (IsDebugAnswer B WORDS given.commands) given
 IsAnswerOf B (Try seed runs) given =
-    WithStatusBy tried_status (IsTryAnswer B WORDS (left_after (runs.skip * runs.length) (drawn_from seed)) runs.number runs.length) given
+    WithStatusBy good_status (IsTryAnswer B WORDS (left_after (runs.skip * runs.length) (drawn_from seed)) runs.number runs.length) given
 IsAnswerOf B (Channel ring place finish) given = WithStatusByBoth done_status (IsChannelAnswer (tables_of ring) B WORDS (layout_of place []) finish) given
 
 -- Where a read failed or memory ran out, the debugger wrote what the first of the user's commands print, or
@@ -119,12 +127,22 @@ LeavesFront B given result contents old new =
     × ((out ≡ []) ⊎ AnswersBoth (IsDebugFront B WORDS given.commands) given.first given.second (Ok (out, tt))))
     × OnUnwritten result ((out : List ℕ) × AnswersBoth (IsDebugSome B WORDS given.commands) given.first given.second (Ok (out, tt)))
 
+-- Where a read failed or memory ran out, the lines of the first records were written, or nothing; where a write
+-- failed, some of these lines are an answer.
+abbrev pub LeavesReports : {V W : Type 0} → (B : ℕ) → Given → Result V Fault → (contents : W → Option (List ℕ)) → (old new : W) → Type 0
+LeavesReports B given result contents old new =
+    OnStopped result ((out : List ℕ) × Appends (contents old) (contents new) out
+    × ((out ≡ []) ⊎ OfInput given.first (λ bytes. IsCheckFront B WORDS given.second bytes (Ok out))))
+    × OnUnwritten result ((out : List ℕ) × OfInput given.first (λ bytes. IsCheckFront B WORDS given.second bytes (Ok out)))
+
 -- What was written and the exit status answer the inputs, or the refusal does and nothing was written.
 -- Where a read failed or memory ran out nothing was written; where a write failed nothing is said of it.
--- The debugger alone writes as it reads.
+-- The debugger and `check` alone write as they read.
 abbrev pub DoesMachine : {W : Type 0} → (B : ℕ) → MachineCommand → Result ℕ Fault → Given → (contents : W → Option (List ℕ)) → (old new : W) → Type 0
 DoesMachine B Debug result given contents old new =
     EndsInteractive (IsAnswerOf B Debug given) result contents old new × LeavesFront B given result contents old new
+DoesMachine B Check result given contents old new =
+    EndsInteractive (IsAnswerOf B Check given) result contents old new × LeavesReports B given result contents old new
 DoesMachine B command result given contents old new = Ends (IsAnswerOf B command given) result contents old new
 
 -- the same of a command on code, by the input that was read
@@ -132,20 +150,37 @@ abbrev pub DoesCode : {W : Type 0} → CodeCommand → Result ℕ Fault → (inp
 DoesCode Asm result input contents old new = Ends (WithStatus done_status (λ answer. OfInput input (λ bytes. IsAsmAnswer bytes answer))) result contents old new
 DoesCode Dis result input contents old new = Ends (WithStatus done_status (λ answer. OfInput input (λ bytes. IsDisAnswer bytes answer))) result contents old new
 
+-- A search ended with an answer to the file that was read, over buffers of this capacity. The opening's state is one
+-- that it sees, whatever the limit.
+abbrev pub DoesFind : {W : Type 0} → (states : ℕ) → Capacity → Result ℕ Failure → (file : Option (List ℕ))
+    → (contents : W → Option (List ℕ)) → (old new : W) → Type 0
+DoesFind states capacity result file contents old new = (ended : Result Found Fault) × (result ≡ found_status ended)
+    × EndsBy (IsFindAnswer (stores_of capacity) WORDS (max states 1)) ended file contents old new
+
 -- and of a run of a litmus test on threads, with n turns each and buffers of this capacity, by the
 -- file that was read
 abbrev pub DoesThreads : {W : Type 0} → ℕ → Capacity → Result ℕ Fault → (file : Option (List ℕ)) → (contents : W → Option (List ℕ)) → (old new : W) → Type 0
-DoesThreads n capacity result file contents old new = Ends (WithStatus verdict_status (λ answer. OfInput file (λ bytes. IsThreadsAnswer (stores_of capacity) WORDS n bytes answer))) result contents old new
+DoesThreads n capacity result file contents old new = Ends (WithStatus verdict_status
+    (λ answer. OfInput file (λ bytes. IsThreadsAnswer (stores_of capacity) WORDS n bytes answer))) result contents old
+    new
 
 -- ---- what is left unread
 
+-- the end is a refusal
+abbrev pub IsRefusal : {V : Type 0} → Result V Fault → Type 0
+IsRefusal (Err (Refused refusal)) = Unit {0}
+IsRefusal other = ⊥
+
 -- A first input with which the second is left unread: any, where there is only one; else one that is
--- known, and refused.
-abbrev pub LeavesSecond : MachineCommand → (first : Option (List ℕ)) → Type 0
-LeavesSecond Steps first = Unit {0}
-LeavesSecond (Try seed runs) first = Unit {0}
-LeavesSecond (Channel ring place finish) first = HasNoSchedule first
-LeavesSecond other first = HasNoTest first
+-- known, and refused. The records of `check` get a buffer before the first input is read, and of an end
+-- without memory for it nothing is said.
+abbrev pub LeavesSecond : MachineCommand → Result ℕ Fault → (first : Option (List ℕ)) → Type 0
+LeavesSecond Steps result first = Unit {0}
+LeavesSecond (Show form) result first = Unit {0}
+LeavesSecond (Try seed runs) result first = Unit {0}
+LeavesSecond (Channel ring place finish) result first = HasNoSchedule first
+LeavesSecond Check result first = IsRefusal result × HasNoTest first
+LeavesSecond other result first = HasNoTest first
 
 -- An end with which a user's commands are left unread: any, except the debugger's; of those a refusal.
 abbrev pub LeavesCommands : MachineCommand → Result ℕ Fault → Type 0

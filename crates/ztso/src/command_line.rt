@@ -2,7 +2,7 @@
 
 ghost use Rattle.std.specs.Prelude.{◌≡◌, ◌∷◌, ℕ, List, IfOk, map, option_and_then, option_map};
 ghost use Rattle.clap.specs.Words.{FailsBy, fault_of, first_of, found_of, rows_of, subcommand_of, subcommand_rows_of};
-ghost use Rattle.ztso.specs.CommandLines.{Answers, capacity_said, job_in, channel_in, chart_in, flag_said, style_said, job_said, number_if_said, machine_in, on_file, on_file_and_schedule, on_schedule_and_standard, on_standard, ring_said, threads_in, try_in};
+ghost use Rattle.ztso.specs.CommandLines.{Answers, capacity_said, job_in, channel_in, chart_in, find_in, flag_said, form_said, show_in, style_said, job_said, number_if_said, machine_in, on_file, on_file_and_schedule, on_file_and_standard, on_schedule_and_standard, on_standard, ring_said, threads_in, try_in};
 ghost use Rattle.ztso.specs.Descriptions.{ztso_command};
 ghost use Rattle.ztso.specs.Spellings.{IsSpelling};
 ghost use Rattle.ztso.specs.Jobs.{Wanted, wanted_by};
@@ -18,6 +18,7 @@ use std::alloc::Global;
 use std::convert::AsStr;
 use tries::trials::Runs;
 use views::charting::Style;
+use views::showing::Form;
 
 mod description;
 mod numbers;
@@ -27,6 +28,9 @@ const MOST_RUNS: u32 = 100_000;
 
 /// The most threads that share them.
 const MOST_JOBS: u32 = 64;
+
+/// The most states that `find` sees.
+const MOST_STATES: u32 = 16_777_216;
 
 /// The most calls that a thread of `threads` makes.
 const MOST_TURNS: u32 = 10_000_000;
@@ -78,6 +82,12 @@ fn job_in<'a>(matches: &ArgMatches<'a>) -> Option<Job<'a>>
             on_file_and_schedule(options, machine_in(options, Some(MachineCommand::Shrink)))
         }
         ("chart", options) => on_file_and_schedule(options, machine_in(options, chart_in(options))),
+        ("show", options) => on_file(options, machine_in(options, show_in(options))),
+        ("check", options) => on_file_and_standard(
+            options,
+            machine_in(options, Some(MachineCommand::Check)),
+        ),
+        ("find", options) => on_file(options, find_in(options)),
         ("debug", options) => on_file_and_schedule(
             options,
             machine_in(options, Some(MachineCommand::Debug)),
@@ -130,6 +140,19 @@ fn on_file_and_schedule<'a>(options: &ArgMatches<'a>, command: Option<Command>) 
     })
 }
 
+/// The command, if there is one, on the file `file`, and then on standard input.
+fn on_file_and_standard<'a>(options: &ArgMatches<'a>, command: Option<Command>) -> Option<Job<'a>>
+    ensures { option_map wanted_by result ≡ on_file_and_standard (rows_of (found_of options.now)) command }
+{
+    let command = command?;
+    let file = word_in(options, "file")?;
+    Some(Job {
+        command,
+        first: Input::File(file),
+        second: Some(Input::Standard),
+    })
+}
+
 /// The command, if there is one, on the file `schedule`, and then on standard input.
 fn on_schedule_and_standard<'a>(
     options: &ArgMatches<'a>,
@@ -153,6 +176,15 @@ fn machine_in(options: &ArgMatches<'_>, command: Option<MachineCommand>) -> Opti
     let command = command?;
     let capacity = capacity_of(word_in(options, "buffer")?)?;
     Some(Command::Machine { command, capacity })
+}
+
+/// The search that `find` is to make.
+fn find_in(options: &ArgMatches<'_>) -> Option<Command>
+    ensures { result ≡ find_in (rows_of (found_of options.now)) }
+{
+    let states = count_of(word_in(options, "states")?, 1, MOST_STATES)?;
+    let capacity = capacity_of(word_in(options, "buffer")?)?;
+    Some(Command::Find { states, capacity })
 }
 
 /// The run on threads that `threads` is to make.
@@ -197,6 +229,24 @@ fn style_of(text: &str) -> Style
         Style::Svg
     } else {
         Style::Text
+    }
+}
+
+/// How a test is told.
+fn show_in(options: &ArgMatches<'_>) -> Option<MachineCommand>
+    ensures { result ≡ show_in (rows_of (found_of options.now)) }
+{
+    let form = form_of(word_in(options, "steps")?);
+    Some(MachineCommand::Show { form })
+}
+
+fn form_of(text: &str) -> Form
+    ensures { result ≡ form_said text.now }
+{
+    if flag_of(text) {
+        Form::Steps
+    } else {
+        Form::Table
     }
 }
 

@@ -5,12 +5,13 @@ ghost use Rattle.clap.specs.Words.{kind_of};
 ghost use Rattle.clap.specs.declared.error.kind.ErrorKind.TheVariants as kind;
 ghost use Rattle.std.specs.IoError.{error_kind};
 ghost use Rattle.std.specs.declared.io.ErrorKind.TheVariants as io_kind;
-ghost use Rattle.ztso.specs.Failures.{IsFailureFor, status_of};
+ghost use Rattle.ztso.specs.Failures.{IsFailureFor, found_status, status_of};
 ghost use Rattle.ztso.specs.declared.failure.Failure.TheVariants.{Engine};
 ghost use Rattle.engine_parts.specs.declared.fault.Fault.TheVariants.{NoMemory};
 
 use clap::error::ErrorKind;
 use engine_parts::fault::Fault;
+use finding::Found;
 use std::alloc::AllocError;
 use std::io;
 use thiserror::Error;
@@ -25,6 +26,9 @@ pub enum Failure {
     /// The job's engine failed, or there was no memory to read the command line.
     #[error(transparent)]
     Engine(Fault),
+    /// A search saw this many states, and none that it looked for. Its answer says no more.
+    #[error("not found in {states} states")]
+    NotFound { states: u32 },
 }
 
 impl Failure {
@@ -35,6 +39,7 @@ impl Failure {
         match self {
             Failure::BadCommandLine => 2,
             Failure::Engine(fault) => fault.status(),
+            Failure::NotFound { .. } => 1,
         }
     }
 }
@@ -44,14 +49,6 @@ impl From<AllocError> for Failure {
 
     fn from(_error: AllocError) -> Failure {
         Failure::Engine(Fault::NoMemory)
-    }
-}
-
-impl From<Fault> for Failure {
-    ghost from_gives = { λ fault failure. failure ≡ Engine fault };
-
-    fn from(fault: Fault) -> Failure {
-        Failure::Engine(fault)
     }
 }
 
@@ -67,6 +64,17 @@ impl From<clap::Error> for Failure {
 }
 
 impl Failure {
+    /// The exit status after a search: it fails where nothing was found.
+    pub fn after_search(ended: Result<Found, Fault>) -> Result<u8, Failure>
+        ensures { result ≡ found_status ended }
+    {
+        match ended {
+            Ok(Found::Shown) => Ok(0),
+            Ok(Found::NotFound { states }) => Err(Failure::NotFound { states }),
+            Err(fault) => Err(Failure::Engine(fault)),
+        }
+    }
+
     /// The failure to read the arguments at all: one of them is no text, or there is no memory.
     pub fn of_arguments(error: io::Error) -> Failure
         ensures { IsFailureFor (error_kind error ≡ io_kind.OutOfMemory) result }

@@ -3,6 +3,7 @@
 use poll_close::Place;
 use tries::trials::Runs;
 use views::charting::Style;
+use views::showing::Form;
 
 /// How many stores a hart's buffer holds.
 #[derive(Clone, Copy)]
@@ -45,6 +46,12 @@ pub enum MachineCommand {
     Chart {
         style: Style,
     },
+    /// To tell what a litmus test is, in this form.
+    Show {
+        form: Form,
+    },
+    /// To judge records of runs of a litmus test, each as soon as it is read.
+    Check,
     /// To walk along a schedule's run of a litmus test, at the commands on standard input.
     Debug,
     /// To make these runs of a litmus test, by schedules that are drawn from a generator of this seed.
@@ -77,6 +84,12 @@ pub enum Command {
     /// To do this on a machine whose harts have buffers of this capacity. It waits for no other thread.
     Machine {
         command: MachineCommand,
+        capacity: Capacity,
+    },
+    /// To look for a schedule that shows what a litmus test asks about, among at most `states` states of a
+    /// machine whose harts have buffers of this capacity.
+    Find {
+        states: u32,
         capacity: Capacity,
     },
     /// To run a litmus test with a thread for each hart and each lander, each of which makes at most

@@ -1,7 +1,7 @@
 //! The program `ztso`: its command line, and the streams and files for the engine that a job wants.
 //!
 //! The contract: [`command_line::job_of`] says which words ask for which job, [`work::do_code`],
-//! [`work::do_machine`] and [`work::do_threads`] which engine does it with what capacity and with which exit
+//! [`work::do_machine`], [`work::do_find`] and [`work::do_threads`] which engine does it with what capacity and with which exit
 //! status, and [`failure::Failure`] the exit status of each failure. This crate knows no text, no
 //! instruction and no machine. Only the command `threads` may wait, for the lock and for its threads:
 //! [`work::do_threads`] does. The jobs of `try` are threads too, but no job other than `threads` has leave
@@ -17,14 +17,17 @@ mod job;
 mod lazy_input;
 mod progress_line;
 mod prompt_reader;
+mod search_line;
 mod work;
 
 use command_line::job_of;
 use failure::Failure;
-use job::Command;
+use finding::SearchProgress;
+use job::{Command, Job};
 use lazy_input::LazyInput;
 use progress_line::ProgressLine;
 use prompt_reader::PromptReader;
+use search_line::SearchLine;
 use std::io::IsTerminal;
 use std::process::ExitCode;
 use std::rt::{Env, Files};
@@ -32,12 +35,13 @@ use std::sync::Wait;
 use std::thread::Threads;
 use std::{env, io};
 use tries::progress::Progress;
-use work::{do_code, do_machine, do_threads};
+use work::{do_code, do_find, do_machine, do_threads};
 
 fn main(rt: HostRuntime) -> ExitCode {
-    let line = ProgressLine::new(&rt);
-    let mut progress = rt.stderr().is_terminal().then_some(line);
-    match run(&rt, &mut progress) {
+    let is_terminal = rt.stderr().is_terminal();
+    let mut progress = is_terminal.then_some(ProgressLine::new(&rt));
+    let mut search = is_terminal.then_some(SearchLine::new(&rt));
+    match run(&rt, &mut progress, &mut search) {
         Ok(status) => ExitCode::from(status),
         Err(failure) => {
             let _ = eprintln!(rt; "ztso: {failure}");
@@ -47,8 +51,12 @@ fn main(rt: HostRuntime) -> ExitCode {
 }
 
 /// Does the job that the command line asks for, and answers the exit status. It may wait where that job
-/// runs on threads. The progress gets the reports of `try`.
-fn run<R, P: Progress>(rt: &R, progress: &mut P) -> Result<u8, Failure>
+/// runs on threads. `progress` gets the reports of `try`, and `search` those of `find`.
+fn run<R, P: Progress, Q: SearchProgress>(
+    rt: &R,
+    progress: &mut P,
+    search: &mut Q,
+) -> Result<u8, Failure>
 where
     R: Env + Files + Input + Print + Eprint + AllocGlobal + Threads + Wait + Sync,
     R::Reader: IsTerminal,
@@ -57,10 +65,28 @@ where
     let arguments = env::args(rt).map_err(Failure::of_arguments)?;
     let words: Vec<String> = arguments.collect(rt.alloc())?;
     let job = job_of(rt.alloc(), &words)?;
+    do_job(rt, job, progress, search)
+}
+
+/// Does a job on the streams and files that it names. It owns them, so it has no `?`: each would be one more
+/// way out on which they are closed.
+fn do_job<R, P: Progress, Q: SearchProgress>(
+    rt: &R,
+    job: Job<'_>,
+    progress: &mut P,
+    search: &mut Q,
+) -> Result<u8, Failure>
+where
+    R: Files + Input + Print + Eprint + AllocGlobal + Threads + Wait + Sync,
+    R::Reader: IsTerminal,
+    ensures { IfOk result (λ status. status ≤ 1) }
+{
     let mut first = LazyInput::new(rt, Some(job.first));
     let mut writer = io::writer(rt);
-    let status = match job.command {
-        Command::Code(command) => do_code(rt.alloc(), command, &mut first, &mut writer)?,
+    match job.command {
+        Command::Code(command) => {
+            do_code(rt.alloc(), command, &mut first, &mut writer).map_err(Failure::Engine)
+        }
         Command::Machine { command, capacity } => do_machine(
             rt,
             rt.alloc(),
@@ -71,10 +97,20 @@ where
             &mut PromptReader::new(rt),
             progress,
             &mut writer,
-        )?,
+        )
+        .map_err(Failure::Engine),
+        Command::Find { states, capacity } => do_find(
+            rt.alloc(),
+            states,
+            capacity,
+            &mut first,
+            search,
+            &mut writer,
+        ),
         Command::Threads { turns, capacity } => {
-            do_threads(rt, rt.alloc(), turns, capacity, &mut first, &mut writer)?
+            do_threads(rt, rt.alloc(), turns, capacity, &mut first, &mut writer).map_err(
+                Failure::Engine,
+            )
         }
-    };
-    Ok(status)
+    }
 }

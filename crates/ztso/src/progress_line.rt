@@ -14,7 +14,7 @@ const FIRST_ROUND: u32 = 1;
 const MOST_GROWTH: u32 = 8;
 
 /// What wipes a terminal's line: a return to its beginning, and ECMA-48's erasing from there to its end.
-const WIPE: &str = "\r\x1b[K";
+pub const WIPE: &str = "\r\x1b[K";
 
 /// A line on standard error, which each report writes over the one before it. A round is as long as a
 /// second lasts at the pace of the round before it, so a report comes about once a second.

@@ -1,22 +1,27 @@
 //! Which engine does a job.
 
-ghost use Rattle.std.specs.Prelude.{◌≡◌, ◌≤◌, ◌*◌, [], IfOk};
+ghost use Rattle.std.specs.Prelude.{◌≡◌, ℕ, ◌≤◌, ◌*◌, List, [], max, Option, IfOk};
 ghost use Rattle.ztso.specs.declared.work.TheConstants.{WORDS};
-ghost use Rattle.ztso.specs.Work.{DoesCode, DoesMachine, DoesThreads, LeavesCommands, LeavesFront, LeavesSecond, WithStatus, done_status, drawn_from, ended_with, stores_of, tables_of, tried_status, verdict_status};
+ghost use Rattle.ztso.specs.Work.{DoesCode, DoesFind, DoesMachine, DoesThreads, IsRefusal, LeavesCommands, LeavesFront, LeavesReports, LeavesSecond, WithStatus, done_status, drawn_from, ended_with, good_status, stores_of, tables_of, verdict_status};
 ghost use Rattle.recorder.specs.Drawing.{left_after};
 ghost use Rattle.poll_close.specs.Places.{layout_of};
 ghost use Rattle.ztso_engines.specs.Channels.{IsChannelAnswer};
 ghost use Rattle.engine_parts.specs.Engines.{AnswersBoth, Ends, EndsBy, EndsByBoth, OfInput};
 ghost use Rattle.engine_parts.specs.Schedules.{HasNoSchedule};
+ghost use Rattle.checking.specs.Checking.{IsCheckAnswer};
+ghost use Rattle.finding.specs.Find.{IsFindAnswer};
 ghost use Rattle.debugger.specs.Transcripts.{EndsInteractive, IsDebugAnswer, OnRefused};
 ghost use Rattle.engine_parts.specs.Tests.{HasNoTest};
 ghost use Rattle.tries.specs.Outcomes.{IsTryAnswer};
 ghost use Rattle.ztso_engines.specs.Threads.{IsThreadsAnswer};
 
+use crate::failure::Failure;
 use crate::job::{Capacity, CodeCommand, MachineCommand, Ring};
+use checking::check_engine;
 use debugger::debug::debug_engine;
 use engine_parts::fault::Fault;
 use fastforward::FastForward;
+use finding::{Found, SearchProgress, find_engine};
 use lamport_ring::Lamport;
 use litmus::Verdict;
 use poll_close::Place;
@@ -28,7 +33,8 @@ use std::sync::Wait;
 use std::thread::Threads;
 use tries::progress::Progress;
 use tries::trials::{Runs, try_engine};
-use views::charting::{Style, chart_engine};
+use views::charting::chart_engine;
+use views::showing::show_engine;
 use views::shrinking::shrink_engine;
 use ztso_engines::asm::asm_engine;
 use ztso_engines::channel::channel_engine;
@@ -54,9 +60,10 @@ fn after_run(ended: Result<Verdict, Fault>) -> Result<u8, Fault>
     }
 }
 
-/// The exit status after runs that show what the test asks, or don't.
-fn after_try(ended: Result<bool, Fault>) -> Result<u8, Fault>
-    ensures ended { result ≡ ended_with tried_status ended }
+/// The exit status after runs that show what the test asks or don't, and after records none of which was
+/// refused or some were.
+fn after_runs(ended: Result<bool, Fault>) -> Result<u8, Fault>
+    ensures ended { result ≡ ended_with good_status ended }
     ensures status { IfOk result (λ status. status ≤ 1) }
 {
     if ended? { Ok(0) } else { Ok(1) }
@@ -92,6 +99,32 @@ fn debug<const B: usize, F: Read, S: Read, C: Read, W: Write>(
     let ended = debug_engine::<B, WORDS, _, _, _, _>(alloc, file, schedule, &mut commands, writer);
     // a contract speaks of the reader inside
     commands.into_inner();
+    ended
+}
+
+/// Judges records of a test's runs, each as soon as it is read.
+fn check<const B: usize, F: Read, S: Read, W: Write>(
+    alloc: Global,
+    file: &mut F,
+    records: &mut S,
+    writer: &mut W,
+) -> Result<bool, Fault>
+    requires some_capacity { 1 ≤ B }
+    requires capacity { B ≤ 64 }
+    ensures ends { EndsInteractive
+        (λ answer. OfInput (F.remaining file.old) (λ bytes. IsCheckAnswer B WORDS (S.remaining records.old) bytes answer))
+        result W.contents writer.old writer.new }
+    ensures unread { IsRefusal result → HasNoTest (F.remaining file.old) → records.new ≡ records.old }
+    ensures left { (commands : Option (List ℕ)) → LeavesReports B
+        (record { first = F.remaining file.old; second = S.remaining records.old; commands = commands })
+        result W.contents writer.old writer.new }
+{
+    let Ok(mut records) = BufReader::new(alloc, records) else {
+        return Err(Fault::NoMemory);
+    };
+    let ended = check_engine::<B, WORDS, _, _, _>(alloc, file, &mut records, writer);
+    // a contract speaks of the reader inside
+    records.into_inner();
     ended
 }
 
@@ -153,7 +186,7 @@ fn do_buffered<const B: usize, F: Read, S: Read, C: Read, W: Write, T: Threads +
     requires some_capacity { 1 ≤ B }
     requires capacity { B ≤ 64 }
     ensures does { DoesMachine B command result (record { first = F.remaining first.old; second = S.remaining second.old; commands = C.remaining commands.old }) W.contents writer.old writer.new }
-    ensures unread { LeavesSecond command (F.remaining first.old) → second.new ≡ second.old }
+    ensures unread { LeavesSecond command result (F.remaining first.old) → second.new ≡ second.old }
     ensures unasked { LeavesCommands command result → commands.new ≡ commands.old }
     ensures status { IfOk result (λ status. status ≤ 1) }
 {
@@ -174,11 +207,13 @@ fn do_buffered<const B: usize, F: Read, S: Read, C: Read, W: Write, T: Threads +
         MachineCommand::Chart { style } => {
             after(chart_engine::<B, WORDS, _, _, _>(alloc, style, first, second, writer))
         }
+        MachineCommand::Show { form } => after(show_engine(alloc, form, first, writer)),
+        MachineCommand::Check => after_runs(check::<B, _, _, _>(alloc, first, second, writer)),
         MachineCommand::Debug => {
             after(debug::<B, _, _, _, _>(alloc, first, second, commands, writer))
         }
         MachineCommand::Try { seed, runs } => {
-            after_try(try_drawn::<B, _, _, _, _>(rt, alloc, seed, runs, first, progress, writer))
+            after_runs(try_drawn::<B, _, _, _, _>(rt, alloc, seed, runs, first, progress, writer))
         }
         MachineCommand::Channel {
             ring,
@@ -205,8 +240,8 @@ pub fn do_code<F: Read, W: Write>(
 }
 
 /// Does a command on a machine: reads its inputs, and then writes what it answers. It answers the exit status:
-/// 0, but 1 where the verdict is that the test fails or is unfinished, or the runs that were tried don't show
-/// what the test asks.
+/// 0, but 1 where the verdict is that the test fails or is unfinished, the runs that were tried don't show
+/// what the test asks, or a record was refused.
 ///
 /// `first` is what the command reads first, and `second` what it reads behind that, if it has two inputs and
 /// the first one was accepted. `commands` is what a user types to the debugger, which writes as it reads.
@@ -224,7 +259,7 @@ pub fn do_machine<F: Read, S: Read, C: Read, W: Write, T: Threads + Sync, P: Pro
     writer: &mut W,
 ) -> Result<u8, Fault>
     ensures does { DoesMachine (stores_of capacity) command result (record { first = F.remaining first.old; second = S.remaining second.old; commands = C.remaining commands.old }) W.contents writer.old writer.new }
-    ensures unread { LeavesSecond command (F.remaining first.old) → second.new ≡ second.old }
+    ensures unread { LeavesSecond command result (F.remaining first.old) → second.new ≡ second.old }
     ensures unasked { LeavesCommands command result → commands.new ≡ commands.old }
     ensures status { IfOk result (λ status. status ≤ 1) }
 {
@@ -242,6 +277,43 @@ pub fn do_machine<F: Read, S: Read, C: Read, W: Write, T: Threads + Sync, P: Pro
             rt, alloc, command, first, second, commands, progress, writer,
         ),
     }
+}
+
+/// Looks for a schedule that shows what a litmus test asks about, over buffers of `B` stores.
+fn find<const B: usize, F: Read, W: Write, P: SearchProgress>(
+    alloc: Global,
+    states: u32,
+    file: &mut F,
+    progress: &mut P,
+    writer: &mut W,
+) -> Result<Found, Fault>
+    requires some_capacity { 1 ≤ B }
+    requires capacity { B ≤ 64 }
+    ensures { EndsBy (IsFindAnswer B WORDS (max states 1)) result (F.remaining file.old) W.contents writer.old writer.new }
+{
+    find_engine::<B, WORDS, _, _, _>(alloc, file, states.max(1), progress, writer)
+}
+
+/// Looks for a schedule that shows what a litmus test asks about, among at most `states` states, of which the
+/// opening's is one in any case: reads the test, and writes the schedule. It answers the exit status 0, or
+/// the failure to find one. `progress` gets the reports of the search.
+pub fn do_find<F: Read, W: Write, P: SearchProgress>(
+    alloc: Global,
+    states: u32,
+    capacity: Capacity,
+    file: &mut F,
+    progress: &mut P,
+    writer: &mut W,
+) -> Result<u8, Failure>
+    ensures does { DoesFind states capacity result (F.remaining file.old) W.contents writer.old writer.new }
+    ensures status { IfOk result (λ status. status ≤ 1) }
+{
+    Failure::after_search(match capacity {
+        Capacity::One => find::<1, _, _, _>(alloc, states, file, progress, writer),
+        Capacity::Two => find::<2, _, _, _>(alloc, states, file, progress, writer),
+        Capacity::Four => find::<4, _, _, _>(alloc, states, file, progress, writer),
+        Capacity::Sixteen => find::<16, _, _, _>(alloc, states, file, progress, writer),
+    })
 }
 
 /// Runs a litmus test with a thread for each hart and each lander: reads it, writes the schedule, the

@@ -3,7 +3,7 @@
 ghost use Rattle.std.specs.Prelude.{◌≡◌, List, IfOk};
 ghost use Rattle.std.specs.List.{AllZip};
 ghost use Rattle.clap.specs.Words.{App, Rule, new_app, with_subcommand};
-ghost use Rattle.ztso.specs.Descriptions.{HasRule, IsDescribed, buffer_option, channel_command, chart_command, flag, option_or, option_said, option_wanted, schedule_command, steps_command, threads_command, try_command, with_rules, word_wanted, ztso_command};
+ghost use Rattle.ztso.specs.Descriptions.{HasRule, IsDescribed, buffer_option, channel_command, chart_command, check_command, find_command, flag, option_or, option_said, option_wanted, schedule_command, show_command, steps_command, threads_command, try_command, with_rules, word_wanted, ztso_command};
 
 use clap::{Arg, ArgAction, Command};
 use std::alloc::{AllocError, Global};
@@ -146,6 +146,35 @@ fn chart_command<'a>(alloc: Global) -> Result<Command<'a>, AllocError>
     command_with(alloc, "chart", args)
 }
 
+fn show_command<'a>(alloc: Global) -> Result<Command<'a>, AllocError>
+    ensures { IfOk result (λ command. IsDescribed command show_command) }
+{
+    let args = vec![in alloc;
+        word_wanted(alloc, "file"),
+        flag(alloc, "steps"),
+        buffer_option(alloc),
+    ]?;
+    command_with(alloc, "show", args)
+}
+
+fn check_command<'a>(alloc: Global) -> Result<Command<'a>, AllocError>
+    ensures { IfOk result (λ command. IsDescribed command check_command) }
+{
+    let args = vec![in alloc; word_wanted(alloc, "file"), buffer_option(alloc)]?;
+    command_with(alloc, "check", args)
+}
+
+fn find_command<'a>(alloc: Global) -> Result<Command<'a>, AllocError>
+    ensures { IfOk result (λ command. IsDescribed command find_command) }
+{
+    let args = vec![in alloc;
+        word_wanted(alloc, "file"),
+        option_or(alloc, "states", "1000000"),
+        buffer_option(alloc),
+    ]?;
+    command_with(alloc, "find", args)
+}
+
 /// The command with a subcommand, where both were made.
 fn and<'a>(
     command: Result<Command<'a>, AllocError>,
@@ -169,6 +198,9 @@ pub fn ztso_command<'a>(alloc: Global) -> Result<Command<'a>, AllocError>
     let command = and(command, schedule_command(alloc, "move"));
     let command = and(command, schedule_command(alloc, "shrink"));
     let command = and(command, chart_command(alloc));
+    let command = and(command, show_command(alloc));
+    let command = and(command, check_command(alloc));
+    let command = and(command, find_command(alloc));
     let command = and(command, schedule_command(alloc, "debug"));
     let command = and(command, try_command(alloc));
     let command = and(command, channel_command(alloc));

@@ -4,7 +4,9 @@ use Rattle.recorder.specs.Drawing.{left_after}
 use Rattle.poll_close.specs.Places.{layout_of}
 use Rattle.engine_parts.specs.Engines.{AnswersBoth, OfInput}
 use Rattle.debugger.specs.Transcripts.{IsDebugAnswer}
+use Rattle.checking.specs.Checking.{IsCheckAnswer}
 use Rattle.views.specs.Chart.{IsChartAnswer, drawing}
+use Rattle.views.specs.Show.{IsShowAnswer}
 use Rattle.views.specs.Shrink.{IsShrinkAnswer}
 use Rattle.tries.specs.Outcomes.{IsTryAnswer}
 use Rattle.ztso_engines.specs.Channels.{IsChannelAnswer}
@@ -12,8 +14,8 @@ use Rattle.ztso_engines.specs.Move.{IsMoveAnswer}
 use Rattle.ztso_engines.specs.Replay.{IsReplayAnswer}
 use Rattle.ztso_engines.specs.Run.{IsRunAnswer}
 use Rattle.ztso_engines.specs.Steps.{IsStepsAnswer}
-use Rattle.ztso.specs.Work.{done_status, drawn_from, tables_of, tried_status, verdict_status}
-use Rattle.ztso.proofs.Endings.{ends_interactive, ends_with_status, left_with_status, refused_with_status}
+use Rattle.ztso.specs.Work.{done_status, drawn_from, good_status, tables_of, verdict_status}
+use Rattle.ztso.proofs.Endings.{ends_interactive, ends_with_status, left_with_status, refused_with_status, unread_with_status}
 use Rattle.ztso.proofs.work.do_buffered.Goals as goal
 
 pub returns-in-Steps-clause-does : goal.returns-in-Steps-clause-does
@@ -57,6 +59,26 @@ returns-in-Chart-clause-does g c = rw c.in-Chart.is
     c.chart_engine.result g.W.Write.contents c.args.writer.now c.chart_engine.new.writer c.chart_engine.ensures.ends
     c.after-in-Chart.result c.after-in-Chart.ensures.ended)
 
+pub returns-in-Show-clause-does : goal.returns-in-Show-clause-does
+returns-in-Show-clause-does g c = rw c.in-Show.is
+    (ends_with_status done_status (λ answer. OfInput (g.F.Read.remaining c.args.first.now) (λ bytes. IsShowAnswer c.in-Show.form bytes answer))
+    c.show_engine.result g.W.Write.contents c.args.writer.now c.show_engine.new.writer c.show_engine.ensures
+    c.after-in-Show.result c.after-in-Show.ensures.ended)
+
+pub returns-in-Check-clause-does : goal.returns-in-Check-clause-does
+returns-in-Check-clause-does g c = rw c.in-Check.is (
+  (ends_interactive good_status (λ answer. OfInput (g.F.Read.remaining c.args.first.now)
+      (λ bytes. IsCheckAnswer g.row.B 4096 (g.S.Read.remaining c.args.second.now) bytes answer))
+      c.check.result g.W.Write.contents c.args.writer.now c.check.new.writer c.check.ensures.ends
+      c.after_runs.result c.after_runs.ensures.ended),
+  left_with_status good_status _ _ c.check.result (c.check.ensures.left (g.C.Read.remaining c.args.commands.now))
+      c.after_runs.result c.after_runs.ensures.ended,
+)
+
+pub returns-in-Check-clause-unread : goal.returns-in-Check-clause-unread
+returns-in-Check-clause-unread g c = rw c.in-Check.is
+    (unread_with_status good_status _ _ c.check.result c.check.ensures.unread c.after_runs.result c.after_runs.ensures.ended)
+
 pub returns-in-Debug-clause-does : goal.returns-in-Debug-clause-does
 returns-in-Debug-clause-does g c = rw c.in-Debug.is (
   (ends_interactive done_status (AnswersBoth (IsDebugAnswer g.row.B 4096 (g.C.Read.remaining c.args.commands.now))
@@ -73,10 +95,10 @@ returns-in-Debug-clause-unasked g c = rw c.in-Debug.is
 
 pub returns-in-Try-clause-does : goal.returns-in-Try-clause-does
 returns-in-Try-clause-does g c = rw c.in-Try.is
-    (ends_with_status tried_status (λ answer. OfInput (g.F.Read.remaining c.args.first.now) (λ bytes. IsTryAnswer g.row.B 4096
+    (ends_with_status good_status (λ answer. OfInput (g.F.Read.remaining c.args.first.now) (λ bytes. IsTryAnswer g.row.B 4096
     (left_after (c.in-Try.runs.skip * c.in-Try.runs.length) (drawn_from c.in-Try.seed)) c.in-Try.runs.number c.in-Try.runs.length bytes answer))
     c.try_drawn.result g.W.Write.contents c.args.writer.now c.try_drawn.new.writer c.try_drawn.ensures
-    c.after_try.result c.after_try.ensures.ended)
+    c.after_runs-in-Try.result c.after_runs-in-Try.ensures.ended)
 
 pub returns-in-Channel-clause-does : goal.returns-in-Channel-clause-does
 returns-in-Channel-clause-does g c = rw c.in-Channel.is
