@@ -5,13 +5,17 @@ import itertools
 import re
 
 from page_parts import bringing, faults
+from page_parts.calls import SECONDS, Late
 from page_parts.faults import Fault
 from page_parts.listing import cells, listed
+from page_parts.programs import REFERENCE
 from page_parts.questions import EVENTS, HARTS, ROWS, too_long
 
 HEAD = "ztso-schedule 1\n"
 # how many instructions an act goes on over that touch no memory
 ONWARD = 400
+# what `find` says where it has no schedule
+NOT_FOUND = re.compile(r"ztso: not found in ([0-9]+) states?")
 # the assembler's own refusals of a cell: its name, its operands, its numbers
 OF_CELLS = (2, 3, 4)
 
@@ -50,14 +54,24 @@ def moved(text):
 
 def test(calls, asked):
     """What a test is, or the fault of its text."""
-    # the program judges the text; a run of no events is cheap
     try:
-        printed(calls, "run", asked, schedule=HEAD)
+        return listed(shown(calls, asked), asked["text"])
     except Fault as fault:
         if fault.said["name"] == "BadInstr":
             fault.said["cell"] = faulty_cell(calls, asked["text"], fault.said["place"]["line"])
         raise
-    return listed(asked["text"])
+
+
+def shown(calls, asked):
+    """What `show` prints of a test. For a program that doesn't have it, which then judges the text by a run of no
+    events, tools/reference prints it."""
+    if "show" in calls.can:
+        return printed(calls, "show", asked)[0]
+    printed(calls, "run", asked, schedule=HEAD)
+    status, out, err = calls.run([str(REFERENCE), "show"], {"test.litmus": asked["text"]})
+    if status:
+        raise faults.of_line(err)
+    return out
 
 
 def faulty_cell(calls, text, line):
@@ -109,9 +123,10 @@ def store_of(line):
 def chart(calls, asked):
     """The picture of a run, and each event's outcome: an event that did nothing has no row."""
     outcomes = [outcome for _, outcome in moved(printed_of_run(calls, "move", asked))]
-    if "svg" in calls.can:
-        return {"svg": printed_of_run(calls, "chart", asked, "--svg"), "outcomes": outcomes}
-    return {"text": printed_of_run(calls, "chart", asked), "outcomes": outcomes}
+    form, options = ("svg", ["--svg"]) if "svg" in calls.can else ("text", [])
+    if asked["rows"] == "memory":
+        options = [*options, "--memory"]
+    return {form: printed_of_run(calls, "chart", asked, *options), "outcomes": outcomes}
 
 
 def shrink(calls, asked):
@@ -173,8 +188,17 @@ def threads(calls, asked):
 
 
 def find(calls, asked):
-    """The shortest schedule of the outcome that the condition asks about."""
-    out, _ = printed(calls, "find", asked)
+    """The shortest schedule of what the condition asks about, or how many states were seen without it."""
+    try:
+        out, _ = printed(calls, "find", asked)
+    except Late:
+        raise Fault("Late", [f"The search took more than {SECONDS} seconds and was ended. The command `find` has no "
+                             "such limit."]) from None
+    except Fault as fault:
+        unfound = NOT_FOUND.fullmatch(fault.said["line"])
+        if not unfound:
+            raise
+        return {"states": int(unfound[1])}
     if counted(tokens_of(out)) > EVENTS:
         raise too_long(counted(tokens_of(out)))
     return {"tokens": tokens_of(out)}

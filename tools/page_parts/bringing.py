@@ -2,6 +2,7 @@
 tools/from-herd."""
 
 import re
+import shutil
 
 from bring_parts import Refused, compilers
 
@@ -11,13 +12,14 @@ from page_parts.questions import COMPILERS
 
 
 def installed():
-    """The compilers that are here."""
+    """The compilers that are here, where the binutils are too that from-c needs with them."""
     def is_here(name):
         try:
             return bool(compilers.Compiler(name).version())
         except Refused:
             return False
-    return [name for name in COMPILERS if is_here(name)]
+    binutils = all(shutil.which(compilers.binutil(name)) for name in ("nm", "objdump"))
+    return [name for name in COMPILERS if binutils and is_here(name)]
 
 
 def made(calls, tool, name, text, *options):

@@ -19,6 +19,10 @@ class Failed(Exception):
     """A child that wasn't run to its end, in words for who asked."""
 
 
+class Late(Failed):
+    """A child that took longer than it may."""
+
+
 class Gone(Exception):
     """Nobody waits for the answer any more."""
 
@@ -121,7 +125,7 @@ class CallsOf:
             while ends < len(parts):
                 left = until - time.monotonic()
                 if left <= 0:
-                    raise Failed(f"the program took more than {SECONDS} seconds and was ended")
+                    raise Late(f"the program took more than {SECONDS} seconds and was ended")
                 for key, _ in ready.select(left):
                     if key.fileobj is self.connection:
                         self.waited_for(ready)

@@ -1,72 +1,87 @@
-"""What a test is: its names, code and condition, read by tools/reference. No command of the program prints them."""
+"""What a test is, as the command `show` prints it (docs/formats.md). Three things that it doesn't print are read off
+the text: the question, the cells of a row that is refused, and which registers open as an address."""
 
 import re
-import sys
 
-from page_parts import TOOLS
 from page_parts.faults import Fault
 from page_parts.questions import CELLS
 
-sys.path.insert(0, str(TOOLS / "reference"))
-
-import litmus  # noqa: E402
-
+COMMENT = re.compile(r"\(\*(.*?)(?:\*\)|\Z)", re.DOTALL)
+OPENING = re.compile(r"\n[ \t]*\{([^}]*)\}")
+# an item of the opening part that gives a name's address to a register
 POINTER = re.compile(r"\s*([0-9]+)\s*:\s*([a-z0-9]+)\s*=\s*([A-Za-z_]\w*)\s*")
+ABI = ("zero", "ra", "sp", "gp", "tp", "t0", "t1", "t2", "s0", "s1", *(f"a{n}" for n in range(8)),
+       *(f"s{n}" for n in range(2, 12)), *(f"t{n}" for n in range(3, 7)))
+REGISTERS = {name: number for number, abi in enumerate(ABI) for name in (abi, f"x{number}")} | {"fp": 8}
+# an instruction whose last operand is how far it jumps
+JUMP = re.compile(r"(?:b[a-z]+|jal) (?:.*,)?(-?[0-9]+)")
 
 
-def listed(text):
-    """What the page shows of a text that the program takes."""
-    try:
-        reader = Reader(text)
-        test = reader.read()
-    except Exception as error:
-        raise Fault("Unread", ["The program takes this text, and the page can't list it."]) from error
-    if sum(map(len, reader.rows.values())) > CELLS:
+def listed(shown, text):
+    """What the page shows of a text, of which `show` printed this."""
+    harts, locations, lefts, said = [], {}, [], {}
+    for line in shown.splitlines():
+        kind, _, rest = line.partition(" ")
+        if kind == "hart":
+            harts.append({"rows": [], "labels": {}, "pointers": {}})
+        elif kind == "label":
+            hart, pc, _, name = rest.split(" ")
+            harts[int(hart)]["labels"].setdefault(int(pc), []).append(name)
+        elif kind == "code":
+            hart, row = row_of(*rest.split(" ", 4))
+            harts[hart]["rows"].append(row)
+        elif kind == "location":
+            address, _, name = rest.split(" ")
+            locations[name] = int(address)
+        elif kind == "left":
+            lefts.append({"name": rest, "place": place_of(rest, locations)})
+        else:
+            said[kind] = rest
+    if sum(len(hart["rows"]) for hart in harts) > CELLS:
         raise Fault("TooLong", [f"The page shows at most {CELLS} instructions; the commands take this test."])
-    return {"title": reader.text.split()[1], "question": question(text), "kind": test.kind,
-            "condition": " ".join(reader.text[reader.begin:].split()),
-            "lefts": [{"name": name, "place": place} for name, place in test.lefts],
-            "locations": [{"name": name, "address": address} for name, address in test.locations.items()],
-            "harts": [{"rows": reader.rows.get(hart, []), "end": 4 * len(code),
-                       "pointers": reader.pointers.get(hart, {})} for hart, code in enumerate(test.codes)]}
+    add_pointers(harts, locations, text)
+    return {"title": said["test"], "question": question(text), "kind": re.match("~?[a-z]+", said["condition"])[0],
+            "condition": said["condition"], "lefts": lefts, "harts": harts,
+            "locations": [{"name": name, "address": address} for name, address in locations.items()]}
+
+
+def row_of(hart, pc, line, word, text):
+    """A hart's number and a row of its code, with the pc that it may jump to."""
+    jump = JUMP.fullmatch(text)
+    target = {"target": int(pc) + int(jump[1])} if jump else {}
+    return int(hart), {"pc": int(pc), "line": int(line), "word": word, "text": text} | target
+
+
+def place_of(left, locations):
+    """What a left side of the condition stands for: a hart's register, or the word at an address."""
+    register = re.fullmatch("([0-9]+):x([0-9]+)", left)
+    return ["register", *map(int, register.groups())] if register else ["word", locations[left]]
+
+
+def add_pointers(harts, locations, text):
+    """The registers that open as a location's address, each with the location's name."""
+    opening = OPENING.search(without_comments(text))
+    for item in opening[1].split(";") if opening else []:
+        shape = POINTER.fullmatch(item)
+        if shape and shape[2] in REGISTERS and shape[3] in locations and int(shape[1]) < len(harts):
+            harts[int(shape[1])]["pointers"][REGISTERS[shape[2]]] = shape[3]
 
 
 def question(text):
     """The first comment of a text, in which the shelf's tests have their question."""
-    comment = re.search(r"\(\*(.*?)\*\)", text, re.DOTALL)
+    comment = COMMENT.search(text)
     words = comment[1].strip() if comment else ""
     # how a test of C was made: the compiler's flags follow
     return words.partition("\n")[0] if words.startswith("tools/from-c ") else " ".join(words.split())
 
 
 def cells(text, line):
-    """The cells of a row, as they stand."""
-    row = litmus.without_comments(text).split("\n")[line - 1]
+    """The cells of the row that begins on a line, as they stand."""
+    begin = sum(len(one) + 1 for one in text.split("\n")[:line - 1])
+    row = without_comments(text)[begin:].partition("\n")[0]
     return row.partition(";")[0].split("|")
 
 
-class Reader(litmus.Reader):
-    """Notes what the test itself doesn't keep: each cell with its pc and line, and registers that open as addresses."""
-
-    def __init__(self, text):
-        super().__init__(text)
-        self.rows, self.pointers, self.begin = {}, {}, 0
-
-    def cells(self, begin, row, cells):
-        before = [len(code) for code in self.test.codes]
-        super().cells(begin, row, cells)
-        for hart, cell in enumerate(row):
-            if cell.strip():
-                self.rows.setdefault(hart, []).append(
-                    {"pc": 4 * before[hart], "words": len(self.test.codes[hart]) - before[hart],
-                     "text": cell.strip(), "line": self.line(begin)})
-
-    def item(self, at, end):
-        super().item(at, end)
-        shape = POINTER.fullmatch(self.text[at:end])
-        if shape:
-            self.pointers.setdefault(int(shape[1]), {})[litmus.assembly.REGISTERS[shape[2]]] = shape[3]
-
-    def condition(self, start):
-        self.begin = start
-        super().condition(start)
+def without_comments(text):
+    """The text with a blank for each character of a comment, so that a comment joins lines."""
+    return COMMENT.sub(lambda found: " " * len(found[0]), text)

@@ -5,6 +5,7 @@ import shutil
 import subprocess
 import sys
 import tempfile
+from concurrent.futures import ThreadPoolExecutor
 from dataclasses import dataclass
 from pathlib import Path
 
@@ -14,7 +15,8 @@ BUILT, REFERENCE = ROOT / "crates/ztso/out/ztso", TOOLS / "reference/ztso"
 SMALL = "RISCV SMALL\n{ }\n P0 ;\n nop ;\nexists (x=0)\n"
 # commands and options that not every program has, each with words that it takes
 PROBES = {"threads": ["threads", "test.litmus", "--turns", "1"], "find": ["find", "test.litmus", "--states", "1"],
-          "svg": ["chart", "--svg", "test.litmus", "test.schedule"]}
+          "show": ["show", "test.litmus"], "svg": ["chart", "--svg", "test.litmus", "test.schedule"],
+          "memory": ["chart", "--memory", "test.litmus", "test.schedule"]}
 
 
 class Missing(Exception):
@@ -45,10 +47,14 @@ def found(named=None):
         path = built()
     if path.is_dir() or not os.access(path, os.X_OK):
         raise Missing(f"{path}: no such program")
-    return Program(path, frozenset(name for name, words in PROBES.items() if takes(path, words)))
+    with ThreadPoolExecutor() as pool:
+        taken = pool.map(lambda words: takes(path, words), PROBES.values())
+        return Program(path, frozenset(name for name, is_taken in zip(PROBES, taken) if is_taken))
 
 
 def built():
+    if not (ROOT / "scripts/build").exists():
+        raise Missing("there is no program here, and no sources to build it of: name it by --program")
     if not shutil.which("rt"):
         print("page: the command rt isn't on the PATH, so the program can't be built: the second implementation "
               "answers, tools/reference/ztso, of which nothing is proved", file=sys.stderr)

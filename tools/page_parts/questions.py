@@ -16,7 +16,7 @@ BUFFERED = {**TEST, "buffer": BUFFERS}
 RUN = {**BUFFERED, "tokens": str}
 QUESTIONS = {
     "test": TEST, "herd": TEST, "c": {**TEST, "compiler": COMPILERS, "fences": FENCES, "mapping": MAPPINGS},
-    "view": RUN, "chart": RUN, "shrink": RUN, "verdict": RUN,
+    "view": RUN, "chart": {**RUN, "rows": ("all", "memory")}, "shrink": RUN, "verdict": RUN,
     "onward": {**RUN, "hart": range(HARTS)},
     "seek": {**RUN, "place": range(EVENTS + 1), "breaks": list},
     "read": {**BUFFERED, "schedule": str},

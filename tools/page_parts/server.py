@@ -22,7 +22,8 @@ FILES = {"" if path.name == "page.html" else path.name: (path, KINDS[path.suffix
 HEADERS = {
     "Content-Security-Policy":
         "default-src 'none'; script-src 'self'; style-src 'self'; img-src 'self' blob:; connect-src 'self'; "
-        "base-uri 'none'; form-action 'none'; frame-ancestors 'none'",
+        "base-uri 'none'; form-action 'none'; frame-ancestors 'none'; require-trusted-types-for 'script'; "
+        "trusted-types 'none'",
     "X-Content-Type-Options": "nosniff", "Referrer-Policy": "no-referrer", "Cache-Control": "no-store",
     "Cross-Origin-Resource-Policy": "same-origin", "Cross-Origin-Opener-Policy": "same-origin"}
 JSON = "application/json"
@@ -128,7 +129,7 @@ class Server(ThreadingHTTPServer):
         self.shelf = shelf.shelf() | {
             "limits": {"events": questions.EVENTS, "runs": questions.RUNS},
             "program": program.named(), "reference": program.is_reference(),
-            "can": {"threads": "threads" in program.can, "find": "find" in program.can, "c": bringing.installed()}}
+            "can": {name: name in program.can for name in ("threads", "find", "memory")} | {"c": bringing.installed()}}
         # how many questions of a kind have a child at a time; the others wait. What may take a minute holds up no step
         self.turns = {"long": threading.BoundedSemaphore(1), "step": threading.BoundedSemaphore(2)}
 

@@ -3,28 +3,23 @@
 
 import { ask, waiting } from "./ask.js";
 import { by, el } from "./dom.js";
+import { rowsOf } from "./rows.js";
 import { about } from "./schedules.js";
-import { state } from "./state.js";
-import { idle, told } from "./words.js";
+import { known, state } from "./state.js";
+import { told } from "./words.js";
 
 const HINT = "Click an instruction to execute it. A store then waits in its hart's buffer, until you let it land.";
 
-// the picture that is shown: of which run, its rows' events, and where they stand
+// the picture that is shown: of which run, its rows with their places, where they end, and its veil
 let shown = null;
 let address = "";
 
 export const svg = () => shown?.svg;
 
-// where the rows of a picture stand: no id names them, so the layout does
-function rowsOf(svg) {
-  if (svg === undefined) return { top: 51, pitch: 17 };
-  // the second group has the rows
-  const group = [...svg.matchAll(/<g transform='translate\(0 (\d+)\)'>/g)][1];
-  return { top: 11 + Number(group?.[1]), pitch: 22 };
-}
-
 export async function showChart() {
-  const box = by("chart"), key = JSON.stringify([state.text, state.buffer, state.events]);
+  const box = by("chart"), rows = known.can.memory && state.memory ? "memory" : "all";
+  const key = JSON.stringify([state.text, state.buffer, state.events, rows]);
+  by("picturing").hidden = !known.can.memory || !state.events.length;
   if (!state.events.length) {
     shown = null;
     box.replaceChildren(el("p", { class: "quiet" }, HINT));
@@ -32,27 +27,26 @@ export async function showChart() {
   }
   if (key !== shown?.key) {
     box.classList.add("old");
-    const answer = await ask("chart", about());
+    const answer = await ask("chart", { ...about(), rows });
     box.classList.remove("old");
     await put(box, key, answer);
   }
   veil(box);
 }
 
-async function put(box, key, { svg, text, outcomes }) {
-  const entries = outcomes.flatMap((outcome, place) => idle(outcome) ? [] : [place + 1]);
-  const { top, pitch } = rowsOf(svg);
-  const cover = el("div", { class: "veil" }), bar = el("div", { class: "bar" }), rows = el("div", { class: "rows" });
-  Object.assign(rows.style, { top: `${top}px`, height: `${pitch * entries.length}px` });
+async function put(box, key, answer) {
+  const { rows, pitch } = rowsOf(answer), top = rows[0]?.top ?? 0, end = rows.length ? rows.at(-1).top + pitch : 0;
+  const cover = el("div", { class: "veil" }), bar = el("div", { class: "bar" }), area = el("div", { class: "rows" });
+  Object.assign(area.style, { top: `${top}px`, height: `${end - top}px` });
   bar.style.height = `${pitch}px`;
-  rows.addEventListener("mousemove", moved => {
-    const row = Math.min(entries.length - 1, Math.floor(moved.offsetY / pitch));
-    bar.style.top = `${top + pitch * row}px`;
-    rows.title = row >= 0 ? told(outcomes[entries[row] - 1]) : "";
+  area.addEventListener("mousemove", moved => {
+    const row = rowOf(moved);
+    bar.style.top = `${row?.top}px`;
+    area.title = row ? told(answer.outcomes[row.place - 1]) : "";
   });
-  const drawn = svg === undefined ? el("pre", {}, text) : await image(svg);
-  shown = { key, svg, entries, top, pitch, cover };
-  box.replaceChildren(el("div", { class: "picture" }, drawn, cover, bar, rows));
+  const drawn = answer.svg === undefined ? el("pre", {}, answer.text) : await image(answer.svg);
+  shown = { key, svg: answer.svg, rows, end, cover };
+  box.replaceChildren(el("div", { class: "picture" }, drawn, cover, bar, area));
 }
 
 // an image runs no script and loads nothing
@@ -67,19 +61,20 @@ async function image(svg) {
 }
 
 function veil(box) {
-  const { entries, top, pitch, cover } = shown;
-  const isAtEnd = state.place === state.events.length;
-  const end = top + pitch * entries.filter(place => place <= state.place).length;
+  const { rows, end, cover } = shown, isAtEnd = state.place === state.events.length;
+  const top = rows.find(row => row.place > state.place)?.top ?? end;
   cover.hidden = isAtEnd;
-  cover.style.top = `${end}px`;
-  if (isAtEnd) box.scrollTop = end < box.clientHeight ? 0 : box.scrollHeight;
-  else if (end > box.scrollTop + box.clientHeight - 60) box.scrollTop = end - box.clientHeight + 60;
-  else if (end < box.scrollTop + top) box.scrollTop = end - top;
+  cover.style.top = `${top}px`;
+  if (isAtEnd) box.scrollTop = top < box.clientHeight ? 0 : box.scrollHeight;
+  else if (top > box.scrollTop + box.clientHeight - 60) box.scrollTop = top - box.clientHeight + 60;
+  else if (top < box.scrollTop + rows[0]?.top) box.scrollTop = top - rows[0].top;
+}
+
+// the row under the mouse
+function rowOf(event) {
+  const at = shown.rows[0].top + event.offsetY;
+  return shown.rows.findLast(row => row.top <= at) ?? shown.rows[0];
 }
 
 // the place after the row that was clicked, or null
-export function placeOf(clicked) {
-  if (!clicked.target.matches(".rows")) return null;
-  const row = Math.min(shown.entries.length - 1, Math.floor(clicked.offsetY / shown.pitch));
-  return shown.entries[row] ?? null;
-}
+export const placeOf = clicked => clicked.target.matches(".rows") ? rowOf(clicked).place : null;

@@ -29,6 +29,25 @@ export function onPress(id, does) {
   by(id).addEventListener("click", () => can(id) && does());
 }
 
+// a menu that a press outside, Esc, the focus going elsewhere and a choice close
+export function menu(id) {
+  const box = by(id);
+  const shut = () => box.removeAttribute("open");
+  document.addEventListener("pointerdown", pressed => box.contains(pressed.target) || shut());
+  box.addEventListener("focusout", left => left.relatedTarget && !box.contains(left.relatedTarget) && shut());
+  box.addEventListener("click", pressed => {
+    const item = pressed.target.closest("button");
+    if (!item || !can(item.id)) return;
+    shut();
+    box.querySelector("summary").focus();
+  });
+  box.addEventListener("keydown", pressed => {
+    if (pressed.key !== "Escape" || !box.open) return;
+    shut();
+    box.querySelector("summary").focus();
+  });
+}
+
 export function say(words) {
   by("said").textContent = words;
 }

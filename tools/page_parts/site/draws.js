@@ -1,8 +1,8 @@
 // Drawn runs, in parts that follow one another along the seed's stream, so that bars grow and a stop keeps what was
-// drawn; and schedules that the program makes by other ways.
+// drawn.
 
-import { ask, isAsked, isStopped, stop, trouble } from "./ask.js";
-import { by, el } from "./dom.js";
+import { ask, isStopped, stop, trouble } from "./ask.js";
+import { by, el, say } from "./dom.js";
 import { note, setEvents, shrunk } from "./run.js";
 import { expanded } from "./schedules.js";
 import { known, state } from "./state.js";
@@ -68,7 +68,9 @@ export async function drawRuns() {
 function finish(table) {
   drawing = false;
   by("go").textContent = "Draw";
-  if (last === table && table.done) showTable(table);
+  if (last !== table || !table.done) return;
+  showTable(table);
+  say(`${many(table.done, "run")}, ${many(table.rows.size, "outcome")}. ${answer(table)}`);
 }
 
 async function drawParts(table) {
@@ -129,7 +131,7 @@ function showTable(table) {
       unfinished || !listed.length ? rowOf({ values: ["unfinished"], count: unfinished }, most) : null)),
     sorted.length > LISTED ? el("p", { class: "quiet" }, `and ${sorted.length - LISTED} outcomes more`) : "",
     left ? el("p", { class: "quiet" }, `${many(left, "run")} had outcomes that aren't counted here: too many differ.`) : "",
-    drawing ? "" : el("p", { class: `word ${word}`, role: "status" }, answer(table)),
+    drawing ? "" : el("p", { class: `word ${word}` }, answer(table)),
     unfinished > done / 2 ? el("p", { class: "quiet" }, "Most runs didn't finish: draw longer ones.") : "");
   if (key?.startsWith("row ")) by("drawn").querySelector(`[data-key="${CSS.escape(key)}"]`)?.focus();
 }
@@ -152,21 +154,4 @@ export async function stepRow(key) {
   const events = expanded(await shrunk(tokens));
   note(`${values.join(" ")}: ${events.length} of the drawn run's ${expanded(tokens).length} events are needed.`);
   await setEvents(events);
-}
-
-// a schedule that a command of the program makes of the test: `find` the shortest, `threads` their own
-export async function made(route, words) {
-  if (isAsked(route)) {
-    stop(route);
-    return;
-  }
-  const name = by(route).textContent;
-  by(route).textContent = "Stop";
-  try {
-    const { tokens } = await ask(route, { text: state.text, buffer: state.buffer });
-    note(words);
-    await setEvents(expanded(tokens));
-  } finally {
-    by(route).textContent = name;
-  }
 }

@@ -3,11 +3,10 @@
 import { ask } from "./ask.js";
 import { by, el, prose } from "./dom.js";
 import { forget } from "./draws.js";
+import { LINE, number } from "./gutter.js";
 import { close, move, note, setEvents } from "./run.js";
 import { expanded } from "./schedules.js";
 import { keep, known, state } from "./state.js";
-
-const LINE = 18, NUMBERED = 5000;
 
 // the text whose machine is shown
 let shown = "";
@@ -29,6 +28,7 @@ export async function take(text, { events = null, place = null } = {}) {
   }
   by("fault").replaceChildren();
   showQuestion(known.test.question);
+  showWitnesses();
   document.title = `${known.test.title} - ztso`;
   if (text !== shown) renew(text);
   await move();
@@ -44,13 +44,6 @@ function renew(text) {
   shown = text;
   known.before = null;
   forget();
-}
-
-function number(wrong) {
-  const count = Math.min(state.text.split("\n").length, NUMBERED);
-  by("numbers").replaceChildren(...Array.from({ length: count }, (_, at) =>
-    at + 1 === wrong ? el("b", {}, String(at + 1)) : `${at + 1}\n`));
-  by("numbers").scrollTop = by("text").scrollTop;
 }
 
 function showFault({ line, number: refusal, name, words, place, cell }) {
@@ -76,18 +69,33 @@ export function listShelf() {
 
 export function choose(name) {
   const found = known.tests.find(one => one.name === name);
-  if (!found) return null;
+  if (!found) {
+    // the list's own text is what the editor has
+    showShelf();
+    by("text").focus();
+    return null;
+  }
   note();
   return take(found.text, { events: [] });
 }
 
+const onShelf = () => known.tests.find(one => one.text === state.text);
+
 function showShelf() {
-  const found = known.tests.find(one => one.text === state.text);
-  by("shelf").value = found?.name ?? "";
-  by("witnesses").replaceChildren(...(found ? [el("span", { class: "quiet" }, "witnesses")] : []),
-    ...(found?.witnesses ?? []).map(([outcome, schedule]) => el("button", { "data-schedule": schedule,
-      title: `Load the shelf's shortest schedule of this outcome: ${schedule}` }, outcome)));
-  showExcluded(found?.excluded ?? "");
+  by("shelf").value = onShelf()?.name ?? "";
+  by("witnesses").replaceChildren();
+  showExcluded(onShelf()?.excluded ?? "");
+}
+
+// the outcomes that the shelf has a schedule of, each by the values of the condition's left sides
+function showWitnesses() {
+  const witnesses = onShelf()?.witnesses ?? [], names = known.test.lefts.map(left => left.name);
+  if (!witnesses.length) return;
+  const values = outcome => outcome.split("-").map((value, at) => `${names[at]} = ${value}`).join(", ");
+  const head = el("span", { class: "quiet" }, "witnesses of ", el("span", { class: "mono" }, names.join("-")));
+  by("witnesses").replaceChildren(head,
+    ...witnesses.map(([outcome, schedule]) => el("button", { "data-schedule": schedule,
+      title: `Load the shelf's shortest schedule that ends with ${values(outcome)}: ${schedule}` }, outcome)));
 }
 
 export function loadWitness(button) {

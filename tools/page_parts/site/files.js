@@ -1,7 +1,7 @@
 // Files that are opened or dropped: litmus texts, texts of herd's, C, schedules. Their text goes to the server, never a
 // name or a path.
 
-import { ask, isStopped } from "./ask.js";
+import { ask, isStopped, waiting } from "./ask.js";
 import { by, el } from "./dom.js";
 import { take } from "./editor.js";
 import { note } from "./run.js";
@@ -13,23 +13,38 @@ const MOST = 1 << 20;
 // the C file that the test was made of
 let source = null;
 
-export async function openFile(file) {
-  if (!file) return;
+// a test comes before the schedule that was opened with it
+export async function openFiles(files) {
+  const isSchedule = file => file.name.endsWith(".schedule");
+  waiting(1);
+  try {
+    for (const file of [...files].sort((one, other) => isSchedule(one) - isSchedule(other))) await openFile(file);
+  } finally {
+    waiting(-1);
+  }
+}
+
+async function openFile(file) {
   if (file.size > MOST) {
     note(`${file.name} has more than ${MOST} bytes.`);
     return;
   }
-  const text = await file.text();
-  source = null;
-  by("compiling").hidden = true;
   try {
-    if (text.startsWith("ztso-schedule")) await loadSchedule(text);
-    else if (file.name.endsWith(".c") || /^\s*C\s/.test(text)) await openC(text);
-    else await openLitmus(text);
+    await openText(file.name, await file.text());
   } catch (error) {
     if (error.fault) note(error.message);
     else if (!isStopped(error)) throw error;
   }
+}
+
+async function openText(name, text) {
+  if (text.startsWith("ztso-schedule")) {
+    await loadSchedule(text);
+    return;
+  }
+  forgetSource();
+  if (name.endsWith(".c") || /^\s*C\s/.test(text)) await openC(text);
+  else await openLitmus(text);
 }
 
 async function openLitmus(text) {

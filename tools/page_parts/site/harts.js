@@ -2,7 +2,7 @@
 
 import { el, prose } from "./dom.js";
 import { known, state } from "./state.js";
-import { idle, locationAt, nameOf, reason, rowAt, said, short, told } from "./words.js";
+import { idle, labelsAt, locationAt, nameOf, reason, rowAt, said, short, told } from "./words.js";
 
 // as many free places of a buffer are drawn at most
 const DRAWN = 4;
@@ -17,7 +17,7 @@ function card(hart, number, before) {
   const status = { running: `runs, pc ${hart.pc}`, ended: "ended", stopped: `stopped at pc ${hart.pc}` }[hart.status];
   return el("article", { class: "hart", "aria-label": `hart ${number}, ${status}` },
     el("h3", {}, el("b", {}, `P${number}`), el("span", {}, status)),
-    el("ol", { class: "code" }, ...known.test.harts[number].rows.map(row => line(row, hart, number, row === current))),
+    code(hart, number, current),
     hart.status === "running" && !current
       ? button("a", number, hart.act, [`no instruction at pc ${hart.pc}`], `P${number} acts at pc ${hart.pc}`) : null,
     waits ? el("p", { class: "why" }, `Waits: ${reason(hart, number)}.`) : null,
@@ -27,13 +27,26 @@ function card(hart, number, before) {
     buffer(hart, number));
 }
 
+function code(hart, number, current) {
+  const { rows } = known.test.harts[number], end = 4 * rows.length;
+  return el("ol", { class: "code" },
+    ...rows.flatMap(row => [...labels(number, row.pc), line(row, hart, number, row === current)]),
+    ...labels(number, end));
+}
+
+const labels = (number, pc) =>
+  labelsAt(number, pc).map(name => el("li", { class: "label" }, el("span", {}, `${short(name)}:`)));
+
 function line(row, hart, number, isCurrent) {
+  const label = labelsAt(number, row.target)[0], target = label === undefined ? "" : ` → ${short(label)}`;
   const words = hart.act.startsWith("waited") ? `P${number} waits: ${reason(hart, number)}`
-    : `P${number} executes ${row.text}: ${told(hart.act)}`;
-  return el("li", isCurrent ? { "aria-current": "step" } : {}, breakpoint(number, row.pc), isCurrent
+    : `P${number} executes ${row.text}${target}: ${told(hart.act)}`;
+  const code = [row.text, target && el("i", {}, target)];
+  const from = `line ${row.line} of the text, word ${row.word}`;
+  return el("li", { "aria-current": isCurrent ? "step" : null, title: from }, breakpoint(number, row.pc), isCurrent
     ? button("a", number, hart.act,
-      [el("span", { class: "what" }, row.text), el("span", { class: "does" }, said(hart.act))], words)
-    : el("span", {}, row.text));
+      [el("span", { class: "what" }, ...code), el("span", { class: "does" }, said(hart.act))], words)
+    : el("span", {}, ...code));
 }
 
 function button(way, hart, outcome, what, name) {

@@ -1,6 +1,7 @@
 // The condition with its verdict, the harts' cards and memory.
 
 import { by, el, say } from "./dom.js";
+import { numberPlaces } from "./gutter.js";
 import { hartCards } from "./harts.js";
 import { known } from "./state.js";
 import { locationAt, many, nameOf, told } from "./words.js";
@@ -22,6 +23,7 @@ export function showMachine() {
   by("harts").replaceChildren(...hartCards(last));
   document.querySelectorAll(".code").forEach((code, at) => showLine(code, scrolled[at] ?? 0));
   by("memory").replaceChildren(el("span", { class: "quiet" }, "memory"), ...memory(last));
+  numberPlaces();
   for (const id of PARTS) by(id).inert = false;
   if (last && view.outcomes.length > last.outcomes.length) sayEvent(view);
   known.before = view;

@@ -1,18 +1,20 @@
 // The page asks the server, which asks the program. What is shown of a run is what the program answered; nothing here
 // computes a step. This module gives each control what it does, and begins.
 
-import { isStopped, trouble } from "./ask.js";
-import { placeOf } from "./chart.js";
-import { by, onPress } from "./dom.js";
-import { drawRuns, made, stepRow } from "./draws.js";
+import { isStopped, trouble, waiting } from "./ask.js";
+import { placeOf, showChart } from "./chart.js";
+import { by, menu, onPress } from "./dom.js";
+import { drawRuns, stepRow } from "./draws.js";
 import { choose, listShelf, loadWitness, take } from "./editor.js";
-import { compile, forgetSource, openFile } from "./files.js";
+import { compile, forgetSource, openFiles } from "./files.js";
+import { scrollNumbers } from "./gutter.js";
 import { onKey } from "./keyboard.js";
+import { find, threads } from "./makers.js";
 import { go, happen, move, note, setEvents, shrunk, toBreak, toggleBreak } from "./run.js";
 import { copyLink, copySchedule, isLink, load, loadLink, savePicture, saveSchedule, saveTest, showPasting }
   from "./saving.js";
 import { expanded, tokens } from "./schedules.js";
-import { kept, known, state } from "./state.js";
+import { keep, kept, known, state } from "./state.js";
 
 const PAUSE = 350;
 
@@ -64,13 +66,10 @@ function onButtons() {
     "to-end": () => go(state.events.length), "to-break": toBreak, shrink, copy: copySchedule,
     paste: () => showPasting(by("pasting").hidden), load, link: copyLink,
     "save-schedule": saveSchedule, "save-test": saveTest, "save-picture": savePicture,
-    find: () => made("find", "The shortest schedule of what the condition asks about."),
-    threads: () => made("threads", "What threads of this machine did just now. Another time they do something else."),
+    find, threads,
     open: () => by("file").click(), keys: () => by("help").showModal() };
   for (const [id, does] of Object.entries(presses)) onPress(id, hand(does));
-  for (const id of ["save-schedule", "save-test", "save-picture", "link"]) {
-    by(id).addEventListener("click", () => by("saving").removeAttribute("open"));
-  }
+  menu("saving");
 }
 
 function onInputs() {
@@ -83,31 +82,55 @@ function onInputs() {
     known.before = null;
     return move();
   }));
+  by("memory-rows").addEventListener("change", hand(() => {
+    state.memory = by("memory-rows").checked;
+    keep();
+    return showChart();
+  }));
   by("shelf").addEventListener("change", hand(() => {
     forgetSource();
     return choose(by("shelf").value);
   }));
   for (const id of ["compiler", "fences", "mapping"]) by(id).addEventListener("change", hand(compile));
   by("file").addEventListener("change", hand(async () => {
-    await openFile(by("file").files[0]);
+    await openFiles(by("file").files);
     by("file").value = "";
   }));
-  document.addEventListener("dragover", dragged => dragged.preventDefault());
-  document.addEventListener("drop", hand(dropped => {
-    dropped.preventDefault();
-    return openFile(dropped.dataTransfer.files[0]);
-  }));
+  onDropping();
   onTyping();
+}
+
+// files that are dragged over the page, and dropped there
+function onDropping() {
+  const over = isOver => document.body.classList.toggle("dropping", isOver);
+  // a text that is dragged is the editor's
+  const hasFiles = dragged => dragged.dataTransfer.types.includes("Files");
+  document.addEventListener("dragover", dragged => {
+    if (!hasFiles(dragged)) return;
+    dragged.preventDefault();
+    over(true);
+  });
+  document.addEventListener("dragleave", left => left.relatedTarget || over(false));
+  document.addEventListener("drop", hand(dropped => {
+    if (!hasFiles(dropped)) return null;
+    dropped.preventDefault();
+    over(false);
+    return openFiles(dropped.dataTransfer.files);
+  }));
 }
 
 // a text that is typed is taken after a pause
 function onTyping() {
   let typing = 0;
-  by("text").addEventListener("scroll", () => { by("numbers").scrollTop = by("text").scrollTop; });
+  by("text").addEventListener("scroll", scrollNumbers);
+  const taken = hand(async () => {
+    typing = 0;
+    await take(by("text").value).finally(() => waiting(-1));
+  });
   by("text").addEventListener("input", () => {
-    document.querySelector("main").setAttribute("aria-busy", "true");
+    if (!typing) waiting(1);
     clearTimeout(typing);
-    typing = setTimeout(hand(() => take(by("text").value)), PAUSE);
+    typing = setTimeout(taken, PAUSE);
   });
 }
 
@@ -116,7 +139,7 @@ async function begin() {
   Object.assign(known, { tests: answer.tests, sources: answer.sources, limits: answer.limits, can: answer.can });
   by("program").textContent = answer.reference ? ", run by the reference, of which nothing is proved"
     : `, run by ${answer.program}`;
-  by("find").hidden = !known.can.find;
+  by("find").hidden = by("find-key").hidden = !known.can.find;
   by("threads").hidden = !known.can.threads;
   listShelf();
   if (await fromLink()) return;
@@ -124,6 +147,7 @@ async function begin() {
   if (before?.text) {
     Object.assign(state, before);
     by("buffer").value = String(state.buffer);
+    by("memory-rows").checked = state.memory;
     await take(state.text);
   } else {
     await choose(known.tests.some(one => one.name === "sb") ? "sb" : known.tests[0].name);

@@ -1,6 +1,6 @@
 // What the page is about, which goes with each question: the server keeps nothing of it.
 
-export const state = { text: "", buffer: 4, events: [], place: 0, breaks: [] };
+export const state = { text: "", buffer: 4, events: [], place: 0, breaks: [], memory: false };
 
 // what the server answered: the shelf, what the program can, the test, and the machine before and now
 export const known = { tests: [], sources: {}, limits: { events: 2000, runs: 100000 }, can: { c: [] },

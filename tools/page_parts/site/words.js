@@ -56,9 +56,7 @@ export const idle = outcome => /^(waited|nothing|over|nohart) /.test(outcome);
 
 export const many = (count, one) => `${count} ${one}${count === 1 ? "" : "s"}`;
 
-const STORE = /^(?:[\w.]+:\s*)?s[bhw]\s/;
-
-export const stores = row => STORE.test(row?.text ?? "");
+export const stores = row => /^s[bhw] /.test(row?.text ?? "");
 
 // why a hart waits: the program says only that it does
 export function reason(hart, number) {
@@ -66,6 +64,6 @@ export function reason(hart, number) {
     : `P${number}'s store buffer must be empty first`;
 }
 
-export function rowAt(number, pc) {
-  return known.test.harts[number].rows.find(row => row.pc <= pc && pc < row.pc + 4 * row.words);
-}
+export const rowAt = (number, pc) => known.test.harts[number].rows.find(row => row.pc === pc);
+
+export const labelsAt = (number, pc) => known.test.harts[number].labels[pc] ?? [];

@@ -129,9 +129,9 @@ class Browser:
     def type(self, text):
         self.send("Input.insertText", text=text)
 
-    def drop(self, path):
-        """A file that is dragged onto the page."""
-        data = {"items": [], "files": [str(path)], "dragOperationsMask": 1}
+    def drop(self, *paths):
+        """Files that are dragged onto the page."""
+        data = {"items": [], "files": [str(path) for path in paths], "dragOperationsMask": 1}
         for kind in ("dragEnter", "dragOver", "drop"):
             self.send("Input.dispatchDragEvent", type=kind, x=200, y=200, data=data)
 

@@ -29,6 +29,8 @@ def store_buffering(count, page):
     if page.run("!!document.querySelector('#threads:not([hidden])')"):
         page.click("#threads")
         count.told("a run on threads", page.word() in ("Holds", "Fails") and "threads" in page.note(), page.note())
+    said = page.text("#witnesses span"), page.run("document.querySelector('#witnesses button').title")
+    count.told("witnesses say of what", said[0] == "witnesses of 0:x7-1:x7" and "ends with 0:x7 = 0, 1:x7 = 0" in said[1], said)
     page.click("#witnesses button")
     count.told("a witness of the shelf", page.strip() == "a0*2 a1*2 l0 l1" and page.word() == "Holds", page.strip())
 
@@ -97,6 +99,10 @@ def keys(count, page):
     page.keys("?")
     count.told("the keys are listed", page.run("document.getElementById('help').open"))
     page.keys("Escape")
+    page.run("document.querySelector('#saving summary').focus()")
+    page.keys("Enter", "Tab", "Escape")
+    closed = page.run("[document.getElementById('saving').open, document.activeElement.tagName]")
+    count.told("Esc closes a menu, and the focus stays", closed == [False, "SUMMARY"], closed)
 
 
 def onward(count, page):

@@ -1,6 +1,4 @@
-"""What is seen: contrast, names of controls, narrow windows and large type; and the pictures of docs/page.md."""
-
-from page_parts.trials import pngs
+"""What is seen: contrast, names of controls, narrow windows and large type."""
 
 # the texts whose contrast with what is under them is below 4.5
 PALE = """(() => {
@@ -66,22 +64,3 @@ def tabbed(count, page):
     wanted = ["keys", "shelf", "open", "buffer", "text", "runs", "go", "break 0 0", "a0", "a1", "onward", "paste", "chart"]
     places = [reached.index(one) if one in reached else -1 for one in wanted]
     count.told("Tab goes through the page in order", places == sorted(places) and -1 not in places, reached)
-
-
-def pictures(page, folder):
-    """The pictures of docs/page.md, and some to look at beside them."""
-    def made(name, whole=False):
-        (folder / name).write_bytes(pngs.smaller(page.browser.picture(whole)))
-    page.open()
-    page.choose("sb")
-    page.event("a0", "a0", "a1", "a1", "l0", "l1")
-    page.draw()
-    page.run("document.activeElement.blur(), scrollTo(0, 0)")
-    made("page.png")
-    page.choose("sb+rfi-pos")
-    page.click("#witnesses button")
-    page.keys("ArrowLeft", "ArrowLeft")
-    page.browser.dark(True)
-    page.run("document.activeElement.blur(), scrollTo(0, 0)")
-    made("page-dark.png")
-    page.browser.dark(False)

@@ -70,6 +70,7 @@ def questions(count, served):
             ("another buffer", "view", run | {"buffer": 3}), ("a buffer that is true", "view", run | {"buffer": True}),
             ("a text in the tokens", "view", run | {"tokens": "a0\nl0"}),
             ("an option in the tokens", "view", run | {"tokens": "--svg"}),
+            ("rows of the browser's", "chart", run | {"rows": "--svg"}),
             ("a hart that is none", "onward", run | {"hart": 64}), ("no runs", "draw", draw | {"runs": 0}),
             ("too many runs", "draw", draw | {"runs": 100001}), ("a length too long", "draw", draw | {"length": 2001}),
             ("breaks of text", "seek", run | {"place": 0, "breaks": [["0", "g"]]}),

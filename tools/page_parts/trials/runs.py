@@ -1,6 +1,7 @@
 """Answers about runs: all witnesses of the shelf, parts of drawn runs, acts that go on, threads, and files that are
 brought."""
 
+import json
 import random
 import sys
 from concurrent.futures import ThreadPoolExecutor
@@ -14,6 +15,7 @@ import litmus  # noqa: E402
 from machine import Machine  # noqa: E402
 
 RUN = {"text": SB, "buffer": 4}
+MP = (ROOT / "litmus/message-passing/mp.litmus").read_text()
 C = "#include <stdatomic.h>\natomic_int x;\nint P0(void) { atomic_store(&x, 1); return x; }\n// exists (0:a0=1)\n"
 
 
@@ -56,7 +58,7 @@ def values(listed, view):
 
 
 def at_ends(listed, view):
-    return all(hart["pc"] == of["end"] for hart, of in zip(view["harts"], listed["harts"]) if hart["status"] == "ended")
+    return all(hart["pc"] == 4 * len(of["rows"]) for hart, of in zip(view["harts"], listed["harts"]) if hart["status"] == "ended")
 
 
 def drawn(count, served):
@@ -94,17 +96,32 @@ def others(count, served, can):
     count.told("a schedule is shrunk", answer == {"tokens": "a0 a1*2 l1 a0 l0"}, answer)
     answer = served.ask("seek", **RUN, tokens="a0*2 a1*2 l0 l1", place=0, breaks=[[1, 4]])[1]
     count.told("a breakpoint is sought", answer == {"place": 3}, answer)
-    answer = served.ask("chart", **RUN, tokens="a0*2 a1*2 l0*3 l1 l1")[1]
-    good = "sw x5,0(x6)" in answer.get("svg", answer.get("text")) and len(answer["outcomes"]) == 9
-    count.told("a run is drawn, with an outcome for each event", good, answer["outcomes"])
+    charts(count, served, can)
     if can["threads"]:
         tokens = served.ask("threads", **RUN)[1]["tokens"]
         answer = served.ask("verdict", **RUN, tokens=tokens)[1]
         count.told("threads make a run that is finished", answer["verdict"] in ("Holds", "Fails"), answer)
         answer = served.ask("threads", text=LOOP, buffer=4)[1]
         count.told("of a loop they make a part", "tokens" in answer, answer)
-    status, _, _ = served.request("POST", served.own + "find", RUN)
+    status, content, _ = served.request("POST", served.own + "find", RUN)
     count.told("find is there where the program has it", (status == 200) == can["find"], status)
+    if can["find"]:
+        answer = served.ask("verdict", **RUN, tokens=json.loads(content)["tokens"])[1]
+        count.told("what it finds is what was asked", answer["verdict"] == "Holds", answer)
+        answer = served.ask("find", text=MP, buffer=4)[1]
+        count.told("or how many states have none", answer.get("states", 0) > 1, answer)
+
+
+def charts(count, served, can):
+    def drawn_of(rows, **run):
+        answer = served.ask("chart", **run, rows=rows)[1]
+        return answer.get("svg", answer.get("text", "")), answer.get("outcomes")
+    picture, outcomes = drawn_of("all", **RUN, tokens="a0*2 a1*2 l0*3 l1 l1")
+    count.told("a run is drawn, with an outcome for each event", "sw x5,0(x6)" in picture and len(outcomes) == 9, outcomes)
+    if can["memory"]:
+        run = {"text": SB.replace(" sw x5,0(x6) | ", " nop | nop ;\n sw x5,0(x6) | "), "buffer": 4, "tokens": "a0*2 l0"}
+        both = [drawn_of(rows, **run)[0] for rows in ("all", "memory")]
+        count.told("and without rows that touch no memory", ["addi x0,x0,0" in one for one in both] == [True, False], both)
 
 
 def brought(count, served, compilers):

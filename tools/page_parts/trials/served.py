@@ -16,9 +16,9 @@ LOOP = SB.replace(" lw x7,0(x8) | lw x7,0(x8) ;", " lw x7,0(x8) | lw x7,0(x8) ;\
 
 
 class Served:
-    def __init__(self, program=None, *words, **environment):
+    def __init__(self, program=None, *words, page=TOOLS / "page", cwd=None, **environment):
         named = ["--program", str(program)] if program else []
-        self.process = subprocess.Popen([TOOLS / "page", *named, *words], stdout=subprocess.PIPE, text=True,
+        self.process = subprocess.Popen([page, *named, *words], stdout=subprocess.PIPE, text=True, cwd=cwd,
                                         env=os.environ | environment)
         self.address = self.process.stdout.readline().strip()
         _, _, self.host, self.secret, _ = self.address.split("/")

@@ -1,13 +1,17 @@
 """How tools/page starts: its words, its port, its program."""
 
 import os
+import shutil
 import subprocess
 import tempfile
 import time
 from pathlib import Path
 
-from page_parts import TOOLS, programs
+from page_parts import ROOT, TOOLS, programs
 from page_parts.trials.served import SB, Served
+
+NEEDED = ("tools/page", "tools/page_parts", "tools/bring_parts", "tools/from-c", "tools/from-herd", "tools/reference",
+          "examples/mappings", "docs/errors.md", "litmus")
 
 
 def part(count, program):
@@ -25,6 +29,30 @@ def part(count, program):
     with tempfile.TemporaryDirectory(prefix="ztso-page-") as folder:
         found(count, program, Path(folder, "ztso"))
         opened(count, program, Path(folder))
+        moved(count, program, Path(folder, "moved"))
+
+
+def moved(count, program, top):
+    """The page in another folder, with what it needs and nothing else, as an installation has it."""
+    for name in NEEDED:
+        source, target = ROOT / name, top / name
+        target.parent.mkdir(parents=True, exist_ok=True)
+        if source.is_dir():
+            shutil.copytree(source, target, ignore=shutil.ignore_patterns("trials", "__pycache__"))
+        else:
+            shutil.copy2(source, target)
+    before = sorted(top.rglob("*"))
+    served = Served(program or programs.REFERENCE, page=top / "tools/page", cwd="/")
+    try:
+        status, answer = served.ask("test", text=SB)
+        herd = served.ask("herd", text=(ROOT / "examples/herd/LB+typed.litmus").read_text())[1]
+        good = status == 200 and answer["title"] == "SB" and "notes" in herd and len(served.shelf()["tests"]) > 50
+        count.told("it runs where it is installed", good, answer)
+    finally:
+        served.end()
+    count.told("and leaves nothing there", sorted(top.rglob("*")) == before)
+    done = subprocess.run([top / "tools/page"], capture_output=True, text=True, timeout=60, check=False)
+    count.told("there is no program there", done.returncode == 1 and "name it by --program" in done.stderr, done)
 
 
 def script(path, text):
@@ -34,13 +62,23 @@ def script(path, text):
 
 
 def found(count, program, stand_in):
-    """A program that has `find`: a stand-in, which hands on what else it is asked."""
-    served = Served(script(stand_in, "if [ \"$1\" = find ]; then printf 'ztso-schedule 1\\na0*2 a1*2 l0 l1\\n'\n"
-                           f"else exec '{program or programs.REFERENCE}' \"$@\"; fi"))
+    """A program that has `find` and `chart --memory`: a stand-in, which finds nothing where it has a buffer of one, and
+    hands on what else it is asked."""
+    served = Served(script(stand_in, f"""case "$* " in
+        'find --buffer 1 '*) echo 'ztso: not found in 23 states' >&2; exit 1 ;;
+        find*) printf 'ztso-schedule 1\\na0*2 a1*2 l0 l1\\n' ;;
+        chart*\\ --memory\\ *) echo 'rows of memory' ;;
+        *) exec '{program or programs.REFERENCE}' "$@" ;;
+        esac"""))
     try:
-        count.told("a program with find is known", served.shelf()["can"]["find"])
+        can = served.shelf()["can"]
+        count.told("a program's commands are known", can["find"] and can["memory"], can)
+        answer = served.ask("chart", text=SB, buffer=4, tokens="a0", rows="memory")[1]
+        count.told("a picture of some rows", "rows of memory\n" in (answer.get("svg"), answer.get("text")), answer)
         answer = served.ask("find", text=SB, buffer=4)[1]
         count.told("the shortest schedule", answer == {"tokens": "a0*2 a1*2 l0 l1"}, answer)
+        answer = served.ask("find", text=SB, buffer=1)[1]
+        count.told("and how many states had none", answer == {"states": 23}, answer)
     finally:
         served.end()
 

@@ -44,7 +44,7 @@ def typed(count, page):
     page.over("text", EVIL)
     page.run("document.activeElement.blur()")
     page.click("#harts .event:not([aria-disabled=true])")
-    broken = page.run("document.querySelectorAll('#test b, #chart script').length + (document.title === 'broken')")
+    broken = page.run("document.querySelectorAll('main [onclick], main script').length + (document.title === 'broken')")
     count.told("tags in a name stay text", broken == 0 and "<b onclick=x>" in page.text("#question"), broken)
 
 
@@ -101,6 +101,7 @@ def saved(count, page, folder):
             continue
         page.click("#saving summary")
         page.click(f"#{button}")
+        count.told("a choice closes the menu", not page.run("document.getElementById('saving').open"))
         path, until = folder / name, time.monotonic() + 20
         while not (path.exists() and path.stat().st_size) and time.monotonic() < until:
             time.sleep(0.05)
@@ -118,6 +119,9 @@ def dropped(count, page, folder):
     schedule.write_text("ztso-schedule 1\na0 a1\n")
     drop(page, schedule)
     count.told("dropped: a schedule", page.strip() == "a0 a1", page.strip())
+    drop(page, schedule, ROOT / "litmus/message-passing/mp.litmus")
+    count.told("dropped: a test with its schedule", page.strip() == "a0 a1" and page.text("#question").startswith("One hart"),
+               page.strip())
     drop(page, ROOT / "examples/c/dekker.c")
     compilers = page.served.shelf()["can"]["c"]
     if not compilers:
@@ -134,8 +138,8 @@ def dropped(count, page, folder):
     count.told("another test is of no C", page.run("document.getElementById('compiling').hidden"))
 
 
-def drop(page, path):
-    page.browser.drop(path)
+def drop(page, *paths):
+    page.browser.drop(*paths)
     page.idle()
     time.sleep(0.3)
     page.idle()

@@ -1,0 +1,42 @@
+// Schedules that a command of the program makes of the test: `find` the shortest of what the condition asks about,
+// `threads` what threads of the system did. A second press stops it.
+
+import { ask, isAsked, stop } from "./ask.js";
+import { by, el } from "./dom.js";
+import { note, setEvents } from "./run.js";
+import { expanded } from "./schedules.js";
+import { state } from "./state.js";
+import { many } from "./words.js";
+
+// a command's answer, while its button says for how long it has run
+async function answered(route) {
+  const name = by(route).textContent, begun = performance.now();
+  const seconds = el("span", { "aria-hidden": "true" });
+  by(route).replaceChildren("Stop", seconds);
+  const ticks = setInterval(() => {
+    seconds.textContent = ` (${Math.floor((performance.now() - begun) / 1000)} s)`;
+  }, 1000);
+  try {
+    return await ask(route, { text: state.text, buffer: state.buffer });
+  } finally {
+    clearInterval(ticks);
+    by(route).textContent = name;
+  }
+}
+
+async function made(route, told) {
+  if (isAsked(route)) {
+    stop(route);
+    return;
+  }
+  const answer = await answered(route);
+  note(told(answer));
+  if (answer.tokens !== undefined) await setEvents(expanded(answer.tokens));
+}
+
+export const find = () => made("find", ({ states }) => states === undefined
+  ? "A schedule of what the condition asks about; the search finds none with fewer events."
+  : `Not found in ${many(states, "state")}. That doesn't say that it can't happen.`);
+
+export const threads = () => made("threads", () =>
+  "What threads of this machine did just now. Another time they do something else.");

@@ -1,0 +1,35 @@
+// Where the rows of a picture stand, and the place in the schedule that each leads to. A row's number is that of what
+// happened: an event that did nothing has none.
+
+import { idle } from "./words.js";
+
+const TEXT = { pitch: 17 }, SVG = { pitch: 22, above: 16 };
+
+// numbers with the tops of their rows
+function ofText(text) {
+  return text.split("\n").flatMap((line, at) => {
+    const number = /^ *(\d+)  /.exec(line);
+    return number ? [[Number(number[1]), at * TEXT.pitch]] : [];
+  });
+}
+
+const attribute = (tag, name) => new RegExp(` ${name}='([^']*)'`).exec(tag)?.[1];
+
+// the row's numbers have ids, within groups that are moved down. Of a program without such ids the quiet numbers are taken
+function ofSvg(svg) {
+  const hasIds = svg.includes(" id='row-");
+  let down = 0;
+  return [...svg.matchAll(/<(?:g|text) [^>]*>(\d+)?/g)].flatMap(([tag, text]) => {
+    if (tag.startsWith("<g ")) down = Number(/translate\(0 (\d+)\)/.exec(tag)?.[1] ?? 0);
+    const id = /^row-(\d+)$/.exec(attribute(tag, "id") ?? "")?.[1];
+    const number = hasIds ? id : attribute(tag, "class") === "quiet" ? text : null;
+    return number ? [[Number(number), down + Number(attribute(tag, "y")) - SVG.above]] : [];
+  });
+}
+
+export function rowsOf({ svg, text, outcomes }) {
+  const places = outcomes.flatMap((outcome, at) => idle(outcome) ? [] : [at + 1]);
+  const found = svg === undefined ? ofText(text) : ofSvg(svg);
+  return { pitch: (svg === undefined ? TEXT : SVG).pitch,
+    rows: found.map(([number, top]) => ({ place: places[number - 1], top })).filter(row => row.place) };
+}
