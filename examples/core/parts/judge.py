@@ -1,7 +1,4 @@
-"""Asks ztso whether records are runs of a test, and for the last states of those that are.
-
-`judge` stands for the command `ztso check`, which judges any number of records at once: it returns the same lines
-from `run` and `move`, so that the command can take its place."""
+"""Asks ztso whether records are runs of a test, and for the last states of those that are."""
 
 import re
 import subprocess
@@ -12,33 +9,16 @@ from shelf import shown
 from . import Wrong
 
 ACCEPTED, UNFINISHED, DIFFERS = "accepted", "unfinished", "refused 38 "
-EVENTS_HEAD = "ztso-schedule 1\n"
 RECORD = "/dev/stdin"
 
 
 def judge(program, path, records, buffer=4):
-    """A line for each record, as `ztso check` numbers them: `accepted`, `unfinished`,
+    """What `ztso check` says of each record, without its number: `accepted`, `unfinished`,
     `refused 38 at event E line L: OUTCOME, the run has OUTCOME`, or another refusal."""
-    return [judged(program, path, record, buffer) for record in records]
-
-
-def judged(program, path, record, buffer):
-    output, fault = ask(program, "run", path, record, buffer)
-    if not fault:
-        return UNFINISHED if output.endswith("Unfinished\n") else ACCEPTED
-    differs = re.fullmatch(r"ztso: refused 38 at event ([0-9]+)", fault)
-    if not differs:
-        return fault.removeprefix("ztso: ")
-    event = int(differs[1])
-    outcome = record.splitlines()[event + 1].partition(" ")[2]
-    return f"refused 38 at event {event} line {event + 2}: {outcome}, the run has {found(program, path, record, event, buffer)}"
-
-
-def found(program, path, record, event, buffer):
-    """The machine's outcome of an event. The record has an event a line, after its head line."""
-    tokens = [line.split()[0] for line in record.splitlines()[1:event + 2]]
-    output, _ = ask(program, "move", path, f"{EVENTS_HEAD}{' '.join(tokens)}\n", buffer)
-    return output.splitlines()[-1].partition(" ")[2]
+    output, fault = call(program, ["check", path, "--buffer", buffer], "".join(records))
+    if fault:
+        raise Wrong(f"{path}: {fault.removeprefix('ztso: ')}")
+    return [line.partition(" ")[2] for line in output.splitlines()[:len(records)]]
 
 
 def event_of(line):
