@@ -4,7 +4,7 @@ _ztso() {
     local at position=0 options='' words='' inputs=()
     for ((at = 2; at < COMP_CWORD; at++)); do
         case ${COMP_WORDS[at]} in
-        --svg | --finish) ;;
+        --svg | --steps | --finish) ;;
         --*) ((++at)) ;;
         *) ((++position)) ;;
         esac
@@ -15,7 +15,10 @@ _ztso() {
     move) inputs=(files files) options='--buffer' ;;
     shrink) inputs=(files files) options='--buffer' ;;
     chart) inputs=(files files) options='--buffer --svg' ;;
+    show) inputs=(files) options='--buffer --steps' ;;
     debug) inputs=(files files) options='--buffer' ;;
+    check) inputs=(files) options='--buffer' ;;
+    find) inputs=(files) options='--buffer --states' ;;
     try) inputs=(files) options='--buffer --seed --runs --length --skip --jobs' ;;
     threads) inputs=(files) options='--buffer --turns' ;;
     channel) inputs=('lamport fastforward' '' files) options='--buffer --base --stride --finish' ;;
@@ -24,7 +27,7 @@ _ztso() {
     dis) inputs=() options='' ;;
     esac
     if ((COMP_CWORD == 1)); then
-        words='run replay move shrink chart debug try threads channel steps asm dis'
+        words='run replay move shrink chart show debug check find try threads channel steps asm dis'
     elif ((at > COMP_CWORD)); then
         case $last in
         --buffer) words='1 2 4 16' ;;

@@ -8,7 +8,10 @@ _ztso() {
             'move:the schedule'\''s text of version 2'
             'shrink:a schedule with the same outcome'
             'chart:a picture of the run'
+            'show:what its test is'
             'debug:the answer to each command'
+            'check:which records are accepted'
+            'find:a shortest schedule that shows what is asked for'
             'try:the outcomes of N drawn schedules of L events'
             'threads:the schedule that threads of the system made'
             'channel:what the receiver reports'
@@ -53,11 +56,28 @@ _ztso() {
             '1:FILE:_files' \
             '2:SCHEDULE:_files'
         ;;
+    show)
+        _arguments \
+            '--buffer[a hart'\''s store buffer holds N stores: 1, 2, 4 or 16; 4 if it is left out]:N:(1 2 4 16)' \
+            '--steps[the test'\''s opening as a steps text]' \
+            '1:FILE:_files'
+        ;;
     debug)
         _arguments \
             '--buffer[a hart'\''s store buffer holds N stores: 1, 2, 4 or 16; 4 if it is left out]:N:(1 2 4 16)' \
             '1:FILE:_files' \
             '2:SCHEDULE:_files'
+        ;;
+    check)
+        _arguments \
+            '--buffer[a hart'\''s store buffer holds N stores: 1, 2, 4 or 16; 4 if it is left out]:N:(1 2 4 16)' \
+            '1:FILE:_files'
+        ;;
+    find)
+        _arguments \
+            '--buffer[a hart'\''s store buffer holds N stores: 1, 2, 4 or 16; 4 if it is left out]:N:(1 2 4 16)' \
+            '--states[at most N distinct states are seen, 1 to 16777216; 1000000 if it is left out]:N:()' \
+            '1:FILE:_files'
         ;;
     try)
         _arguments \

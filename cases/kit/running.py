@@ -177,9 +177,9 @@ def without_memory(program, case, folder, refuser, first, step):
 
 
 def is_answer_without_memory(case, answer):
-    """Whether it is the case's own answer, or that there is no memory, which the debugger says after what it has
-    answered."""
+    """Whether it is the case's own answer, or that there is no memory, which a command that writes as it reads says
+    after what it has answered."""
     own = case.answer()
-    if case.words[:1] == [b"debug"] and answer[:2] == NO_MEMORY[:2]:
+    if case.words[:1] in ([b"debug"], [b"check"]) and answer[:2] == NO_MEMORY[:2]:
         return own[2].startswith(answer[2])
     return answer in (NO_MEMORY, own)

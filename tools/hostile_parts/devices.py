@@ -67,7 +67,7 @@ def commands(short):
 
 
 def reads_stdin(words):
-    return words[0] in ("steps", "asm", "dis", "channel", "debug")
+    return words[0] in ("steps", "asm", "dis", "channel", *examples.INTERACTIVE)
 
 
 def feed(where, content):
@@ -138,8 +138,7 @@ def failing_calls(runs, words, stdin, own, failing):
                 if not seen.exists():
                     break
                 seen.unlink()
-                # only the debugger writes before it has read all
-                begun = own[2].startswith(came[2]) and (call == "write" or words[0] == "debug" or not came[2])
+                begun = own[2].startswith(came[2]) and (call == "write" or words[0] in examples.INTERACTIVE or not came[2])
                 if error == errno.EINTR:
                     kind, right = "interrupted", came == own
                 else:

@@ -78,6 +78,23 @@ l1 land 1
 a0*1000 over 0
 a63 nohart 63
 """
+# a record of a finished run, one that differs, one that is not finished and a text that is no record
+RECORDS = b"""ztso-schedule 2
+a0 store 0 0 1
+a0 load 0 4 0
+a1 store 1 4 1
+a1 load 1 0 0
+l0 land 0
+l1 land 1
+ztso-schedule 2
+a0 store 0 0 1
+
+a0 load 0 4 1
+ztso-schedule 2
+a0 store 0 0 1
+ztso-schedule 2
+a0 store
+"""
 CHANNEL_RECORD = b"""ztso-schedule 2
 a1 inner 1
 a1 next 1 end
@@ -99,6 +116,8 @@ a0 closed 0 0
 a0*3 inner 0
 a0 ended 0
 """
+# the commands that write as they read
+INTERACTIVE = ("debug", "check")
 # more events than the outcome needs
 LONG = b"ztso-schedule 1\nl0*3 a1 a0*2 a1*3 a0 l1*2 a1 l0 a1 l0 a1 l0 a1 l0\n"
 STEPS = b"""hart 00532023 00042383\r
@@ -159,6 +178,11 @@ def kinds():
     yield ["chart", SB, WITNESS], b"", {}
     yield ["chart", TICKET, "some.schedule", "--buffer", "1"], b"", {
         "some.schedule": b"ztso-schedule 1\n" + b"a0 a1 l0 a1*2 l1 " * 60}
+    yield ["show", SB], b"", {}
+    yield ["show", TICKET, "--steps"], b"", {}
+    yield ["find", SB], b"", {}
+    yield ["find", TICKET, "--states", "100", "--buffer", "1"], b"", {}
+    yield ["check", SB], RECORDS, {}
     yield ["try", TICKET, "--seed", "7", "--runs", "40", "--length", "60", "--skip", "5", "--jobs", "3"], b"", {}
     for test in (SB, TICKET, "litmus/own-reads/n6.litmus"):
         yield ["try", test, "--seed", "7", "--runs", "40", "--length", "60"], b"", {}

@@ -47,7 +47,7 @@ def judged(runs, came, own, words):
         return "no memory", True
     if "threads" in words and came == NO_THREAD:
         return "no thread", True
-    if "debug" in words and came[:2] == NO_MEMORY[:2]:
+    if set(examples.INTERACTIVE) & set(words) and came[:2] == NO_MEMORY[:2]:
         return "answers of their own until memory ran out", own[2].startswith(came[2])
     if own is not None:
         return "own answers", came == own

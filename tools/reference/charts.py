@@ -218,7 +218,7 @@ def chart(text, test, machine, walk):
     harts = len(test.codes)
     pictures = [Picture(rows.rows, harts, form) for form in FORMS]
     picture = next((p for p in pictures if p.width <= limit(harts)), pictures[-1])
-    never = [f"never landed: P{h} {rows.part(place, width)} := {value} [{n + 1}]"
+    never = [f"still pending: P{h} {rows.part(place, width)} := {value} [{n + 1}]"
              for h in range(harts) for n, place, width, value in rows.pending.get(h, [])]
     values = [f"last value: {left} = {value}" for (left, _), value in zip(test.lefts, outcome(test, state))]
     foot = [*never, *values, f"{verdict(test, state)}: {heading.condition}"]

@@ -32,5 +32,9 @@ def bad_command_line():
     return Fault("ztso: bad command line", 2)
 
 
+def not_found(states):
+    return Fault(f"ztso: not found in {states} states", 1)
+
+
 def read_failed():
     return Fault("ztso: read failed", 3)

@@ -47,6 +47,11 @@ class Test:
     condition: list = field(default_factory=list)
     # the condition's left sides in order: the text and the place
     lefts: list = field(default_factory=list)
+    name: str = ""
+    # the condition in one line, without comments
+    asked: str = ""
+    # each hart's cells: the line, the text, the label or None, and how many words it makes
+    columns: list = field(default_factory=list)
 
     def holds(self, value_of):
         """Whether the verdict is Holds, given the final value of each place."""
@@ -125,6 +130,7 @@ class Reader:
             if line.strip(BLANKS):
                 if not re.match(r"[ \t]*RISCV[ \t]+[^ \t]", line):
                     raise self.fault(HEADER, first_place(at, line))
+                self.test.name = re.findall(r"[^ \t]+", line)[1]
                 break
         else:
             raise self.fault(HEADER)
@@ -226,6 +232,7 @@ class Reader:
             if cell.strip(BLANKS) != f"P{hart}":
                 raise self.fault(TABLE, begin)
         self.test.codes = [[] for _ in row]
+        self.test.columns = [[] for _ in row]
         self.labels = [{} for _ in row]
 
     def cells(self, begin, row, cells):
@@ -238,6 +245,7 @@ class Reader:
                 raise self.fault(INSTRUCTION, begin) from None
             if label is not None:
                 labels[label] = len(code)
+            self.test.columns[hart].append((self.line(begin), cell, label, len(made)))
             cells += [(begin, hart, len(code) + i) for i in range(len(made))]
             code += made
             if len(code) > INSTRUCTIONS:
@@ -259,6 +267,7 @@ class Reader:
         if word in ("locations", "filter"):
             raise self.fault(CONDITION, start)
         self.test.kind = word
+        self.test.asked = " ".join(re.findall(r"[^ \t\r\n]+", self.text[start:]))
         self.expression(start + len(word))
 
     def expression(self, at):

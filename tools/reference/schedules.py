@@ -36,6 +36,13 @@ def read_steps(text):
     return [(event, None) for event in read_tokens(text, head.end())]
 
 
+def read_record(text):
+    """The events of a record, each with its outcome."""
+    if not re.match(rf"{RECORD_LINE}(\r?\n|\Z)", text):
+        raise at_byte(HEAD, 0)
+    return record(text, len(RECORD_LINE))
+
+
 def bytes_before(text, place):
     return place if text.isascii() else len(text[:place].encode())
 
