@@ -2,7 +2,7 @@
 
 /// What is reported of a search while it goes on. What it finds depends on none of it.
 pub trait SearchProgress {
-    /// So many distinct states were seen, each behind at most `depth + 1` events.
+    /// `states` distinct states were seen, each after at most `depth + 1` events.
     fn report(&mut self, states: u32, depth: u32);
 
     /// No report follows: the search is over, or memory ran out.

@@ -95,7 +95,7 @@ is_svg Svg = true
 abbrev pub AsksForStyle : Style → List Text → Type 0
 AsksForStyle drawn words = AsksByFlag (codes "--svg") (is_svg drawn) words
 
--- whether a test is told as a steps text, which `--steps` asks for
+-- whether a test is shown as a steps text, which `--steps` asks for
 abbrev pub is_steps : Form → Bool
 is_steps form.Table = false
 is_steps form.Steps = true

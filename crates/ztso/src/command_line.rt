@@ -232,7 +232,7 @@ fn style_of(text: &str) -> Style
     }
 }
 
-/// How a test is told.
+/// In which form a test is shown.
 fn show_in(options: &ArgMatches<'_>) -> Option<MachineCommand>
     ensures { result ≡ show_in (rows_of (found_of options.now)) }
 {
