@@ -24,7 +24,7 @@ use Rattle.checking.specs.Checking.{IsCheckAnswer, IsChecked, IsCheckFront, IsFr
 use Rattle.checking.specs.inner.Reporting.{AllReported, Closes, SomeReported}
 use Rattle.checking.specs.inner.Reporting.Closes.{reported}
 use Rattle.checking.specs.inner.Tallies.{IsTallyOf, Tallies}
-use Rattle.checking.proofs.Goings.{appends_more, appends_nothing}
+use Rattle.engine_parts.proofs.Written.{appends_more, appends_nothing}
 
 -- ---- a text
 

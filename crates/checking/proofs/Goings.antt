@@ -1,12 +1,12 @@
 -- Records that are judged as they are read.
 use Rattle.std.proofs.Common.{arith, ◌≡◌, ℕ, ◌+◌, ◌<◌, ◌≤◌, true, false, List, [], ◌∷◌, ◌++◌, length, length-append}
-use Rattle.std.proofs.Common.{Option, Some, None, refl, sym, ap, subst, ◌∙◌, append_assoc, inl, inr}
-use Rattle.std.specs.Prelude.{◌==◌, IfSome}
+use Rattle.std.proofs.Common.{Option, Some, None, refl, sym, ap, subst, ◌∙◌, append_assoc, inl}
+use Rattle.std.specs.Prelude.{IfSome}
 use Rattle.std.specs.Io.BufRead.{take_through, drop_through, DropsThrough}
 use Rattle.std.specs.Io.KnownBytes.{Appends}
-use Rattle.std.proofs.lemmas.Bool.{cases_Bool}
 use Rattle.std.proofs.lemmas.List.{append-nil}
 use Rattle.litmus.specs.LitmusTests.{LitmusTest}
+use Rattle.engine_parts.proofs.Written.{appends_more, appends_nothing, no_byte}
 use Rattle.checking.specs.declared.tally.Tally.{Tally}
 use Rattle.checking.specs.RecordTexts.{whole_lines, begins_record, is_left_out, unless_blank, texts_in}
 use Rattle.checking.specs.Judgements.{Judged, IsJudged, AreJudged}
@@ -19,14 +19,6 @@ use Rattle.checking.specs.inner.Reporting.TakesLine.{belongs, begins}
 use Rattle.checking.specs.inner.Tallies.{HasRoom, IsTallyOf}
 use Rattle.checking.proofs.TallyLaws.{has_room, tally_more}
 use Rattle.checking.proofs.TextLaws.{first_whole, texts_from, text_ends, text_goes_on, text_is_last, held_left_out, held_judged}
-
--- ---- what a writer holds, where that is known
-
-pub appends_nothing : (known : Option (List ℕ)) → Appends known known []
-appends_nothing known = grind (arith, append-nil)
-
-pub appends_more : (old mid new : Option (List ℕ)) (xs ys : List ℕ) → Appends old mid xs → Appends mid new ys → Appends old new (xs ++ ys)
-appends_more old mid new xs ys a b = grind (arith, append_assoc)
 
 -- ---- one text more
 
@@ -94,13 +86,6 @@ going_nothing B M test input known tally is = record {
     none_done : (input : Option (List ℕ)) → AreDone input input []
     none_done None = tt
     none_done (Some bytes) = refl
-
-no_byte : (bytes : List ℕ) → take_through 10 bytes ≡ [] → bytes ≡ []
-no_byte [] e = refl
-no_byte (byte ∷ bytes) e = elim (cases_Bool (byte == 10)) [
-  | inl is ↦ (let f : byte ∷ [] ≡ [] = rw is at e in cc)
-  | inr other ↦ (let f : byte ∷ take_through 10 bytes ≡ [] = rw other at e in cc)
-]
 
 module _ {B M : ℕ} {test : LitmusTest} {input left before after : Option (List ℕ)} {held : List ℕ} {tally : Tally} {count : ℕ}
     (t : Going B M test input left before after held tally count) where

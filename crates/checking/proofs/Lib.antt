@@ -1,12 +1,9 @@
 pub mod Differences
 pub mod EventLineLaws
-pub mod Rows
 pub mod TallyLaws
 pub mod Written
-pub mod OutcomeLines
 pub mod OutcomeLaws
 pub mod TextLaws
 pub mod Goings
-pub mod Endings
 pub mod Answering
 pub mod OneChecked

@@ -1,12 +1,7 @@
 -- Records answer one text: what is said of them is determined by the test and the input.
-use Rattle.std.proofs.Common.{◌≡◌, ℕ, Bool, true, false, List, [], ◌∷◌, ◌++◌, map, take, count_by, Some, Result, Ok, Err, refl, sym, ap, ap₂, ◌∙◌, subst}
-use Rattle.std.specs.Prelude.{◌==◌, ◌↔◌, Contains, IsTrue}
-use Rattle.std.specs.BTreeSet.{BTreeSet, contains}
-use Rattle.std.proofs.lemmas.Map.Lookups.{btree_set_from_contains, exact_bytes}
-use Rattle.std.proofs.lemmas.Map.Views.{btree_set_contains_iff}
+use Rattle.std.proofs.Common.{◌≡◌, ℕ, Bool, List, [], ◌∷◌, ◌++◌, map, take, count_by, Some, Result, Ok, Err, refl, sym, ap, ap₂, ◌∙◌, subst}
+use Rattle.std.specs.Prelude.{◌==◌}
 use Rattle.std.specs.List.{flat_map, slice_get}
-use Rattle.std.specs.Ordering.{nat_cmp}
-use Rattle.std.specs.Cmp.Lexicographic.{slice_cmp, nat_list_cmp_total}
 use Rattle.texts.proofs.FormatLaws.{settled_one, settled_only}
 use Rattle.texts.proofs.ResultLaws.{some_is}
 use Rattle.step_machine.specs.History.{Start, History, unrun}
@@ -22,6 +17,8 @@ use Rattle.recorder.proofs.HeadLaws.{record_settles}
 use Rattle.recorder.proofs.RunRecords.{no_other, record_runs}
 use Rattle.engine_parts.specs.declared.fault.Refusal.{Refusal}
 use Rattle.engine_parts.specs.Engines.{AreOneAnswer, judged}
+use Rattle.engine_parts.specs.Outcomes.{unfinished_line}
+use Rattle.engine_parts.proofs.OutcomeTables.{one_outcomes}
 use Rattle.engine_parts.proofs.OneInput.{alike_by_test, one_refusal, value_or_refusal}
 use Rattle.engine_parts.proofs.RunLaws.{one_place}
 use Rattle.checking.specs.EventLines.{line_of_event}
@@ -31,7 +28,7 @@ use Rattle.checking.specs.Judgements.Judged.{differing, no_record}
 use Rattle.checking.specs.Judgements.IsSaidOf.{of_run, of_difference}
 use Rattle.checking.specs.Judgements.IsJudged.{none, record_is}
 use Rattle.checking.specs.Reports.{reports_from}
-use Rattle.checking.specs.Outcomes.{AreOutcomes, IsTable, is_refused, is_unfinished, outcome_row, refused_line, unfinished_line}
+use Rattle.checking.specs.Outcomes.{gave, IsTable, is_refused, is_unfinished, outcome_row, refused_line}
 use Rattle.checking.specs.Checking.{IsCheckAnswer, IsChecked, IsCheckedOf}
 
 -- ---- one run of a record
@@ -103,34 +100,11 @@ one_list B M q [] xs ys are others = are ∙ sym others
 one_list B M q (text ∷ texts) xs ys (a, rest, same, is, are) (b, others, equal, also, tell) =
     same ∙ ap₂ (λ (x : Judged) (xs : List Judged). x ∷ xs) (one_judged B M q text a b is also) (one_list B M q texts rest others are tell) ∙ sym equal
 
--- ---- one ascending list of the same elements
-
-same_truth : (b c : Bool) → (IsTrue b → IsTrue c) → (IsTrue c → IsTrue b) → b ≡ c
-same_truth true true to from = refl
-same_truth true false to from = sym (to refl)
-same_truth false true to from = from refl
-same_truth false false to from = refl
-
-abbrev set_of : List (List ℕ) → BTreeSet (List ℕ)
-set_of xs = record { keys = xs }
-
-shown_or_not : (xs : List (List ℕ)) (outcome : List ℕ) → IsTrue (contains (slice_cmp nat_cmp) (set_of xs) outcome) ↔ Contains xs outcome
-shown_or_not xs outcome = btree_set_contains_iff nat_list_cmp_total exact_bytes (set_of xs) outcome
-
-one_outcomes : (answers : List Judged) (xs ys : List (List ℕ)) → AreOutcomes answers xs → AreOutcomes answers ys → xs ≡ ys
-one_outcomes answers xs ys is other =
-    btree_set_from_contains nat_list_cmp_total (set_of xs) (set_of ys) is.ascending other.ascending same exact_bytes
-  where
-    same : (outcome : List ℕ) → contains (slice_cmp nat_cmp) (set_of xs) outcome ≡ contains (slice_cmp nat_cmp) (set_of ys) outcome
-    same outcome = same_truth (contains (slice_cmp nat_cmp) (set_of xs) outcome) (contains (slice_cmp nat_cmp) (set_of ys) outcome)
-        (λ there. (shown_or_not ys outcome).1 ((other.all outcome).1 ((is.all outcome).0 ((shown_or_not xs outcome).0 there))))
-        (λ there. (shown_or_not xs outcome).1 ((is.all outcome).1 ((other.all outcome).0 ((shown_or_not ys outcome).0 there))))
-
 -- ---- one table and one text
 
 one_table : (q : LitmusTest) (answers : List Judged) (a b : List ℕ) → IsTable q answers a → IsTable q answers b → a ≡ b
 one_table q answers a b is other =
-    let outcomes : is.outcomes ≡ other.outcomes = one_outcomes answers is.outcomes other.outcomes is.shown other.shown in
+    let outcomes : is.outcomes ≡ other.outcomes = one_outcomes gave answers is.outcomes other.outcomes is.shown other.shown in
     is.is
     ∙ ap (λ (xs : List (List ℕ)). flat_map (outcome_row q answers) xs ++ unfinished_line (count_by is_unfinished answers)
     ++ refused_line (count_by is_refused answers)) outcomes

@@ -1,55 +1,51 @@
 //! What is kept of the texts that were judged.
 
-ghost use Rattle.std.specs.Prelude.{◌<◌, [], IfSome, OnOk};
-ghost use Rattle.checking.specs.inner.Tallies.{counted_of, Counts, HasRoom, IsTallyOf, judged_by, Tallies};
+ghost use Rattle.std.specs.Prelude.{◌≡◌, ◌<◌, [], IfOk, IfSome, OnOk};
+ghost use Rattle.std.specs.String.{string_bytes};
+ghost use Rattle.engine_parts.specs.Counting.{counted, Counts};
+ghost use Rattle.checking.specs.Outcomes.{record_end as end_of_record};
+ghost use Rattle.checking.specs.inner.Tallies.{HasRoom, IsTallyOf, judged_by, Tallies};
 
 use crate::judging::Judgement;
+use engine_parts::outcomes::Outcomes;
 use std::alloc::{AllocError, Global};
-use std::collections::BTreeMap;
 
-/// What the runs with one outcome showed.
-#[derive(Drop)]
-pub struct Row {
-    /// How many they are.
-    pub count: u64,
-    /// The number of the first one's record.
-    pub first: u64,
-}
-
-/// The rows by their outcomes, and how many texts were judged, of how many runs that did not finish, and how
-/// many were refused.
+/// The outcomes of the runs, and how many texts were judged, of how many runs that did not finish, and how many
+/// were refused.
 #[derive(Drop)]
 pub struct Tally {
-    pub rows: BTreeMap<Vec<u32>, Row>,
+    /// Each ends with the number of the first run's record.
+    pub outcomes: Outcomes,
     pub judged: u64,
     pub unfinished: u64,
     pub refused: u64,
 }
 
+/// What the row of an outcome ends with that the record of this number showed first.
+fn record_end(alloc: Global, number: u64) -> Result<String, AllocError>
+    ensures { IfOk result (λ text. string_bytes text ≡ end_of_record number) }
+{
+    let mut text = String::new(alloc);
+    write!(text, " record {number}")?;
+    Ok(text)
+}
+
 /// Counts one more run with this outcome, of the record of this number.
 fn count_outcome(
     alloc: Global,
-    rows: &mut BTreeMap<Vec<u32>, Row>,
+    outcomes: &mut Outcomes,
     outcome: &[u32],
     number: u64,
 ) -> Result<(), AllocError>
-    requires { IfSome (counted_of rows.old.entries outcome.now) (λ seen. seen.0 < 18446744073709551615) }
-    ensures { OnOk result (Counts outcome.now number rows.old.entries rows.new.entries) }
+    requires { IfSome (counted outcomes.old outcome.now) (λ seen. seen.0 < 18446744073709551615) }
+    ensures { OnOk result (Counts outcome.now (1, end_of_record number) (counted outcomes.old) (counted outcomes.new)) }
 {
-    match rows.get_mut(outcome) {
-        Some(row) => row.count += 1,
-        None => {
-            let outcome = Vec::from_slice(alloc, outcome)?;
-            rows.insert(
-                outcome,
-                Row {
-                    count: 1,
-                    first: number,
-                },
-            )?;
-        }
+    if outcomes.count_again(outcome) {
+        return Ok(());
     }
-    Ok(())
+    let end = record_end(alloc, number)?;
+    let outcome = Vec::from_slice(alloc, outcome)?;
+    outcomes.count_first(outcome, end)
 }
 
 impl Tally {
@@ -58,7 +54,7 @@ impl Tally {
         ensures { IsTallyOf [] result }
     {
         Tally {
-            rows: BTreeMap::new(alloc),
+            outcomes: Outcomes::new(alloc),
             judged: 0,
             unfinished: 0,
             refused: 0,
@@ -77,7 +73,7 @@ impl Tally {
     {
         self.judged += 1;
         match judgement {
-            Judgement::Finished => count_outcome(alloc, &mut self.rows, values, self.judged),
+            Judgement::Finished => count_outcome(alloc, &mut self.outcomes, values, self.judged),
             Judgement::Unfinished => {
                 self.unfinished += 1;
                 Ok(())

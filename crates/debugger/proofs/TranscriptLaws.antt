@@ -33,6 +33,7 @@ use Rattle.debugger.specs.inner.Failures.{IsFailure, IsReadFailure, IsAtStart}
 use Rattle.engine_parts.specs.Engines.{AnswersBoth, Output}
 use Rattle.engine_parts.specs.Histories.{AnswersEvents, ByEvents}
 use Rattle.engine_parts.specs.Histories.BySchedule.{both}
+use Rattle.engine_parts.proofs.Written.{appends_more, appends_nothing, no_byte, stopped}
 use Rattle.engine_parts.proofs.ScheduleLaws.{by_schedule_as, weaker_both}
 
 -- ---- the first line of an input, which ends through its first LF
@@ -80,13 +81,6 @@ first_line_of (byte ∷ bytes) line none is = at (position is_line_feed (byte �
         let reads_line : line ≡ all = let e = ap lines (sym front) ∙ is in cc in
         whole ∙ ap (λ (l : List ℕ). l ∷ []) (sym reads_line) ∙ ap (λ (rest : List ℕ). line ∷ lines rest) (sym back)
 
-no_byte : (bytes : List ℕ) → take_through 10 bytes ≡ [] → bytes ≡ []
-no_byte [] e = refl
-no_byte (byte ∷ bytes) e = elim (cases_Bool (is_line_feed byte)) [
-  | inl is ↦ (let f : byte ∷ [] ≡ [] = rw is at e in cc)
-  | inr other ↦ (let f : byte ∷ take_through 10 bytes ≡ [] = rw other at e in cc)
-]
-
 -- what was read through the first LF is nothing, so the input has ended
 pub asks_end : (old new : Option (List ℕ)) (read text : List ℕ) → IfSome old (λ bytes. read ≡ take_through 10 bytes) → text ≡ read → text ≡ []
     → AsksNext old new (Some Quit)
@@ -105,12 +99,6 @@ asks_line (Some bytes) new read text line others said is drops whole says asks =
 )
 
 -- ---- what a writer holds, where that is known
-
-pub appends_nothing : (known : Option (List ℕ)) → Appends known known []
-appends_nothing known = grind (arith, append-nil)
-
-appends_more : (old mid new : Option (List ℕ)) (xs ys : List ℕ) → Appends old mid xs → Appends mid new ys → Appends old new (xs ++ ys)
-appends_more old mid new xs ys a b = grind (arith, append_assoc)
 
 -- the writer has got an output of which this holds
 abbrev pub Printed : (old new : Option (List ℕ)) → (List ℕ → Type 0) → Type 0
@@ -238,17 +226,6 @@ module _ {B M : ℕ} {input left old new : Option (List ℕ)} {start now : Debug
         at (Some bytes) (Some rest) (Some later) done is =
             done ∙ ap (λ (ls : List (List ℕ)). t.done ++ ls) is ∙ sym (append_assoc t.done (asked.0 ∷ []) (lines later))
 
-pub stopped : {V : Type 0} (result : Result V Fault) (P : Type 0) → P → OnStopped result P
-stopped result P p = grind arith
-
-pub unwritten : {V : Type 0} (result : Result V Fault) (P : Type 0) → P → OnUnwritten result P
-unwritten result P p = grind arith
-
--- what only reads fails by no refusal and no write
-pub read_fails : (result : Result (Unit {0}) Fault) (fault : Fault) (P : Type 0) → result ≡ Err fault
-    → IsReadFailure fault → IfErr result IsFailure × OnUnwritten result P
-read_fails result fault P is failed = grind arith
-
 -- ---- a reply
 
 -- what was answered is written, or a write failed
@@ -264,27 +241,6 @@ replied B M said old kept points others made (Ok v) result contents before after
 replied B M said old kept points others made (Err WriteFailed) result contents before after text is end whole answers =
     rw is (tt, tt, tt, (kept, others, text, answers))
 replied B M said old kept points others made (Err other) result contents before after text is end whole answers = absurd end
-
--- a fault of it is handed on
-module _ (result : Result (Unit {0}) Fault) (fault : Fault) (is : result ≡ Err fault) where
-  pub reply_fails : IsFailure fault → IfErr result IsFailure
-  reply_fails failed = rw is failed
-
-  pub reply_stops : {W : Type 0} (before after : W) (P : W → Type 0)
-      → OnStopped {V = DebuggerState} (Err fault) (after ≡ before) → P before → OnStopped result (P after)
-  reply_stops before after P same holds = at fault is same
-    where
-      at : (fault : Fault) → result ≡ Err fault → OnStopped {V = DebuggerState} (Err fault) (after ≡ before) → OnStopped result (P after)
-      at ReadFailed is same = rw is (subst P (sym same) holds)
-      at NoMemory is same = rw is (subst P (sym same) holds)
-      at other is same = rw is tt
-
-  pub reply_unwritten : (P Q : Type 0) → OnUnwritten {V = DebuggerState} (Err fault) P → (P → Q) → OnUnwritten result Q
-  reply_unwritten P Q holds more = at fault is holds
-    where
-      at : (fault : Fault) → result ≡ Err fault → OnUnwritten {V = DebuggerState} (Err fault) P → OnUnwritten result Q
-      at WriteFailed is holds = rw is (more holds)
-      at other is holds = rw is tt
 
 -- ---- the whole command
 

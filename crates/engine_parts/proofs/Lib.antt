@@ -2,6 +2,7 @@ pub mod Counted
 pub mod StateLines
 pub mod Judging
 pub mod Endings
+pub mod Written
 pub mod LineFaulted
 pub mod TestTexts
 pub mod ScheduleTexts
@@ -10,3 +11,7 @@ pub mod RunLaws
 pub mod ScheduleLaws
 pub mod OneInput
 pub mod TextInputs
+pub mod Rows
+pub mod OutcomeLines
+pub mod OutcomeLaws
+pub mod OutcomeTables

@@ -8,4 +8,6 @@ pub mod Tests
 pub mod Schedules
 pub mod Histories
 pub mod Places
+pub mod Outcomes
+pub mod Counting
 pub mod inner

@@ -2,3 +2,4 @@
 pub mod Inputs
 pub mod Making
 pub mod Failures
+pub mod Rows

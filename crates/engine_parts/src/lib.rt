@@ -11,6 +11,7 @@ pub mod command;
 pub mod fault;
 pub mod input;
 pub mod litmus_text;
+pub mod outcomes;
 pub mod output;
 pub mod places;
 pub mod running;

@@ -1,61 +1,65 @@
 -- A tally of runs, and one run more.
-use Rattle.std.proofs.Common.{◌≡◌, ℕ, ◌+◌, ◌<◌, Bool, true, false, cond, ◌&&◌, ◌||◌, not, List, [], ◌∷◌, ◌++◌, length, find, count_by, Option, Some, None, option_map, refl, ap, ◌∙◌, arith}
-use Rattle.std.specs.Prelude.{IfSome, OnOk, Result}
+use Rattle.std.proofs.Common.{◌≡◌, ℕ, ◌+◌, ◌<◌, Bool, true, false, cond, ◌&&◌, ◌||◌, not, List, [], ◌∷◌, ◌++◌, length, find, Option, Some, None, refl, sym, ap, ◌∙◌, arith}
+use Rattle.std.specs.Prelude.{IfSome, OnOk, Result, is_some}
 use Rattle.std.specs.List.{list_any}
 use Rattle.std.specs.Option.{option_or}
-use Rattle.std.specs.Ordering.{is_eq, nat_cmp}
-use Rattle.std.specs.Cmp.Lexicographic.{slice_cmp}
 use Rattle.std.specs.Str.{bytes_eq}
-use Rattle.std.proofs.lemmas.List.Folds.{find-append, list_any-append}
-use Rattle.std.proofs.lemmas.List.Sums.{sum_by-append, sum_by-cons, count_by-le-length}
-use Rattle.std.proofs.lemmas.Map.Text.{is_eq-slice_cmp}
+use Rattle.std.proofs.lemmas.List.Folds.{find-append}
+use Rattle.std.proofs.lemmas.List.Sums.{count_by-le-length}
 use Rattle.step_machine.specs.declared.events.Event.{Event}
 use Rattle.litmus.specs.declared.verdict.Verdict.{Verdict}
+use Rattle.engine_parts.specs.Counting.{Counted, counted, counted_both, Counts, seen_of}
+use Rattle.engine_parts.proofs.OutcomeTables.{any_more, count_more, seen_few, seen_more, seen_none}
 use Rattle.tries.specs.declared.trials.tally.Tally.{Tally}
 use Rattle.tries.specs.Trials.{Trial, is_finished, is_holds, is_fails, gave}
-use Rattle.tries.specs.Outcomes.{schedule_text}
-use Rattle.tries.specs.inner.Tallies.{Counted, counted_of, counted_more, seen_of, Counts, IsTallyOf, Tallies}
+use Rattle.tries.specs.Outcomes.{first_schedule, first_schedule_text, schedule_text}
+use Rattle.tries.specs.inner.Tallies.{IsTallyOf, Tallies}
 
--- ---- counts of a list and one element more
+-- ---- the first run with an outcome
 
-or_false : (b c : Bool) → (b || (c || false)) ≡ (b || c)
-or_false b c = grind arith
+some_found : {X : Type 0} (p : X → Bool) (xs : List X) → is_some (find p xs) ≡ list_any p xs
+some_found p [] = refl
+some_found {X} p (x ∷ xs) = grind (arith, some_found p xs)
 
-any_more : {X : Type 0} (p : X → Bool) (xs : List X) (x : X) → list_any p (xs ++ x ∷ []) ≡ (list_any p xs || p x)
-any_more p xs x = list_any-append p xs (x ∷ []) ∙ or_false (list_any p xs) (p x)
+first_kept : (o p : Option Trial) → is_some o ≡ true → first_schedule_text (option_or o p) ≡ first_schedule_text o
+first_kept o p some = grind arith
 
-count_one : {X : Type 0} (p : X → Bool) (x : X) → count_by p (x ∷ []) ≡ cond (p x) 1 0
-count_one p x = let e = sum_by-cons (λ y. cond (p y) 1 0) x [] in omega (arith, e)
+first_later : (o p : Option Trial) → is_some o ≡ false → first_schedule_text (option_or o p) ≡ first_schedule_text p
+first_later o p none = grind arith
 
-pub count_more : {X : Type 0} (p : X → Bool) (xs : List X) (x : X) → count_by p (xs ++ x ∷ []) ≡ count_by p xs + cond (p x) 1 0
-count_more p xs x = sum_by-append (λ y. cond (p y) 1 0) xs (x ∷ []) ∙ ap (λ (n : ℕ). count_by p xs + n) (count_one p x)
+-- of runs and then later ones it is one of the runs, where one of them gave the outcome
+pub first_of_both : (outcome : List ℕ) (front back : List Trial) → list_any (gave outcome) front ≡ true → first_schedule outcome (front ++ back) ≡ first_schedule outcome front
+first_of_both outcome front back some =
+    ap first_schedule_text (find-append (gave outcome) front back)
+    ∙ first_kept (find (gave outcome) front) (find (gave outcome) back) (some_found (gave outcome) front ∙ some)
 
-pub none_counted : {X : Type 0} (p : X → Bool) (xs : List X) → find p xs ≡ None → count_by p xs ≡ 0
-none_counted p [] e = refl
-none_counted {X} p (x ∷ xs) e = grind (arith, count_by, sum_by-cons, none_counted p xs)
+-- and else one of the later ones
+pub first_of_later : (outcome : List ℕ) (front back : List Trial) → list_any (gave outcome) front ≡ false → first_schedule outcome (front ++ back) ≡ first_schedule outcome back
+first_of_later outcome front back none =
+    ap first_schedule_text (find-append (gave outcome) front back)
+    ∙ first_later (find (gave outcome) front) (find (gave outcome) back) (some_found (gave outcome) front ∙ none)
 
--- ---- what is counted of an outcome
+-- ---- one more run makes a tally of one more
 
-counted_once_more : (trial : Trial) (b : Bool) (o : Option Trial) (n : ℕ) → (o ≡ None → n ≡ 0)
-    → option_map (λ (first : Trial). (n + cond b 1 0, schedule_text first.events)) (option_or o (cond b (Some trial) None))
-    ≡ cond b (Some (counted_more trial.events (option_map (λ (first : Trial). (n, schedule_text first.events)) o))) (option_map (λ (first : Trial). (n, schedule_text first.events)) o)
-counted_once_more trial b o n none = grind arith
+more_seen : (trials : List Trial) (trial : Trial) (outcome : List ℕ) → seen_of gave first_schedule (trials ++ trial ∷ []) outcome
+    ≡ cond (gave outcome trial) (counted_both (seen_of gave first_schedule trials outcome) (Some (1, schedule_text trial.events))) (seen_of gave first_schedule trials outcome)
+more_seen trials trial outcome = seen_more gave first_schedule trials trial outcome (schedule_text trial.events)
+    (λ none given. first_of_later outcome trials (trial ∷ []) none ∙ ap (λ (b : Bool). first_schedule_text (cond b (Some trial) None)) given)
+    (first_of_both outcome trials (trial ∷ []))
 
-seen_more : (trials : List Trial) (trial : Trial) (outcome : List ℕ) → seen_of (trials ++ trial ∷ []) outcome ≡ cond (gave outcome trial) (Some (counted_more trial.events (seen_of trials outcome))) (seen_of trials outcome)
-unfolding seen_of
-seen_more trials trial outcome = grind (arith, option_map, count_more, count_by, find-append, counted_once_more, none_counted)
-
--- one more run makes a tally of one more
 pub tally_more : (trials : List Trial) (trial : Trial) (old new : Tally) → IsTallyOf trials old → Tallies trial old new → IsTallyOf (trials ++ trial ∷ []) new
-tally_more trials trial old new tally more = grind (arith, seen_more, any_more, count_more)
+tally_more trials trial old new tally more = record {
+  counts = λ outcome. more.counts outcome
+      ∙ ap (λ (seen : Option Counted). cond (gave outcome trial) (counted_both seen (Some (1, schedule_text trial.events))) seen) (tally.counts outcome)
+      ∙ sym (more_seen trials trial outcome);
+  unfinished_are = grind (arith, count_more, more.unfinished_are, tally.unfinished_are);
+  holds = grind (arith, any_more, more.holds, tally.holds);
+  fails = grind (arith, any_more, more.fails, tally.fails);
+}
 
 -- no count is above the number of runs
-pub seen_few : (trials : List Trial) (outcome : List ℕ) (most : ℕ) → length trials < most → IfSome {T = Counted} (seen_of trials outcome) (λ seen. seen.0 < most)
-unfolding seen_of
-seen_few trials outcome most few = grind (arith, option_map, count_by, count_by-le-length)
-
-pub counted_few : (trials : List Trial) (tally : Tally) (most : ℕ) → IsTallyOf trials tally → length trials < most → (outcome : List ℕ) → IfSome {T = Counted} (counted_of tally.rows.entries outcome) (λ seen. seen.0 < most)
-counted_few trials tally most is few outcome = rw (is.rows outcome) (seen_few trials outcome most few)
+pub counted_few : (trials : List Trial) (tally : Tally) (most : ℕ) → IsTallyOf trials tally → length trials < most → (outcome : List ℕ) → IfSome {T = Counted} (counted tally.outcomes outcome) (λ seen. seen.0 < most)
+counted_few trials tally most is few outcome = rw (is.counts outcome) (seen_few gave first_schedule trials outcome most few)
 
 pub unfinished_few : (trials : List Trial) (tally : Tally) (most : ℕ) → IsTallyOf trials tally → length trials < most → tally.unfinished < most
 unfinished_few trials tally most is few = omega (arith, is.unfinished_are, count_by-le-length (λ (t : Trial). not (is_finished t.verdict)) trials, few)
@@ -63,18 +67,18 @@ unfinished_few trials tally most is few = omega (arith, is.unfinished_are, count
 -- ---- the steps of a tally
 
 -- of no run nothing is counted
-pub nothing_counted : (tally : Tally) → tally.rows.entries ≡ [] → tally.unfinished ≡ 0 → tally.some_hold ≡ false → tally.some_fail ≡ false → IsTallyOf [] tally
-unfolding counted_of seen_of
-nothing_counted tally rows none holds fails = record { rows = λ outcome. rw rows refl; unfinished_are = none; holds = holds; fails = fails }
+pub nothing_counted : (tally : Tally) → ((outcome : List ℕ) → counted tally.outcomes outcome ≡ None) → tally.unfinished ≡ 0 → tally.some_hold ≡ false → tally.some_fail ≡ false → IsTallyOf [] tally
+nothing_counted tally nothing none holds fails =
+    record { counts = λ outcome. nothing outcome ∙ sym (seen_none gave first_schedule outcome); unfinished_are = none; holds = holds; fails = fails }
 
--- an outcome's test, as the rows' keys and as the runs do it
-gave_by_key : (finished : Bool) → finished ≡ true → (outcome values : List ℕ) → (finished && bytes_eq outcome values) ≡ is_eq (slice_cmp nat_cmp outcome values)
-gave_by_key finished e outcome values = grind (arith, is_eq-slice_cmp)
+-- a finished run gave exactly its values
+gave_by_key : (finished : Bool) → finished ≡ true → (outcome values : List ℕ) → (finished && bytes_eq outcome values) ≡ bytes_eq outcome values
+gave_by_key finished e outcome values = grind arith
 
 -- a finished run whose outcome was counted is tallied
 pub tallied : {E : Type 0} (result : Result (Unit {0}) E) (events : List Event) (verdict : Verdict) (values : List ℕ) (old new : Tally) → is_finished verdict ≡ true → new.unfinished ≡ old.unfinished
     → new.some_hold ≡ (old.some_hold || is_holds verdict) → new.some_fail ≡ (old.some_fail || is_fails verdict)
-    → OnOk result (Counts values events old.rows.entries new.rows.entries) → OnOk result (Tallies (record { events = events; verdict = verdict; values = values }) old new)
+    → OnOk result (Counts values (1, schedule_text events) (counted old.outcomes) (counted new.outcomes)) → OnOk result (Tallies (record { events = events; verdict = verdict; values = values }) old new)
 tallied result events verdict values old new finished same holds fails counts = grind (arith, gave_by_key)
 
 pub or_true : (b : Bool) → true ≡ (b || true)

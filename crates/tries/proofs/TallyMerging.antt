@@ -1,13 +1,12 @@
 -- Runs after runs: their schedules, and the tally of them all from the tallies of the two parts.
-use Rattle.std.proofs.Common.{◌≡◌, ℕ, zero, suc, ◌+◌, ◌*◌, Bool, cond, ◌||◌, not, List, [], ◌∷◌, ◌++◌, length, map, count_by, Option, None, option_map, sym, ap, ◌∙◌, arith, append-nil, append_assoc, subst, ◌-◌, ◌≤◌, ◌<◌, rules}
+use Rattle.std.proofs.Common.{◌≡◌, ℕ, zero, suc, ◌+◌, ◌*◌, Bool, cond, ◌||◌, not, List, [], ◌∷◌, ◌++◌, length, map, Option, sym, ap, ◌∙◌, arith, append-nil, append_assoc, subst, ◌-◌, ◌≤◌, ◌<◌, rules}
 use Rattle.std.specs.List.{list_any, range_with_len}
-use Rattle.std.specs.Option.{option_or}
 use Rattle.std.specs.Prelude.{IfSome, IfOk, Result, Ok, slice_index_or}
 use Rattle.std.specs.declared.alloc.AllocError.{AllocError}
 use Rattle.std.proofs.Math.Nat.{div-mul-le_self}
 use Rattle.std.proofs.lemmas.Nat.{le-div}
 use Rattle.std.proofs.lemmas.List.{map-append, length-map}
-use Rattle.std.proofs.lemmas.List.Folds.{find-append, list_any-append}
+use Rattle.std.proofs.lemmas.List.Folds.{list_any-append}
 use Rattle.std.proofs.lemmas.List.Sums.{sum_by-append, count_by-le-length}
 use Rattle.std.proofs.lemmas.List.Elements.{All-append}
 use Rattle.std.proofs.lemmas.List.FromFn.{map-range_with_len_more, length-map-range_with_len}
@@ -15,38 +14,35 @@ use Rattle.rand_core.specs.Stream.{Stream}
 use Rattle.step_machine.specs.declared.events.Event.{Event}
 use Rattle.recorder.specs.Drawing.{left_after, drawn}
 use Rattle.tries.specs.declared.trials.tally.Tally.{Tally}
-use Rattle.tries.specs.Trials.{Trial, IsTrial, schedule_drawn, AreTrials, is_finished, is_holds, is_fails}
-use Rattle.tries.specs.Outcomes.{schedule_text}
-use Rattle.tries.specs.inner.Tallies.{Counted, counted_of, seen_of, IsTallyOf}
-use Rattle.tries.specs.inner.Merging.{counted_both, first_of, AreRunsFrom, AreTalliesFrom, IsTallyFrom, Merges, Source}
+use Rattle.engine_parts.specs.Counting.{Counted, counted, counted_both, seen_of}
+use Rattle.engine_parts.proofs.OutcomeTables.{seen_both, seen_few}
+use Rattle.tries.specs.Trials.{Trial, IsTrial, schedule_drawn, AreTrials, gave, is_finished, is_holds, is_fails}
+use Rattle.tries.specs.Outcomes.{first_schedule}
+use Rattle.tries.specs.inner.Tallies.{IsTallyOf}
+use Rattle.tries.specs.inner.Merging.{first_of, AreRunsFrom, AreTalliesFrom, IsTallyFrom, Merges, Source}
 use Rattle.tries.proofs.TrialLaws.{left_after-sum, no_trials}
-use Rattle.tries.proofs.TallyLaws.{none_counted, seen_few}
+use Rattle.tries.proofs.TallyLaws.{first_of_both, first_of_later}
 
--- ---- what is counted of an outcome
-
-abbrev counted_from : ℕ → Option Trial → Option Counted
-counted_from n o = option_map (λ (first : Trial). (n, schedule_text first.events)) o
-
-counted_of_both : (o p : Option Trial) (n m : ℕ) → (o ≡ None → n ≡ 0) → (p ≡ None → m ≡ 0) → counted_from (n + m) (option_or o p) ≡ counted_both (counted_from n o) (counted_from m p)
-counted_of_both o p n m none also = grind arith
-
-seen_both : (front back : List Trial) (outcome : List ℕ) → seen_of (front ++ back) outcome ≡ counted_both (seen_of front outcome) (seen_of back outcome)
-unfolding seen_of
-seen_both front back outcome = grind (arith, sum_by-append, count_by, find-append, counted_of_both, none_counted)
+-- ---- the tally of them all
 
 -- two flags, each of one part, are one of all
 any_both : (p : Trial → Bool) (front back : List Trial) (old later new : Bool) → new ≡ (old || later) → old ≡ list_any p front → later ≡ list_any p back
     → new ≡ list_any p (front ++ back)
 any_both p front back old later new either first second = grind (arith, list_any-append)
 
+both_seen : (front back : List Trial) (outcome : List ℕ)
+    → seen_of gave first_schedule (front ++ back) outcome ≡ counted_both (seen_of gave first_schedule front outcome) (seen_of gave first_schedule back outcome)
+both_seen front back outcome =
+    seen_both gave first_schedule front back outcome (λ none some. first_of_later outcome front back none) (first_of_both outcome front back)
+
 -- two tallies make the tally of the first one's runs and then the other's
 tally_both : (front back : List Trial) (old later new : Tally) → IsTallyOf front old → IsTallyOf back later → Merges old later new → IsTallyOf (front ++ back) new
 tally_both front back old later new first second merged = record {
-  rows = λ outcome.
-      merged.rows outcome
-      ∙ ap (λ (o : Option Counted). counted_both o (counted_of later.rows.entries outcome)) (first.rows outcome)
-      ∙ ap (counted_both (seen_of front outcome)) (second.rows outcome)
-      ∙ sym (seen_both front back outcome);
+  counts = λ outcome.
+      merged.counts outcome
+      ∙ ap (λ (o : Option Counted). counted_both o (counted later.outcomes outcome)) (first.counts outcome)
+      ∙ ap (counted_both (seen_of gave first_schedule front outcome)) (second.counts outcome)
+      ∙ sym (both_seen front back outcome);
   unfinished_are =
       let e = sum_by-append (λ (y : Trial). cond (not (is_finished y.verdict)) 1 0) front back in
       omega (arith, e, merged.unfinished_are, first.unfinished_are, second.unfinished_are);
@@ -161,10 +157,10 @@ module _ (source : Source) where
 
     -- no count is above the number of all runs
     pub both_few : (most : ℕ) → end < most → (outcome : List ℕ)
-        → IfSome {T = Counted} (counted_both (counted_of old.rows.entries outcome) (counted_of later.rows.entries outcome)) (λ seen. seen.0 < most)
+        → IfSome {T = Counted} (counted_both (counted old.outcomes outcome) (counted later.outcomes outcome)) (λ seen. seen.0 < most)
     both_few most few outcome =
-        rw (first.tallied.rows outcome, second.tallied.rows outcome, ← seen_both first.trials second.trials outcome)
-        (seen_few both outcome most (omega (arith, both_long, few)))
+        rw (first.tallied.counts outcome, second.tallied.counts outcome, ← both_seen first.trials second.trials outcome)
+        (seen_few gave first_schedule both outcome most (omega (arith, both_long, few)))
 
     pub both_unfinished_few : (most : ℕ) → end < most → old.unfinished + later.unfinished < most
     both_unfinished_few most few =

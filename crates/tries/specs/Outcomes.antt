@@ -1,24 +1,14 @@
 -- The command `try`: the outcomes of a test's runs, each with how many runs gave it and the schedule of
 -- the first one, and how many runs did not finish.
-use Rattle.std.specs.Prelude.{ℕ, ◌≡◌, ◌==◌, ◌↔◌, IsTrue, if◌then◌else◌, Bool, not, List, [], ◌∷◌, ◌++◌, length, zip, find, flat_map, count_by, Contains, Option, Some, None, Result, Ok, Err, codes}
-use Rattle.std.specs.List.{list_any}
-use Rattle.std.specs.List.Sorted.{IsStrictlySortedBy}
-use Rattle.std.specs.Ordering.{nat_cmp}
-use Rattle.std.specs.Cmp.Lexicographic.{slice_cmp}
-use Rattle.std.specs.Fmt.{decimal}
+use Rattle.std.specs.Prelude.{ℕ, ◌≡◌, ◌==◌, if◌then◌else◌, Bool, not, List, [], ◌++◌, length, find, flat_map, count_by, Option, Some, None, Result, Ok, Err, codes}
 use Rattle.rand_core.specs.Stream.{Stream}
 use Rattle.step_machine.specs.declared.events.Event.{Event}
-use Rattle.litmus.specs.LitmusTests.{LitmusTest, left_sides}
-use Rattle.litmus.specs.declared.symbols.Place.{Place}
+use Rattle.litmus.specs.LitmusTests.{LitmusTest}
 use Rattle.recorder.specs.Writing.{tokens_of}
 use Rattle.engine_parts.specs.declared.fault.Refusal.{Refusal}
-use Rattle.engine_parts.specs.Places.{place_text}
+use Rattle.engine_parts.specs.Outcomes.{AreOutcomes, line_of, unfinished_line}
 use Rattle.engine_parts.specs.Tests.{ByTest}
 use Rattle.tries.specs.Trials.{Trial, AreTrials, is_finished, gave, are_good}
-
--- ` LEFT=VALUE`, a place and its value
-abbrev pub value_text : (names : List (List ℕ)) → Place × ℕ → List ℕ
-value_text names side = codes " " ++ place_text names side.0 ++ codes "=" ++ decimal side.1
 
 -- a schedule's tokens behind a space, where it has any
 abbrev pub schedule_text : List Event → List ℕ
@@ -29,25 +19,17 @@ abbrev pub first_schedule_text : Option Trial → List ℕ
 first_schedule_text None = []
 first_schedule_text (Some trial) = schedule_text trial.events
 
--- a line: how many runs, the values of the left sides, and a schedule
-abbrev pub line_of : LitmusTest → (outcome : List ℕ) → (count : ℕ) → (schedule : List ℕ) → List ℕ
-line_of test outcome count schedule = decimal count ++ flat_map (value_text test.names) (zip (left_sides test.condition) outcome) ++ codes " ;" ++ schedule ++ 10 ∷ []
+-- what the line of an outcome ends with: the schedule of the first of these runs that gave it
+abbrev pub first_schedule : (outcome : List ℕ) → List Trial → List ℕ
+first_schedule outcome trials = first_schedule_text (find (gave outcome) trials)
 
 -- the line of an outcome, with how many runs gave it and the schedule of the first run that did
 abbrev pub outcome_line : LitmusTest → List Trial → (outcome : List ℕ) → List ℕ
-outcome_line test trials outcome = line_of test outcome (count_by (gave outcome) trials) (first_schedule_text (find (gave outcome) trials))
-
-abbrev pub unfinished_line : (count : ℕ) → List ℕ
-unfinished_line count = codes "unfinished " ++ decimal count ++ 10 ∷ []
+outcome_line test trials outcome = line_of test outcome (count_by (gave outcome) trials) (first_schedule outcome trials)
 
 -- how many runs did not finish
 abbrev pub unfinished : List Trial → ℕ
 unfinished trials = count_by (λ t. not (is_finished t.verdict)) trials
-
--- these are the outcomes of the runs: each once, ascending as lists of numbers
-pub record AreOutcomes (trials : List Trial) (outcomes : List (List ℕ)) : Type 0 where
-  pub ascending : IsStrictlySortedBy (slice_cmp nat_cmp) outcomes
-  pub all : (outcome : List ℕ) → Contains outcomes outcome ↔ IsTrue (list_any (gave outcome) trials)
 
 -- the text of this number of runs of a test, over store buffers of B pairs and a memory of M words, and
 -- whether they show what the test asks
@@ -55,7 +37,7 @@ pub record IsTried (B M : ℕ) (stream : Stream) (runs size : ℕ) (test : Litmu
   pub trials : List Trial
   pub are : AreTrials B M test stream runs size trials
   pub outcomes : List (List ℕ)
-  pub shown : AreOutcomes trials outcomes
+  pub shown : AreOutcomes gave trials outcomes
   pub text : answer.0 ≡ flat_map (outcome_line test trials) outcomes ++ unfinished_line (unfinished trials)
   pub good : answer.1 ≡ are_good test.quantifier trials
 

@@ -1,31 +1,17 @@
 -- Two tallies made one: that of the first one's runs and then of the other's.
-use Rattle.std.specs.Prelude.{ℕ, ◌≡◌, ◌+◌, ◌*◌, ◌/◌, ◌-◌, ◌<◌, ◌||◌, if◌then◌else◌, length, slice_index_or, IfOk, Result, List, Option, Some, None}
-use Rattle.std.specs.Global.{Vec}
+use Rattle.std.specs.Prelude.{ℕ, ◌≡◌, ◌+◌, ◌*◌, ◌/◌, ◌-◌, ◌<◌, ◌||◌, length, slice_index_or, IfOk, Result, List}
 use Rattle.std.specs.declared.alloc.AllocError.{AllocError}
-use Rattle.std.specs.Ordering.{is_eq, nat_cmp}
-use Rattle.std.specs.Cmp.Lexicographic.{slice_cmp}
 use Rattle.rand_core.specs.Stream.{Stream}
 use Rattle.litmus.specs.LitmusTests.{LitmusTest}
 use Rattle.recorder.specs.Drawing.{left_after}
-use Rattle.tries.specs.declared.trials.tally.Row.{Row}
 use Rattle.tries.specs.declared.trials.tally.Tally.{Tally}
 use Rattle.tries.specs.Trials.{Trial, AreTrials}
-use Rattle.tries.specs.inner.Tallies.{Counted, counted_by, counted_of, IsTallyOf}
-
--- what both tell of an outcome: the counts together, and the schedule of the first that has one
-abbrev pub counted_both : Option Counted → Option Counted → Option Counted
-counted_both None later = later
-counted_both (Some seen) None = Some seen
-counted_both (Some seen) (Some later) = Some (seen.0 + later.0, seen.1)
-
--- the runs of a later row were counted after those of its outcome
-abbrev pub CountsRow : (outcome : List ℕ) → Row → (old new : List (Vec ℕ × Row)) → Type 0
-CountsRow outcome later old new = (other : List ℕ)
-    → counted_of new other ≡ (if is_eq (slice_cmp nat_cmp other outcome) then counted_both (counted_of old other) (Some (counted_by later)) else counted_of old other)
+use Rattle.engine_parts.specs.Counting.{counted, counted_both}
+use Rattle.tries.specs.inner.Tallies.{IsTallyOf}
 
 -- the runs of a later tally were taken in after those of this one
 pub record Merges (old later new : Tally) : Type 0 where
-  pub rows : (outcome : List ℕ) → counted_of new.rows.entries outcome ≡ counted_both (counted_of old.rows.entries outcome) (counted_of later.rows.entries outcome)
+  pub counts : (outcome : List ℕ) → counted new.outcomes outcome ≡ counted_both (counted old.outcomes outcome) (counted later.outcomes outcome)
   pub unfinished_are : new.unfinished ≡ old.unfinished + later.unfinished
   pub holds : new.some_hold ≡ (old.some_hold || later.some_hold)
   pub fails : new.some_fail ≡ (old.some_fail || later.some_fail)

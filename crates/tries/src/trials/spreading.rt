@@ -137,7 +137,7 @@ pub fn tally_in_rounds<
         let tally = tally_by_jobs::<B, M, G, T>(rt, alloc, test, &there, round, length, jobs)?;
         whole.take_in(tally)?;
         done += round;
-        progress.report(done, runs, whole.rows.len());
+        progress.report(done, runs, whole.outcomes.len());
     }
     Ok(whole)
 }

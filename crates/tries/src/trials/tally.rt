@@ -8,28 +8,21 @@ ghost use Rattle.step_machine.specs.Standing.{StandsAt};
 ghost use Rattle.tries.specs.Trials.{Trial, IsTrial};
 ghost use Rattle.tries.specs.Outcomes.{schedule_text as text_of_schedule};
 ghost use Rattle.tries.specs.inner.Openings.{StandsFrom};
-ghost use Rattle.tries.specs.inner.Tallies.{counted_of, Counts, IsTallyOf, Tallies};
-ghost use Rattle.tries.specs.inner.Merging.{counted_both, CountsRow, Merges};
+ghost use Rattle.engine_parts.specs.Counting.{counted, counted_both, Counts};
+ghost use Rattle.tries.specs.inner.Tallies.{IsTallyOf, Tallies};
+ghost use Rattle.tries.specs.inner.Merging.{Merges};
 
+use engine_parts::outcomes::Outcomes;
 use litmus::{Test, Verdict};
 use recorder::push_tokens;
 use std::alloc::{AllocError, Global};
-use std::collections::BTreeMap;
 use step_machine::{Event, MachineState};
 
-/// What the runs with one outcome showed.
-#[derive(Drop)]
-pub struct Row {
-    /// How many they are.
-    pub count: u32,
-    /// The tokens of the first one's schedule behind a space, or nothing where there are none.
-    pub schedule: String,
-}
-
-/// The rows by their outcomes, and what else is known of the runs.
+/// The outcomes of the runs, and what else is known of them.
 #[derive(Drop)]
 pub struct Tally {
-    pub rows: BTreeMap<Vec<u32>, Row>,
+    /// Each ends with the tokens of the first run's schedule behind a space, or with nothing where there are none.
+    pub outcomes: Outcomes,
     /// How many runs did not finish.
     pub unfinished: u32,
     pub some_hold: bool,
@@ -51,40 +44,19 @@ fn schedule_text(alloc: Global, events: &[Event]) -> Result<String, AllocError>
 /// Counts one more run with this outcome.
 fn count_outcome(
     alloc: Global,
-    rows: &mut BTreeMap<Vec<u32>, Row>,
+    outcomes: &mut Outcomes,
     outcome: &[u32],
     events: &[Event],
 ) -> Result<(), AllocError>
-    requires { IfSome (counted_of rows.old.entries outcome.now) (λ seen. seen.0 < 4294967295) }
-    ensures { OnOk result (Counts outcome.now events.now rows.old.entries rows.new.entries) }
+    requires { IfSome (counted outcomes.old outcome.now) (λ seen. seen.0 < 18446744073709551615) }
+    ensures { OnOk result (Counts outcome.now (1, text_of_schedule events.now) (counted outcomes.old) (counted outcomes.new)) }
 {
-    match rows.get_mut(outcome) {
-        Some(row) => row.count += 1,
-        None => {
-            let schedule = schedule_text(alloc, events)?;
-            let outcome = Vec::from_slice(alloc, outcome)?;
-            rows.insert(outcome, Row { count: 1, schedule })?;
-        }
+    if outcomes.count_again(outcome) {
+        return Ok(());
     }
-    Ok(())
-}
-
-/// Counts the runs of a later row too, after those that are counted for this outcome.
-fn count_row(
-    rows: &mut BTreeMap<Vec<u32>, Row>,
-    outcome: Vec<u32>,
-    later: Row,
-) -> Result<(), AllocError>
-    requires { IfSome (counted_of rows.old.entries outcome.items) (λ seen. seen.0 + later.count < 4294967296) }
-    ensures { OnOk result (CountsRow outcome.items later rows.old.entries rows.new.entries) }
-{
-    match rows.get_mut(outcome.as_slice()) {
-        Some(row) => row.count += later.count,
-        None => {
-            rows.insert(outcome, later)?;
-        }
-    }
-    Ok(())
+    let end = schedule_text(alloc, events)?;
+    let outcome = Vec::from_slice(alloc, outcome)?;
+    outcomes.count_first(outcome, end)
 }
 
 /// Runs these events from the machine's opening, whatever it did before.
@@ -104,13 +76,11 @@ fn run_anew<const B: usize, const M: usize>(
 impl Tally {
     /// Takes in the runs of a later tally, after its own.
     pub fn take_in(&mut self, later: Tally) -> Result<(), AllocError>
-        requires counts { (outcome : List ℕ) → IfSome (counted_both (counted_of self.old.rows.entries outcome) (counted_of later.rows.entries outcome)) (λ seen. seen.0 < 4294967296) }
+        requires counts { (outcome : List ℕ) → IfSome (counted_both (counted self.old.outcomes outcome) (counted later.outcomes outcome)) (λ seen. seen.0 < 18446744073709551616) }
         requires unfinished { self.old.unfinished + later.unfinished < 4294967296 }
         ensures { OnOk result (Merges self.old later self.new) }
     {
-        for (outcome, row) in later.rows {
-            count_row(&mut self.rows, outcome, row)?;
-        }
+        self.outcomes.take_in(later.outcomes)?;
         self.unfinished += later.unfinished;
         self.some_hold = self.some_hold || later.some_hold;
         self.some_fail = self.some_fail || later.some_fail;
@@ -122,7 +92,7 @@ impl Tally {
         ensures { IsTallyOf [] result }
     {
         Tally {
-            rows: BTreeMap::new(alloc),
+            outcomes: Outcomes::new(alloc),
             unfinished: 0,
             some_hold: false,
             some_fail: false,
@@ -137,18 +107,18 @@ impl Tally {
         verdict: Verdict,
         values: &[u32],
     ) -> Result<(), AllocError>
-        requires counts { (outcome : List ℕ) → IfSome (counted_of self.old.rows.entries outcome) (λ seen. seen.0 < 4294967295) }
+        requires counts { (outcome : List ℕ) → IfSome (counted self.old.outcomes outcome) (λ seen. seen.0 < 18446744073709551615) }
         requires unfinished { self.old.unfinished < 4294967295 }
         ensures { OnOk result (Tallies (record { events = events.now; verdict = verdict; values = values.now }) self.old self.new) }
     {
         match verdict {
             Verdict::Holds => {
                 self.some_hold = true;
-                count_outcome(alloc, &mut self.rows, values, events)
+                count_outcome(alloc, &mut self.outcomes, values, events)
             }
             Verdict::Fails => {
                 self.some_fail = true;
-                count_outcome(alloc, &mut self.rows, values, events)
+                count_outcome(alloc, &mut self.outcomes, values, events)
             }
             Verdict::Unfinished => {
                 self.unfinished += 1;
@@ -169,7 +139,7 @@ impl Tally {
     ) -> Result<(), AllocError>
         requires stands { StandsFrom B M test.now.opening machine.old }
         requires names { length test.now.names ≤ M }
-        requires counts { (outcome : List ℕ) → IfSome (counted_of self.old.rows.entries outcome) (λ seen. seen.0 < 4294967295) }
+        requires counts { (outcome : List ℕ) → IfSome (counted self.old.outcomes outcome) (λ seen. seen.0 < 18446744073709551615) }
         requires unfinished { self.old.unfinished < 4294967295 }
         ensures trial { OnOk result ((trial : Trial) × (trial.events ≡ events.now) × IsTrial B M test.now trial × Tallies trial self.old self.new) }
         ensures stands { OnOk result (StandsFrom B M test.now.opening machine.new) }

@@ -5,7 +5,7 @@ use Rattle.engine_parts.proofs.Endings.{is_handed}
 use Rattle.checking.specs.declared.tally.Tally.{Tally}
 use Rattle.checking.proofs.Answering.{all_checked, all_reported, none_reported}
 use Rattle.checking.proofs.Differences.{ok_more}
-use Rattle.checking.proofs.Endings.{end_fails, end_stopped, hands_failure, hands_stop, hands_unwritten, stopped, unwritten, wrote}
+use Rattle.engine_parts.proofs.Written.{end_fails, end_stopped, hands_failure, hands_stop, hands_unwritten, stopped, unwritten, wrote}
 use Rattle.checking.proofs.OutcomeLaws.{tabled}
 use Rattle.checking.proofs.check.check_all.Goals as goal
 
@@ -38,7 +38,7 @@ returns-in_err-tally-clause-left g c =
 pub returns-in_err-tally-clause-unwritten : goal.returns-in_err-tally-clause-unwritten
 returns-in_err-tally-clause-unwritten g c =
     hands_unwritten Tally c.from_residual-in_err-tally.result _
-    (is_handed c.from_residual-in_err-tally.result _ c.from_residual-in_err-tally.ensures.1) _ c.in_err-tally.ensures.unwritten
+    (is_handed c.from_residual-in_err-tally.result _ c.from_residual-in_err-tally.ensures.1) _ _ (λ some. some) c.in_err-tally.ensures.unwritten
 
 pub returns-in_err-text-clause-left : goal.returns-in_err-text-clause-left
 returns-in_err-text-clause-left g c =
@@ -52,7 +52,7 @@ returns-clause-checked g c =
     ok_more c.end_with.result _ _
     (λ good written. all_checked g.row.B g.row.M c.args.test.now tally (g.W.Write.contents c.args.writer.now) (g.W.Write.contents c.judge_all.new.writer)
     (g.R.Read.remaining c.args.records.now) c.in_ok-tally.ensures.judged (g.W.Write.contents c.end_with.new.writer) (string_bytes c.in_ok-text.text) good
-    (λ answers is. tabled c.args.test.now answers tally (string_bytes c.in_ok-text.text) is table.ordered table.found table.lines) written.0 written.1)
+    (λ answers is. tabled c.args.test.now answers tally table.0 (string_bytes c.in_ok-text.text) is table.1 table.2) written.0 written.1)
     (wrote (c.in_ok-text.text, tally.refused == 0) c.end_with.result g.W.Write.contents c.judge_all.new.writer c.end_with.new.writer c.end_with.ensures)
 
 pub returns-clause-err : goal.returns-clause-err

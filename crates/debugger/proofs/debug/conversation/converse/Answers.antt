@@ -1,7 +1,8 @@
 use Rattle.engine_parts.proofs.Endings.{is_handed}
 use Rattle.std.proofs.Common.{[], sym, ◌∙◌}
-use Rattle.debugger.proofs.TranscriptLaws.{Printed, read_fails, reply_fails, reply_stops, reply_unwritten, stopped}
-use Rattle.debugger.proofs.TranscriptLaws.{talked_enough, talked_nothing, talked_on, talked_so_far, talked_some}
+use Rattle.engine_parts.proofs.Written.{hands_failure, hands_read_failure, hands_unwritten, keeps_written, reads_alone, stopped}
+use Rattle.debugger.specs.DebuggerStates.{DebuggerState}
+use Rattle.debugger.proofs.TranscriptLaws.{Printed, talked_enough, talked_nothing, talked_on, talked_so_far, talked_some}
 use Rattle.debugger.specs.Transcripts.{PrintsFront}
 use Rattle.debugger.proofs.debug.conversation.converse.Goals as goal
 
@@ -28,21 +29,21 @@ returns-in_err-said-clause-left g c = stopped c.from_residual.result _ (talked_s
 
 pub returns-in_err-said-clause-err : goal.returns-in_err-said-clause-err
 returns-in_err-said-clause-err g c =
-    (read_fails c.from_residual.result c.in_err-said.field-0.0 ⊥ (is_handed c.from_residual.result _ c.from_residual.ensures.1) c.in_err-said.ensures.err).0
+    hands_read_failure c.from_residual.result c.in_err-said.field-0.0 (is_handed c.from_residual.result _ c.from_residual.ensures.1) c.in_err-said.ensures.err
 
 pub returns-in_err-said-clause-unwritten : goal.returns-in_err-said-clause-unwritten
 returns-in_err-said-clause-unwritten g c =
-    (read_fails c.from_residual.result c.in_err-said.field-0.0 _ (is_handed c.from_residual.result _ c.from_residual.ensures.1) c.in_err-said.ensures.err).1
+    reads_alone c.from_residual.result c.in_err-said.field-0.0 (is_handed c.from_residual.result _ c.from_residual.ensures.1) c.in_err-said.ensures.err _
 
 pub returns-in_err-debugger-clause-err : goal.returns-in_err-debugger-clause-err
 returns-in_err-debugger-clause-err g c =
-    reply_fails c.from_residual-in_err-debugger.result c.in_err-debugger.field-0.0
+    hands_failure c.from_residual-in_err-debugger.result c.in_err-debugger.field-0.0
     (is_handed c.from_residual-in_err-debugger.result _ c.from_residual-in_err-debugger.ensures.1)
     c.in_err-debugger.ensures.err
 
 pub returns-in_err-debugger-clause-left : goal.returns-in_err-debugger-clause-left
 returns-in_err-debugger-clause-left g c =
-    reply_stops c.from_residual-in_err-debugger.result c.in_err-debugger.field-0.0
+    keeps_written DebuggerState c.from_residual-in_err-debugger.result c.in_err-debugger.field-0.0
     (is_handed c.from_residual-in_err-debugger.result _ c.from_residual-in_err-debugger.ensures.1)
     c.loop.writer c.reply.new.writer
     (λ w. Printed (g.W.Write.contents c.args.writer.now) (g.W.Write.contents w)
@@ -51,11 +52,12 @@ returns-in_err-debugger-clause-left g c =
 
 pub returns-in_err-debugger-clause-unwritten : goal.returns-in_err-debugger-clause-unwritten
 returns-in_err-debugger-clause-unwritten g c =
-    reply_unwritten c.from_residual-in_err-debugger.result c.in_err-debugger.field-0.0
+    hands_unwritten DebuggerState c.from_residual-in_err-debugger.result c.in_err-debugger.field-0.0
     (is_handed c.from_residual-in_err-debugger.result _ c.from_residual-in_err-debugger.ensures.1)
-    _ _ c.in_err-debugger.ensures.unwritten
+    _ _
     (λ did. talked_some c.loop.invariant (g.C.Read.remaining c.next_said.new.commands) c.in_ok-said.said c.in_ok-said.ensures.asks
     (sym c.does_quit.ensures ∙ c.if-does_quit.false) did.0 did.1 did.2 did.3)
+    c.in_err-debugger.ensures.unwritten
 
 pub returns-clause-left : goal.returns-clause-left
 returns-clause-left g c = talked_so_far c.loop.invariant

@@ -29,7 +29,7 @@ take_in-requires-clause-counts g c =
     let is = c.in-Some.ensures.steps.0 ∙ ap (λ (r : Result Tally AllocError). r ∷ into_iter_items c.next.new.self) c.in_ok-tally.was in
     let most = placed_within runs jobs (job + 1) some more in
     both_few source (first_of runs jobs job) (first_of runs jobs (job + 1)) _ _ (placed_later runs jobs job some) so_far.3
-    (job_first source runs jobs job _ (into_iter_items c.next.new.self) c.in_ok-tally.field-0 is so_far.2) 4294967296 (omega (arith, most, c.ranges.runs.fits))
+    (job_first source runs jobs job _ (into_iter_items c.next.new.self) c.in_ok-tally.field-0 is so_far.2) 18446744073709551616 (omega (arith, most, c.ranges.runs.fits))
 
 pub take_in-requires-clause-unfinished : goal.take_in-requires-clause-unfinished
 take_in-requires-clause-unfinished g c =

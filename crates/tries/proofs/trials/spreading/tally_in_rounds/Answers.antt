@@ -20,7 +20,7 @@ take_in-requires-clause-counts g c =
     let most : done + round ≤ c.args.runs = search rules in
     let later : done ≤ done + round = omega arith in
     both_few source done (done + round) _ _ later c.loop-done.invariant.so_far
-    (from_round source done round _ _ (rw same at c.in_ok-there.ensures) c.in_ok-tally.ensures) 4294967296 (omega (arith, most, c.ranges.runs.fits))
+    (from_round source done round _ _ (rw same at c.in_ok-there.ensures) c.in_ok-tally.ensures) 18446744073709551616 (omega (arith, most, c.ranges.runs.fits))
 
 pub take_in-requires-clause-unfinished : goal.take_in-requires-clause-unfinished
 take_in-requires-clause-unfinished g c =

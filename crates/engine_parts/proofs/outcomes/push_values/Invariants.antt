@@ -4,8 +4,8 @@ use Rattle.std.specs.String.{string_bytes}
 use Rattle.std.specs.Slice.Iter.{iter_rest}
 use Rattle.std.specs.Iterator.Adapters.{zip_first, zip_second}
 use Rattle.litmus.specs.LitmusTests.{IsThere, left_sides}
-use Rattle.checking.specs.Outcomes.{value_text}
-use Rattle.checking.proofs.table.push_values.Given as goal
+use Rattle.engine_parts.specs.Outcomes.{value_text}
+use Rattle.engine_parts.proofs.outcomes.push_values.Given as goal
 
 -- what is written, and what is left to write, is all
 abbrev pub invariant-loop-place : goal.invariant-loop-place

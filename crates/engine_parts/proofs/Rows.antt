@@ -13,10 +13,9 @@ use Rattle.std.specs.BTreeMap.{insert_entry}
 use Rattle.std.specs.Global.{Vec}
 use Rattle.std.proofs.lemmas.Slice.Eq.{bytes_eq-Decides}
 use Rattle.std.proofs.lemmas.Map.Text.{is_eq-slice_cmp}
-use Rattle.step_machine.specs.declared.events.Event.{Event}
-use Rattle.tries.specs.declared.trials.tally.Row.{Row}
-use Rattle.tries.specs.inner.Tallies.{Counted, counted_by, is_key, counted_of, counted_more, Counts, order}
-use Rattle.tries.specs.inner.Merging.{counted_both, CountsRow}
+use Rattle.engine_parts.specs.declared.outcomes.Row.{Row}
+use Rattle.engine_parts.specs.Counting.{Counted, counted_both, counted_by, counted_of, Counts, is_key}
+use Rattle.engine_parts.specs.inner.Rows.{order}
 
 pub same_is : (xs ys : List ℕ) → is_eq (slice_cmp nat_cmp xs ys) ≡ true → xs ≡ ys
 same_is xs ys e = (bytes_eq-Decides xs ys).0 (sym (is_eq-slice_cmp xs ys) ∙ e)
@@ -67,61 +66,56 @@ lookup_inserted {X} key value other (e ∷ rows) = by (order key e.0) refl (look
         let none : is_eq (order key e.0) ≡ false = ap is_eq is in cc in
         ap (λ (o : Option X). cond (is_key other e.0) (Some e.1) o) rest ∙ two_tests (is_key other key) (is_key other e.0) value e.1 (lookup (is_key other) rows) apart
 
--- a row with one run more
-pub counted_again : (events : List Event) (old : List (Vec ℕ × Row)) (key : List ℕ) (row : Row) → Some row ≡ lookup (is_key key) old → Counts key events old (set_value (is_key key) old (record row { count = row.count + 1 }))
+-- what was counted of the outcome, as the keys tell it
+by_keys : (key : List ℕ) (later : Counted) (old new : (outcome : List ℕ) → Option Counted)
+    → ((other : List ℕ) → new other ≡ cond (is_eq (slice_cmp nat_cmp other key)) (counted_both (old other) (Some later)) (old other)) → Counts key later old new
+by_keys key later old new counts = λ other.
+    subst (λ (b : Bool). new other ≡ cond b (counted_both (old other) (Some later)) (old other)) (is_eq-slice_cmp other key) (counts other)
+
+-- a row with later runs
+pub row_again : (later : Counted) (old : List (Vec ℕ × Row)) (key : List ℕ) (row : Row) → Some row ≡ lookup (is_key key) old
+    → Counts key later (counted_of old) (counted_of (set_value (is_key key) old (record row { count = row.count + later.0 })))
 unfolding counted_of
-counted_again events old key row found = λ other. ap (option_map counted_by) (lookup_set key other (record row { count = row.count + 1 }) old) ∙ by other (is_eq (slice_cmp nat_cmp other key)) refl
+row_again later old key row found = by_keys key later (counted_of old) (counted_of (set_value (is_key key) old (record row { count = row.count + later.0 }))) (λ other.
+    ap (option_map counted_by) (lookup_set key other (record row { count = row.count + later.0 }) old)
+    ∙ by other (is_eq (slice_cmp nat_cmp other key)) refl)
   where
-    by : (other : List ℕ) (b : Bool) → is_eq (slice_cmp nat_cmp other key) ≡ b → option_map counted_by (cond b (option_map (λ (old : Row). record row { count = row.count + 1 }) (lookup (is_key key) old)) (lookup (is_key other) old)) ≡ cond b (Some (counted_more events (counted_of old other))) (counted_of old other)
+    by : (other : List ℕ) (b : Bool) → is_eq (slice_cmp nat_cmp other key) ≡ b
+        → option_map counted_by (cond b (option_map (λ (old : Row). record row { count = row.count + later.0 }) (lookup (is_key key) old)) (lookup (is_key other) old))
+        ≡ cond b (counted_both (counted_of old other) (Some later)) (counted_of old other)
     by other true same =
         let here : Some row ≡ lookup (is_key other) old = found ∙ ap (λ (k : List ℕ). lookup (is_key k) old) (sym (same_is other key same)) in
         rw (← found, ← here) refl
     by other false apart = refl
 
--- a first run's row
-pub counted_first : (events : List Event) (old : List (Vec ℕ × Row)) (key : Vec ℕ) (row : Row) → None ≡ lookup (is_key key.items) old → counted_by row ≡ counted_more events None → Counts key.items events old (insert_entry order old key row)
+-- a row of an outcome that had none
+pub row_first : (old : List (Vec ℕ × Row)) (key : Vec ℕ) (row : Row) → None ≡ lookup (is_key key.items) old
+    → Counts key.items (counted_by row) (counted_of old) (counted_of (insert_entry order old key row))
 unfolding counted_of
-counted_first events old key row none first = λ other. ap (option_map counted_by) (lookup_inserted key row other old) ∙ by other (is_key other key) refl
+row_first old key row none = by_keys key.items (counted_by row) (counted_of old) (counted_of (insert_entry order old key row)) (λ other.
+    ap (option_map counted_by) (lookup_inserted key row other old) ∙ by other (is_key other key) refl)
   where
-    by : (other : List ℕ) (b : Bool) → is_key other key ≡ b → option_map counted_by (cond b (Some row) (lookup (is_key other) old)) ≡ cond b (Some (counted_more events (counted_of old other))) (counted_of old other)
+    by : (other : List ℕ) (b : Bool) → is_key other key ≡ b
+        → option_map counted_by (cond b (Some row) (lookup (is_key other) old)) ≡ cond b (counted_both (counted_of old other) (Some (counted_by row))) (counted_of old other)
     by other true same =
         let here : None ≡ lookup (is_key other) old = none ∙ ap (λ (k : List ℕ). lookup (is_key k) old) (sym (same_is other key.items same)) in
-        rw (← here) (ap Some first)
+        rw (← here) refl
     by other false apart = refl
+
+-- nothing is counted of an outcome that has no row
+pub none_there : (rows : List (Vec ℕ × Row)) (outcome : List ℕ) → None ≡ lookup (is_key outcome) rows → counted_of rows outcome ≡ None
+unfolding counted_of
+none_there rows outcome none = ap (option_map counted_by) (sym none)
+
+-- of no row nothing is counted
+pub nothing_there : (rows : List (Vec ℕ × Row)) (outcome : List ℕ) → rows ≡ [] → counted_of rows outcome ≡ None
+unfolding counted_of
+nothing_there rows outcome none = rw none refl
 
 -- the row that is found is one that something is counted of
 pub found_row : (Small : ℕ → Type 0) (rows : List (Vec ℕ × Row)) (outcome : List ℕ) (found : Option Row) → found ≡ lookup (is_key outcome) rows → IfSome (counted_of rows outcome) (λ seen. Small seen.0) → IfSome found (λ row. Small row.count)
 unfolding counted_of
 found_row Small rows outcome found is small = grind arith
-
--- a row with a later row's runs
-pub row_again : (later : Row) (old : List (Vec ℕ × Row)) (key : List ℕ) (row : Row) → Some row ≡ lookup (is_key key) old
-    → CountsRow key later old (set_value (is_key key) old (record row { count = row.count + later.count }))
-unfolding counted_of
-row_again later old key row found = λ other.
-    ap (option_map counted_by) (lookup_set key other (record row { count = row.count + later.count }) old)
-    ∙ by other (is_eq (slice_cmp nat_cmp other key)) refl
-  where
-    by : (other : List ℕ) (b : Bool) → is_eq (slice_cmp nat_cmp other key) ≡ b
-        → option_map counted_by (cond b (option_map (λ (old : Row). record row { count = row.count + later.count }) (lookup (is_key key) old)) (lookup (is_key other) old))
-        ≡ cond b (counted_both (counted_of old other) (Some (counted_by later))) (counted_of old other)
-    by other true same =
-        let here : Some row ≡ lookup (is_key other) old = found ∙ ap (λ (k : List ℕ). lookup (is_key k) old) (sym (same_is other key same)) in
-        rw (← found, ← here) refl
-    by other false apart = refl
-
--- a later row of an outcome that had none
-pub row_first : (later : Row) (old : List (Vec ℕ × Row)) (key : Vec ℕ) → None ≡ lookup (is_key key.items) old
-    → CountsRow key.items later old (insert_entry order old key later)
-unfolding counted_of
-row_first later old key none = λ other. ap (option_map counted_by) (lookup_inserted key later other old) ∙ by other (is_key other key) refl
-  where
-    by : (other : List ℕ) (b : Bool) → is_key other key ≡ b
-        → option_map counted_by (cond b (Some later) (lookup (is_key other) old)) ≡ cond b (counted_both (counted_of old other) (Some (counted_by later))) (counted_of old other)
-    by other true same =
-        let here : None ≡ lookup (is_key other) old = none ∙ ap (λ (k : List ℕ). lookup (is_key k) old) (sym (same_is other key.items same)) in
-        rw (← here) refl
-    by other false apart = refl
 
 -- ---- the rows that are left to take in
 
@@ -140,11 +134,11 @@ IsLeft now left both = (other : List ℕ) → counted_both (counted_of now other
 
 -- a row was taken in of those that are left
 pub row_taken : (key : Vec ℕ) (later : Row) (left rest now new : List (Vec ℕ × Row)) (both : List ℕ → Option Counted) → left ≡ (key, later) ∷ rest
-    → IsStrictlySortedBy order (keys_of left) → CountsRow key.items later now new → IsLeft now left both → IsLeft new rest both
+    → IsStrictlySortedBy order (keys_of left) → Counts key.items (counted_by later) (counted_of now) (counted_of new) → IsLeft now left both → IsLeft new rest both
 unfolding counted_of
-row_taken key later left rest now new both is sorted counts so_far other = grind (arith, option_map, none_later, sorted_head, both_none)
+row_taken key later left rest now new both is sorted counts so_far other = grind (arith, option_map, none_later, sorted_head, both_none, is_eq-slice_cmp)
 
--- no count grows past what both maps say together
+-- no count grows past what both tables say together
 pub row_few : (key : Vec ℕ) (later : Row) (left rest now : List (Vec ℕ × Row)) (both : Option Counted) (most : ℕ) → left ≡ (key, later) ∷ rest
     → counted_both (counted_of now key.items) (counted_of left key.items) ≡ both
     → IfSome {T = Counted} both (λ seen. seen.0 < most) → IfSome {T = Counted} (counted_of now key.items) (λ seen. seen.0 + later.count < most)

@@ -1,15 +1,35 @@
--- How a part of the engine ends that writes.
-use Rattle.std.proofs.Common.{◌≡◌, ℕ, List, Result, Ok, Err, sym, subst}
+-- What was written, and how a part of an engine ends that writes as it reads.
+use Rattle.std.proofs.Common.{arith, ◌≡◌, ℕ, ◌==◌, List, [], ◌∷◌, ◌++◌, Result, Ok, Err, refl, sym, subst, append_assoc, inl, inr}
 use Rattle.std.specs.Prelude.{IfErr, IfOk, Option}
+use Rattle.std.specs.Io.BufRead.{take_through}
 use Rattle.std.specs.String.{string_bytes}
 use Rattle.std.specs.declared.string.String.{String}
 use Rattle.std.specs.Global.{Global}
 use Rattle.std.specs.Io.KnownBytes.{Appends}
+use Rattle.std.proofs.lemmas.Bool.{cases_Bool}
+use Rattle.std.proofs.lemmas.List.{append-nil}
 use Rattle.engine_parts.specs.declared.fault.Fault.{Fault}
 use Rattle.engine_parts.specs.declared.fault.Fault.TheVariants.{ReadFailed, WriteFailed, NoMemory, Refused}
 use Rattle.engine_parts.specs.Interactive.{OnStopped, OnUnwritten}
 use Rattle.engine_parts.specs.inner.Failures.{IsFailure, IsReadFailure}
 use Rattle.engine_parts.specs.inner.Making.{IsEndOf, text_and_value}
+
+-- ---- what a writer holds, where that is known
+
+pub appends_nothing : (known : Option (List ℕ)) → Appends known known []
+appends_nothing known = grind (arith, append-nil)
+
+pub appends_more : (old mid new : Option (List ℕ)) (xs ys : List ℕ) → Appends old mid xs → Appends mid new ys → Appends old new (xs ++ ys)
+appends_more old mid new xs ys a b = grind (arith, append_assoc)
+
+-- ---- what a reader gives through the next LF
+
+pub no_byte : (bytes : List ℕ) → take_through 10 bytes ≡ [] → bytes ≡ []
+no_byte [] e = refl
+no_byte (byte ∷ bytes) e = elim (cases_Bool (byte == 10)) [
+  | inl is ↦ (let f : byte ∷ [] ≡ [] = rw is at e in cc)
+  | inr other ↦ (let f : byte ∷ take_through 10 bytes ≡ [] = rw other at e in cc)
+]
 
 -- ---- a text was written, or not
 
@@ -46,18 +66,10 @@ module _ {V W : Type 0} (made : String Global × V) (result : Result V Fault) (c
 -- ---- what is handed on
 
 pub unwritten : {V : Type 0} (result : Result V Fault) (P : Type 0) → P → OnUnwritten result P
-unwritten (Ok v) P p = tt
-unwritten (Err WriteFailed) P p = p
-unwritten (Err ReadFailed) P p = tt
-unwritten (Err NoMemory) P p = tt
-unwritten (Err (Refused r)) P p = tt
+unwritten result P p = grind arith
 
 pub stopped : {V : Type 0} (result : Result V Fault) (P : Type 0) → P → OnStopped result P
-stopped (Ok v) P p = tt
-stopped (Err WriteFailed) P p = tt
-stopped (Err ReadFailed) P p = p
-stopped (Err NoMemory) P p = p
-stopped (Err (Refused r)) P p = tt
+stopped result P p = grind arith
 
 module _ {V : Type 0} (result : Result V Fault) (fault : Fault) (is : result ≡ Err fault) where
   pub hands_failure : IsFailure fault → IfErr result IsFailure
@@ -71,6 +83,16 @@ module _ {V : Type 0} (result : Result V Fault) (fault : Fault) (is : result ≡
       at NoMemory x = tt
       at WriteFailed x = absurd x
       at (Refused r) x = absurd x
+
+  -- what only reads fails by no write
+  pub reads_alone : IsReadFailure fault → (P : Type 0) → OnUnwritten result P
+  reads_alone fails P = rw is (at fault fails)
+    where
+      at : (f : Fault) → IsReadFailure f → OnUnwritten {V = V} (Err f) P
+      at ReadFailed x = tt
+      at NoMemory x = tt
+      at WriteFailed x = absurd x
+      at (Refused r) x = tt
 
   pub hands_no_memory : fault ≡ NoMemory → IfErr result IsFailure
   hands_no_memory same = rw (is, same) tt
@@ -87,14 +109,14 @@ hands_stop {V} Part result fault is P Q more stops = rw is (at fault stops)
     at (Refused r) p = tt
 
 -- and where a write failed in it
-pub hands_unwritten : {V : Type 0} (Part : Type 0) (result : Result V Fault) (fault : Fault) → result ≡ Err fault → (P : Type 0)
-    → OnUnwritten {V = Part} (Err fault) P → OnUnwritten result P
-hands_unwritten {V} Part result fault is P written = rw is (at fault written)
+pub hands_unwritten : {V : Type 0} (Part : Type 0) (result : Result V Fault) (fault : Fault) → result ≡ Err fault → (P Q : Type 0) → (P → Q)
+    → OnUnwritten {V = Part} (Err fault) P → OnUnwritten result Q
+hands_unwritten {V} Part result fault is P Q more written = rw is (at fault written)
   where
-    at : (f : Fault) → OnUnwritten {V = Part} (Err f) P → OnUnwritten {V = V} (Err f) P
+    at : (f : Fault) → OnUnwritten {V = Part} (Err f) P → OnUnwritten {V = V} (Err f) Q
     at ReadFailed p = tt
     at NoMemory p = tt
-    at WriteFailed p = p
+    at WriteFailed p = more p
     at (Refused r) p = tt
 
 -- a part that stopped had written nothing

@@ -2,9 +2,9 @@ use Rattle.std.proofs.Common.{length}
 use Rattle.std.proofs.lemmas.List.Elements.{All-rest}
 use Rattle.std.proofs.lemmas.Slice.Zip.{Zip-more, either_empty_from_Zip}
 use Rattle.litmus.specs.LitmusTests.{IsThere}
-use Rattle.checking.specs.Outcomes.{value_text}
-use Rattle.checking.proofs.OutcomeLines.{pair_written, pairs_written}
-use Rattle.checking.proofs.table.push_values.Goals as goal
+use Rattle.engine_parts.specs.Outcomes.{value_text}
+use Rattle.engine_parts.proofs.OutcomeLines.{pair_written, pairs_written}
+use Rattle.engine_parts.proofs.outcomes.push_values.Goals as goal
 
 pub loop-place-preserved : goal.loop-place-preserved
 loop-place-preserved c =
