@@ -1,12 +1,12 @@
 -- The text of a tally is the table of what was judged.
-use Rattle.std.proofs.Common.{◌≡◌, List, ℕ, ◌++◌, refl, ap, ◌∙◌}
+use Rattle.std.proofs.Common.{◌≡◌, List, ℕ, ◌++◌, count_by, ap, ◌∙◌}
 use Rattle.litmus.specs.LitmusTests.{LitmusTest}
 use Rattle.engine_parts.specs.Outcomes.{unfinished_line}
 use Rattle.engine_parts.specs.Counting.{AreLines, counted}
 use Rattle.engine_parts.proofs.OutcomeTables.{are_outcomes, table_is}
 use Rattle.checking.specs.declared.tally.Tally.{Tally}
 use Rattle.checking.specs.Judgements.{Judged}
-use Rattle.checking.specs.Outcomes.{first_record, gave, refused_line, IsTable}
+use Rattle.checking.specs.Outcomes.{first_record, gave, is_refused, is_unfinished, refused_line, IsTable}
 use Rattle.checking.specs.inner.Tallies.{IsTallyOf}
 
 pub tabled : (test : LitmusTest) (answers : List Judged) (tally : Tally) (lines text : List ℕ) → IsTallyOf answers tally
@@ -17,5 +17,6 @@ tabled test answers tally lines text is made written = record {
   shown = are_outcomes gave first_record test answers (counted tally.outcomes) lines is.counts made;
   is = written
       ∙ (rw (is.unfinished_are, is.refused_are)
-      (ap (λ (xs : List ℕ). xs ++ unfinished_line _ ++ refused_line _) (table_is gave first_record test answers (counted tally.outcomes) lines is.counts made)));
+      (ap (λ (xs : List ℕ). xs ++ unfinished_line (count_by is_unfinished answers) ++ refused_line (count_by is_refused answers))
+      (table_is gave first_record test answers (counted tally.outcomes) lines is.counts made)));
 }
