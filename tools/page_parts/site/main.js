@@ -53,7 +53,7 @@ function onEvents() {
   onClick("harts", "[data-key]", onHarts);
   onClick("strip", "[data-key]", found => go(Number(found.dataset.key.slice("to ".length))));
   onClick("witnesses", "button", loadWitness);
-  onClick("drawn", "button", found => stepRow(found.dataset.key.slice("row ".length)));
+  onClick("drawn", '[data-key^="row "]', found => stepRow(found.dataset.key.slice("row ".length)));
   by("chart").addEventListener("click", hand(clicked => {
     const place = placeOf(clicked);
     return place === null ? null : go(place);
