@@ -7,6 +7,7 @@
 
 #![tactic(auto)]
 
+mod compact;
 mod numbered;
 
 pub use numbered::States;
