@@ -8,6 +8,7 @@
 #![tactic(auto)]
 
 mod compact;
+pub mod laws;
 mod numbered;
 
 pub use numbered::States;
