@@ -93,7 +93,7 @@ fn go_on<const B: usize, const M: usize>(
             return Ok(false);
         }
         if !is_there {
-            states.put_back(from as usize, machine);
+            states.put_back(from as usize, machine)?;
             is_there = true;
         }
         if let Outcome::Did(_) = machine.step(*event)? {

@@ -7,6 +7,8 @@
 
 #![tactic(auto)]
 
+mod compact;
+pub mod laws;
 mod numbered;
 
 pub use numbered::States;
