@@ -73,5 +73,6 @@ stay_compact keys new key words t all key_is back inserted =
 pub stay_either : {E : Type 0} (r : Result Bool E) (keys new : List (Vec ℕ)) (key : Vec ℕ) (words : List ℕ) → All IsCompact keys → key.items ≡ bytes_of words
     → words_in (bytes_of words) ≡ words → IfOk r (λ _. new ≡ (if list_any (has_bytes key.items) keys then keys else keys ++ key ∷ []))
     → OnErr r (new ≡ keys) → All IsCompact new
-stay_either (Ok added) keys new key words all key_is back inserted err = stay_compact keys new key words (list_any (has_bytes key.items) keys) all key_is back inserted
+stay_either (Ok added) keys new key words all key_is back inserted err =
+    stay_compact keys new key words (list_any (has_bytes key.items) keys) all key_is back inserted
 stay_either (Err e) keys new key words all key_is back inserted err = subst (λ (ks : List (Vec ℕ)). All IsCompact ks) (sym err) all

@@ -22,7 +22,9 @@ returns-in-Some-clause-numbered g c =
 pub invariant_of-self-inside-2 : goal.invariant_of-self-inside-2
 invariant_of-self-inside-2 g c = (
   stay_either c.insert.result c.self.inside.positions.keys c.insert.new.self.keys c.in_ok-position.position (packed c.args.machine.now)
-      c.self.inside.compact (c.in_ok-position.ensures.items ∙ c.deref.ensures.value ∙ c.in_ok-position_into.ensures.bytes) c.in_ok-position_into.ensures.back c.insert.ensures.keys c.insert.ensures.err,
+      c.self.inside.compact
+      (c.in_ok-position.ensures.items ∙ c.deref.ensures.value ∙ c.in_ok-position_into.ensures.bytes)
+      c.in_ok-position_into.ensures.back c.insert.ensures.keys c.insert.ensures.err,
   tt,
 )
 
