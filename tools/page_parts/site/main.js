@@ -10,7 +10,7 @@ import { compile, forgetSource, openFiles } from "./files.js";
 import { scrollNumbers } from "./gutter.js";
 import { onKey } from "./keyboard.js";
 import { find, threads } from "./makers.js";
-import { go, happen, move, note, setEvents, shrunk, toBreak, toggleBreak } from "./run.js";
+import { clearNote, go, happen, move, note, setEvents, shrunk, toBreak, toggleBreak } from "./run.js";
 import { copyLink, copySchedule, isLink, load, loadLink, savePicture, saveSchedule, saveTest, showPasting }
   from "./saving.js";
 import { expanded, tokens } from "./schedules.js";
@@ -125,6 +125,7 @@ function onTyping() {
   by("text").addEventListener("scroll", scrollNumbers);
   const taken = hand(async () => {
     typing = 0;
+    clearNote();
     await take(by("text").value).finally(() => waiting(-1));
   });
   by("text").addEventListener("input", () => {

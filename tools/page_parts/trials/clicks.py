@@ -56,11 +56,6 @@ def message_passing(count, page):
     page.click("#drawn .source")
     opened = page.run("[document.getElementById('excluded').open, document.activeElement.parentElement.id]")
     count.told("the answer leads to the source", opened == [True, "excluded"], opened)
-    if page.run("!!document.querySelector('#find:not([hidden])')"):
-        page.click("#find")
-        said = page.note()
-        count.told("the search finds none, and leads there too", re.match(r"Not found in \d+ states\. ", said) and NOT_SHOWN in said
-                   and page.texts("#note .source") == ["What a source excludes"] and page.strip() == "a0*2 l0*2 a1*2", said)
 
 
 def back(count, page):
