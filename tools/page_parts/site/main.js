@@ -56,7 +56,10 @@ function onEvents() {
   onClick("drawn", '[data-key^="row "]', found => stepRow(found.dataset.key.slice("row ".length)));
   by("chart").addEventListener("click", hand(clicked => {
     const place = placeOf(clicked);
-    return place === null ? null : go(place);
+    if (place === null) return null;
+    // the arrows go on from there, and don't scroll the picture
+    by("chart").blur();
+    return go(place);
   }));
 }
 
