@@ -2,7 +2,7 @@
 
 ghost use Rattle.std.specs.Prelude.{◌≡◌, ◌+◌, ◌<◌, ◌≤◌, [], length, IfOk, OnOk, OnErr, All};
 ghost use Rattle.states.specs.inner.Compact.{bytes_of, words_in, IsCompact};
-ghost use Rattle.step_machine.specs.Positions.{packed, put_at, IsSoundMachine};
+ghost use Rattle.step_machine.specs.Positions.{packed, IsSoundMachine};
 
 use crate::compact::{push_bytes, push_words};
 use indexmap::IndexSet;
@@ -90,22 +90,15 @@ impl<const B: usize, const M: usize> States<B, M> {
         Ok(number)
     }
 
-    /// Puts the machine at the position of this number, with no report. An error leaves the machine as it is.
-    pub fn put_back(
-        &mut self,
-        number: usize,
-        machine: &mut MachineState<B, M>,
-    ) -> Result<(), AllocError>
-        requires { number < length self.old }
-        ensures value { OnOk result (machine.new ≡ put_at B M machine.old (words_at self.old number)) }
-        ensures harts { length machine.new.harts ≡ length machine.old.harts }
-        ensures kept { self.new ≡ self.old }
-        ensures err { OnErr result (machine.new ≡ machine.old) }
+    /// Writes the words of the position of this number in the place of what `words` holds. A machine of the
+    /// opening unpacks them.
+    pub fn words_into(&self, number: usize, words: &mut Vec<u32>) -> Result<(), AllocError>
+        requires { number < length self.now }
+        ensures { OnOk result (words.new.items ≡ words_at self.now number) }
     {
-        self.draft.clear();
+        words.clear();
         if let Some(position) = self.positions.get_index(number) {
-            push_words(&mut self.draft, position)?;
-            machine.unpack(&self.draft);
+            push_words(words, position)?;
         }
         Ok(())
     }
