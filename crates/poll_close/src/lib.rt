@@ -5,6 +5,7 @@
 #![tactic(auto)]
 
 pub mod channel;
+pub mod clean;
 pub mod delivery;
 pub mod faults;
 pub mod kind;
@@ -14,6 +15,7 @@ pub mod place;
 pub mod plans;
 
 pub use channel::Channel;
+pub use clean::Breach;
 pub use delivery::{
     deliver, deliver_at, deliver_whole_at, laws_of_channels, laws_of_plans, reports_of,
 };
