@@ -30,7 +30,7 @@ is_within-yes : (l : Layout) (h a width block : ℕ) → is_within l h a width b
     → ((h ≡ 0) ⊎ (h ≡ block + 1)) × (base_of l block ≤ a) × (a + width ≤ base_of l block + block_size l.size)
 is_within-yes l h a width block pass = grind (arith, nat_tests)
 
-yes-is_within : (l : Layout) (h a width block : ℕ) → (h ≡ 0) ⊎ (h ≡ block + 1) → base_of l block ≤ a
+pub yes-is_within : (l : Layout) (h a width block : ℕ) → (h ≡ 0) ⊎ (h ≡ block + 1) → base_of l block ≤ a
     → a + width ≤ base_of l block + block_size l.size → is_within l h a width block ≡ true
 yes-is_within l h a width block (inl own) from below = grind (arith, nat_tests)
 yes-is_within l h a width block (inr own) from below = grind (arith, nat_tests)
@@ -48,7 +48,7 @@ pub stays-yes : (l : Layout) (n h a width : ℕ) → stays_within l n h a width 
 stays-yes l zero h a width pass = cc
 stays-yes l (suc n) h a width pass = stays_one l n h a width (is_within l h a width n) refl pass (stays-yes l n h a width)
 
-stays_more : (l : Layout) (n h a width block : ℕ) → block < n → is_within l h a width block ≡ true → stays_within l n h a width ≡ true
+pub stays_more : (l : Layout) (n h a width block : ℕ) → block < n → is_within l h a width block ≡ true → stays_within l n h a width ≡ true
 stays_more l zero h a width block known here = absurd (omega arith)
 stays_more l (suc n) h a width block known here = grind (arith, nat_tests, stays_more l n h a width block)
 
@@ -143,7 +143,7 @@ closed_known : (lists : List (List ℕ)) (rs : List Report) (i : ℕ) → i < le
 closed_known lists rs i known none = grind (arith, nat_tests)
 
 -- a report that breaks nothing keeps reports clean
-clean_next : (lists : List (List ℕ)) (rs : List Report) (r : Report) → Clean rs lists → report_breach lists rs r ≡ None → Clean (rs ++ r ∷ []) lists
+pub clean_next : (lists : List (List ℕ)) (rs : List Report) (r : Report) → Clean rs lists → report_breach lists rs r ≡ None → Clean (rs ++ r ∷ []) lists
 clean_next lists rs (report.Took i w) clean none =
     let known = known_took lists rs i w none in
     let next = took-none (slice_index_or lists i []) (taken rs i) (is_closed rs i) i w known.1 in
@@ -181,7 +181,7 @@ not_closed lists rs r clean k is =
 last_known : (lists : List (List ℕ)) (rs : List Report) (r : Report) → Clean (rs ++ r ∷ []) lists → sender_of r < length lists
 last_known lists rs r clean = clean.known (length rs) r (get_end rs r)
 
-next_clean : (lists : List (List ℕ)) (rs : List Report) (r : Report) → Clean (rs ++ r ∷ []) lists → report_breach lists rs r ≡ None
+pub next_clean : (lists : List (List ℕ)) (rs : List Report) (r : Report) → Clean (rs ++ r ∷ []) lists → report_breach lists rs r ≡ None
 next_clean lists rs (report.Took i w) clean =
     took_known lists rs i w (last_known lists rs (report.Took i w) clean)
       (none-took (slice_index_or lists i []) (taken rs i) (is_closed rs i) i w (still_open rs i (not_closed lists rs (report.Took i w) clean))
@@ -195,7 +195,7 @@ next_clean lists rs (report.Closed i) clean =
     closed_known lists rs i (last_known lists rs (report.Closed i) clean)
       (none-closed (slice_index_or lists i []) (taken rs i) (is_closed rs i) i (still_open rs i (not_closed lists rs (report.Closed i) clean)) (omega arith))
 
-clean_front : (lists : List (List ℕ)) (rs : List Report) (r : Report) → Clean (rs ++ r ∷ []) lists → Clean rs lists
+pub clean_front : (lists : List (List ℕ)) (rs : List Report) (r : Report) → Clean (rs ++ r ∷ []) lists → Clean rs lists
 clean_front lists rs r clean = record {
   in_order = λ i. shorter (taken rs i) (taken (r ∷ []) i) (slice_index_or lists i [])
     (subst (λ (ys : List ℕ). IsPrefixOf ys (slice_index_or lists i [])) (taken-append rs (r ∷ []) i) (clean.in_order i));
@@ -210,7 +210,7 @@ clean_front lists rs r clean = record {
     shorter : (xs ys list : List ℕ) → IsPrefixOf (xs ++ ys) list → IsPrefixOf xs list
     shorter xs ys list prefix = (ys ++ prefix.0, sym (append_assoc xs ys prefix.0) ∙ prefix.1)
 
-clean_none : (lists : List (List ℕ)) → Clean [] lists
+pub clean_none : (lists : List (List ℕ)) → Clean [] lists
 clean_none lists = record {
   in_order = λ i. (slice_index_or lists i [], refl);
   whole = λ i k is. cc;

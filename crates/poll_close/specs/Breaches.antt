@@ -12,6 +12,7 @@ use Rattle.poll_close.specs.Reports.{taken, Clean}
 use Rattle.poll_close.specs.Plans.{is_closed}
 use Rattle.poll_close.specs.Going.{AllGoOn}
 use Rattle.poll_close.specs.Touching.{AllTouch}
+use Rattle.poll_close.specs.declared.clean.Share.{Share}
 use Rattle.poll_close.specs.declared.clean.Breach.{Breach}
 use Rattle.poll_close.specs.declared.clean.Breach.TheVariants as breach
 
@@ -80,3 +81,15 @@ pub record IsKept (l : Layout) (lists : List (List ℕ)) (es : List Entry) : Typ
   pub clean : Clean (reported 0 es) lists
   pub goes : AllGoOn es
   pub touches : AllTouch l (length lists) es
+
+-- what is noted of senders, from sender 0 on, after these reports: how many words of each were taken, and whether it
+-- is closed
+pub record AreNotes (rs : List Report) (shares : List Share) : Type 0 where
+  pub taken : (i : ℕ) (s : Share) → slice_get shares i ≡ Some s → s.taken ≡ length (taken rs i)
+  pub closed : (i : ℕ) (s : Share) → slice_get shares i ≡ Some s → s.closed ≡ is_closed rs i
+
+-- these reports are clean, and noted of each sender
+pub record IsNoted (lists : List (List ℕ)) (rs : List Report) (shares : List Share) : Type 0 where
+  pub clean : Clean rs lists
+  pub notes : AreNotes rs shares
+  pub count : length shares ≡ length lists
