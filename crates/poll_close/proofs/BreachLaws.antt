@@ -1,10 +1,10 @@
 -- That the first breach of a run is none exactly where the run keeps what a ring must.
 use Rattle.std.proofs.Common.{ℕ, zero, suc, ◌+◌, ◌<◌, ◌≤◌, ◌≡◌, ◌≢◌, ◌==◌, ◌⊎◌, inl, inr, Bool, true, false, ◌||◌, if◌then◌else◌}
-use Rattle.std.proofs.Common.{List, [], ◌∷◌, ◌++◌, length, take, drop, Option, Some, None, refl, sym, ◌∙◌, ap, subst, arith, append_assoc, append-nil, length-append}
-use Rattle.std.specs.Prelude.{◌↔◌, nat_lt, nat_le}
+use Rattle.std.proofs.Common.{List, [], ◌∷◌, ◌++◌, length, take, Option, Some, None, refl, sym, ◌∙◌, ap, subst, arith, append_assoc, append-nil, length-append}
+use Rattle.std.specs.Prelude.{◌↔◌}
 use Rattle.std.specs.List.{slice_get, slice_index_or}
 use Rattle.std.proofs.lemmas.Bool.Decides.{nat_tests}
-use Rattle.std.proofs.lemmas.Option.{slice_get_within, slice_get_past}
+use Rattle.std.proofs.lemmas.Option.{slice_get_within}
 use Rattle.std.proofs.lemmas.List.{take-append-le}
 use Rattle.std.proofs.Math.Seq.{take-append_seam}
 use Rattle.hart.specs.declared.need.Report.{Report}
@@ -16,8 +16,8 @@ use Rattle.step_machine.proofs.Appended.{reported-last}
 use Rattle.poll_close.specs.Layout.{block_size, Layout, base_of}
 use Rattle.poll_close.specs.Reports.{taken, sender_of, IsPrefixOf, Clean}
 use Rattle.poll_close.specs.Plans.{is_closed}
-use Rattle.poll_close.specs.Going.{GoesOn, AllGoOn}
-use Rattle.poll_close.specs.Touching.{StaysWithin, Touches, AllTouch}
+use Rattle.poll_close.specs.Going.{GoesOn}
+use Rattle.poll_close.specs.Touching.{StaysWithin, Touches}
 use Rattle.poll_close.specs.Breaches.{word_breach, took_breach, closed_breach, report_breach, is_within, stays_within, breach_of, or_later, breach_after, first_breach, IsKept}
 use Rattle.poll_close.specs.declared.clean.Breach.{Breach}
 use Rattle.poll_close.proofs.CleanReports.{get_front, taken-append, taken-took, taken-closed, clean_more, taken_other, nothing_left}
@@ -156,7 +156,7 @@ clean_next lists rs (report.Took i w) clean none =
         at true same =
             let one : i ≡ j = grind (arith, nat_tests) in
             subst (λ (k : ℕ). IsPrefixOf (taken (rs ++ report.Took i w ∷ []) k) (slice_index_or lists k [])) one
-              (subst (λ (ys : List ℕ). IsPrefixOf ys (slice_index_or lists i [])) (sym (own_took rs i w)) (prefix_next (taken rs i) (slice_index_or lists i []) w (clean.in_order i) next))
+            (subst (λ (ys : List ℕ). IsPrefixOf ys (slice_index_or lists i [])) (sym (own_took rs i w)) (prefix_next (taken rs i) (slice_index_or lists i []) w (clean.in_order i) next))
         at false other =
             let differ : i ≢ j = grind (arith, nat_tests) in
             subst (λ (ys : List ℕ). IsPrefixOf ys (slice_index_or lists j [])) (sym (taken_other rs j (report.Took i w) differ)) (clean.in_order j)
@@ -164,8 +164,8 @@ clean_next lists rs (report.Closed i) clean none =
     let known = known_closed lists rs i none in
     let ended = closed-none (slice_index_or lists i []) (taken rs i) (is_closed rs i) i known.1 in
     clean_more rs lists (report.Closed i) clean known.0 (unclosed rs i ended.0)
-      (λ j. subst (λ (ys : List ℕ). IsPrefixOf ys (slice_index_or lists j [])) (sym (taken-closed rs i j)) (clean.in_order j))
-      (whole ended.1)
+    (λ j. subst (λ (ys : List ℕ). IsPrefixOf ys (slice_index_or lists j [])) (sym (taken-closed rs i j)) (clean.in_order j))
+    (whole ended.1)
   where
     whole : length (slice_index_or lists i []) ≤ length (taken rs i) → (j : ℕ) → report.Closed i ≡ report.Closed j → taken rs j ≡ slice_index_or lists j []
     whole all j same =
@@ -176,7 +176,7 @@ clean_next lists rs (report.Closed i) clean none =
 not_closed : (lists : List (List ℕ)) (rs : List Report) (r : Report) → Clean (rs ++ r ∷ []) lists → (k : ℕ) → slice_get rs k ≡ Some (report.Closed (sender_of r)) → ⊥
 not_closed lists rs r clean k is =
     clean.no_more (sender_of r) k (length rs) r (slice_get_within rs k (report.Closed (sender_of r)) is)
-      (get_front rs (r ∷ []) k (report.Closed (sender_of r)) is) (get_end rs r) refl
+    (get_front rs (r ∷ []) k (report.Closed (sender_of r)) is) (get_end rs r) refl
 
 last_known : (lists : List (List ℕ)) (rs : List Report) (r : Report) → Clean (rs ++ r ∷ []) lists → sender_of r < length lists
 last_known lists rs r clean = clean.known (length rs) r (get_end rs r)
@@ -184,26 +184,26 @@ last_known lists rs r clean = clean.known (length rs) r (get_end rs r)
 pub next_clean : (lists : List (List ℕ)) (rs : List Report) (r : Report) → Clean (rs ++ r ∷ []) lists → report_breach lists rs r ≡ None
 next_clean lists rs (report.Took i w) clean =
     took_known lists rs i w (last_known lists rs (report.Took i w) clean)
-      (none-took (slice_index_or lists i []) (taken rs i) (is_closed rs i) i w (still_open rs i (not_closed lists rs (report.Took i w) clean))
-        (next_of_prefix (taken rs i) (slice_index_or lists i []) w
-          (subst (λ (ys : List ℕ). IsPrefixOf ys (slice_index_or lists i [])) (own_took rs i w) (clean.in_order i))))
+    (none-took (slice_index_or lists i []) (taken rs i) (is_closed rs i) i w (still_open rs i (not_closed lists rs (report.Took i w) clean))
+    (next_of_prefix (taken rs i) (slice_index_or lists i []) w
+    (subst (λ (ys : List ℕ). IsPrefixOf ys (slice_index_or lists i [])) (own_took rs i w) (clean.in_order i))))
 next_clean lists rs (report.Closed i) clean =
     let front : take (length rs) (rs ++ report.Closed i ∷ []) ≡ rs = take-append_seam rs (report.Closed i ∷ []) in
     let all : taken rs i ≡ slice_index_or lists i [] =
-      ap (λ ys. taken ys i) (sym front) ∙ clean.whole i (length rs) (get_end rs (report.Closed i)) in
+    ap (λ ys. taken ys i) (sym front) ∙ clean.whole i (length rs) (get_end rs (report.Closed i)) in
     let long : length (taken rs i) ≡ length (slice_index_or lists i []) = ap length all in
     closed_known lists rs i (last_known lists rs (report.Closed i) clean)
-      (none-closed (slice_index_or lists i []) (taken rs i) (is_closed rs i) i (still_open rs i (not_closed lists rs (report.Closed i) clean)) (omega arith))
+    (none-closed (slice_index_or lists i []) (taken rs i) (is_closed rs i) i (still_open rs i (not_closed lists rs (report.Closed i) clean)) (omega arith))
 
 pub clean_front : (lists : List (List ℕ)) (rs : List Report) (r : Report) → Clean (rs ++ r ∷ []) lists → Clean rs lists
 clean_front lists rs r clean = record {
   in_order = λ i. shorter (taken rs i) (taken (r ∷ []) i) (slice_index_or lists i [])
-    (subst (λ (ys : List ℕ). IsPrefixOf ys (slice_index_or lists i [])) (taken-append rs (r ∷ []) i) (clean.in_order i));
+      (subst (λ (ys : List ℕ). IsPrefixOf ys (slice_index_or lists i [])) (taken-append rs (r ∷ []) i) (clean.in_order i));
   whole = λ i k is.
-    let within : k < length rs = slice_get_within rs k (report.Closed i) is in
-    ap (λ ys. taken ys i) (sym (take-append-le k rs (r ∷ []) (omega arith))) ∙ clean.whole i k (get_front rs (r ∷ []) k (report.Closed i) is);
+      let within : k < length rs = slice_get_within rs k (report.Closed i) is in
+      ap (λ ys. taken ys i) (sym (take-append-le k rs (r ∷ []) (omega arith))) ∙ clean.whole i k (get_front rs (r ∷ []) k (report.Closed i) is);
   no_more = λ i j k s before first second.
-    clean.no_more i j k s before (get_front rs (r ∷ []) j (report.Closed i) first) (get_front rs (r ∷ []) k s second);
+      clean.no_more i j k s before (get_front rs (r ∷ []) j (report.Closed i) first) (get_front rs (r ∷ []) k s second);
   known = λ k s is. clean.known k s (get_front rs (r ∷ []) k s is);
 }
   where
@@ -254,7 +254,7 @@ keeps_report : (l : Layout) (lists : List (List ℕ)) (es : List Entry) (e : Ent
     → Touches l (length lists) e → report_breach lists (reported 0 es) r ≡ None → Keeps l lists es e
 keeps_report l lists es e r one goes touches none = record {
   clean = λ clean. subst (λ (rs : List Report). Clean rs lists) (sym (reported-last 0 es e ∙ ap (λ rs. reported 0 es ++ rs) one))
-    (clean_next lists (reported 0 es) r clean none);
+      (clean_next lists (reported 0 es) r clean none);
   goes = goes;
   touches = touches;
 }
@@ -336,16 +336,16 @@ last_took : (lists : List (List ℕ)) (es : List Entry) (h i w : ℕ) (b : Bool)
 last_took lists es h i w false other clean = refl
 last_took lists es h i w true mine clean =
     next_clean lists (reported 0 es) (report.Took i w)
-      (subst (λ (rs : List Report). Clean rs lists)
-        (reported-last 0 es (entry.Took h i w) ∙ ap (λ rs. reported 0 es ++ rs) (ap (λ c. if c then report.Took i w ∷ [] else []) mine)) clean)
+    (subst (λ (rs : List Report). Clean rs lists)
+    (reported-last 0 es (entry.Took h i w) ∙ ap (λ rs. reported 0 es ++ rs) (ap (λ c. if c then report.Took i w ∷ [] else []) mine)) clean)
 
 last_closed : (lists : List (List ℕ)) (es : List Entry) (h i : ℕ) (b : Bool) → (h == 0) ≡ b → Clean (reported 0 (es ++ entry.Closed h i ∷ [])) lists
     → (if b then report_breach lists (reported 0 es) (report.Closed i) else None) ≡ None
 last_closed lists es h i false other clean = refl
 last_closed lists es h i true mine clean =
     next_clean lists (reported 0 es) (report.Closed i)
-      (subst (λ (rs : List Report). Clean rs lists)
-        (reported-last 0 es (entry.Closed h i) ∙ ap (λ rs. reported 0 es ++ rs) (ap (λ c. if c then report.Closed i ∷ [] else []) mine)) clean)
+    (subst (λ (rs : List Report). Clean rs lists)
+    (reported-last 0 es (entry.Closed h i) ∙ ap (λ rs. reported 0 es ++ rs) (ap (λ c. if c then report.Closed i ∷ [] else []) mine)) clean)
 
 pub last_kept : (l : Layout) (lists : List (List ℕ)) (es : List Entry) (e : Entry) → IsKept l lists (es ++ e ∷ []) → breach_of l lists es e ≡ None
 last_kept l lists es (entry.Took h i w) kept = last_took lists es h i w (h == 0) refl kept.clean
@@ -353,13 +353,13 @@ last_kept l lists es (entry.Closed h i) kept = last_closed lists es h i (h == 0)
 last_kept l lists es (entry.Stopped h why) kept = absurd (kept.goes (length es) (entry.Stopped h why) (get_end es (entry.Stopped h why)))
 last_kept l lists es (entry.Load h a width v) kept =
     stays_by (stays_within l (length lists) h a width) _
-      (yes-stays l (length lists) h a width (kept.touches (length es) (entry.Load h a width v) (get_end es (entry.Load h a width v))))
+    (yes-stays l (length lists) h a width (kept.touches (length es) (entry.Load h a width v) (get_end es (entry.Load h a width v))))
 last_kept l lists es (entry.Store h a width v) kept =
     stays_by (stays_within l (length lists) h a width) _
-      (yes-stays l (length lists) h a width (kept.touches (length es) (entry.Store h a width v) (get_end es (entry.Store h a width v))))
+    (yes-stays l (length lists) h a width (kept.touches (length es) (entry.Store h a width v) (get_end es (entry.Store h a width v))))
 last_kept l lists es (entry.Amo h a old new) kept =
     stays_by (stays_within l (length lists) h a 4) _
-      (yes-stays l (length lists) h a 4 (kept.touches (length es) (entry.Amo h a old new) (get_end es (entry.Amo h a old new))))
+    (yes-stays l (length lists) h a 4 (kept.touches (length es) (entry.Amo h a old new) (get_end es (entry.Amo h a old new))))
 last_kept l lists es (entry.Inner h) kept = refl
 last_kept l lists es (entry.Fence h full) kept = refl
 last_kept l lists es (entry.Next h w) kept = refl
@@ -383,15 +383,16 @@ pub kept_after : (l : Layout) (lists : List (List ℕ)) (before es : List Entry)
 kept_after l lists before [] kept none = subst (λ (ds : List Entry). IsKept l lists ds) (sym (append-nil before)) kept
 kept_after l lists before (e ∷ es) kept none =
     after_one l lists before es e (breach_of l lists before e) (breach_after l lists (before ++ e ∷ []) es) refl none kept
-      (kept_after l lists (before ++ e ∷ []) es)
+    (kept_after l lists (before ++ e ∷ []) es)
 
 pub none_after : (l : Layout) (lists : List (List ℕ)) (before es : List Entry) → IsKept l lists (before ++ es)
     → IsKept l lists before × (breach_after l lists before es ≡ None)
 none_after l lists before [] kept = (subst (λ (ds : List Entry). IsKept l lists ds) (append-nil before) kept, refl)
 none_after l lists before (e ∷ es) kept =
-    let later = none_after l lists (before ++ e ∷ []) es (subst (λ (ds : List Entry). IsKept l lists ds) (sym (append_assoc before (e ∷ []) es)) kept) in
-    (kept_before l lists before e later.0,
-      ap (λ found. or_later found (breach_after l lists (before ++ e ∷ []) es)) (last_kept l lists before e later.0) ∙ later.1)
+    let later = none_after l lists (before ++ e ∷ []) es (subst (λ (ds : List Entry). IsKept l lists ds) (sym (append_assoc before (e ∷ []) es)) kept) in (
+      kept_before l lists before e later.0,
+      ap (λ found. or_later found (breach_after l lists (before ++ e ∷ []) es)) (last_kept l lists before e later.0) ∙ later.1,
+    )
 
 pub first_law : (l : Layout) (lists : List (List ℕ)) (es : List Entry) → (first_breach l lists es ≡ None) ↔ IsKept l lists es
 first_law l lists es = (λ none. kept_after l lists [] es (kept_none l lists) none, λ kept. (none_after l lists [] es kept).1)

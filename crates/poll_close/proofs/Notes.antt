@@ -1,9 +1,9 @@
 -- What is noted of senders, report by report.
-use Rattle.std.proofs.Common.{ℕ, zero, suc, ◌+◌, ◌<◌, ◌≤◌, ◌≡◌, ◌≢◌, ◌==◌, ◌||◌, Bool, true, false, List, [], ◌∷◌, ◌++◌, length, get_or, Option, Some, None, refl, sym, ◌∙◌, ap, subst, arith, append_assoc, append-nil, length-append, take, drop, set, drop_of_length-le}
+use Rattle.std.proofs.Common.{ℕ, ◌+◌, ◌<◌, ◌≤◌, ◌≡◌, ◌≢◌, ◌==◌, ◌||◌, Bool, true, false, List, [], ◌∷◌, ◌++◌, length, get_or, Some, None, refl, sym, ◌∙◌, ap, subst, arith, append_assoc, append-nil, length-append, take, drop, set, drop_of_length-le}
 use Rattle.std.specs.Prelude.{◌↔◌, IsTrue, if◌then◌else◌}
 use Rattle.std.specs.List.{slice_get}
 use Rattle.std.proofs.lemmas.Bool.Decides.{nat_tests}
-use Rattle.std.proofs.lemmas.Option.{slice_get_within, slice_get_past, slice_get-get_or, get_or_from_slice_get}
+use Rattle.std.proofs.lemmas.Option.{slice_get_within, slice_get-get_or, get_or_from_slice_get}
 use Rattle.std.proofs.lemmas.List.{take-append-drop, take_more}
 use Rattle.std.proofs.Math.Seq.{take-length}
 use Rattle.hart.specs.declared.need.Report.{Report}
@@ -13,7 +13,7 @@ use Rattle.step_machine.specs.Entries.{report_of, reported}
 use Rattle.step_machine.proofs.Appended.{reported-last}
 use Rattle.step_machine.proofs.Stays.{slice_get-set_same, slice_get-set_other}
 use Rattle.poll_close.specs.Layout.{block_size, Layout, base_of}
-use Rattle.poll_close.specs.Reports.{taken, sender_of, Clean}
+use Rattle.poll_close.specs.Reports.{taken, Clean}
 use Rattle.poll_close.specs.Plans.{is_closed}
 use Rattle.poll_close.specs.Breaches.{AreNotes, IsNoted, report_breach, is_within}
 use Rattle.poll_close.specs.declared.clean.Breach.{Breach}
@@ -46,12 +46,28 @@ pub notes_word : (rs : List Report) (shares : List Share) (i w : ℕ) (old new :
 notes_word rs shares i w old new notes is more same = record { taken = counts; closed = closings }
   where
     counts : (k : ℕ) (s : Share) → slice_get (set shares i new) k ≡ Some s → s.taken ≡ length (taken (rs ++ report.Took i w ∷ []) k)
-    counts k s at = grind (arith, nat_tests, slice_get-set_same shares i new, slice_get-set_other shares i k new, slice_get_within shares i old is,
-        length-took rs i w k (i == k) refl, notes.taken k s, notes.taken i old is)
+    counts k s at = grind (
+      arith,
+      nat_tests,
+      slice_get-set_same shares i new,
+      slice_get-set_other shares i k new,
+      slice_get_within shares i old is,
+      length-took rs i w k (i == k) refl,
+      notes.taken k s,
+      notes.taken i old is,
+    )
 
     closings : (k : ℕ) (s : Share) → slice_get (set shares i new) k ≡ Some s → s.closed ≡ is_closed (rs ++ report.Took i w ∷ []) k
-    closings k s at = grind (arith, nat_tests, slice_get-set_same shares i new, slice_get-set_other shares i k new, slice_get_within shares i old is,
-        is_closed-took rs i w k, notes.closed k s, notes.closed i old is)
+    closings k s at = grind (
+      arith,
+      nat_tests,
+      slice_get-set_same shares i new,
+      slice_get-set_other shares i k new,
+      slice_get_within shares i old is,
+      is_closed-took rs i w k,
+      notes.closed k s,
+      notes.closed i old is,
+    )
 
 -- and its end
 pub notes_end : (rs : List Report) (shares : List Share) (i : ℕ) (old new : Share) → AreNotes rs shares → slice_get shares i ≡ Some old
@@ -59,12 +75,29 @@ pub notes_end : (rs : List Report) (shares : List Share) (i : ℕ) (old new : Sh
 notes_end rs shares i old new notes is same ends = record { taken = counts; closed = closings }
   where
     counts : (k : ℕ) (s : Share) → slice_get (set shares i new) k ≡ Some s → s.taken ≡ length (taken (rs ++ report.Closed i ∷ []) k)
-    counts k s at = grind (arith, nat_tests, slice_get-set_same shares i new, slice_get-set_other shares i k new, slice_get_within shares i old is,
-        taken-closed rs i k, notes.taken k s, notes.taken i old is)
+    counts k s at = grind (
+      arith,
+      nat_tests,
+      slice_get-set_same shares i new,
+      slice_get-set_other shares i k new,
+      slice_get_within shares i old is,
+      taken-closed rs i k,
+      notes.taken k s,
+      notes.taken i old is,
+    )
 
     closings : (k : ℕ) (s : Share) → slice_get (set shares i new) k ≡ Some s → s.closed ≡ is_closed (rs ++ report.Closed i ∷ []) k
-    closings k s at = grind (arith, nat_tests, slice_get-set_same shares i new, slice_get-set_other shares i k new, slice_get_within shares i old is,
-        is_closed-other rs i k, is_closed-same rs k, notes.closed k s, notes.closed i old is)
+    closings k s at = grind (
+      arith,
+      nat_tests,
+      slice_get-set_same shares i new,
+      slice_get-set_other shares i k new,
+      slice_get_within shares i old is,
+      is_closed-other rs i k,
+      is_closed-same rs k,
+      notes.closed k s,
+      notes.closed i old is,
+    )
 
 -- what a report breaks makes all reports with it unclean
 clean_start : (lists : List (List ℕ)) (rs qs : List Report) → Clean (rs ++ qs) lists → Clean rs lists
@@ -76,9 +109,9 @@ pub unclean : (lists : List (List ℕ)) (rs : List Report) (n : ℕ) (r : Report
     → report_breach lists (take n rs) r ≡ Some breach → Clean rs lists → ⊥
 unclean lists rs n r breach is breaks clean =
     let next : take (n + 1) rs ≡ take n rs ++ r ∷ [] =
-      take_more rs n r (slice_get_within rs n r is) ∙ ap (λ x. take n rs ++ x ∷ []) (get_or_from_slice_get rs n r r is) in
+    take_more rs n r (slice_get_within rs n r is) ∙ ap (λ x. take n rs ++ x ∷ []) (get_or_from_slice_get rs n r r is) in
     let front : Clean (take (n + 1) rs) lists =
-      clean_start lists (take (n + 1) rs) (drop (n + 1) rs) (subst (λ (ps : List Report). Clean ps lists) (sym (take-append-drop (n + 1) rs)) clean) in
+    clean_start lists (take (n + 1) rs) (drop (n + 1) rs) (subst (λ (ps : List Report). Clean ps lists) (sym (take-append-drop (n + 1) rs)) clean) in
     let none : report_breach lists (take n rs) r ≡ None = next_clean lists (take n rs) r (subst (λ (ps : List Report). Clean ps lists) next front) in
     cc
 
@@ -104,7 +137,7 @@ pub noted_at : (lists : List (List ℕ)) (reports : List Report) (n : ℕ) (r : 
     → AreNotes (take n reports ++ get_or reports n r ∷ []) new → length new ≡ length old → next ≡ new → IsNoted lists (take (n + 1) reports) next
 noted_at lists reports n r old new next within noted none notes count is =
     subst (λ (ps : List Report). IsNoted lists ps next) (sym (take_more reports n r within))
-      (subst (IsNoted lists (take n reports ++ get_or reports n r ∷ [])) (sym is) (noted_more lists (take n reports) (get_or reports n r) old new noted none notes count))
+    (subst (IsNoted lists (take n reports ++ get_or reports n r ∷ [])) (sym is) (noted_more lists (take n reports) (get_or reports n r) old new noted none notes count))
 
 pub unclean_found : (lists : List (List ℕ)) (reports : List Report) (n : ℕ) (r : Report) (breach : Breach) → n < length reports
     → report_breach lists (take n reports) (get_or reports n r) ≡ Some breach → IsTrue false ↔ Clean reports lists

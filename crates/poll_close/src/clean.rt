@@ -20,11 +20,21 @@ use step_machine::Entry;
 #[derive(Clone, Copy, Debug, PartialEq, Eq)]
 pub enum Breach {
     /// The receiver reports a word where its sender's list has another one next.
-    Another { sender: u32, word: u32, next: u32 },
+    Another {
+        sender: u32,
+        word: u32,
+        next: u32,
+    },
     /// It reports a word after the sender's whole list.
-    AfterWhole { sender: u32, word: u32 },
+    AfterWhole {
+        sender: u32,
+        word: u32,
+    },
     /// It reports a word after it reported the sender closed.
-    AfterClosed { sender: u32, word: u32 },
+    AfterClosed {
+        sender: u32,
+        word: u32,
+    },
     /// It reports a sender closed of which it has taken too few words.
     ClosedEarly {
         sender: u32,
@@ -32,19 +42,38 @@ pub enum Breach {
         all: usize,
     },
     /// It reports a sender closed again.
-    ClosedAgain { sender: u32 },
+    ClosedAgain {
+        sender: u32,
+    },
     /// It reports a word of no sender.
-    TookOfNone { sender: u32, word: u32 },
+    TookOfNone {
+        sender: u32,
+        word: u32,
+    },
     /// It reports what is no sender closed.
-    ClosedNone { sender: u32 },
+    ClosedNone {
+        sender: u32,
+    },
     /// A hart is stopped.
-    Stopped { hart: u32, why: Stop },
+    Stopped {
+        hart: u32,
+        why: Stop,
+    },
     /// A hart loads from memory outside its blocks.
-    LoadedOutside { hart: u32, addr: u32 },
+    LoadedOutside {
+        hart: u32,
+        addr: u32,
+    },
     /// A hart stores there.
-    StoredOutside { hart: u32, addr: u32 },
+    StoredOutside {
+        hart: u32,
+        addr: u32,
+    },
     /// A hart exchanges a word there.
-    ExchangedOutside { hart: u32, addr: u32 },
+    ExchangedOutside {
+        hart: u32,
+        addr: u32,
+    },
 }
 
 /// What is noted of a sender.
@@ -179,7 +208,14 @@ fn stays_within(place: Place, count: usize, hart: u32, addr: u32, width: u32) ->
 }
 
 /// What an access of these bytes breaks.
-fn outside(place: Place, count: usize, hart: u32, addr: u32, width: u32, found: Breach) -> Option<Breach>
+fn outside(
+    place: Place,
+    count: usize,
+    hart: u32,
+    addr: u32,
+    width: u32,
+    found: Breach,
+) -> Option<Breach>
     requires ends { base_of (layout_of place []) count < 2 ^ 32 }
     ensures { result ≡ (if stays_within (layout_of place []) count hart addr width then None else Some found) }
 {
@@ -193,7 +229,12 @@ fn outside(place: Place, count: usize, hart: u32, addr: u32, width: u32, found: 
 /// What an entry breaks in a channel at a place, given what is noted of the entries before; where it breaks
 /// nothing it is noted too.
 #[tactic(auto, using(crate::proofs::Notes::entry_report, crate::proofs::Notes::entry_quiet))]
-pub fn note_entry(shares: &mut [Share], lists: &[Vec<u32>], place: Place, entry: Entry) -> Option<Breach>
+pub fn note_entry(
+    shares: &mut [Share],
+    lists: &[Vec<u32>],
+    place: Place,
+    entry: Entry,
+) -> Option<Breach>
     requires count { length shares.old ≡ length lists.now }
     requires ends { base_of (layout_of place []) (length lists.now) < 2 ^ 32 }
     ensures breach { (before : List Entry) → AreNotes (reported 0 before) shares.old → result ≡ breach_of (layout_of place []) (map (λ v. v.items) lists.now) before entry }
@@ -210,13 +251,40 @@ pub fn note_entry(shares: &mut [Share], lists: &[Vec<u32>], place: Place, entry:
         Entry::Closed { hart: 0, sender } => note_end(shares, lists, sender),
         Entry::Stopped { hart, why } => Some(Breach::Stopped { hart, why }),
         Entry::Load {
-            hart, addr, width, ..
-        } => outside(place, count, hart, addr, width, Breach::LoadedOutside { hart, addr }),
+            hart,
+            addr,
+            width,
+            ..
+        } => outside(
+            place,
+            count,
+            hart,
+            addr,
+            width,
+            Breach::LoadedOutside { hart, addr },
+        ),
         Entry::Store {
-            hart, addr, width, ..
-        } => outside(place, count, hart, addr, width, Breach::StoredOutside { hart, addr }),
+            hart,
+            addr,
+            width,
+            ..
+        } => outside(
+            place,
+            count,
+            hart,
+            addr,
+            width,
+            Breach::StoredOutside { hart, addr },
+        ),
         Entry::Amo { hart, addr, .. } => {
-            outside(place, count, hart, addr, 4, Breach::ExchangedOutside { hart, addr })
+            outside(
+                place,
+                count,
+                hart,
+                addr,
+                4,
+                Breach::ExchangedOutside { hart, addr },
+            )
         }
         _ => None,
     }

@@ -1,4 +1,4 @@
-use Rattle.std.proofs.Common.{◌≡◌, map, length, take}
+use Rattle.std.proofs.Common.{map, take}
 use Rattle.poll_close.specs.Breaches.{IsNoted}
 use Rattle.poll_close.proofs.clean.is_clean.Given as goal
 

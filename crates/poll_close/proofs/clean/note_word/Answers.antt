@@ -1,12 +1,4 @@
-use Rattle.std.proofs.Common.{rules, ◌≡◌, ◌≢◌, ◌≤◌, ◌<◌, ◌*◌, ◌^◌, ◌↔◌, ◌++◌, ◌∷◌, ℕ, IsTrue, IfOk, List, None, [], length, map, ◌+◌, ◌-◌, ◌/◌, ◌%◌, Bool, true, false, nat_eq, nat_lt, slice_index_or, slice_set, bit_and, bit_or, Fits, w8, w32, w64, Bor, MutBor}
-use Rattle.hart.specs.declared.need.Report.{Report}
-use Rattle.hart.specs.declared.need.Report.TheVariants.{Took, Closed}
-use Rattle.step_machine.specs.declared.events.Entry.{Entry}
-use Rattle.step_machine.specs.Entries.{reported}
-use Rattle.poll_close.specs.Layout.{Layout, base_of}
-use Rattle.poll_close.specs.Places.{layout_of}
-use Rattle.poll_close.specs.Reports.{Clean}
-use Rattle.poll_close.specs.Breaches.{AreNotes, breach_of, report_breach, stays_within, first_breach, IsKept}
+use Rattle.std.proofs.Common.{false}
 use Rattle.poll_close.proofs.clean.note_word.Goals as goal
 use Rattle.std.proofs.Common.{refl, sym, arith}
 use Rattle.std.proofs.lemmas.Option.{slice_get-get_or}
@@ -16,4 +8,4 @@ use Rattle.poll_close.proofs.Notes.{notes_word}
 pub returns-clause-notes : goal.returns-clause-notes
 returns-clause-notes c rs notes none =
     notes_word rs c.args.shares.now c.args.sender c.args.word _ _ notes
-      (slice_get-get_or c.args.shares.now c.args.sender (record { taken = 0; closed = false }) (omega arith)) refl (sym c.if-share.false)
+    (slice_get-get_or c.args.shares.now c.args.sender (record { taken = 0; closed = false }) (omega arith)) refl (sym c.if-share.false)

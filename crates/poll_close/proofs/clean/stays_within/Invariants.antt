@@ -1,4 +1,4 @@
-use Rattle.std.proofs.Common.{◌≡◌, ◌<◌, ◌^◌, ◌≤◌, false, []}
+use Rattle.std.proofs.Common.{◌≡◌, false, []}
 use Rattle.poll_close.specs.Layout.{base_of}
 use Rattle.poll_close.specs.Places.{layout_of}
 use Rattle.poll_close.specs.Breaches.{stays_within}
