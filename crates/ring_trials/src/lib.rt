@@ -8,3 +8,4 @@
 
 pub mod judging;
 pub mod own;
+pub mod runs;

@@ -1,6 +1,6 @@
 //! A channel over two programs of a user's own.
 
-ghost use Rattle.std.specs.Prelude.{◌≡◌, ◌≤◌, IfOk, IfErr, OnOk};
+ghost use Rattle.std.specs.Prelude.{◌≡◌, ◌≤◌, IfOk, IfErr, OnOk, length};
 ghost use Rattle.poll_close.specs.Laws.{AcceptedAt};
 ghost use Rattle.poll_close.specs.Refusals.{RefusesAt};
 ghost use Rattle.ring_trials.specs.Own.{ring_of, lists_of, layout_from, start_of};
@@ -36,4 +36,12 @@ pub fn open_own(alloc: Global, own: &Own, m: usize) -> Result<Opening, RefusedAt
         &[],
         m,
     )
+}
+
+/// How many senders there are.
+pub fn senders(own: &Own) -> usize
+    ensures { result ≡ length (lists_of own.now) }
+{
+    let lists: &[Vec<u32>] = &own.lists;
+    lists.len()
 }
