@@ -1,5 +1,5 @@
 -- One event more of a run that is judged.
-use Rattle.std.proofs.Common.{ℕ, ◌≡◌, ◌+◌, ◌<◌, List, [], ◌∷◌, ◌++◌, length, take, get_or, Option, Some, None, refl, sym, ap, subst, ◌∙◌, arith, append_assoc, append-nil}
+use Rattle.std.proofs.Common.{ℕ, ◌≡◌, ◌+◌, ◌<◌, List, [], ◌∷◌, ◌++◌, length, take, get_or, Option, Some, None, refl, sym, ap, subst, ◌∙◌, append_assoc, append-nil}
 use Rattle.std.proofs.lemmas.List.{take_more}
 use Rattle.step_machine.specs.declared.events.Event.{Event}
 use Rattle.step_machine.specs.declared.events.Entry.{Entry}
@@ -7,7 +7,7 @@ use Rattle.step_machine.specs.declared.events.Outcome.{Outcome}
 use Rattle.step_machine.specs.declared.events.Outcome.TheVariants as outcome
 use Rattle.step_machine.specs.History.{Start, History, unrun}
 use Rattle.step_machine.specs.Entries.{reported}
-use Rattle.step_machine.specs.Runs.{Happens, RunFrom, Run}
+use Rattle.step_machine.specs.Runs.{Happens}
 use Rattle.step_machine.specs.Standing.{StandsAt, MovesBy, BeginsAnew}
 use Rattle.step_machine.specs.inner.Config.{Config}
 use Rattle.step_machine.proofs.Running.{RunFrom-more}
@@ -33,7 +33,7 @@ after_more l lists before [] e =
     or_later-none (breach_of l lists before e) ∙ ap (λ ds. breach_of l lists ds e) (sym (append-nil before))
 after_more l lists before (d ∷ es) e =
     ap (or_later (breach_of l lists before d)) (after_more l lists (before ++ d ∷ []) es e
-      ∙ ap (λ ds. or_later (breach_after l lists (before ++ d ∷ []) es) (breach_of l lists ds e)) (append_assoc before (d ∷ []) es))
+    ∙ ap (λ ds. or_later (breach_after l lists (before ++ d ∷ []) es) (breach_of l lists ds e)) (append_assoc before (d ∷ []) es))
     ∙ sym (or_later-assoc (breach_of l lists before d) (breach_after l lists (before ++ d ∷ []) es) (breach_of l lists (before ++ d ∷ es) e))
 
 first_more : (l : Layout) (lists : List (List ℕ)) (es : List Entry) (e : Entry)
@@ -47,8 +47,8 @@ pub noted_entry : (own : Own) (es : List Entry) (e : Entry) (found new : Option 
     → AreNoted own (es ++ e ∷ []) new more
 noted_entry own es e found new shares more noted none breach notes count = record {
   breach = breach (noted.notes none)
-    ∙ ap (λ b. or_later b (breach_of (layout_from own) (lists_of own) es e)) (sym none ∙ noted.breach)
-    ∙ sym (first_more (layout_from own) (lists_of own) es e);
+      ∙ ap (λ b. or_later b (breach_of (layout_from own) (lists_of own) es e)) (sym none ∙ noted.breach)
+      ∙ sym (first_more (layout_from own) (lists_of own) es e);
   notes = notes (noted.notes none);
   count = count ∙ noted.count;
 }
@@ -58,7 +58,7 @@ pub noted_before : (own : Own) (es : List Entry) (e : Entry) (found : Option Bre
     → found ≡ Some first → AreNoted own (es ++ e ∷ []) found shares
 noted_before own es e found first shares noted some = record {
   breach = some ∙ ap (λ b. or_later b (breach_of (layout_from own) (lists_of own) es e)) (sym some ∙ noted.breach)
-    ∙ sym (first_more (layout_from own) (lists_of own) es e);
+      ∙ sym (first_more (layout_from own) (lists_of own) es e);
   notes = λ none. cc;
   count = noted.count;
 }
@@ -95,7 +95,7 @@ pub judged_next : (B M : ℕ) (own : Own) (events : List Event) (i : ℕ) (none 
     → ((es : List Entry) → AreNoted own es found shares → AreNoted own (entries_with es o) new more) → IsJudgedAt B M own (take (i + 1) events) d new more
 judged_next B M own events i none o c d found new shares more within judged moves noted =
     subst (λ (evs : List Event). IsJudgedAt B M own evs d new more) (sym (take_more events i none within))
-      (judged_more B M own (take i events) (get_or events i none) o c d found new shares more judged moves noted)
+    (judged_more B M own (take i events) (get_or events i none) o c d found new shares more judged moves noted)
 
 -- at the opening
 pub judged_none : (B M : ℕ) (own : Own) (c d : Config) (shares : List Share) → StandsFrom B M (start_of own) c → BeginsAnew B M c d → AreNotes [] shares

@@ -1,12 +1,12 @@
 -- One run more.
-use Rattle.std.proofs.Common.{ℕ, zero, suc, ◌≡◌, ◌+◌, ◌*◌, ◌<◌, ◌≤◌, ◌==◌, ◌⊎◌, inl, inr, List, [], ◌∷◌, ◌++◌, length, take, get_or, set, max, Bool, true, false, Option, Some, None, refl, sym, ap, subst, ◌∙◌, arith, length-append, append-nil, drop, drop_of_length-le}
-use Rattle.std.specs.Prelude.{if◌then◌else◌, All, map}
+use Rattle.std.proofs.Common.{ℕ, zero, suc, ◌≡◌, ◌+◌, ◌*◌, ◌<◌, ◌≤◌, inl, inr, List, [], ◌∷◌, ◌++◌, length, take, set, max, Bool, true, false, Option, Some, None, refl, sym, ap, subst, ◌∙◌, arith, length-append, append-nil, drop, drop_of_length-le, lt_of_mul-lt-mul_right}
+use Rattle.std.specs.Prelude.{◌↔◌, IsTrue, if◌then◌else◌, map}
 use Rattle.std.specs.List.{slice_get}
 use Rattle.std.proofs.Math.Nat.{eq-or-lt_of_le}
 use Rattle.std.proofs.Math.Seq.{take-length}
 use Rattle.std.proofs.lemmas.Bool.Decides.{nat_tests}
 use Rattle.std.proofs.lemmas.List.Elements.{All-append, All-cons, All-nil}
-use Rattle.std.proofs.lemmas.Option.{slice_get_within, slice_get-get_or, get_or_from_slice_get, slice_get_past}
+use Rattle.std.proofs.lemmas.Option.{slice_get_within}
 use Rattle.rand_core.specs.Stream.{Stream, next_u32}
 use Rattle.step_machine.specs.History.{History, Start}
 use Rattle.step_machine.specs.Entries.{reported}
@@ -16,13 +16,16 @@ use Rattle.step_machine.specs.declared.events.Event.{Event}
 use Rattle.recorder.specs.Drawing.{drawn, words, left_after}
 use Rattle.poll_close.specs.Reports.{taken}
 use Rattle.poll_close.specs.Plans.{is_closed}
-use Rattle.poll_close.specs.Breaches.{first_breach, AreNotes, IsKept}
+use Rattle.poll_close.specs.Breaches.{first_breach, AreNotes}
 use Rattle.poll_close.specs.declared.clean.Breach.{Breach}
 use Rattle.poll_close.specs.declared.clean.Share.{Share}
 use Rattle.poll_close.proofs.BreachLaws.{first_law}
+use Rattle.shrink.specs.Shrinking.{without}
+use Rattle.shrink.proofs.PassLaws.{Passing}
 use Rattle.ring_trials.specs.Own.{lists_of, layout_from, start_of}
+use Rattle.ring_trials.specs.declared.own.Own.{Own}
 use Rattle.ring_trials.specs.declared.runs.Total.{Total}
-use Rattle.ring_trials.specs.Trials.{Source, schedule_of, IsRunOf, AreRuns, KeepsAll, AreCleanRuns, most_of, closed_in, AreTotals, IsFirstUnclean, AreAllClean, IsJudged}
+use Rattle.ring_trials.specs.Trials.{Source, schedule_of, IsRunOf, AreRuns, KeepsAll, AreCleanRuns, most_of, closed_in, AreTotals, IsFirstUnclean, AreAllClean, IsJudged, IsUnclean}
 
 runs_last : (s : Source) (n : ℕ) (ts : List History) (t : History) → AreRuns s n ts → IsRunOf s (n + length ts) t → AreRuns s n (ts ++ t ∷ [])
 runs_last s n [] t runs run = (subst (λ (k : ℕ). IsRunOf s k t) (omega arith) run, tt)
@@ -78,15 +81,20 @@ pub taken_more : (old : List Total) (shares : List Share) (i : ℕ) (now : List 
     → TakenIn old shares (i + 1) next
 taken_more old shares i now total new share next taken here mine most closed is count = record {
   later = λ k s after at. taken.later k s (omega arith)
-    (sym (slice_get-set_other now i k new (λ same. absurd (omega arith))) ∙ ap (λ xs. slice_get xs k) (sym is) ∙ at);
+      (sym (slice_get-set_other now i k new (λ same. absurd (omega arith))) ∙ ap (λ xs. slice_get xs k) (sym is) ∙ at);
   before = λ k s below at. elim (eq-or-lt_of_le {n = k} {m = i} (omega arith)) [
-    | inl same ↦ (total, share, taken.later k total (omega arith) (ap (slice_get now) same ∙ here), ap (slice_get shares) same ∙ mine,
-        (let that : new ≡ s = let both : Some new ≡ Some s = sym (slice_get-set_same now i new (slice_get_within now i total here))
-            ∙ ap (λ xs. slice_get xs i) (sym is) ∙ ap (slice_get next) (sym same) ∙ at in cc in
-          record { most = ap (λ (x : Total). x.most) (sym that) ∙ most; closed = ap (λ (x : Total). x.closed) (sym that) ∙ closed }))
+    | inl same ↦ (
+      total,
+      share,
+      taken.later k total (omega arith) (ap (slice_get now) same ∙ here),
+      ap (slice_get shares) same ∙ mine,
+      (let that : new ≡ s = let both : Some new ≡ Some s = sym (slice_get-set_same now i new (slice_get_within now i total here))
+          ∙ ap (λ xs. slice_get xs i) (sym is) ∙ ap (slice_get next) (sym same) ∙ at in cc in
+          record { most = ap (λ (x : Total). x.most) (sym that) ∙ most; closed = ap (λ (x : Total). x.closed) (sym that) ∙ closed }),
+    )
     | inr less ↦ taken.before k s less
         (sym (slice_get-set_other now i k new (λ same. absurd (omega arith))) ∙ ap (λ xs. slice_get xs k) (sym is) ∙ at)
-    ];
+  ];
   count = count ∙ taken.count;
 }
 
@@ -94,10 +102,10 @@ pub totals_more : (ts : List History) (t : History) (old new : List Total) (shar
     → AreNotes (reported 0 t.entries) shares → TakenIn old shares i new → AreTotals (ts ++ t ∷ []) new
 totals_more ts t old new shares i all totals notes taken = record {
   most = λ k s at. let one = taken.before k s (omega (arith, slice_get_within new k s at)) at in
-    one.4.most ∙ ap (λ m. max m one.1.taken) (totals.most k one.0 one.2) ∙ ap (max (most_of k ts)) (notes.taken k one.1 one.3)
+      one.4.most ∙ ap (λ m. max m one.1.taken) (totals.most k one.0 one.2) ∙ ap (max (most_of k ts)) (notes.taken k one.1 one.3)
       ∙ sym (most_last k ts t);
   closed = λ k s at. let one = taken.before k s (omega (arith, slice_get_within new k s at)) at in
-    one.4.closed ∙ ap (λ m. if one.1.closed then m + 1 else m) (totals.closed k one.0 one.2)
+      one.4.closed ∙ ap (λ m. if one.1.closed then m + 1 else m) (totals.closed k one.0 one.2)
       ∙ sym (closed_last k ts t one.1.closed (notes.closed k one.1 one.3));
 }
 
@@ -120,7 +128,7 @@ pub one_clean : (s : Source) (n : ℕ) (totals more : List Total) (shares : List
 one_clean s n totals more shares found all judged none add same = record {
   histories = all.histories ++ judged.history ∷ [];
   clean = clean_more s n all.histories judged.history all.clean judged.run
-    ((first_law (layout_from s.own) (lists_of s.own) judged.history.entries).0 (sym judged.noted.breach ∙ none));
+      ((first_law (layout_from s.own) (lists_of s.own) judged.history.entries).0 (sym judged.noted.breach ∙ none));
   totals_are = add all.histories judged.history all.totals_are (judged.noted.notes none);
   count = same ∙ all.count;
 }
@@ -156,7 +164,7 @@ pub schedule_is : (s : Source) (number harts : ℕ) (now : Stream) (events : Lis
     → harts ≡ length (start_of s.own).harts → now ≡ left_after (number * s.size) s.stream → events ≡ schedule_of s number
 schedule_is s number harts now events is same here =
     is ∙ ap (λ (n : ℕ). map (drawn n) (words s.size now)) same
-      ∙ ap (λ (at : Stream). map (drawn (length (start_of s.own).harts)) (words s.size at)) here
+    ∙ ap (λ (at : Stream). map (drawn (length (start_of s.own).harts)) (words s.size at)) here
 
 -- a slice that was written over as a whole
 pub whole_again : {X : Type 0} (n : ℕ) (new old : List X) → length new ≡ length old → n ≡ length old → take n (new ++ drop (length new) old) ≡ new
@@ -164,3 +172,36 @@ whole_again n new old same whole =
     let none : drop (length new) old ≡ [] = drop_of_length-le old (omega (arith, same)) in
     let all : new ++ drop (length new) old ≡ new = ap (λ xs. new ++ xs) none ∙ append-nil new in
     ap (take n) all ∙ ap (λ k. take k new) (whole ∙ sym same) ∙ take-length new
+
+-- ---- one run, and whether it breaks something
+
+one_found : (B M : ℕ) (own : Own) (events : List Event) (found : Option Breach) (shares : List Share) → IsJudged B M own events found shares
+    → ((o : Start) (evs : List Event) (t u : History) → Run B M o evs t → Run B M o evs u → t ≡ u) → (unclean : IsUnclean B M own events)
+    → found ≡ Some unclean.breach
+one_found B M own events found shares judged one unclean =
+    judged.noted.breach ∙ ap (λ (t : History). first_breach (layout_from own) (lists_of own) t.entries)
+    (one (start_of own) events judged.history unclean.history judged.run unclean.run) ∙ unclean.breaks
+
+pub unclean_some : (B M : ℕ) (own : Own) (events : List Event) (found : Option Breach) (breach : Breach) (shares : List Share)
+    → IsJudged B M own events found shares → found ≡ Some breach → IsTrue true ↔ IsUnclean B M own events
+unclean_some B M own events found breach shares judged some = (
+  (λ pass. record { history = judged.history; run = judged.run; breach = breach; breaks = sym judged.noted.breach ∙ some }),
+  (λ unclean. refl),
+)
+
+pub unclean_none : (B M : ℕ) (own : Own) (events : List Event) (found : Option Breach) (shares : List Share)
+    → IsJudged B M own events found shares → found ≡ None
+    → ((o : Start) (evs : List Event) (t u : History) → Run B M o evs t → Run B M o evs u → t ≡ u) → IsTrue false ↔ IsUnclean B M own events
+unclean_none B M own events found shares judged none one = (
+  (λ pass. cc),
+  (λ unclean. absurd (let some = one_found B M own events found shares judged one unclean in cc)),
+)
+
+-- after a pass in which nothing went no piece can go
+pub none_can_go : (Ends : List Event → Type 0) (old now : List Event) (size from : ℕ) (gone : Bool) → Passing Ends old now size from gone
+    → length now ≤ from → gone ≡ false → (k : ℕ) → k * size < length now → Ends (without (k * size) size now) → ⊥
+none_can_go Ends old now size from gone pass all none k within ends =
+    (pass.none_can none).none k (below k (pass.none_can none).pieces size (omega (arith, within, all, (pass.none_can none).there))) ends
+  where
+    below : (n m z : ℕ) → n * z < m * z → n < m
+    below n m z less = lt_of_mul-lt-mul_right z less

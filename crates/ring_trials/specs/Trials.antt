@@ -1,5 +1,5 @@
 -- Runs of a channel, by schedules that a generator draws, and what is told of them.
-use Rattle.std.specs.Prelude.{ℕ, zero, suc, ◌≡◌, ◌+◌, ◌*◌, ◌<◌, ◌≤◌, max, List, [], ◌∷◌, ◌++◌, length, map, if◌then◌else◌, All, Option, Some, None}
+use Rattle.std.specs.Prelude.{ℕ, ◌≡◌, ◌+◌, ◌*◌, ◌<◌, max, List, [], ◌∷◌, ◌++◌, length, map, if◌then◌else◌, All, Option, Some, None}
 use Rattle.std.specs.List.{slice_get}
 use Rattle.rand_core.specs.Stream.{Stream}
 use Rattle.step_machine.specs.declared.events.Event.{Event}
@@ -12,12 +12,12 @@ use Rattle.step_machine.specs.Runs.{Run}
 use Rattle.step_machine.specs.Standing.{StandsAt}
 use Rattle.step_machine.specs.inner.Config.{Config}
 use Rattle.recorder.specs.Drawing.{drawn, words, left_after}
-use Rattle.poll_close.specs.Layout.{Layout}
 use Rattle.poll_close.specs.Reports.{taken}
 use Rattle.poll_close.specs.Plans.{is_closed}
 use Rattle.poll_close.specs.Breaches.{first_breach, AreNotes, IsKept}
 use Rattle.poll_close.specs.declared.clean.Breach.{Breach}
 use Rattle.poll_close.specs.declared.clean.Share.{Share}
+use Rattle.shrink.specs.Shrinking.{IsPartOf, without}
 use Rattle.ring_trials.specs.Own.{lists_of, layout_from, start_of}
 use Rattle.ring_trials.specs.declared.own.Own.{Own}
 use Rattle.ring_trials.specs.declared.runs.Total.{Total}
@@ -128,3 +128,16 @@ pub record AreAllClean (s : Source) (runs : ℕ) (totals : List Total) : Type 0 
 abbrev pub IsFound : Source → (runs : ℕ) → Found → Type 0
 IsFound s runs (found.Clean totals) = AreAllClean s runs totals.items
 IsFound s runs (found.Unclean number breach) = (number < runs) × IsFirstUnclean s number breach
+
+-- the run of the events breaks something
+pub record IsUnclean (B M : ℕ) (own : Own) (events : List Event) : Type 0 where
+  pub history : History
+  pub run : Run B M (start_of own) events history
+  pub breach : Breach
+  pub breaks : first_breach (layout_from own) (lists_of own) history.entries ≡ Some breach
+
+-- the answer is a part of the given events and unclean; without any one event it isn't
+pub record IsShortened (B M : ℕ) (own : Own) (given answer : List Event) : Type 0 where
+  pub part : IsPartOf answer given
+  pub unclean : IsUnclean B M own answer
+  pub minimal : (i : ℕ) → i < length answer → IsUnclean B M own (without i 1 answer) → ⊥

@@ -8,4 +8,5 @@
 
 pub mod judging;
 pub mod own;
+pub mod passes;
 pub mod runs;

@@ -1,4 +1,4 @@
-use Rattle.std.proofs.Common.{◌≡◌, ◌<◌, ℕ, length, Some, false}
+use Rattle.std.proofs.Common.{◌≡◌, ◌<◌, ℕ, Some, false}
 use Rattle.std.specs.List.{slice_get}
 use Rattle.poll_close.specs.declared.clean.Share.{Share}
 use Rattle.ring_trials.proofs.judging.begin.Given as goal

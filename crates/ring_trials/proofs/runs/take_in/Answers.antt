@@ -1,11 +1,4 @@
-use Rattle.std.proofs.Common.{rules, ◌≡◌, ◌≤◌, ◌<◌, ◌++◌, ◌∷◌, ◌^◌, ℕ, [], List, Some, None, IfOk, OnOk, length, ◌+◌, ◌-◌, ◌*◌, ◌/◌, ◌%◌, Bool, true, false, nat_eq, nat_lt, slice_index_or, slice_set, bit_and, bit_or, Fits, w8, w32, w64, Bor, MutBor}
-use Rattle.std.specs.List.{slice_get}
-use Rattle.step_machine.specs.History.{History}
-use Rattle.step_machine.specs.Entries.{reported}
-use Rattle.poll_close.specs.Layout.{base_of}
-use Rattle.poll_close.specs.Breaches.{AreNotes}
-use Rattle.ring_trials.specs.Own.{lists_of, layout_from, start_of}
-use Rattle.ring_trials.specs.Trials.{AreTotals, IsFound, StandsFrom}
+use Rattle.std.proofs.Common.{false}
 use Rattle.ring_trials.proofs.runs.take_in.Goals as goal
 use Rattle.std.proofs.Common.{refl, arith, length-set}
 use Rattle.std.proofs.lemmas.Option.{slice_get-get_or}
@@ -22,11 +15,11 @@ overflow_add-totals c =
 pub loop-index-preserved : goal.loop-index-preserved
 loop-index-preserved c =
     taken_more c.args.totals.now c.args.shares.now c.loop-index.index c.loop-index.totals _ (record { most = c.max.result; closed = c.if-share.totals }) _ _
-      c.loop-index.invariant
-      (slice_get-get_or c.loop-index.totals c.loop-index.index (record { most = 0; closed = 0 }) (omega arith))
-      (slice_get-get_or c.args.shares.now c.loop-index.index (record { taken = 0; closed = false }) (omega arith))
-      c.max.ensures (elim c.if-share.branch [ then-share w ↦ grind arith | else-share w ↦ grind arith ]) refl
-      (length-set c.loop-index.totals c.loop-index.index _)
+    c.loop-index.invariant
+    (slice_get-get_or c.loop-index.totals c.loop-index.index (record { most = 0; closed = 0 }) (omega arith))
+    (slice_get-get_or c.args.shares.now c.loop-index.index (record { taken = 0; closed = false }) (omega arith))
+    c.max.ensures (elim c.if-share.branch [ then-share w ↦ grind arith | else-share w ↦ grind arith ]) refl
+    (length-set c.loop-index.totals c.loop-index.index _)
 
 -- src/runs.rt:48:1
 pub returns-clause-totals : goal.returns-clause-totals
