@@ -4,7 +4,7 @@ ghost use Rattle.std.specs.Prelude.{◌≡◌, ◌≤◌, ◌<◌, ◌+◌, ◌*
 ghost use Rattle.poll_close.specs.Layout.{base_of};
 ghost use Rattle.shrink.specs.Shrinking.{IsPartOf, without as events_without};
 ghost use Rattle.ring_trials.specs.Own.{lists_of, layout_from, start_of};
-ghost use Rattle.ring_trials.specs.Trials.{StandsFrom, IsUnclean};
+ghost use Rattle.ring_trials.specs.Trials.{StandsFrom, IsUnclean, IsShortened};
 
 use crate::judging::judge;
 use crate::own::Own;
@@ -119,7 +119,7 @@ fn halve_pieces<const B: usize, const M: usize>(
 
 /// Leaves out pieces of halving size, and then single events until none can go. An error leaves a part
 /// that is unclean.
-pub fn leave_out<const B: usize, const M: usize>(
+fn leave_out<const B: usize, const M: usize>(
     alloc: Global,
     own: &Own,
     machine: &mut MachineState<B, M>,
@@ -140,4 +140,24 @@ pub fn leave_out<const B: usize, const M: usize>(
         went = leave_out_pieces(alloc, own, machine, shares, events, 1)?;
     }
     Ok(())
+}
+
+/// A part of these events, whose run breaks something, that is still unclean, and from which no single event can be
+/// left out.
+pub fn shorten<const B: usize, const M: usize>(
+    alloc: Global,
+    own: &Own,
+    machine: &mut MachineState<B, M>,
+    shares: &mut [Share],
+    events: &[Event],
+) -> Result<Vec<Event>, AllocError>
+    requires stands { StandsFrom B M (start_of own.now) machine.old }
+    requires ends { base_of (layout_from own.now) (length (lists_of own.now)) < 2 ^ 32 }
+    requires count { length shares.old ≡ length (lists_of own.now) }
+    requires unclean { IsUnclean B M own.now events.now }
+    ensures { IfOk result (λ answer. IsShortened B M own.now events.now answer.items) }
+{
+    let mut left = Vec::from_slice(alloc, events)?;
+    leave_out(alloc, own, machine, shares, &mut left)?;
+    Ok(left)
 }
