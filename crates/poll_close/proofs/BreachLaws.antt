@@ -18,7 +18,8 @@ use Rattle.poll_close.specs.Reports.{taken, sender_of, IsPrefixOf, Clean}
 use Rattle.poll_close.specs.Plans.{is_closed}
 use Rattle.poll_close.specs.Going.{GoesOn}
 use Rattle.poll_close.specs.Touching.{StaysWithin, Touches}
-use Rattle.poll_close.specs.Breaches.{word_breach, took_breach, closed_breach, report_breach, is_within, stays_within, breach_of, or_later, breach_after, first_breach, IsKept}
+use Rattle.poll_close.specs.Breaches.{word_breach, took_breach, closed_breach, report_breach, is_within, stays_within, breach_of}
+use Rattle.poll_close.specs.Breaches.{or_later, breach_after, first_breach, IsKept}
 use Rattle.poll_close.specs.declared.clean.Breach.{Breach}
 use Rattle.poll_close.proofs.CleanReports.{get_front, taken-append, taken-took, taken-closed, clean_more, taken_other, nothing_left}
 use Rattle.poll_close.proofs.Planning.{closed_at}
@@ -149,14 +150,16 @@ clean_next lists rs (report.Took i w) clean none =
     let next = took-none (slice_index_or lists i []) (taken rs i) (is_closed rs i) i w known.1 in
     clean_more rs lists (report.Took i w) clean known.0 (unclosed rs i next.0) (prefixes next.1) (λ j same. cc)
   where
-    prefixes : slice_get (slice_index_or lists i []) (length (taken rs i)) ≡ Some w → (j : ℕ) → IsPrefixOf (taken (rs ++ report.Took i w ∷ []) j) (slice_index_or lists j [])
+    prefixes : slice_get (slice_index_or lists i []) (length (taken rs i)) ≡ Some w → (j : ℕ) → IsPrefixOf (taken (rs ++ report.Took i w ∷ []) j)
+        (slice_index_or lists j [])
     prefixes next j = at (i == j) refl
       where
         at : (b : Bool) → (i == j) ≡ b → IsPrefixOf (taken (rs ++ report.Took i w ∷ []) j) (slice_index_or lists j [])
         at true same =
             let one : i ≡ j = grind (arith, nat_tests) in
             subst (λ (k : ℕ). IsPrefixOf (taken (rs ++ report.Took i w ∷ []) k) (slice_index_or lists k [])) one
-            (subst (λ (ys : List ℕ). IsPrefixOf ys (slice_index_or lists i [])) (sym (own_took rs i w)) (prefix_next (taken rs i) (slice_index_or lists i []) w (clean.in_order i) next))
+            (subst (λ (ys : List ℕ). IsPrefixOf ys (slice_index_or lists i [])) (sym (own_took rs i w)) (prefix_next (taken rs i)
+                (slice_index_or lists i []) w (clean.in_order i) next))
         at false other =
             let differ : i ≢ j = grind (arith, nat_tests) in
             subst (λ (ys : List ℕ). IsPrefixOf ys (slice_index_or lists j [])) (sym (taken_other rs j (report.Took i w) differ)) (clean.in_order j)
@@ -173,7 +176,8 @@ clean_next lists rs (report.Closed i) clean none =
         subst (λ (k : ℕ). taken rs k ≡ slice_index_or lists k []) one (prefix_whole (taken rs i) (slice_index_or lists i []) (clean.in_order i) all)
 
 -- before the last report of clean ones
-not_closed : (lists : List (List ℕ)) (rs : List Report) (r : Report) → Clean (rs ++ r ∷ []) lists → (k : ℕ) → slice_get rs k ≡ Some (report.Closed (sender_of r)) → ⊥
+not_closed : (lists : List (List ℕ)) (rs : List Report) (r : Report) → Clean (rs ++ r ∷ []) lists → (k : ℕ) → slice_get rs k ≡ Some (report.Closed
+    (sender_of r)) → ⊥
 not_closed lists rs r clean k is =
     clean.no_more (sender_of r) k (length rs) r (slice_get_within rs k (report.Closed (sender_of r)) is)
     (get_front rs (r ∷ []) k (report.Closed (sender_of r)) is) (get_end rs r) refl

@@ -1,5 +1,7 @@
 -- What is noted of senders, report by report.
-use Rattle.std.proofs.Common.{ℕ, ◌+◌, ◌<◌, ◌≤◌, ◌≡◌, ◌≢◌, ◌==◌, ◌||◌, Bool, true, false, List, [], ◌∷◌, ◌++◌, length, get_or, Some, None, refl, sym, ◌∙◌, ap, subst, arith, append_assoc, append-nil, length-append, take, drop, set, drop_of_length-le}
+use Rattle.std.proofs.Common.{ℕ, ◌+◌, ◌<◌, ◌≤◌, ◌≡◌, ◌≢◌, ◌==◌, ◌||◌, Bool, true, false, List, [], ◌∷◌, ◌++◌, length, get_or, Some, None}
+use Rattle.std.proofs.Common.{refl, sym, ◌∙◌, ap, subst, arith, append_assoc, append-nil, length-append, take, drop, set}
+use Rattle.std.proofs.Common.{drop_of_length-le}
 use Rattle.std.specs.Prelude.{◌↔◌, IsTrue, if◌then◌else◌}
 use Rattle.std.specs.List.{slice_get}
 use Rattle.std.proofs.lemmas.Bool.Decides.{nat_tests}
@@ -36,7 +38,8 @@ is_closed-same [] i = grind (arith, nat_tests)
 is_closed-same (report.Took k v ∷ rs) i = is_closed-same rs i
 is_closed-same (report.Closed k ∷ rs) i = grind (arith, nat_tests, is_closed-same rs i)
 
-length-took : (rs : List Report) (j w i : ℕ) (b : Bool) → (j == i) ≡ b → length (taken (rs ++ report.Took j w ∷ []) i) ≡ (if b then length (taken rs i) + 1 else length (taken rs i))
+length-took : (rs : List Report) (j w i : ℕ) (b : Bool) → (j == i) ≡ b → length (taken (rs ++ report.Took j w ∷ []) i) ≡ (if b then length
+    (taken rs i) + 1 else length (taken rs i))
 length-took rs j w i true same = grind (arith, taken-took, length-append {A = ℕ})
 length-took rs j w i false other = grind (arith, taken-took, append-nil {A = ℕ})
 
@@ -137,7 +140,8 @@ pub noted_at : (lists : List (List ℕ)) (reports : List Report) (n : ℕ) (r : 
     → AreNotes (take n reports ++ get_or reports n r ∷ []) new → length new ≡ length old → next ≡ new → IsNoted lists (take (n + 1) reports) next
 noted_at lists reports n r old new next within noted none notes count is =
     subst (λ (ps : List Report). IsNoted lists ps next) (sym (take_more reports n r within))
-    (subst (IsNoted lists (take n reports ++ get_or reports n r ∷ [])) (sym is) (noted_more lists (take n reports) (get_or reports n r) old new noted none notes count))
+    (subst (IsNoted lists (take n reports ++ get_or reports n r ∷ [])) (sym is) (noted_more lists (take n reports)
+        (get_or reports n r) old new noted none notes count))
 
 pub unclean_found : (lists : List (List ℕ)) (reports : List Report) (n : ℕ) (r : Report) (breach : Breach) → n < length reports
     → report_breach lists (take n reports) (get_or reports n r) ≡ Some breach → IsTrue false ↔ Clean reports lists

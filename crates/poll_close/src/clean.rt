@@ -237,7 +237,8 @@ pub fn note_entry(
 ) -> Option<Breach>
     requires count { length shares.old ≡ length lists.now }
     requires ends { base_of (layout_of place []) (length lists.now) < 2 ^ 32 }
-    ensures breach { (before : List Entry) → AreNotes (reported 0 before) shares.old → result ≡ breach_of (layout_of place []) (map (λ v. v.items) lists.now) before entry }
+    ensures breach { (before : List Entry) → AreNotes (reported 0 before) shares.old → result ≡ breach_of (layout_of place []) (map
+        (λ v. v.items) lists.now) before entry }
     ensures notes { (before : List Entry) → AreNotes (reported 0 before) shares.old → result ≡ None → AreNotes (reported 0 (before ++ entry ∷ [])) shares.new }
     ensures count { length shares.new ≡ length shares.old }
 {

@@ -167,9 +167,12 @@ fn judge_at(
     m: usize,
 ) -> Result<(), RefusedAt>
     requires memory { m ≤ 65536 }
-    ensures ok { OnOk result (AcceptedAt (record { sender = _sender.now; receiver = _receiver.now; least = least }) m (map (λ v. v.items) lists.now) (layout_of place words.now)) }
-    ensures err { IfErr result (λ e. RefusesAt (record { sender = _sender.now; receiver = _receiver.now; least = least }) m (map (λ v. v.items) lists.now) (layout_of place words.now) e) }
-    ensures accepts { AcceptedAt (record { sender = _sender.now; receiver = _receiver.now; least = least }) m (map (λ v. v.items) lists.now) (layout_of place words.now) → IsOk result }
+    ensures ok { OnOk result (AcceptedAt (record { sender = _sender.now; receiver = _receiver.now; least = least }) m (map (λ v. v.items) lists.now)
+        (layout_of place words.now)) }
+    ensures err { IfErr result (λ e. RefusesAt (record { sender = _sender.now; receiver = _receiver.now; least = least }) m (map
+        (λ v. v.items) lists.now) (layout_of place words.now) e) }
+    ensures accepts { AcceptedAt (record { sender = _sender.now; receiver = _receiver.now; least = least }) m (map (λ v. v.items) lists.now)
+        (layout_of place words.now) → IsOk result }
 {
     if lists.is_empty() {
         return Err(RefusedAt::Lists(Refused::NoSenders));
@@ -217,9 +220,11 @@ pub fn opening_of_programs(
     m: usize,
 ) -> Result<Opening, RefusedAt>
     requires memory { m ≤ 65536 }
-    ensures accepted { OnOk result (AcceptedAt (record { sender = sender.now; receiver = receiver.now; least = least }) m (map (λ v. v.items) lists.now) (layout_of place words.now)) }
+    ensures accepted { OnOk result (AcceptedAt (record { sender = sender.now; receiver = receiver.now; least = least }) m (map
+        (λ v. v.items) lists.now) (layout_of place words.now)) }
     ensures value { IfOk result (λ o. o ≡ opening_at sender.now receiver.now (map (λ v. v.items) lists.now) (layout_of place words.now)) }
-    ensures refused { IfErr result (λ e. RefusesAt (record { sender = sender.now; receiver = receiver.now; least = least }) m (map (λ v. v.items) lists.now) (layout_of place words.now) e) }
+    ensures refused { IfErr result (λ e. RefusesAt (record { sender = sender.now; receiver = receiver.now; least = least }) m (map
+        (λ v. v.items) lists.now) (layout_of place words.now) e) }
 {
     judge_at(sender, receiver, least, lists, place, words, m)?;
     Ok(lay_out(alloc, sender, receiver, lists, place, words)?)

@@ -1,5 +1,6 @@
 -- One event more of a run that is judged.
-use Rattle.std.proofs.Common.{ℕ, ◌≡◌, ◌+◌, ◌<◌, List, [], ◌∷◌, ◌++◌, length, take, get_or, Option, Some, None, refl, sym, ap, subst, ◌∙◌, append_assoc, append-nil}
+use Rattle.std.proofs.Common.{ℕ, ◌≡◌, ◌+◌, ◌<◌, List, [], ◌∷◌, ◌++◌, length, take, get_or, Option, Some, None, refl, sym, ap, subst, ◌∙◌}
+use Rattle.std.proofs.Common.{append_assoc, append-nil}
 use Rattle.std.proofs.lemmas.List.{take_more}
 use Rattle.step_machine.specs.declared.events.Event.{Event}
 use Rattle.step_machine.specs.declared.events.Entry.{Entry}
@@ -86,7 +87,8 @@ judged_more B M own evs ev o c d found new shares more judged moves noted =
       run = RunFrom-more B M (unrun (start_of own)) evs judged.history ev o moved.0 judged.run moved.1;
       opening = happens_opening B M judged.history moved.0 ev o moved.1 ∙ judged.opening;
       stands = moved.2;
-      noted = subst (λ (es : List Entry). AreNoted own es new more) (sym (happens_entries B M judged.history moved.0 ev o moved.1)) (noted judged.history.entries judged.noted);
+      noted = subst (λ (es : List Entry). AreNoted own es new more) (sym (happens_entries B M judged.history moved.0 ev o moved.1))
+          (noted judged.history.entries judged.noted);
     }
 
 -- one event of a list more
@@ -108,7 +110,8 @@ judged_none B M own c d shares stands anew notes count = record {
   noted = record { breach = refl; notes = λ none. notes; count = count };
 }
 
-pub judged_at : (B M : ℕ) (own : Own) (events : List Event) (c : Config) (found : Option Breach) (shares : List Share) → IsJudgedAt B M own events c found shares
+pub judged_at : (B M : ℕ) (own : Own) (events : List Event) (c : Config) (found : Option Breach) (shares : List Share)
+    → IsJudgedAt B M own events c found shares
     → IsJudged B M own events found shares × StandsFrom B M (start_of own) c
 judged_at B M own events c found shares judged =
     (record { history = judged.history; run = judged.run; noted = judged.noted }, (judged.history, judged.stands, judged.opening))

@@ -1,5 +1,7 @@
 -- One run more.
-use Rattle.std.proofs.Common.{ℕ, zero, suc, ◌≡◌, ◌+◌, ◌*◌, ◌<◌, ◌≤◌, inl, inr, List, [], ◌∷◌, ◌++◌, length, take, set, max, Bool, true, false, Option, Some, None, refl, sym, ap, subst, ◌∙◌, arith, length-append, append-nil, drop, drop_of_length-le, lt_of_mul-lt-mul_right}
+use Rattle.std.proofs.Common.{ℕ, zero, suc, ◌≡◌, ◌+◌, ◌*◌, ◌<◌, ◌≤◌, inl, inr, List, [], ◌∷◌, ◌++◌, length, take, set, max, Bool, true}
+use Rattle.std.proofs.Common.{false, Option, Some, None, refl, sym, ap, subst, ◌∙◌, arith, length-append, append-nil, drop}
+use Rattle.std.proofs.Common.{drop_of_length-le, lt_of_mul-lt-mul_right}
 use Rattle.std.specs.Prelude.{◌↔◌, IsTrue, if◌then◌else◌, map}
 use Rattle.std.specs.List.{slice_get}
 use Rattle.std.proofs.Math.Nat.{eq-or-lt_of_le}
@@ -25,7 +27,8 @@ use Rattle.shrink.proofs.PassLaws.{Passing}
 use Rattle.ring_trials.specs.Own.{lists_of, layout_from, start_of}
 use Rattle.ring_trials.specs.declared.own.Own.{Own}
 use Rattle.ring_trials.specs.declared.runs.Total.{Total}
-use Rattle.ring_trials.specs.Trials.{Source, schedule_of, IsRunOf, AreRuns, KeepsAll, AreCleanRuns, most_of, closed_in, AreTotals, IsFirstUnclean, AreAllClean, IsJudged, IsUnclean}
+use Rattle.ring_trials.specs.Trials.{Source, schedule_of, IsRunOf, AreRuns, KeepsAll, AreCleanRuns, most_of, closed_in, AreTotals}
+use Rattle.ring_trials.specs.Trials.{IsFirstUnclean, AreAllClean, IsJudged, IsUnclean}
 
 runs_last : (s : Source) (n : ℕ) (ts : List History) (t : History) → AreRuns s n ts → IsRunOf s (n + length ts) t → AreRuns s n (ts ++ t ∷ [])
 runs_last s n [] t runs run = (subst (λ (k : ℕ). IsRunOf s k t) (omega arith) run, tt)
@@ -50,7 +53,8 @@ closed_last : (i : ℕ) (ts : List History) (t : History) (b : Bool) → b ≡ i
     → closed_in i (ts ++ t ∷ []) ≡ (if b then closed_in i ts + 1 else closed_in i ts)
 closed_last i [] t true is = grind (arith, nat_tests)
 closed_last i [] t false is = grind (arith, nat_tests)
-closed_last i (u ∷ ts) t true is = shifted (if is_closed (reported 0 u.entries) i then 1 else 0) (closed_in i (ts ++ t ∷ [])) (closed_in i ts) (closed_last i ts t true is)
+closed_last i (u ∷ ts) t true is = shifted (if is_closed (reported 0 u.entries) i then 1 else 0) (closed_in i (ts ++ t ∷ [])) (closed_in i ts)
+    (closed_last i ts t true is)
 closed_last i (u ∷ ts) t false is = ap (λ n. (if is_closed (reported 0 u.entries) i then 1 else 0) + n) (closed_last i ts t false is)
 
 at_most_one : (b : Bool) (n m : ℕ) → n ≤ m → (if b then 1 else 0) + n ≤ suc m

@@ -49,7 +49,8 @@ fn no_totals(alloc: Global, senders: usize) -> Result<Vec<Total>, AllocError>
 fn take_in(totals: &mut [Total], shares: &[Share])
     requires count { length totals.old ≡ length shares.now }
     requires few { (k : ℕ) (s : Total) → slice_get totals.old k ≡ Some s → s.closed < 4294967295 }
-    ensures totals { (ts : List History) (t : History) → AreTotals ts totals.old → AreNotes (reported 0 t.entries) shares.now → AreTotals (ts ++ t ∷ []) totals.new }
+    ensures totals { (ts : List History) (t : History) → AreTotals ts totals.old → AreNotes (reported 0 t.entries) shares.now → AreTotals
+        (ts ++ t ∷ []) totals.new }
     ensures count { length totals.new ≡ length totals.old }
 {
     for index in 0..totals.len() {
