@@ -159,7 +159,7 @@ clean_next lists rs (report.Took i w) clean none =
             let one : i ≡ j = grind (arith, nat_tests) in
             subst (λ (k : ℕ). IsPrefixOf (taken (rs ++ report.Took i w ∷ []) k) (slice_index_or lists k [])) one
             (subst (λ (ys : List ℕ). IsPrefixOf ys (slice_index_or lists i [])) (sym (own_took rs i w)) (prefix_next (taken rs i)
-                (slice_index_or lists i []) w (clean.in_order i) next))
+            (slice_index_or lists i []) w (clean.in_order i) next))
         at false other =
             let differ : i ≢ j = grind (arith, nat_tests) in
             subst (λ (ys : List ℕ). IsPrefixOf ys (slice_index_or lists j [])) (sym (taken_other rs j (report.Took i w) differ)) (clean.in_order j)

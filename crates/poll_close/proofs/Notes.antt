@@ -141,7 +141,7 @@ pub noted_at : (lists : List (List ℕ)) (reports : List Report) (n : ℕ) (r : 
 noted_at lists reports n r old new next within noted none notes count is =
     subst (λ (ps : List Report). IsNoted lists ps next) (sym (take_more reports n r within))
     (subst (IsNoted lists (take n reports ++ get_or reports n r ∷ [])) (sym is) (noted_more lists (take n reports)
-        (get_or reports n r) old new noted none notes count))
+    (get_or reports n r) old new noted none notes count))
 
 pub unclean_found : (lists : List (List ℕ)) (reports : List Report) (n : ℕ) (r : Report) (breach : Breach) → n < length reports
     → report_breach lists (take n reports) (get_or reports n r) ≡ Some breach → IsTrue false ↔ Clean reports lists

@@ -17,6 +17,6 @@ loop-report-preserved c =
     let none = sym (c.note_report.ensures.breach (take c.loop-report.report-index c.args.reports.now) notes) ∙ c.in-None.is in
     let more = c.note_report.ensures.notes (take c.loop-report.report-index c.args.reports.now) notes c.in-None.is in
     noted_at _ c.args.reports.now c.loop-report.report-index _ c.loop-report.shares.items c.note_report.new.shares _ c.loop-report-test.true
-        c.loop-report.invariant none more
+    c.loop-report.invariant none more
     (c.note_report.ensures.count ∙ ap length c.deref_mut.ensures.value)
     (whole_new c.loop-report.shares.len c.note_report.new.shares c.loop-report.shares.items (omega arith) (omega arith))

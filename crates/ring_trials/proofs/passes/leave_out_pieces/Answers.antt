@@ -40,4 +40,4 @@ loop-from-preserved g c =
 pub returns-clause-none_can : goal.returns-clause-none_can
 returns-clause-none_can g c none = none_can_go (λ events. IsUnclean g.row.B g.row.M c.args.own.now events) c.args.events.now.items c.loop-from.events.items
     c.args.size c.loop-from.from c.loop-from.went c.loop-from.invariant.pass (omega (arith, c.len.ensures, c.loop-from-test.false))
-        (let same : c.loop-from.went ≡ false = cc in same)
+    (let same : c.loop-from.went ≡ false = cc in same)

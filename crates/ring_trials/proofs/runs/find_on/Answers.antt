@@ -27,7 +27,7 @@ returns-in-Some g c = (
       c.loop-number.number c.loop-number.totals.items c.judge.new.shares c.in_ok-found.found c.in-Some.breach c.loop-number.invariant.all
       (subst (λ evs. IsJudged g.row.B g.row.M c.args.own.now evs c.in_ok-found.found c.judge.new.shares) (c.deref.ensures.value
       ∙ schedule_is (record { B = g.row.B; M = g.row.M; own = c.args.own.now; stream = g.G.Rng.stream c.args.generator.now; size = c.args.size })
-          c.loop-number.number c.harts-harts.result _ _ c.in_ok-draw.ensures.drawn
+      c.loop-number.number c.harts-harts.result _ _ c.in_ok-draw.ensures.drawn
       (c.harts-harts.ensures.opening c.requires.stands.0 c.requires.stands.1 ∙ ap (λ (o : Start). length o.harts) c.requires.stands.2)
       c.loop-number.invariant.left) c.in_ok-found.ensures.judged) c.in-Some.is,
 )
@@ -36,7 +36,7 @@ returns-in-Some g c = (
 pub take_in-requires-clause-few : goal.take_in-requires-clause-few
 take_in-requires-clause-few g c k s at =
     let few = few_closed (record { B = g.row.B; M = g.row.M; own = c.args.own.now; stream = g.G.Rng.stream c.args.generator.now; size = c.args.size })
-        c.loop-number.number c.loop-number.totals.items k s c.loop-number.invariant.all
+    c.loop-number.number c.loop-number.totals.items k s c.loop-number.invariant.all
     (ap (λ xs. slice_get xs k) (sym c.deref_mut-in-None.ensures.value) ∙ at) in
     let most : c.args.runs < 4294967296 = search rules in omega (arith, few, most)
 
@@ -48,13 +48,19 @@ loop-number-preserved g c =
     let shares = whole_again c.loop-number.shares.len c.judge.new.shares c.loop-number.shares.items
     (c.judge.ensures.count ∙ sym c.loop-number.invariant.count) (omega arith) in
     record {
-      all = subst (AreAllClean (record { B = g.row.B; M = g.row.M; own = c.args.own.now; stream = g.G.Rng.stream c.args.generator.now; size =
-          c.args.size }) (c.loop-number.number + 1)) (sym totals)
+      all = subst (AreAllClean (record {
+        B = g.row.B;
+        M = g.row.M;
+        own = c.args.own.now;
+        stream = g.G.Rng.stream c.args.generator.now;
+        size =
+            c.args.size;
+      }) (c.loop-number.number + 1)) (sym totals)
           (one_clean (record { B = g.row.B; M = g.row.M; own = c.args.own.now; stream = g.G.Rng.stream c.args.generator.now; size = c.args.size })
-              c.loop-number.number c.loop-number.totals.items c.take_in.new.totals c.judge.new.shares c.in_ok-found.found c.loop-number.invariant.all
+          c.loop-number.number c.loop-number.totals.items c.take_in.new.totals c.judge.new.shares c.in_ok-found.found c.loop-number.invariant.all
           (subst (λ evs. IsJudged g.row.B g.row.M c.args.own.now evs c.in_ok-found.found c.judge.new.shares) (c.deref.ensures.value
           ∙ schedule_is (record { B = g.row.B; M = g.row.M; own = c.args.own.now; stream = g.G.Rng.stream c.args.generator.now; size = c.args.size })
-              c.loop-number.number c.harts-harts.result _ _ c.in_ok-draw.ensures.drawn
+          c.loop-number.number c.harts-harts.result _ _ c.in_ok-draw.ensures.drawn
           (c.harts-harts.ensures.opening c.requires.stands.0 c.requires.stands.1 ∙ ap (λ (o : Start). length o.harts) c.requires.stands.2)
           c.loop-number.invariant.left) c.in_ok-found.ensures.judged) c.in-None.is
           (λ ts t are notes. c.take_in.ensures.totals ts t (subst (AreTotals ts) (sym c.deref_mut-in-None.ensures.value) are)
