@@ -69,7 +69,7 @@ fn take_in(totals: &mut [Total], shares: &[Share])
 
 /// What is found of `runs` runs of this channel, each by `size` events, on a machine of its opening, which serves
 /// them all.
-fn find_on<const B: usize, const M: usize, G: Rng>(
+pub fn find_on<const B: usize, const M: usize, G: Rng>(
     alloc: Global,
     own: &Own,
     generator: &mut G,
