@@ -4,7 +4,7 @@ _ztso() {
     local at position=0 options='' words='' inputs=()
     for ((at = 2; at < COMP_CWORD; at++)); do
         case ${COMP_WORDS[at]} in
-        --svg | --steps | --finish) ;;
+        --svg | --memory | --steps | --finish) ;;
         --*) ((++at)) ;;
         *) ((++position)) ;;
         esac
@@ -14,7 +14,7 @@ _ztso() {
     replay) inputs=(files files) options='--buffer' ;;
     move) inputs=(files files) options='--buffer' ;;
     shrink) inputs=(files files) options='--buffer' ;;
-    chart) inputs=(files files) options='--buffer --svg' ;;
+    chart) inputs=(files files) options='--buffer --svg --memory' ;;
     show) inputs=(files) options='--buffer --steps' ;;
     debug) inputs=(files files) options='--buffer' ;;
     check) inputs=(files) options='--buffer' ;;

@@ -20,6 +20,7 @@ complete -c ztso -n '__fish_seen_subcommand_from channel; and not __fish_seen_su
 complete -c ztso -n '__fish_seen_subcommand_from channel; and __fish_seen_subcommand_from lamport fastforward' -F
 complete -c ztso -n '__fish_seen_subcommand_from run replay move shrink chart show check find debug try threads channel steps' -l buffer -x -a '1 2 4 16' -d 'a hart\'s store buffer holds N stores: 1, 2, 4 or 16; 4 if it is left out'
 complete -c ztso -n '__fish_seen_subcommand_from chart' -l svg -d 'the picture is written as SVG, for a browser'
+complete -c ztso -n '__fish_seen_subcommand_from chart' -l memory -d 'rows of instructions that only compute or jump are left out; the others keep their numbers'
 complete -c ztso -n '__fish_seen_subcommand_from show' -l steps -d 'the test\'s opening as a steps text'
 complete -c ztso -n '__fish_seen_subcommand_from find' -l states -x -d 'at most N distinct states are seen, 1 to 16777216; 1000000 if it is left out'
 complete -c ztso -n '__fish_seen_subcommand_from try' -l seed -x -d 'the generator\'s seed, 0 to 18446744073709551615'

@@ -53,6 +53,7 @@ _ztso() {
         _arguments \
             '--buffer[a hart'\''s store buffer holds N stores: 1, 2, 4 or 16; 4 if it is left out]:N:(1 2 4 16)' \
             '--svg[the picture is written as SVG, for a browser]' \
+            '--memory[rows of instructions that only compute or jump are left out; the others keep their numbers]' \
             '1:FILE:_files' \
             '2:SCHEDULE:_files'
         ;;

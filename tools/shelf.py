@@ -94,11 +94,16 @@ def outcome(program, entry, events):
 
 def shown(entry, text):
     """The outcome that a state text and its verdict give, or None where the test isn't finished."""
-    lines = text.splitlines()
-    if lines.pop() == "Unfinished":
+    if text.endswith("\nUnfinished\n"):
         return None
+    values = values_in(text)
+    return tuple(values.get(place, 0) for _, place in entry.test.lefts)
+
+
+def values_in(text):
+    """The registers and words of a state text with a verdict, by their places."""
     values, hart = {}, None
-    for line in lines:
+    for line in text.splitlines()[:-1]:
         if line.startswith("hart "):
             hart = int(line.split()[1])
         else:
@@ -106,7 +111,7 @@ def shown(entry, text):
             key = ("word", int(place[5:])) if place.startswith("word ") else \
                 ("register", hart, int(place[1:]))
             values[key] = int(value)
-    return tuple(values.get(place, 0) for _, place in entry.test.lefts)
+    return values
 
 
 def settled(work, entry):

@@ -1,5 +1,5 @@
 """Parts of the repository's files, named `FILE#PART`: a listing of docs/channels.md, a program of an assembly
-file, or a table of words in a source."""
+file, a table of words in a source, or one that a must-fail edit makes of it."""
 
 import re
 from pathlib import Path
@@ -50,6 +50,17 @@ def source_of(kind):
     return ROOT / "crates" / CRATE[kind] / "src/lib.rt"
 
 
+def edited(source, edit):
+    """A ring's source, which is its file src/lib.rt, after the edits that a must-fail file makes in it."""
+    for part in re.split("^file: ", Path(edit).read_text(), flags=re.MULTILINE):
+        name, _, changes = part.partition("\n")
+        for old, new in re.findall("^old: (.*)\nnew: (.*)$", changes, re.MULTILINE) if name == "src/lib.rt" else ():
+            if old not in source:
+                raise NoSuchPart(f"{edit} is of another ring")
+            source = source.replace(old, new)
+    return source
+
+
 def content(name):
     """The bytes of a file of the repository, or of the part that `FILE#PART` names."""
     path, _, part = name.partition("#")
@@ -62,6 +73,9 @@ def content(name):
             lines = [line for line, _ in listing(text, *part.split("-")).values()]
         elif path.endswith(".S"):
             lines = program(text, part)
+        elif path.endswith(".edit"):
+            source = ROOT / path.partition("/must-fail/")[0] / "src/lib.rt"
+            lines = [f"{word:08x}" for word in table(edited(source.read_text(), ROOT / path), part)]
         else:
             lines = [f"{word:08x}" for word in table(text, part)]
     except (KeyError, IndexError, TypeError) as error:

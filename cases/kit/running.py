@@ -1,6 +1,7 @@
 """Runs the program on a case, whole or with its allocations refused in turn."""
 
 import os
+import re
 import subprocess
 import tempfile
 from pathlib import Path
@@ -8,6 +9,8 @@ from pathlib import Path
 from . import terminal, typing_in
 
 SECONDS = 60
+# what stands for any number in a text that is wiped
+NUMBER = b"<number>"
 # status, standard error and standard output where memory ran out
 NO_MEMORY = (4, b"ztso: no memory\n", b"")
 # the most allocations that a case may make
@@ -150,7 +153,7 @@ def run_in(program, case, inside, variables):
 def remaining(written, wiped):
     """What a terminal shows of what was written to it, where the last text that is gone is as wanted."""
     shown, gone = terminal.shown(written)
-    if gone != wiped:
+    if not re.fullmatch(re.escape(wiped).replace(re.escape(NUMBER), rb"[0-9]+"), gone):
         raise Wrong(f"the last text that was wiped at the terminal: {gone}, wanted {wiped}")
     return shown
 

@@ -58,8 +58,11 @@ def program_of(named=None):
 
 def answer(program, *words):
     """What the program prints. A verdict that doesn't hold is no fault."""
-    done = subprocess.run([str(program), *map(str, words)], stdin=subprocess.DEVNULL, capture_output=True, text=True,
-                          check=False)
+    try:
+        done = subprocess.run([str(program), *map(str, words)], stdin=subprocess.DEVNULL, capture_output=True, text=True,
+                              check=False)
+    except OSError as error:
+        raise Refused(f"{program}: {error.strerror}; scripts/build makes crates/ztso/out/ztso") from None
     if done.returncode not in (0, 1) or done.stderr:
         raise Refused(f"{' '.join(map(str, words))}: {done.stderr.strip() or f'status {done.returncode}'}")
     return done.stdout

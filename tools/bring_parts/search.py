@@ -1,5 +1,5 @@
 """The outcomes of a small test by a search of all states on the machine of tools/reference, each with a shortest
-schedule. An outcome that isn't among them wasn't shown, no more."""
+schedule, for tables of samples. An outcome that isn't among them wasn't shown, no more."""
 
 import runpy
 from dataclasses import dataclass
@@ -68,15 +68,3 @@ def outcomes(text, buffer=4, states=STATES):
     except OverflowError:
         return Found({}, states, True)
     return Found({values: schedules.tokens(events) for values, events in found.items()}, seen, machine.left < 0)
-
-
-def asking(front, lefts, values):
-    """A text with the condition that these left sides have these values."""
-    return front + "exists (" + " /\\ ".join(f"{left}={value}" for left, value in zip(lefts, values)) + ")\n"
-
-
-def shortest(front, lefts, values, buffer=4, states=STATES):
-    """The tokens of a shortest schedule that ends with these values, or None, and what the search saw. The front is a
-    litmus text up to its condition. `ztso find` of the text that asks for the values can take the search's place."""
-    found = outcomes(asking(front, lefts, [0] * len(lefts)), buffer, states)
-    return found.schedules.get(values), found

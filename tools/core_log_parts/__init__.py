@@ -1,7 +1,1 @@
-"""The parts of tools/core-log-to-record, which stand on the reference's readers."""
-
-import sys
-from pathlib import Path
-
-ROOT = Path(__file__).resolve().parent.parent.parent
-sys.path.insert(0, str(ROOT / "tools/reference"))
+"""The parts of tools/core-log-to-record, which ask the program what a test's opening is."""

@@ -1,42 +1,32 @@
-"""What a core needs of a litmus test: each hart's words of code, and what registers and memory open with."""
+"""What a core needs of a litmus test: each hart's words of code, and what registers and memory open with, as
+`ztso show --steps` prints it."""
 
-from dataclasses import dataclass
-from pathlib import Path
+from dataclasses import dataclass, field
 
-import litmus
-import programs
-from faults import Fault  # noqa: F401
+from bring_parts import Refused, answer
 
 
 @dataclass
 class Opening:
-    codes: list      # of each hart, its words
-    registers: dict  # (hart, number): value
-    words: dict      # address: value
-
-    def text(self):
-        """The opening as a steps text without events."""
-        lines = [" ".join(["hart", *(f"{word:08x}" for word in code)]) for code in self.codes]
-        lines += [f"reg {hart} {number} {value}" for (hart, number), value in sorted(self.registers.items()) if number and value]
-        lines += [f"word {address} {value}" for address, value in sorted(self.words.items()) if value]
-        return "".join(f"{line}\n" for line in lines)
+    text: str                                      # a steps text without events
+    codes: list = field(default_factory=list)      # of each hart, its words
+    registers: dict = field(default_factory=dict)  # (hart, number): value
+    words: dict = field(default_factory=dict)      # address: value
 
 
-class Columns(litmus.Reader):
-    """The reference's reader, which also keeps the texts of each hart's cells."""
-
-    def first_row(self, begin, row):
-        super().first_row(begin, row)
-        self.columns = [[] for _ in row]
-
-    def cells(self, begin, row, cells):
-        for column, cell in zip(self.columns, row):
-            column.append(f"{cell}\n")
-        super().cells(begin, row, cells)
-
-
-def opening(path):
+def opening(program, path):
     """The opening of a litmus text. A text that isn't one is refused as the program refuses it."""
-    reader = Columns(Path(path).read_text())
-    test = reader.read()
-    return Opening([programs.read("".join(column)) for column in reader.columns], test.registers, test.words)
+    made = Opening(answer(program, "show", "--steps", path))
+    for line in made.text.splitlines():
+        head, *rest = line.split()
+        if head == "hart":
+            made.codes.append([int(word, 16) for word in rest])
+        elif head == "reg":
+            hart, number, value = map(int, rest)
+            made.registers[hart, number] = value
+        elif head == "word":
+            address, value = map(int, rest)
+            made.words[address] = value
+        else:
+            raise Refused(f"{path}: {program} shows the line `{line}`, which no steps text without events has")
+    return made

@@ -134,8 +134,10 @@ steps a1*3 l63
 
 def sessions():
     """The command lines of the pages that run the program: each with the files that the page shows before it, and
-    standard error and output as the page has them."""
+    standard error and output as the page has them. Those that need another tool are left out, and those that read what
+    one wrote."""
     for page in PAGES:
+        foreign = set()
         for _, number, lines in pages.blocks(page.read_text()):
             files = {}
             for command, _, answer in pages.commands(number, lines):
@@ -143,12 +145,16 @@ def sessions():
                     command += "\n" + answer.pop(0)
                 shown = re.fullmatch(r"cat (\S+)", command)
                 made = re.fullmatch(r"echo '([^']*)' > (\S+)", command)
-                if shown:
+                written = re.search(r" > (\S+)$", command)
+                needs = "tools/" in command or any(name in command for name in foreign - files.keys())
+                if shown and not (ROOT / shown[1]).exists():
                     files[shown[1]] = text_of(answer)
                 elif made:
                     files[made[2]] = f"{made[1]}\n".encode()
+                elif "./ztso" not in command or needs:
+                    foreign |= {written[1]} if written else set()
                 # the page shows bad.record without a command
-                elif "./ztso" in command and not command.startswith("./ztso debug") and "bad.record" not in command:
+                elif not command.startswith("./ztso debug") and "bad.record" not in command:
                     faults = [line for line in answer if line.startswith("ztso: ")]
                     yield command, files, (text_of(faults), text_of(line for line in answer if line not in faults))
     blocks = pages.blocks((ROOT / "docs/debugging.md").read_text())

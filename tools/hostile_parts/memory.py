@@ -19,7 +19,7 @@ def answer_of_shell(runs, command, variables):
     set_ = " ".join(f"{name}={value}" for name, value in variables.items())
     line = command.replace("./ztso", f"env {set_} {runs.program}")
     try:
-        done = subprocess.run(["/bin/bash", "-c", line], capture_output=True, timeout=SECONDS, stdin=subprocess.DEVNULL)
+        done = subprocess.run(["/bin/bash", "-o", "pipefail", "-c", line], capture_output=True, timeout=SECONDS, stdin=subprocess.DEVNULL)
     except subprocess.TimeoutExpired:
         return "no end", b"", b""
     return done.returncode, done.stderr, done.stdout
@@ -70,7 +70,8 @@ def part(runs):
             runs.put(files)
             answer_of_shell(runs, command, {})
     for command, files, page in rows[1::7] if runs.short else rows:
-        if "ulimit" in command:
+        # one limits memory itself, and in one the program runs twice, which would be refused twice
+        if "ulimit" in command or command.count("./ztso ") > 1:
             continue
         runs.put(files)
         words = command.partition("./ztso ")[2].split()

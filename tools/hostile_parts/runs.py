@@ -88,7 +88,7 @@ class Runs:
         kept.mkdir()
         (kept / "stdin").write_bytes(stdin)
         for name, content in self.files.items():
-            (kept / name).write_bytes(content)
+            (kept / Path(name).name).write_bytes(content)
         line = " ".join(escapes.quoted(os.fsencode(word)) for word in words)
         print(f"wrong: {kind}: ztso {line}  {note}\n  {kept}: {came}", flush=True)
 

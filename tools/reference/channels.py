@@ -18,6 +18,8 @@ UNEVEN_BASE, UNEVEN_STRIDE, BLOCKS_MEET = 41, 42, 43
 DENSE = 0, None
 HEADING = {"lamport": "## Lamport's ring", "fastforward": "## FastForward"}
 LEAST = {"lamport": 2, "fastforward": 1}
+# a ring whose programs the user gives, and its least size
+OWN, LEAST_OWN = "own", 1
 SENDERS = 63
 
 
@@ -53,8 +55,8 @@ def assembled(program):
     return [assembly.placed(instruction, at, labels) for at, (_, (instruction,)) in enumerate(statements)]
 
 
-def opened(kind, slots, words, place=DENSE):
-    """The channel's opening, as a test that asks nothing."""
+def opened(kind, slots, words, place=DENSE, programs=None):
+    """The channel's opening, as a test that asks nothing. The programs of `own` are the sender's and the receiver's."""
     size = 16 + 4 * slots
     base, stride = place
     apart = size if stride is None else stride
@@ -63,7 +65,7 @@ def opened(kind, slots, words, place=DENSE):
         raise refused(NO_SENDERS)
     if len(words) > SENDERS:
         raise refused(TOO_MANY)
-    if slots < LEAST[kind]:
+    if slots < LEAST.get(kind, LEAST_OWN):
         raise refused(TOO_SMALL)
     if base % 4:
         raise refused(UNEVEN_BASE)
@@ -76,7 +78,7 @@ def opened(kind, slots, words, place=DENSE):
     for sender, list_ in enumerate(words):
         if 0 in list_:
             raise refused(ZERO_WORD, f" at sender {sender} place {list_.index(0)}")
-    sender, receiver = listings(kind)
+    sender, receiver = programs or listings(kind)
     channel = litmus.Test(codes=[receiver] + [sender] * len(words))
     channel.registers = {(0, 9): 4 * slots, (0, 18): apart, (0, 19): end, (0, 20): len(words), (0, 21): base}
     for i, list_ in enumerate(words):
@@ -88,8 +90,8 @@ def opened(kind, slots, words, place=DENSE):
 class Channel:
     """A channel as it runs: its state, the events that ran and the receiver's reports, as lines."""
 
-    def __init__(self, kind, slots, words, capacity, place=DENSE):
-        self.machine = Machine(opened(kind, slots, words, place), capacity)
+    def __init__(self, kind, slots, words, capacity, place=DENSE, programs=None):
+        self.machine = Machine(opened(kind, slots, words, place, programs), capacity)
         self.state = self.machine.opening
         self.kind, self.events, self.reports = kind, [], []
 
@@ -129,10 +131,10 @@ class Channel:
             self.land(hart)
 
 
-def reports(kind, slots, words, steps, capacity, finish=False, where=DENSE):
+def reports(kind, slots, words, steps, capacity, finish=False, where=DENSE, programs=None):
     """The receiver's reports in the run of these events, and of the plan after them if the channel is to
     be finished. A record is refused where an outcome isn't the run's."""
-    channel = Channel(kind, slots, words, capacity, where)
+    channel = Channel(kind, slots, words, capacity, where, programs)
     for place, (event, said) in enumerate(steps):
         if said not in (channel.run(event), None):
             raise at_event(DIFFERS, place)

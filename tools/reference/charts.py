@@ -111,13 +111,13 @@ def shortened(text):
 
 
 class Picture:
-    """The rows in one form: their texts, their lanes and where all of it stands."""
+    """The rows in one form: their texts, their lanes and where all of it stands. Rows that are left out stay silent."""
 
-    def __init__(self, rows, harts, form):
+    def __init__(self, rows, harts, form, without=()):
         self.listed, instructions, self.most, stores = form
-        self.rows = rows
+        self.rows, self.drawn = rows, [n for n, row in enumerate(rows) if row.kind not in without]
         effects = [beside("  ", f"P{r.hart}" if self.listed else "", r.instruction if instructions else "", r.effect) for r in rows]
-        self.said = [shortened(beside(" ", effect, r.tag)) for effect, r in zip(effects, rows)]
+        self.said = ["" if r.kind in without else shortened(beside(" ", effect, r.tag)) for effect, r in zip(effects, rows)]
         self.kept = [shortened(r.memory + (f" [{r.landed + 1}]" if stores and r.landed is not None else "")) for r in rows]
         self.shown = [h for h in range(harts) if not rows or any(r.hart == h for r in rows)]
         self.lane()
@@ -192,7 +192,7 @@ class Picture:
         ends = [" "] * self.width
         for held in self.held:
             ends[self.at(held)] = "v"
-        return ["".join(heads).rstrip(" "), *map(self.line, range(len(self.rows))),
+        return ["".join(heads).rstrip(" "), *map(self.line, self.drawn),
                 *(["".join(ends).rstrip(" ")] if self.held else [])]
 
 
@@ -204,8 +204,8 @@ def limit(harts):
     return 100 if harts <= 2 else min(20 + 40 * harts, 200)
 
 
-def chart(text, test, machine, walk):
-    """The lines of a run's picture."""
+def chart(text, test, machine, walk, without=()):
+    """The lines of a run's picture, without the rows of these kinds."""
     heading, rows, state = Heading(text), Rows(test), machine.opening
     for event, told, entry, after in walk:
         if entry and len(rows.rows) == MOST_ROWS:
@@ -216,7 +216,7 @@ def chart(text, test, machine, walk):
             rows.add(hart, code[pc] if event[0] == "a" and pc < len(code) else "", told)
         state = after
     harts = len(test.codes)
-    pictures = [Picture(rows.rows, harts, form) for form in FORMS]
+    pictures = [Picture(rows.rows, harts, form, without) for form in FORMS]
     picture = next((p for p in pictures if p.width <= limit(harts)), pictures[-1])
     never = [f"still pending: P{h} {rows.part(place, width)} := {value} [{n + 1}]"
              for h in range(harts) for n, place, width, value in rows.pending.get(h, [])]

@@ -1,5 +1,5 @@
 -- No text of a picture's rows stands on another text or on a stroke, and no head of a column on another one.
-use Rattle.std.proofs.Common.{◌≡◌, ℕ, zero, suc, ◌+◌, ◌<◌, ◌≤◌, ◌^◌, true, false, if◌then◌else◌}
+use Rattle.std.proofs.Common.{◌≡◌, ℕ, zero, suc, ◌+◌, ◌<◌, ◌≤◌, ◌^◌, Bool, true, false, if◌then◌else◌}
 use Rattle.std.proofs.Common.{List, [], ◌∷◌, length, Option, Some, All, refl, sym, ◌∙◌, ap, arith}
 use Rattle.std.specs.List.{slice_get, list_any}
 use Rattle.std.proofs.lemmas.Bool.{cases_eq}
@@ -10,12 +10,13 @@ use Rattle.step_machine.specs.Entries.{hart_of}
 use Rattle.chart.specs.declared.lanes.Held.{Held}
 use Rattle.chart.specs.declared.pictures.Stroke.{Stroke}
 use Rattle.chart.specs.declared.scenes.Form.{Form}
+use Rattle.chart.specs.declared.scenes.Selection.{Selection}
 use Rattle.chart.specs.Rows.{RowOf, rows_of}
 use Rattle.chart.specs.Lanes.{LanedOf, held_at_end}
-use Rattle.chart.specs.Pictures.{strikes, IsClear}
+use Rattle.chart.specs.Pictures.{LineOf, strikes, IsClear}
 use Rattle.chart.specs.Places.{PlacesOf}
 use Rattle.chart.specs.Scenes.{SceneOf, scene_of, said_at, widest_said, said_cells, shape_of, lanes_in, places_of, used_after}
-use Rattle.chart.specs.Lines.{laned_line, line_in, line_at, lines_of, open_lines}
+use Rattle.chart.specs.Lines.{laned_line, line_in, line_at, is_without_line, drawn_at, lines_of, open_lines}
 use Rattle.chart.specs.Layout.{AboutOf, layout, limit, form_or, form_of, body_of}
 use Rattle.chart.proofs.Clear.{row_clear}
 use Rattle.chart.proofs.Placed.{RowFits, row_fits, columns_there}
@@ -41,17 +42,20 @@ said_most : (form : Form) (scene : SceneOf) (i n : ℕ) → i < n → length (sa
 said_most form scene i zero below = absurd (omega (below, arith))
 said_most form scene i (suc n) below = grind (arith, cases_eq, said_most form scene i n)
 
+drawn_clear : (left_out : Bool) (line : LineOf) → IsClear line → All IsClear (if left_out then [] else line ∷ [])
+drawn_clear true line clear = All-nil IsClear
+drawn_clear false line clear = All-cons IsClear line [] clear (All-nil IsClear)
+
 lines_clear : (form : Form) (scene : SceneOf) (p : PlacesOf) (lanes : List LanedOf) (n : ℕ) → n ≤ length scene.rows → length scene.rows < 10 ^ 7 →
     p.text ≡ said_cells form scene → ((i : ℕ) → RowFits p (shape_of form) (slice_get scene.rows i) (slice_get lanes i)) →
     All IsClear (lines_of form scene p lanes n)
 lines_clear form scene p lanes zero within few room fits = All-nil IsClear
 lines_clear form scene p lanes (suc n) within few room fits =
     let said : length (said_at form scene n) ≤ said_cells form scene = said_most form scene n (length scene.rows) (omega (within, arith)) in
-    All-append IsClear (lines_of form scene p lanes n) (line_at form scene p lanes n ∷ [])
+    All-append IsClear (lines_of form scene p lanes n) (drawn_at form scene p lanes n)
     (lines_clear form scene p lanes n (omega (within, arith)) few room fits)
-    (All-cons IsClear (line_at form scene p lanes n) []
-    (line_clear form scene p lanes n (slice_get scene.rows n) (omega (within, few, arith)) (omega (said, room, arith)) (fits n))
-    (All-nil IsClear))
+    (drawn_clear (is_without_line scene (slice_get scene.rows n)) (line_at form scene p lanes n)
+    (line_clear form scene p lanes n (slice_get scene.rows n) (omega (within, few, arith)) (omega (said, room, arith)) (fits n)))
 
 open_clear : (p : PlacesOf) (hs : List Held) → All IsClear (open_lines p hs)
 open_clear p hs = grind (arith, All-nil, All-cons, no_texts)
@@ -67,10 +71,10 @@ form_lanes scene most = grind (arith, form_or_lanes)
 rows_count : (es : List Entry) → length (rows_of es) ≡ length es
 rows_count es = sym (length-map (rows_of es) (λ (r : RowOf). r.entry)) ∙ ap (λ (fs : List Entry). length fs) (entries_of_rows es)
 
-form_clear : (form : Form) (names instructions : List (List ℕ)) (es : List Entry) (harts : ℕ) → form.lanes ≤ 6 → harts ≤ 255 →
-    All (λ e. hart_of e < harts) es → length es < 10 ^ 7 → All IsClear (body_of form (scene_of names instructions es harts))
-form_clear form names instructions es harts lanes few below rows =
-    let scene = scene_of names instructions es harts in
+form_clear : (form : Form) (selection : Selection) (names instructions : List (List ℕ)) (es : List Entry) (harts : ℕ) → form.lanes ≤ 6 →
+    harts ≤ 255 → All (λ e. hart_of e < harts) es → length es < 10 ^ 7 → All IsClear (body_of form (scene_of selection names instructions es harts))
+form_clear form selection names instructions es harts lanes few below rows =
+    let scene = scene_of selection names instructions es harts in
     let p = places_of form scene in
     let count : length (rows_of es) ≡ length es = rows_count es in
     All-append IsClear (lines_of form scene p (lanes_in form scene) (length scene.rows)) (open_lines p (held_at_end (shape_of form) scene.rows))
@@ -79,14 +83,15 @@ form_clear form names instructions es harts lanes few below rows =
     (columns_there es harts form.listed (said_cells form scene) (used_after 0 (lanes_in form scene)) form.lanes few below) (omega (lanes, arith))))
     (open_clear p (held_at_end (shape_of form) scene.rows))
 
-pub picture_clear : (about : AboutOf) (es : List Entry) → about.harts ≤ 255 → All (λ e. hart_of e < about.harts) es → length es < 10 ^ 7 →
-    All IsClear (layout about es).body
-picture_clear about es few below rows =
-    let scene = scene_of about.names about.instructions es about.harts in
-    form_clear (form_of scene (limit about.harts)) about.names about.instructions es about.harts (form_lanes scene (limit about.harts)) few below rows
+pub picture_clear : (selection : Selection) (about : AboutOf) (es : List Entry) → about.harts ≤ 255 → All (λ e. hart_of e < about.harts) es →
+    length es < 10 ^ 7 → All IsClear (layout selection about es).body
+picture_clear selection about es few below rows =
+    let scene = scene_of selection about.names about.instructions es about.harts in
+    let form = form_of scene (limit about.harts) in
+    form_clear form selection about.names about.instructions es about.harts (form_lanes scene (limit about.harts)) few below rows
 
-pub heads_of_picture : (about : AboutOf) (es : List Entry) → about.harts ≤ 255 → IsClear (layout about es).heads
-heads_of_picture about es few =
-    let scene = scene_of about.names about.instructions es about.harts in
+pub heads_of_picture : (selection : Selection) (about : AboutOf) (es : List Entry) → about.harts ≤ 255 → IsClear (layout selection about es).heads
+heads_of_picture selection about es few =
+    let scene = scene_of selection about.names about.instructions es about.harts in
     let form = form_of scene (limit about.harts) in
     heads_clear es about.harts form.listed (said_cells form scene) (used_after 0 (lanes_in form scene)) few

@@ -6,6 +6,7 @@ use Rattle.std.specs.Fmt.{decimal}
 use Rattle.step_machine.specs.declared.events.Entry.{Entry}
 use Rattle.chart.specs.declared.sources.RowWrite.{RowWrite}
 use Rattle.chart.specs.declared.scenes.Form.{Form}
+use Rattle.chart.specs.declared.scenes.Selection.{Selection}
 use Rattle.chart.specs.Names.{part_text}
 use Rattle.chart.specs.Sources.{pending_by_row}
 use Rattle.chart.specs.Lanes.{held_at_end}
@@ -130,9 +131,10 @@ picture_in form scene head foot = record {
 abbrev pub picture_of : (harts : ℕ) → SceneOf → (head foot : List (List ℕ)) → PictureOf
 picture_of harts scene head foot = picture_in (form_of scene (limit harts)) scene head foot
 
--- the picture of a run with these entries
-abbrev pub layout : AboutOf → List Entry → PictureOf
-layout about es = picture_of about.harts (scene_of about.names about.instructions es about.harts) (head_of about) (foot_of about es)
+-- the picture of a run with these entries, of which these rows are drawn
+abbrev pub layout : Selection → AboutOf → List Entry → PictureOf
+layout selection about es =
+    picture_of about.harts (scene_of selection about.names about.instructions es about.harts) (head_of about) (foot_of about es)
 
-abbrev pub chart_text : AboutOf → List Entry → List ℕ
-chart_text about es = picture_text (layout about es)
+abbrev pub chart_text : Selection → AboutOf → List Entry → List ℕ
+chart_text selection about es = picture_text (layout selection about es)

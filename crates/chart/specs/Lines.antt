@@ -21,7 +21,7 @@ use Rattle.chart.specs.Rows.{RowOf}
 use Rattle.chart.specs.Lanes.{LanedOf, column_of}
 use Rattle.chart.specs.Pictures.{MarkOf, LineOf}
 use Rattle.chart.specs.Places.{PlacesOf, begins, lane_cell, memory_cell}
-use Rattle.chart.specs.Scenes.{SceneOf, said_at, kept_at, hart_name, shape_of}
+use Rattle.chart.specs.Scenes.{SceneOf, is_left_out, said_at, kept_at, hart_name, shape_of}
 
 -- ---- strokes
 
@@ -109,10 +109,18 @@ line_in form scene p lanes i (Some r) = laned_line form scene p i r (slice_get l
 abbrev pub line_at : Form → SceneOf → PlacesOf → List LanedOf → ℕ → LineOf
 line_at form scene p lanes i = line_in form scene p lanes i (slice_get scene.rows i)
 
+abbrev pub is_without_line : SceneOf → Option RowOf → Bool
+is_without_line scene None = false
+is_without_line scene (Some r) = is_left_out scene.selection r.entry
+
+-- the line of row i, if it is drawn
+abbrev pub drawn_at : Form → SceneOf → PlacesOf → List LanedOf → ℕ → List LineOf
+drawn_at form scene p lanes i = if is_without_line scene (slice_get scene.rows i) then [] else line_at form scene p lanes i ∷ []
+
 -- the lines of the first n rows
 abbrev pub lines_of : Form → SceneOf → PlacesOf → List LanedOf → ℕ → List LineOf
 lines_of form scene p lanes zero = []
-lines_of form scene p lanes (suc n) = lines_of form scene p lanes n ++ line_at form scene p lanes n ∷ []
+lines_of form scene p lanes (suc n) = lines_of form scene p lanes n ++ drawn_at form scene p lanes n
 
 abbrev pub row_lines : Form → SceneOf → PlacesOf → List LanedOf → List LineOf
 row_lines form scene p lanes = lines_of form scene p lanes (length scene.rows)

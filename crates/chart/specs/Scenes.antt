@@ -1,22 +1,36 @@
 -- What a picture is drawn of: a run's rows, and what they say in a form of it.
-use Rattle.std.specs.Prelude.{ℕ, zero, suc, ◌+◌, ◌==◌, nat_lt, min, max, if◌then◌else◌, Bool, true}
+use Rattle.std.specs.Prelude.{ℕ, zero, suc, ◌+◌, ◌==◌, nat_lt, min, max, if◌then◌else◌, Bool, true, false}
 use Rattle.std.specs.Prelude.{List, [], ◌∷◌, ◌++◌, length, codes, Option, None, Some, unwrap_or}
 use Rattle.std.specs.List.{slice_get, list_any}
 use Rattle.std.specs.Fmt.{decimal}
 use Rattle.step_machine.specs.declared.events.Entry.{Entry}
+use Rattle.step_machine.specs.declared.events.Entry.TheVariants as entry
 use Rattle.step_machine.specs.Entries.{hart_of}
 use Rattle.chart.specs.declared.lanes.Held.{Held}
 use Rattle.chart.specs.declared.lanes.Shape.{Shape}
 use Rattle.chart.specs.declared.scenes.Form.{Form}
+use Rattle.chart.specs.declared.scenes.Selection.{Selection}
+use Rattle.chart.specs.declared.scenes.Selection.TheVariants.{EveryRow, MemoryRows}
 use Rattle.chart.specs.declared.scenes.TheConstants.{LONGEST_TEXT}
 use Rattle.chart.specs.Rows.{RowOf, rows_of}
 use Rattle.chart.specs.RowTexts.{RowTextOf, row_text}
 use Rattle.chart.specs.Lanes.{LanedOf, lanes_of}
 use Rattle.chart.specs.Places.{PlacesOf}
 
--- the locations' names, the instruction of each entry, the entries with their rows, and the harts that
--- the picture shows
+-- an instruction that neither touches memory nor waits for it, ends its hart or reports
+abbrev pub is_inner : Entry → Bool
+is_inner (entry.Inner h) = true
+is_inner other = false
+
+-- which entries have no row in the picture; the rows of the others keep their numbers
+abbrev pub is_left_out : Selection → Entry → Bool
+is_left_out EveryRow e = false
+is_left_out MemoryRows e = is_inner e
+
+-- which rows are drawn, the locations' names, the instruction of each entry, the entries with their rows, and the
+-- harts that the picture shows
 pub record SceneOf : Type 0 where
+  pub selection : Selection
   pub names : List (List ℕ)
   pub instructions : List (List ℕ)
   pub entries : List Entry
@@ -35,9 +49,15 @@ abbrev pub shown_harts : List Entry → ℕ → List ℕ
 shown_harts es zero = []
 shown_harts es (suc n) = shown_harts es n ++ (if is_shown es n then n ∷ [] else [])
 
-abbrev pub scene_of : (names instructions : List (List ℕ)) → List Entry → (harts : ℕ) → SceneOf
-scene_of names instructions es harts =
-    record { names = names; instructions = instructions; entries = es; rows = rows_of es; shown = shown_harts es harts }
+abbrev pub scene_of : Selection → (names instructions : List (List ℕ)) → List Entry → (harts : ℕ) → SceneOf
+scene_of selection names instructions es harts = record {
+  selection = selection;
+  names = names;
+  instructions = instructions;
+  entries = es;
+  rows = rows_of es;
+  shown = shown_harts es harts;
+}
 
 -- ---- what rows say
 
@@ -75,7 +95,8 @@ instruction_at scene i = unwrap_or (slice_get scene.instructions i) []
 
 abbrev pub said_in : Form → SceneOf → ℕ → Option RowOf → List ℕ
 said_in form scene i None = []
-said_in form scene i (Some r) = said form (instruction_at scene i) (row_text scene.names scene.entries r)
+said_in form scene i (Some r) = if is_left_out scene.selection r.entry then []
+    else said form (instruction_at scene i) (row_text scene.names scene.entries r)
 
 abbrev pub said_at : Form → SceneOf → ℕ → List ℕ
 said_at form scene i = said_in form scene i (slice_get scene.rows i)

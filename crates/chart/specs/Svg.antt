@@ -10,6 +10,7 @@ use Rattle.chart.specs.declared.pictures.Sign.TheVariants.{To, Joins, Cut, Open}
 use Rattle.chart.specs.declared.pictures.Stroke.{Stroke}
 use Rattle.chart.specs.declared.pictures.Weight.{Weight}
 use Rattle.chart.specs.declared.pictures.Weight.TheVariants.{Quiet, Loud, Bold}
+use Rattle.chart.specs.declared.scenes.Selection.{Selection}
 use Rattle.chart.specs.declared.svg.Layer.{Layer}
 use Rattle.chart.specs.declared.svg.Layer.TheVariants.{Below, Above}
 use Rattle.chart.specs.Pictures.{MarkOf, LineOf, PictureOf, shown}
@@ -231,6 +232,6 @@ inside_svg p = texts_svg (codes "bold") p.head ++ heads_group p ++ body_group p 
 unfoldable pub picture_svg : (harts rows : ℕ) → PictureOf → List ℕ
 picture_svg harts rows p = front_svg harts rows p ++ inside_svg p ++ codes "</svg>\n"
 
--- the picture of a run with these entries
-abbrev pub chart_svg : AboutOf → List Entry → List ℕ
-chart_svg about es = picture_svg about.harts (length es) (layout about es)
+-- the picture of a run with these entries, of which these rows are drawn
+abbrev pub chart_svg : Selection → AboutOf → List Entry → List ℕ
+chart_svg selection about es = picture_svg about.harts (length es) (layout selection about es)

@@ -10,6 +10,7 @@ ghost use Rattle.chart.specs.Layout.{pending_line as line_of_pending, pending_te
 use crate::layout::picture_of;
 use crate::naming::push_part;
 use crate::pictures::Picture;
+pub use crate::scenes::Selection;
 use crate::scenes::scene_of_run;
 use crate::sources::{RowWrite, pending_by_row};
 use crate::svg::svg;
@@ -188,31 +189,54 @@ fn head(alloc: Global, about: &About) -> Result<Vec<String>, AllocError>
     Ok(lines)
 }
 
-/// The picture of a run with these entries.
-pub fn layout(alloc: Global, about: About, entries: &[Entry]) -> Result<Picture, AllocError>
-    ensures { IfOk result (λ picture. picture ≡ layout_of_run about entries.now) }
+/// The picture of a run with these entries, of which these rows are drawn.
+pub fn layout(
+    alloc: Global,
+    selection: Selection,
+    about: About,
+    entries: &[Entry],
+) -> Result<Picture, AllocError>
+    ensures { IfOk result (λ picture. picture ≡ layout_of_run selection about entries.now) }
 {
     let head = head(alloc, &about)?;
     let foot = foot(alloc, &about, entries)?;
     let own = Vec::from_slice(alloc, entries)?;
     let harts = about.harts;
-    let scene = scene_of_run(alloc, about.names, about.instructions, own, harts)?;
+    let scene = scene_of_run(
+        alloc,
+        selection,
+        about.names,
+        about.instructions,
+        own,
+        harts,
+    )?;
     picture_of(alloc, harts, &scene, head, foot)
 }
 
 /// The picture of a run with these entries, as text: ASCII and line ends alone.
-pub fn chart_text(alloc: Global, about: About, entries: &[Entry]) -> Result<String, AllocError>
-    ensures { IfOk result (λ text. string_bytes text ≡ text_of_chart about entries.now) }
+pub fn chart_text(
+    alloc: Global,
+    selection: Selection,
+    about: About,
+    entries: &[Entry],
+) -> Result<String, AllocError>
+    ensures { IfOk result (λ text. string_bytes text ≡ text_of_chart selection about entries.now) }
 {
-    let picture = layout(alloc, about, entries)?;
+    let picture = layout(alloc, selection, about, entries)?;
     text(alloc, &picture)
 }
 
 /// The picture of a run with these entries, in SVG 1.1: ASCII alone, with no script, link or font of its own.
-pub fn chart_svg(alloc: Global, about: About, entries: &[Entry]) -> Result<String, AllocError>
-    ensures { IfOk result (λ text. string_bytes text ≡ svg_of_chart about entries.now) }
+/// Its description names the numbers of harts and entries.
+pub fn chart_svg(
+    alloc: Global,
+    selection: Selection,
+    about: About,
+    entries: &[Entry],
+) -> Result<String, AllocError>
+    ensures { IfOk result (λ text. string_bytes text ≡ svg_of_chart selection about entries.now) }
 {
     let harts = about.harts;
-    let drawn = layout(alloc, about, entries)?;
+    let drawn = layout(alloc, selection, about, entries)?;
     svg(alloc, harts, entries.len(), &drawn)
 }

@@ -12,6 +12,7 @@ ghost use Rattle.chart.specs.Rows.{RowOf, rows_of};
 ghost use Rattle.chart.specs.declared.lanes.Shape.{Shape};
 ghost use Rattle.chart.specs.Lanes.{lanes_of, IsApart};
 ghost use Rattle.chart.specs.Pictures.{IsClear};
+ghost use Rattle.chart.specs.declared.scenes.Selection.{Selection};
 ghost use Rattle.chart.specs.Layout.{AboutOf, layout};
 
 /// The laws of rows and sources. A byte that a hart reads after some entries is the one that its source
@@ -36,6 +37,6 @@ pub fn laws_of_lanes()
 /// and the rows' numbers have at most seven digits; and no head of a column stands on another one. It does
 /// nothing.
 pub fn laws_of_texts()
-    ensures rows { (about : AboutOf) (es : List Entry) → about.harts ≤ 255 → All (λ e. hart_of e < about.harts) es → length es < 10 ^ 7 → All IsClear (layout about es).body }
-    ensures heads { (about : AboutOf) (es : List Entry) → about.harts ≤ 255 → IsClear (layout about es).heads }
+    ensures rows { (selection : Selection) (about : AboutOf) (es : List Entry) → about.harts ≤ 255 → All (λ e. hart_of e < about.harts) es → length es < 10 ^ 7 → All IsClear (layout selection about es).body }
+    ensures heads { (selection : Selection) (about : AboutOf) (es : List Entry) → about.harts ≤ 255 → IsClear (layout selection about es).heads }
 {}

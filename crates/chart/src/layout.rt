@@ -5,7 +5,7 @@ ghost use Rattle.std.specs.List.{slice_get};
 ghost use Rattle.std.specs.String.{string_bytes};
 ghost use Rattle.chart.specs.declared.scenes.TheConstants.{LONGEST_TEXT};
 ghost use Rattle.chart.specs.declared.pictures.Weight.TheVariants.{Bold};
-ghost use Rattle.chart.specs.Lines.{text_at, number_mark as mark_of_number, row_line as line_of_row, empty_line, line_with, laned_line, line_at, row_lines as lines_of_rows, open_stroke, open_lines, head_mark, hart_marks, heads_line as line_of_heads};
+ghost use Rattle.chart.specs.Lines.{text_at, number_mark as mark_of_number, row_line as line_of_row, empty_line, line_with, laned_line, line_at, is_without_line, drawn_at, row_lines as lines_of_rows, open_stroke, open_lines, head_mark, hart_marks, heads_line as line_of_heads};
 ghost use Rattle.chart.specs.Layout.{width_of as width_in, limit as limit_of, form_of as form_for, picture_in as picture_in_form, picture_of as picture_of_scene};
 
 use crate::lanes::{Held, Laned, held_at_end, lanes_of};
@@ -118,6 +118,35 @@ fn line_at(
     }
 }
 
+/// Whether a row is not drawn.
+fn is_without_line(scene: &Scene, i: usize) -> bool
+    ensures { result ≡ is_without_line scene.now (slice_get scene.now.rows i) }
+{
+    match scene.rows.get(i) {
+        Some(row) => scene.selection.leaves_out(row.entry),
+        None => false,
+    }
+}
+
+/// Adds the line of a row, if it is drawn.
+fn push_drawn(
+    alloc: Global,
+    out: &mut Vec<Line>,
+    form: Form,
+    scene: &Scene,
+    places: &Places,
+    lanes: &[Laned],
+    i: usize,
+) -> Result<(), AllocError>
+    ensures { OnOk result (out.new.items ≡ out.old.items ++ drawn_at form scene.now places.now lanes.now i) }
+{
+    if is_without_line(scene, i) {
+        return Ok(());
+    }
+    let line = line_at(alloc, form, scene, places, lanes, i)?;
+    Ok(out.push(line)?)
+}
+
 #[tactic(auto, using(crate::proofs::LineLaws::lines_more))]
 fn row_lines(
     alloc: Global,
@@ -130,7 +159,7 @@ fn row_lines(
 {
     let mut out = Vec::new(alloc);
     for i in 0..scene.rows.len() {
-        out.push(line_at(alloc, form, scene, places, lanes, i)?)?;
+        push_drawn(alloc, &mut out, form, scene, places, lanes, i)?;
     }
     Ok(out)
 }

@@ -3,7 +3,7 @@
 ghost use Rattle.std.specs.Prelude.{◌≡◌, ◌≤◌, ◌==◌, ◌++◌, ◌∷◌, [], if◌then◌else◌, length, codes, map, IfOk, OnOk};
 ghost use Rattle.std.specs.String.{string_bytes};
 ghost use Rattle.chart.specs.declared.scenes.TheConstants.{LONGEST_TEXT};
-ghost use Rattle.chart.specs.Scenes.{has_entry, is_shown as has_column, shown_harts as harts_with_columns, scene_of, beside, caller, shown_instruction, shortened as short_text, said as said_by, of_row, instruction_at as instruction_of, said_at as said_of_row, kept_at as kept_of_row, said_cells, kept_cells, lanes_in, lanes_to, lanes_at as lanes_of_line, used_after, shape_of, places_of as places_in};
+ghost use Rattle.chart.specs.Scenes.{has_entry, is_left_out, is_shown as has_column, shown_harts as harts_with_columns, scene_of, beside, caller, shown_instruction, shortened as short_text, said as said_by, of_row, instruction_at as instruction_of, said_at as said_of_row, kept_at as kept_of_row, said_cells, kept_cells, lanes_in, lanes_to, lanes_at as lanes_of_line, used_after, shape_of, places_of as places_in};
 
 use crate::lanes::{Held, Laned, Shape};
 use crate::places::Places;
@@ -26,10 +26,19 @@ pub struct Form {
     pub stores: bool,
 }
 
-/// A run's rows: the locations' names, the instruction of each entry, the entries with their rows, and the
-/// harts that the picture shows.
+/// Which rows of a run a picture has.
+#[derive(Clone, Copy, PartialEq, Eq)]
+pub enum Selection {
+    EveryRow,
+    /// All but those of inner entries. The others keep their numbers.
+    MemoryRows,
+}
+
+/// A run's rows: which of them are drawn, the locations' names, the instruction of each entry, the entries with
+/// their rows, and the harts that the picture shows.
 #[derive(Drop)]
 pub struct Scene {
+    pub selection: Selection,
     pub names: Vec<String>,
     pub instructions: Vec<String>,
     pub entries: Vec<Entry>,
@@ -44,7 +53,7 @@ impl Model for Scene {
 
     ghost Value = { SceneOf };
 
-    ghost view = { λ s. record { names = map string_bytes s.names.items; instructions = map string_bytes s.instructions.items; entries = s.entries.items; rows = s.rows.items; shown = s.shown.items } };
+    ghost view = { λ s. record { selection = s.selection; names = map string_bytes s.names.items; instructions = map string_bytes s.instructions.items; entries = s.entries.items; rows = s.rows.items; shown = s.shown.items } };
 }
 
 fn has_entry(entries: &[Entry], hart: u32) -> bool
@@ -87,16 +96,18 @@ fn shown_harts(alloc: Global, entries: &[Entry], harts: u32) -> Result<Vec<u32>,
 /// The rows of a run of `harts` harts.
 pub(crate) fn scene_of_run(
     alloc: Global,
+    selection: Selection,
     names: Vec<String>,
     instructions: Vec<String>,
     entries: Vec<Entry>,
     harts: u32,
 ) -> Result<Scene, AllocError>
-    ensures { IfOk result (λ scene. scene ≡ scene_of (map string_bytes names.items) (map string_bytes instructions.items) entries.items harts) }
+    ensures { IfOk result (λ scene. scene ≡ scene_of selection (map string_bytes names.items) (map string_bytes instructions.items) entries.items harts) }
 {
     let rows = rows_of(alloc, &entries)?;
     let shown = shown_harts(alloc, &entries, harts)?;
     Ok(Scene {
+        selection,
         names,
         instructions,
         entries,
@@ -186,7 +197,19 @@ fn instruction_at(scene: &Scene, i: usize) -> &str
     }
 }
 
-/// What a row says in its hart's column.
+impl Selection {
+    /// Whether an entry has no row in the picture.
+    pub(crate) fn leaves_out(self, entry: Entry) -> bool
+        ensures { result ≡ is_left_out self entry }
+    {
+        match self {
+            Selection::EveryRow => false,
+            Selection::MemoryRows => matches!(entry, Entry::Inner { .. }),
+        }
+    }
+}
+
+/// What a row says in its hart's column, if it is drawn.
 pub(crate) fn said_at(
     alloc: Global,
     form: Form,
@@ -198,6 +221,9 @@ pub(crate) fn said_at(
 {
     match scene.rows.get(i) {
         Some(row) => {
+            if scene.selection.leaves_out(row.entry) {
+                return Ok(String::new(alloc));
+            }
             let text = row_text(alloc, &scene.names, &scene.entries, row)?;
             said(alloc, form, instruction_at(scene, i), &text)
         }

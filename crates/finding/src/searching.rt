@@ -67,8 +67,8 @@ fn meet<const B: usize, const M: usize>(
     Ok(ends_as_wanted(test, machine))
 }
 
-/// Goes on from a state by each event, until there are `limit` states, and answers whether the newest state ends as
-/// wanted. An event that does nothing leads nowhere.
+/// Goes on from a state, whose position has these words, by each event, until there are `limit` states, and answers
+/// whether the newest state ends as wanted. An event that does nothing leads nowhere.
 fn go_on<const B: usize, const M: usize>(
     test: &Test,
     machine: &mut MachineState<B, M>,
@@ -76,11 +76,11 @@ fn go_on<const B: usize, const M: usize>(
     arrivals: &mut Vec<Arrival>,
     events: &[Event],
     from: u32,
+    words: &[u32],
     limit: u32,
 ) -> Result<bool, AllocError>
     requires harts { length machine.old.harts ≡ length test.now.opening.harts }
     requires names { length test.now.names ≤ M }
-    requires from { from < length states.old }
     requires few { length states.old ≤ limit }
     requires events { OfHarts events.now }
     ensures harts { length machine.new.harts ≡ length machine.old.harts }
@@ -93,7 +93,7 @@ fn go_on<const B: usize, const M: usize>(
             return Ok(false);
         }
         if !is_there {
-            states.put_back(from as usize, machine);
+            machine.unpack(words);
             is_there = true;
         }
         if let Outcome::Did(_) = machine.step(*event)? {
@@ -125,6 +125,7 @@ fn search_from<const B: usize, const M: usize, P: SearchProgress>(
 {
     let events = events_of(alloc, machine.harts())?;
     let mut arrivals = Vec::new(alloc);
+    let mut words = Vec::new(alloc);
     let opening = Arrival::new(0, Event::Act(0));
     if meet(test, machine, states, &mut arrivals, opening)? {
         return Ok(Searched {
@@ -146,7 +147,17 @@ fn search_from<const B: usize, const M: usize, P: SearchProgress>(
         if from % REPORT_STATES == 0 {
             progress.report(states.len() as u32, depth);
         }
-        if go_on(test, machine, states, &mut arrivals, &events, from, limit)? {
+        states.words_into(from as usize, &mut words)?;
+        if go_on(
+            test,
+            machine,
+            states,
+            &mut arrivals,
+            &events,
+            from,
+            &words,
+            limit,
+        )? {
             let way = way_to(alloc, &arrivals, states.len() - 1, depth + 1)?;
             return Ok(Searched {
                 states: states.len() as u32,

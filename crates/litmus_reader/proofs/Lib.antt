@@ -16,3 +16,5 @@ pub mod PlainWords
 pub mod ContentGrammar
 pub mod TestGrammar
 pub mod HeadingLaws
+pub mod ListingLaws
+pub mod PlainOpenings

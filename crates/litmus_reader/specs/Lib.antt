@@ -17,3 +17,4 @@ pub mod ConditionGrammar
 pub mod Grammar
 pub mod Headings
 pub mod Listings
+pub mod PlainOpenings

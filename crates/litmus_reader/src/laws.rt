@@ -6,6 +6,8 @@ ghost use Rattle.litmus.specs.LitmusTests.{LitmusTest};
 ghost use Rattle.litmus_reader.specs.Reading.{Content, test_at};
 ghost use Rattle.litmus_reader.specs.Grammar.{IsContent, IsTestOf};
 ghost use Rattle.litmus_reader.specs.Headings.{HeadingOf, IsHeading, heading_at};
+ghost use Rattle.litmus_reader.specs.Listings.{RowOf, listing_at};
+ghost use Rattle.litmus_reader.specs.PlainOpenings.{IsPlainOpening};
 
 /// A text stands for one test at most, the words of its code among it. It does nothing.
 pub fn one_test()
@@ -26,4 +28,15 @@ pub fn one_heading()
     ensures one { (text : List ℕ) (a b : HeadingOf) → IsHeading text a → IsHeading text b → a ≡ b }
     ensures read { (text : List ℕ) (heading : HeadingOf) → (heading_at text ≡ Ok heading) ↔ IsHeading text heading }
     ensures test { (text : List ℕ) (content : Content) → IsContent text content → (heading : HeadingOf) × IsHeading text heading }
+{}
+
+/// Each text that stands for a test has a listing. It does nothing.
+pub fn tests_are_listed()
+    ensures { (text : List ℕ) (content : Content) → IsContent text content → (rows : List RowOf) × (listing_at text ≡ Ok rows) }
+{}
+
+/// Each test of a text keeps the limits of an opening: words of 32 bits, x0 that is 0, and empty inboxes. It
+/// does nothing.
+pub fn tests_open_plainly()
+    ensures { (text : List ℕ) (test : LitmusTest) → IsTestOf text test → IsPlainOpening test.opening }
 {}

@@ -8,7 +8,9 @@ ghost use Rattle.texts.specs.Pieces.{pieces};
 ghost use Rattle.texts.specs.declared.errors.TextError.TheVariants.{NoMemory};
 ghost use Rattle.texts.specs.declared.pieces.Separators.TheVariants.{Byte};
 ghost use Rattle.assembler.specs.Drafts.{drafted};
+ghost use Rattle.litmus.specs.LitmusTests.{LitmusTest};
 ghost use Rattle.litmus_reader.specs.Faults.{fault_of, fault_in};
+ghost use Rattle.litmus_reader.specs.Grammar.{IsTestOf};
 ghost use Rattle.litmus_reader.specs.Rows.{cells_of, row_in};
 ghost use Rattle.litmus_reader.specs.Listings.{behind_items as items_end, cell_of, ends_in as line_ends, indent, listing_at, listing_in as rows_in, row_on, rows_at, rows_from, words_made};
 
@@ -228,9 +230,11 @@ fn cleaned_listing(alloc: Global, text: &[u8]) -> Result<Vec<ListedRow>, LitmusE
 /// The rows of a litmus text's table, the row that names the harts first. Each text that [`crate::read`] accepts has
 /// them; of its parts no more is read than where the table stands, and what each cell defines and makes.
 ///
-/// The fault is `NoHeader` where there is no header line, and `BadInit` where a brace is missing.
+/// The fault is `NoHeader` where there is no header line, and `BadInit` where a brace is missing. A text that
+/// stands for a test has no such fault.
 pub fn read_listing(alloc: Global, text: &str) -> Result<Vec<ListedRow>, LitmusError>
-    ensures { Gives fault_of (λ rows. rows.items) result (listing_at text.now) }
+    ensures exact { Gives fault_of (λ rows. rows.items) result (listing_at text.now) }
+    ensures tests { (test : LitmusTest) → IsTestOf text.now test → IfErr result (λ error. error ≡ NoMemory) }
 {
     cleaned_listing(alloc, text.as_bytes())
 }

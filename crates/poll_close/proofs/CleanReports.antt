@@ -25,7 +25,7 @@ get_front [] ys k x is = cc
 get_front (z ∷ xs) ys zero x is = is
 get_front (z ∷ xs) ys (suc k) x is = get_front xs ys k x is
 
-taken-append : (xs ys : List Report) (i : ℕ) → taken (xs ++ ys) i ≡ taken xs i ++ taken ys i
+pub taken-append : (xs ys : List Report) (i : ℕ) → taken (xs ++ ys) i ≡ taken xs i ++ taken ys i
 taken-append [] ys i = refl
 taken-append (report.Took j w ∷ xs) ys i = grind (arith, taken-append xs ys i)
 taken-append (report.Closed j ∷ xs) ys i = taken-append xs ys i
@@ -64,7 +64,7 @@ reports_closed rs i list took closings reports = grind (arith, taken-closed rs i
 pub prefix_take : (list : List ℕ) (xs : List ℕ) (n : ℕ) → xs ≡ take n list → IsPrefixOf xs list
 prefix_take list xs n is = (drop n list, ap (λ ys. ys ++ drop n list) is ∙ take-append-drop n list)
 
-nothing_left : (xs : List ℕ) → length xs ≡ 0 → xs ≡ []
+pub nothing_left : (xs : List ℕ) → length xs ≡ 0 → xs ≡ []
 nothing_left [] none = refl
 nothing_left (x ∷ xs) none = absurd (omega arith)
 

@@ -11,6 +11,8 @@ pub mod Outlines
 pub mod ReceiverMoves
 pub mod ReceiverStays
 pub mod CleanReports
+pub mod BreachLaws
+pub mod Notes
 pub mod Delivering
 pub mod AllBlocks
 pub mod ReceiverActs

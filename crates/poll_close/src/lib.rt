@@ -5,6 +5,7 @@
 #![tactic(auto)]
 
 pub mod channel;
+pub mod clean;
 pub mod delivery;
 pub mod faults;
 pub mod kind;
@@ -14,11 +15,12 @@ pub mod place;
 pub mod plans;
 
 pub use channel::Channel;
+pub use clean::{Breach, Share, is_clean, laws_of_breaches, no_shares, note_entry};
 pub use delivery::{
     deliver, deliver_at, deliver_whole_at, laws_of_channels, laws_of_plans, reports_of,
 };
 pub use faults::{Refused, RefusedAt};
 pub use kind::RingKind;
-pub use openings::{MAX_SENDERS, opening, opening_at};
+pub use openings::{MAX_SENDERS, opening, opening_at, opening_of_programs};
 pub use place::Place;
 pub use plans::{Finish, plan_of, whole_reports_of};

@@ -1,7 +1,7 @@
 //! The opening of a channel, and when there is none.
 
 ghost use Rattle.std.specs.Prelude.{◌≡◌, ◌≤◌, ◌<◌, ◌*◌, ◌+◌, ◌^◌, ℕ, List, All, IfOk, IfErr, OnOk, IsOk, MatchOption, map, length, true, false, []};
-ghost use Rattle.poll_close.specs.Layout.{senders_from, sender_registers, base_of, block_size};
+ghost use Rattle.poll_close.specs.Layout.{senders_from, sender_registers, base_of, block_size, opening_at};
 ghost use Rattle.poll_close.specs.Laws.{Accepted, AcceptedAt, AreWords, IsInBlocks, OpensEmpty, opening_of, opening_over};
 ghost use Rattle.poll_close.specs.Places.{layout_of, stride_or_dense};
 ghost use Rattle.poll_close.specs.Refusals.{Refuses, RefusesAt, FitsAt, IsBeyond, FilledAt, ZeroAt, ZeroWordAt};
@@ -78,8 +78,10 @@ fn sender_harts(
 
 /// The opening over lists that are accepted.
 #[tactic(auto, using(crate::proofs::Dense::rows_before))]
-fn lay_out<K: RingKind>(
+fn lay_out(
     alloc: Global,
+    sender: &[u32],
+    receiver: &[u32],
     lists: &[Vec<u32>],
     place: Place,
     words: &[u32],
@@ -88,7 +90,7 @@ fn lay_out<K: RingKind>(
     requires few { length lists.now < 2 ^ 32 }
     requires ends { base_of (layout_of place words.now) (length lists.now) < 2 ^ 32 }
     requires slots { 4 * place.ring < 2 ^ 32 }
-    ensures { IfOk result (λ o. o ≡ opening_over K.ring (map (λ v. v.items) lists.now) (layout_of place words.now)) }
+    ensures { IfOk result (λ o. o ≡ opening_at sender.now receiver.now (map (λ v. v.items) lists.now) (layout_of place words.now)) }
 {
     let stride = place.stride_or_dense();
     let mut registers = [0; 32];
@@ -98,11 +100,11 @@ fn lay_out<K: RingKind>(
     registers[20] = lists.len() as u32;
     registers[21] = place.base;
     let receiver = HartOpening {
-        code: Vec::from_slice(alloc, K::receiver())?,
+        code: Vec::from_slice(alloc, receiver)?,
         registers,
         inbox: Vec::new(alloc),
     };
-    let mut harts = sender_harts(alloc, K::sender(), lists, place)?;
+    let mut harts = sender_harts(alloc, sender, lists, place)?;
     harts.insert(0, receiver)?;
     Ok(Opening {
         harts,
@@ -153,18 +155,24 @@ fn fits_at(place: Place, count: usize, words: &[u32], m: usize) -> bool
     last + stride < 1 << 32 && last + 16 + 4 * place.ring as u64 <= 4 * m as u64 && words.len() <= m
 }
 
-/// Whether a channel of this kind over these lists at a place fits a memory of `m` words that opens with
-/// these, and if not why.
-fn judge_at<K: RingKind>(
+/// Whether a channel of these programs over these lists at a place, with rings of at least so many slots, fits a memory of `m`
+/// words that opens with these, and if not why.
+fn judge_at(
+    _sender: &[u32],
+    _receiver: &[u32],
+    least: u32,
     lists: &[Vec<u32>],
     place: Place,
     words: &[u32],
     m: usize,
 ) -> Result<(), RefusedAt>
     requires memory { m ≤ 65536 }
-    ensures ok { OnOk result (AcceptedAt K.ring m (map (λ v. v.items) lists.now) (layout_of place words.now)) }
-    ensures err { IfErr result (λ e. RefusesAt K.ring m (map (λ v. v.items) lists.now) (layout_of place words.now) e) }
-    ensures accepts { AcceptedAt K.ring m (map (λ v. v.items) lists.now) (layout_of place words.now) → IsOk result }
+    ensures ok { OnOk result (AcceptedAt (record { sender = _sender.now; receiver = _receiver.now; least = least }) m (map (λ v. v.items) lists.now)
+        (layout_of place words.now)) }
+    ensures err { IfErr result (λ e. RefusesAt (record { sender = _sender.now; receiver = _receiver.now; least = least }) m (map
+        (λ v. v.items) lists.now) (layout_of place words.now) e) }
+    ensures accepts { AcceptedAt (record { sender = _sender.now; receiver = _receiver.now; least = least }) m (map (λ v. v.items) lists.now)
+        (layout_of place words.now) → IsOk result }
 {
     if lists.is_empty() {
         return Err(RefusedAt::Lists(Refused::NoSenders));
@@ -172,7 +180,7 @@ fn judge_at<K: RingKind>(
     if lists.len() > MAX_SENDERS {
         return Err(RefusedAt::Lists(Refused::TooManySenders));
     }
-    if place.ring < K::least_size() {
+    if place.ring < least {
         return Err(RefusedAt::Lists(Refused::RingTooSmall));
     }
     if place.base % 4 != 0 {
@@ -198,9 +206,31 @@ fn judge_at<K: RingKind>(
     }
 }
 
-/// The opening of a channel of this kind at a place, over a memory of `m` words that opens with these: hart 0
-/// receives, hart i + 1 sends list i through block i. Err with the first refusal that applies, or that
-/// memory ran out where none does.
+/// The opening of a channel of any two programs at a place, with rings of at least `least` slots, over a memory
+/// of `m` words that opens with these: hart 0 receives, hart i + 1 sends list i through block i. Err with the
+/// first refusal that applies, or that memory ran out where none does. Nothing is said of what these programs do.
+pub fn opening_of_programs(
+    alloc: Global,
+    sender: &[u32],
+    receiver: &[u32],
+    least: u32,
+    lists: &[Vec<u32>],
+    place: Place,
+    words: &[u32],
+    m: usize,
+) -> Result<Opening, RefusedAt>
+    requires memory { m ≤ 65536 }
+    ensures accepted { OnOk result (AcceptedAt (record { sender = sender.now; receiver = receiver.now; least = least }) m (map
+        (λ v. v.items) lists.now) (layout_of place words.now)) }
+    ensures value { IfOk result (λ o. o ≡ opening_at sender.now receiver.now (map (λ v. v.items) lists.now) (layout_of place words.now)) }
+    ensures refused { IfErr result (λ e. RefusesAt (record { sender = sender.now; receiver = receiver.now; least = least }) m (map
+        (λ v. v.items) lists.now) (layout_of place words.now) e) }
+{
+    judge_at(sender, receiver, least, lists, place, words, m)?;
+    Ok(lay_out(alloc, sender, receiver, lists, place, words)?)
+}
+
+/// The opening of a channel of this kind at a place, as [`opening_of_programs`].
 pub fn opening_at<K: RingKind>(
     alloc: Global,
     lists: &[Vec<u32>],
@@ -213,8 +243,16 @@ pub fn opening_at<K: RingKind>(
     ensures value { IfOk result (λ o. o ≡ opening_over K.ring (map (λ v. v.items) lists.now) (layout_of place words.now)) }
     ensures refused { IfErr result (λ e. RefusesAt K.ring m (map (λ v. v.items) lists.now) (layout_of place words.now) e) }
 {
-    judge_at::<K>(lists, place, words, m)?;
-    Ok(lay_out::<K>(alloc, lists, place, words)?)
+    opening_of_programs(
+        alloc,
+        K::sender(),
+        K::receiver(),
+        K::least_size(),
+        lists,
+        place,
+        words,
+        m,
+    )
 }
 
 /// The opening of a channel of this kind through rings of `ring` slots in the dense layout, where all memory

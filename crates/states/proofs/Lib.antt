@@ -1,1 +1,3 @@
+pub mod Compaction
+pub mod EndLaws
 pub mod NumberLaws

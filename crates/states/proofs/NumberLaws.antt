@@ -1,53 +1,78 @@
 -- Positions among the numbered ones.
-use Rattle.std.proofs.Common.{◌≡◌, ℕ, zero, suc, ◌<◌, Bool, true, false, ◌||◌, List, [], ◌∷◌, ◌++◌, length, get_or}
-use Rattle.std.proofs.Common.{Option, Some, None, refl, sym, ◌∙◌, ap, subst}
+use Rattle.std.proofs.Common.{◌≡◌, ℕ, zero, suc, Bool, true, false, ◌||◌, List, [], ◌∷◌, ◌++◌, length, get_or}
+use Rattle.std.proofs.Common.{Option, Some, refl, sym, ◌∙◌, ap, subst}
 use Rattle.std.specs.Global.{Vec}
-use Rattle.std.specs.Prelude.{map, option_map, position, if◌then◌else◌}
+use Rattle.std.specs.Prelude.{All, map, option_map, position, if◌then◌else◌, Result, Ok, Err, IfOk, OnErr}
 use Rattle.std.specs.List.{slice_get, list_any}
 use Rattle.std.specs.Str.{bytes_eq}
 use Rattle.std.proofs.lemmas.List.{length-map, map-append}
 use Rattle.std.proofs.lemmas.List.Quantifiers.{position-Some}
 use Rattle.std.proofs.lemmas.Option.{slice_get-map, slice_get-get_or}
 use Rattle.std.proofs.lemmas.Slice.Eq.{bytes_eq-Decides}
+use Rattle.std.proofs.lemmas.List.Elements.{All-append, All-cons, All-head, All-nil, All-tail}
+use Rattle.states.specs.inner.Compact.{bytes_of, words_in, IsCompact}
 use Rattle.states.specs.Numbered.{words_of, GetsNextNumber}
 
--- whether a key has these words
-abbrev pub has_words : List ℕ → Vec ℕ → Bool
-has_words words key = bytes_eq words key.items
+-- whether a key is these bytes
+abbrev pub has_bytes : List ℕ → Vec ℕ → Bool
+has_bytes bytes key = bytes_eq bytes key.items
 
-pub words_there : (keys : List (Vec ℕ)) (words : List ℕ) (i : ℕ) → Some i ≡ position (has_words words) keys → slice_get (map words_of keys) i ≡ Some words
-words_there [] words i is = cc
-words_there (k ∷ keys) words i is =
-    let found = position-Some (has_words words) (k ∷ keys) i k (sym is) in
-    let same : words ≡ (get_or (k ∷ keys) i k).items = (bytes_eq-Decides words (get_or (k ∷ keys) i k).items).0 found.1 in
+pub words_there : (keys : List (Vec ℕ)) (bytes words : List ℕ) (i : ℕ) → Some i ≡ position (has_bytes bytes) keys → words_in bytes ≡ words
+    → slice_get (map words_of keys) i ≡ Some words
+words_there [] bytes words i is back = cc
+words_there (k ∷ keys) bytes words i is back =
+    let found = position-Some (has_bytes bytes) (k ∷ keys) i k (sym is) in
+    let same : bytes ≡ (get_or (k ∷ keys) i k).items = (bytes_eq-Decides bytes (get_or (k ∷ keys) i k).items).0 found.1 in
     slice_get-map words_of (k ∷ keys) i
     ∙ ap (λ (o : Option (Vec ℕ)). option_map words_of o) (slice_get-get_or (k ∷ keys) i k found.0)
-    ∙ ap (λ (ws : List ℕ). Some ws) (sym same)
+    ∙ ap (λ (bs : List ℕ). Some (words_in bs)) (sym same) ∙ ap (λ (ws : List ℕ). Some ws) back
 
 neither : (b c : Bool) → false ≡ (b || c) → (b ≡ false) × (c ≡ false)
 neither true c none = cc
 neither false c none = (refl, sym none)
 
-pub words_absent : (keys : List (Vec ℕ)) (words : List ℕ) (i : ℕ) → false ≡ list_any (has_words words) keys → slice_get (map words_of keys) i ≡ Some words → ⊥
-words_absent [] words i none is = cc
-words_absent (k ∷ keys) words zero none is =
-    let same : words ≡ k.items = cc in
-    let yes = (bytes_eq-Decides words k.items).1 same in
-    let no = (neither (has_words words k) (list_any (has_words words) keys) none).0 in
+pub words_absent : (keys : List (Vec ℕ)) (words : List ℕ) (i : ℕ) → All IsCompact keys → false ≡ list_any (has_bytes (bytes_of words)) keys
+    → slice_get (map words_of keys) i ≡ Some words → ⊥
+words_absent [] words i all none is = cc
+words_absent (k ∷ keys) words zero all none is =
+    let read : words_in k.items ≡ words = cc in
+    let same : bytes_of words ≡ k.items = ap bytes_of (sym read) ∙ All-head IsCompact k keys all in
+    let yes = (bytes_eq-Decides (bytes_of words) k.items).1 same in
+    let no = (neither (has_bytes (bytes_of words) k) (list_any (has_bytes (bytes_of words)) keys) none).0 in
     let both : true ≡ false = sym yes ∙ no in
     cc
-words_absent (k ∷ keys) words (suc i) none is =
-    words_absent keys words i (sym (neither (has_words words k) (list_any (has_words words) keys) none).1) is
+words_absent (k ∷ keys) words (suc i) all none is =
+    words_absent keys words i (All-tail IsCompact k keys all)
+    (sym (neither (has_bytes (bytes_of words) k) (list_any (has_bytes (bytes_of words)) keys) none).1) is
 
--- a key with words that are new gets the next number
-pub next_is : (keys new : List (Vec ℕ)) (key : Vec ℕ) (old : List (List ℕ)) (words : List ℕ) (n : ℕ) → map words_of keys ≡ old → key.items ≡ words
-    → false ≡ list_any (has_words words) keys → new ≡ (if list_any (has_words key.items) keys then keys else keys ++ key ∷ []) → n ≡ length keys
-    → GetsNextNumber old words (map words_of new) n
-next_is keys new key old words n view key_is none inserted n_is =
+-- a key whose words are new gets the next number
+pub next_is : (keys new : List (Vec ℕ)) (key : Vec ℕ) (old : List (List ℕ)) (words : List ℕ) (n : ℕ) → map words_of keys ≡ old → All IsCompact keys
+    → key.items ≡ bytes_of words → words_in (bytes_of words) ≡ words → false ≡ list_any (has_bytes (bytes_of words)) keys
+    → new ≡ (if list_any (has_bytes key.items) keys then keys else keys ++ key ∷ []) → n ≡ length keys → GetsNextNumber old words (map words_of new) n
+next_is keys new key old words n view compact key_is back none inserted n_is =
     let added : new ≡ keys ++ key ∷ [] =
-    inserted ∙ ap (λ (b : Bool). if b then keys else keys ++ key ∷ []) (ap (λ (ws : List ℕ). list_any (has_words ws) keys) key_is ∙ sym none) in
+    inserted ∙ ap (λ (b : Bool). if b then keys else keys ++ key ∷ []) (ap (λ (bs : List ℕ). list_any (has_bytes bs) keys) key_is ∙ sym none) in
     record {
-      unknown = λ i is. words_absent keys words i none (subst (λ (ps : List (List ℕ)). slice_get ps i ≡ Some words) (sym view) is);
+      unknown = λ i is. words_absent keys words i compact none (subst (λ (ps : List (List ℕ)). slice_get ps i ≡ Some words) (sym view) is);
       is_next = n_is ∙ sym (length-map keys words_of) ∙ ap length view;
-      appended = ap (map words_of) added ∙ map-append words_of keys (key ∷ []) ∙ (λ k. view k ++ key_is k ∷ []);
+      appended = ap (map words_of) added ∙ map-append words_of keys (key ∷ []) ∙ (λ k. view k ++ (ap words_in key_is ∙ back) k ∷ []);
     }
+
+one_more : (keys : List (Vec ℕ)) (key : Vec ℕ) (t : Bool) → All IsCompact keys → IsCompact key → All IsCompact (if t then keys else keys ++ key ∷ [])
+one_more keys key true all is = all
+one_more keys key false all is = All-append IsCompact keys (key ∷ []) all (All-cons IsCompact key [] is (All-nil IsCompact))
+
+-- with a key that has words' bytes all stay compact
+pub stay_compact : (keys new : List (Vec ℕ)) (key : Vec ℕ) (words : List ℕ) (t : Bool) → All IsCompact keys → key.items ≡ bytes_of words
+    → words_in (bytes_of words) ≡ words → new ≡ (if t then keys else keys ++ key ∷ []) → All IsCompact new
+stay_compact keys new key words t all key_is back inserted =
+    let is : IsCompact key = ap (λ (bs : List ℕ). bytes_of (words_in bs)) key_is ∙ ap bytes_of back ∙ sym key_is in
+    subst (λ (ks : List (Vec ℕ)). All IsCompact ks) (sym inserted) (one_more keys key t all is)
+
+-- ---- whether or not there was memory for the key
+pub stay_either : {E : Type 0} (r : Result Bool E) (keys new : List (Vec ℕ)) (key : Vec ℕ) (words : List ℕ) → All IsCompact keys → key.items ≡ bytes_of words
+    → words_in (bytes_of words) ≡ words → IfOk r (λ _. new ≡ (if list_any (has_bytes key.items) keys then keys else keys ++ key ∷ []))
+    → OnErr r (new ≡ keys) → All IsCompact new
+stay_either (Ok added) keys new key words all key_is back inserted err =
+    stay_compact keys new key words (list_any (has_bytes key.items) keys) all key_is back inserted
+stay_either (Err e) keys new key words all key_is back inserted err = subst (λ (ks : List (Vec ℕ)). All IsCompact ks) (sym err) all

@@ -1,12 +1,14 @@
 //! The states of one opening by number.
 //!
 //! The contract: a [`States`] is seen as the list of the positions that were numbered, each once, as words;
-//! [`States::number`] finds a machine's position there or appends it, and [`States::put_back`] puts a machine
-//! at the position of a number. A hash finds a candidate, and the positions are compared in full. This crate
+//! [`States::number`] finds a machine's position there or appends it, and [`States::words_into`] gives the
+//! words of a number's position, which a machine unpacks. A hash finds a candidate, and the positions are compared in full. This crate
 //! knows no schedule and no way from one state to the next.
 
 #![tactic(auto)]
 
+mod compact;
+pub mod laws;
 mod numbered;
 
 pub use numbered::States;

@@ -1,8 +1,10 @@
 //! Numbered states.
 
-ghost use Rattle.std.specs.Prelude.{◌≡◌, ◌+◌, ◌<◌, ◌≤◌, [], length, IfOk, OnOk, OnErr};
-ghost use Rattle.step_machine.specs.Positions.{packed, put_at, IsSoundMachine};
+ghost use Rattle.std.specs.Prelude.{◌≡◌, ◌+◌, ◌<◌, ◌≤◌, [], length, IfOk, OnOk, OnErr, All};
+ghost use Rattle.states.specs.inner.Compact.{bytes_of, words_in, IsCompact};
+ghost use Rattle.step_machine.specs.Positions.{packed, IsSoundMachine};
 
+use crate::compact::{push_bytes, push_words};
 use indexmap::IndexSet;
 use std::alloc::{AllocError, Global};
 use std::marker::Model;
@@ -12,9 +14,13 @@ use step_machine::MachineState;
 /// list of their positions, each packed as words.
 #[derive(Drop)]
 pub struct States<const B: usize, const M: usize> {
-    positions: IndexSet<Vec<u32>>,
-    /// Room for the position that is looked up.
+    /// Each position's words as bytes.
+    positions: IndexSet<Vec<u8>>,
+    /// Room for the words of one position.
     draft: Vec<u32>,
+    /// Room for the bytes of the position that is looked up.
+    bytes: Vec<u8>,
+    ghost compact: { All IsCompact positions.keys },
 }
 
 impl<const B: usize, const M: usize> Model for States<B, M> {
@@ -24,6 +30,22 @@ impl<const B: usize, const M: usize> Model for States<B, M> {
     ghost Value = { List (List ℕ) };
 
     ghost view = { λ s. map words_of s.positions.keys };
+}
+
+/// Writes the bytes of the machine's position, by its words, in the place of what `bytes` and `words` hold.
+fn position_into<const B: usize, const M: usize>(
+    bytes: &mut Vec<u8>,
+    words: &mut Vec<u32>,
+    machine: &MachineState<B, M>,
+) -> Result<(), AllocError>
+    ensures bytes { OnOk result (bytes.new.items ≡ bytes_of (packed machine.now)) }
+    ensures back { OnOk result (words_in (bytes_of (packed machine.now)) ≡ packed machine.now) }
+    ensures sound { OnOk result (IsSoundMachine B M machine.now) }
+{
+    words.clear();
+    machine.pack(words)?;
+    bytes.clear();
+    push_bytes(bytes, words)
 }
 
 impl<const B: usize, const M: usize> States<B, M> {
@@ -38,6 +60,7 @@ impl<const B: usize, const M: usize> States<B, M> {
         Ok(States {
             positions: IndexSet::new(alloc),
             draft,
+            bytes: Vec::new(alloc),
         })
     }
 
@@ -57,25 +80,26 @@ impl<const B: usize, const M: usize> States<B, M> {
         ensures next { length self.new ≤ length self.old + 1 }
         ensures err { OnErr result (self.new ≡ self.old) }
     {
-        self.draft.clear();
-        machine.pack(&mut self.draft)?;
-        if let Some(number) = self.positions.get_index_of(self.draft.as_slice()) {
+        position_into(&mut self.bytes, &mut self.draft, machine)?;
+        if let Some(number) = self.positions.get_index_of(self.bytes.as_slice()) {
             return Ok(number);
         }
         let number = self.positions.len();
-        let position = Vec::from_slice(*self.draft.allocator(), &self.draft)?;
+        let position = Vec::from_slice(*self.bytes.allocator(), &self.bytes)?;
         self.positions.insert(position)?;
         Ok(number)
     }
 
-    /// Puts the machine at the position of this number, with no report. It takes no memory.
-    pub fn put_back(&self, number: usize, machine: &mut MachineState<B, M>)
+    /// Writes the words of the position of this number in the place of what `words` holds. A machine of the
+    /// opening unpacks them.
+    pub fn words_into(&self, number: usize, words: &mut Vec<u32>) -> Result<(), AllocError>
         requires { number < length self.now }
-        ensures value { machine.new ≡ put_at B M machine.old (words_at self.now number) }
-        ensures harts { length machine.new.harts ≡ length machine.old.harts }
+        ensures { OnOk result (words.new.items ≡ words_at self.now number) }
     {
+        words.clear();
         if let Some(position) = self.positions.get_index(number) {
-            machine.unpack(position);
+            push_words(words, position)?;
         }
+        Ok(())
     }
 }

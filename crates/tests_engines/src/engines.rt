@@ -11,7 +11,7 @@ use std::sync::Wait;
 use std::thread::Threads;
 use tries::progress::Progress;
 use tries::trials::{Runs, try_engine};
-use views::charting::{Style, chart_engine};
+use views::charting::{Selection, Style, chart_engine};
 use views::shrinking::shrink_engine;
 use ztso_engines::asm::asm_engine;
 use ztso_engines::channel::channel_engine;
@@ -101,7 +101,14 @@ pub fn answer(
     match engine {
         Engine::Asm => asm_engine(alloc, first, writer),
         Engine::Chart => {
-            chart_engine::<4, 4096, _, _, _>(alloc, Style::Text, first, second, writer)
+            chart_engine::<4, 4096, _, _, _>(
+                alloc,
+                Style::Text,
+                Selection::EveryRow,
+                first,
+                second,
+                writer,
+            )
         }
         Engine::Channel => {
             channel_engine::<Lamport, 2, 4096, Reader, Reader, Writer>(

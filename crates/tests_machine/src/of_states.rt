@@ -45,7 +45,9 @@ fn a_machine_put_back_goes_on_from_there(rt: HostRuntime) {
     run(&rt, &mut machine, &[A0, A1, L0]);
     let end = states.number(&machine).expect(&rt, "memory");
     assert!(rt; there < states.len());
-    states.put_back(there, &mut machine);
+    let mut words = Vec::new(rt.alloc());
+    states.words_into(there, &mut words).expect(&rt, "memory");
+    machine.unpack(&words);
     assert_same!(rt; states.number(&machine).expect(&rt, "memory"), there);
     assert!(rt; machine.harts() == 2);
     assert_same!(rt; machine.status(0) == Status::Running, true);

@@ -12,6 +12,7 @@ use Rattle.litmus_reader.specs.Headings.{HeadingOf}
 use Rattle.litmus_reader.specs.Reading.{hart_content}
 use Rattle.litmus_reader.proofs.HeadingLaws.{one_heading}
 use Rattle.recorder.specs.Versions.{Said, events_said}
+use Rattle.chart.specs.declared.scenes.Selection.{Selection}
 use Rattle.chart.specs.Layout.{AboutOf, layout}
 use Rattle.chart.specs.Pictures.{IsClear}
 use Rattle.chart.proofs.PictureLaws.{picture_clear, heads_of_picture}
@@ -83,11 +84,11 @@ charts_alike B M draws file schedule =
         one_answer B M draws heading q said a b tells
         (subst (λ (h : HeadingOf). IsChart B M draws h q said b) (one_heading file other heading also is) holds)
 
-pub clear_chart : (B M : ℕ) (draws : Drawing) (file : List ℕ) (heading : HeadingOf) (q : LitmusTest) (said : Said) (answer : Output)
+pub clear_chart : (selection : Selection) (B M : ℕ) (draws : Drawing) (file : List ℕ) (heading : HeadingOf) (q : LitmusTest) (said : Said) (answer : Output)
     → IsTestOf file q → (chart : IsChartOf B M draws heading q said answer)
-    → All IsClear (layout chart.about chart.history.entries).body × IsClear (layout chart.about chart.history.entries).heads
+    → All IsClear (layout selection chart.about chart.history.entries).body × IsClear (layout selection chart.about chart.history.entries).heads
 unfolding IsTestOf
-clear_chart B M draws file heading q said answer is_test chart =
+clear_chart selection B M draws file heading q said answer is_test chart =
     let t = chart.history in
     let stays : length t.opening.harts ≡ length q.opening.harts =
     ap (λ (o : Start). length o.harts) (opening_stays B M q.opening said t chart.ran) in
@@ -96,7 +97,7 @@ clear_chart B M draws file heading q said answer is_test chart =
     let few : chart.about.harts ≤ 255 = omega (arith, harts, stays, most, length-map q.opening.harts hart_content) in
     let rows : length t.entries ≤ 10000 = chart.few in
     let kept = kept-run B M (unrun q.opening) (events_said said) t (kept-unrun B M q.opening) (runs_events B M q.opening said t chart.ran) in (
-      picture_clear chart.about t.entries few
+      picture_clear selection chart.about t.entries few
           (subst (λ (n : ℕ). All (λ (e : Entry). hart_of e < n) t.entries) (sym harts) kept.of_harts) (omega (arith, rows)),
-      heads_of_picture chart.about t.entries few,
+      heads_of_picture selection chart.about t.entries few,
     )

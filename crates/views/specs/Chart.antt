@@ -5,6 +5,7 @@ use Rattle.step_machine.specs.History.{History}
 use Rattle.litmus.specs.LitmusTests.{LitmusTest}
 use Rattle.litmus_reader.specs.Headings.{HeadingOf, IsHeading}
 use Rattle.recorder.specs.Versions.{Said}
+use Rattle.chart.specs.declared.scenes.Selection.{Selection}
 use Rattle.chart.specs.Layout.{AboutOf, chart_text}
 use Rattle.chart.specs.Svg.{chart_svg}
 use Rattle.engine_parts.specs.declared.fault.Refusal.{Refusal}
@@ -20,9 +21,10 @@ use Rattle.views.specs.declared.charting.TheConstants.{MAX_ROWS}
 abbrev pub Drawing : Type 0
 Drawing = AboutOf → List Entry → List ℕ
 
-abbrev pub drawing : Style → Drawing
-drawing Text = chart_text
-drawing Svg = chart_svg
+-- of which rows
+abbrev pub drawing : Style → Selection → Drawing
+drawing Text selection = chart_text selection
+drawing Svg selection = chart_svg selection
 
 -- the output is the picture of the schedule's run, which has at most MAX_ROWS entries
 pub record IsChartOf (B M : ℕ) (draws : Drawing) (heading : HeadingOf) (test : LitmusTest) (said : Said) (answer : Output) : Type 0 where

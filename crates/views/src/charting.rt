@@ -14,6 +14,7 @@ ghost use Rattle.litmus.specs.declared.litmus_test.TheConstants.{MAX_LOCATIONS};
 
 use crate::about::about_run;
 use crate::heading::read_headed;
+pub use chart::charts::Selection;
 use chart::charts::{About, chart_svg, chart_text};
 use engine_parts::fault::{Fault, Position, TOO_LARGE};
 use engine_parts::output::end_with;
@@ -37,12 +38,18 @@ pub enum Style {
 }
 
 /// The picture of a run with these entries.
-fn drawn(alloc: Global, style: Style, about: About, entries: &[Entry]) -> Result<String, AllocError>
-    ensures { IfOk result (λ text. string_bytes text ≡ drawing style about entries.now) }
+fn drawn(
+    alloc: Global,
+    style: Style,
+    selection: Selection,
+    about: About,
+    entries: &[Entry],
+) -> Result<String, AllocError>
+    ensures { IfOk result (λ text. string_bytes text ≡ drawing style selection about entries.now) }
 {
     match style {
-        Style::Text => chart_text(alloc, about, entries),
-        Style::Svg => chart_svg(alloc, about, entries),
+        Style::Text => chart_text(alloc, selection, about, entries),
+        Style::Svg => chart_svg(alloc, selection, about, entries),
     }
 }
 
@@ -50,6 +57,7 @@ fn drawn(alloc: Global, style: Style, about: About, entries: &[Entry]) -> Result
 fn picture_of_run<const B: usize, const M: usize>(
     alloc: Global,
     style: Style,
+    selection: Selection,
     test: &Test,
     heading: &Heading,
     machine: &mut Machine<B, M>,
@@ -58,14 +66,14 @@ fn picture_of_run<const B: usize, const M: usize>(
     requires opening { machine.old.history.opening ≡ test.now.opening }
     requires locations { length test.now.opening.words ≡ length test.now.names }
     requires names { length test.now.names ≤ M }
-    ensures { (said : Said) → Runs B M test.now.opening said (Ok machine.old.history) → AnswersAs (IsChart B M (drawing style) (heading_of heading.now) test.now said) text_and_value result }
+    ensures { (said : Said) → Runs B M test.now.opening said (Ok machine.old.history) → AnswersAs (IsChart B M (drawing style selection) (heading_of heading.now) test.now said) text_and_value result }
 {
     let entries = machine.entries().into_vec(alloc)?;
     if entries.len() > MAX_ROWS {
         return Err(Fault::refused(TOO_LARGE, Position::Nowhere));
     }
     let about = about_run(alloc, test, heading, machine, &entries)?;
-    let text = drawn(alloc, style, about, &entries)?;
+    let text = drawn(alloc, style, selection, about, &entries)?;
     Ok((text, ()))
 }
 
@@ -73,6 +81,7 @@ fn picture_of_run<const B: usize, const M: usize>(
 fn picture<const B: usize, const M: usize>(
     alloc: Global,
     style: Style,
+    selection: Selection,
     test: &Test,
     heading: &Heading,
     schedule: Schedule,
@@ -82,10 +91,10 @@ fn picture<const B: usize, const M: usize>(
     requires words { MAX_LOCATIONS ≤ M }
     requires size { M ≤ 65536 }
     requires locations { length test.now.opening.words ≡ length test.now.names }
-    ensures { AnswersAs (IsChart B M (drawing style) (heading_of heading.now) test.now (said_of schedule)) text_and_value result }
+    ensures { AnswersAs (IsChart B M (drawing style selection) (heading_of heading.now) test.now (said_of schedule)) text_and_value result }
 {
     match machine_of_schedule::<B, M>(alloc, test, schedule) {
-        Ok(mut machine) => picture_of_run(alloc, style, test, heading, &mut machine),
+        Ok(mut machine) => picture_of_run(alloc, style, selection, test, heading, &mut machine),
         Err(fault) => Err(fault),
     }
 }
@@ -94,6 +103,7 @@ fn picture<const B: usize, const M: usize>(
 fn made<const B: usize, const M: usize, F: Read, S: Read>(
     alloc: Global,
     style: Style,
+    selection: Selection,
     file: &mut F,
     schedule: &mut S,
 ) -> Result<(String, ()), Fault>
@@ -101,17 +111,18 @@ fn made<const B: usize, const M: usize, F: Read, S: Read>(
     requires capacity { B ≤ 64 }
     requires words { MAX_LOCATIONS ≤ M }
     requires size { M ≤ 65536 }
-    ensures made { Finds (AnswersBoth (IsChartAnswer B M (drawing style)) (F.remaining file.old) (S.remaining schedule.old)) text_and_value result }
+    ensures made { Finds (AnswersBoth (IsChartAnswer B M (drawing style selection)) (F.remaining file.old) (S.remaining schedule.old)) text_and_value result }
     ensures unread { HasNoTest (F.remaining file.old) → schedule.new ≡ schedule.old }
 {
     let (test, heading) = read_headed(alloc, file)?;
     let said = read_schedule(alloc, schedule)?;
-    picture::<B, M>(alloc, style, &test, &heading, said)
+    picture::<B, M>(alloc, style, selection, &test, &heading, said)
 }
 
 /// Reads a litmus text and then a schedule of either version, each to its end, runs the schedule from the
 /// test's opening with store buffers of `B` pairs and `M` words of memory, and writes a picture of the run:
-/// a row for each entry, below the test's name and above the last values and the verdict.
+/// a row for each entry, or for each but inner ones, below the test's name and above the last values and the
+/// verdict.
 ///
 /// Inputs are refused as [`crate::shrinking::shrink_engine`] refuses them, except that a run needn't be
 /// finished. A run of more than [`MAX_ROWS`] entries is refused as too large
@@ -120,6 +131,7 @@ fn made<const B: usize, const M: usize, F: Read, S: Read>(
 pub fn chart_engine<const B: usize, const M: usize, F: Read, S: Read, W: Write>(
     alloc: Global,
     style: Style,
+    selection: Selection,
     file: &mut F,
     schedule: &mut S,
     writer: &mut W,
@@ -128,8 +140,11 @@ pub fn chart_engine<const B: usize, const M: usize, F: Read, S: Read, W: Write>(
     requires capacity { B ≤ 64 }
     requires words { MAX_LOCATIONS ≤ M }
     requires size { M ≤ 65536 }
-    ensures ends { EndsByBoth (IsChartAnswer B M (drawing style)) result (F.remaining file.old) (S.remaining schedule.old) W.contents writer.old writer.new }
+    ensures ends { EndsByBoth (IsChartAnswer B M (drawing style selection)) result (F.remaining file.old) (S.remaining schedule.old) W.contents writer.old writer.new }
     ensures unread { HasNoTest (F.remaining file.old) → schedule.new ≡ schedule.old }
 {
-    end_with(made::<B, M, F, S>(alloc, style, file, schedule), writer)
+    end_with(
+        made::<B, M, F, S>(alloc, style, selection, file, schedule),
+        writer,
+    )
 }

@@ -5,6 +5,7 @@ ghost use Rattle.litmus.specs.LitmusTests.{LitmusTest};
 ghost use Rattle.litmus_reader.specs.Grammar.{IsTestOf};
 ghost use Rattle.litmus_reader.specs.Headings.{HeadingOf};
 ghost use Rattle.recorder.specs.Versions.{Said};
+ghost use Rattle.chart.specs.declared.scenes.Selection.{Selection};
 ghost use Rattle.chart.specs.Layout.{layout};
 ghost use Rattle.chart.specs.Pictures.{IsClear};
 ghost use Rattle.engine_parts.specs.declared.fault.Refusal.{Refusal};
@@ -30,10 +31,10 @@ pub fn one_chart()
     ensures { (B M : ℕ) (draws : Drawing) (file schedule : List ℕ) (a b : Result Output Refusal) → IsChartAnswer B M draws file schedule a → IsChartAnswer B M draws file schedule b → AreOneAnswer a b }
 {}
 
-/// In the chart of a text's test no text of a row stands on another text or on a line, and no head of a column
-/// on another head. It does nothing.
+/// In the chart of a text's test, of all rows or without some, no text of a row stands on another text or on a
+/// line, and no head of a column on another head. It does nothing.
 pub fn charts_are_clear()
-    ensures { (B M : ℕ) (draws : Drawing) (file : List ℕ) (heading : HeadingOf) (test : LitmusTest) (said : Said) (answer : Output) → IsTestOf file test → (chart : IsChartOf B M draws heading test said answer) → All IsClear (layout chart.about chart.history.entries).body × IsClear (layout chart.about chart.history.entries).heads }
+    ensures { (selection : Selection) (B M : ℕ) (draws : Drawing) (file : List ℕ) (heading : HeadingOf) (test : LitmusTest) (said : Said) (answer : Output) → IsTestOf file test → (chart : IsChartOf B M draws heading test said answer) → All IsClear (layout selection chart.about chart.history.entries).body × IsClear (layout selection chart.about chart.history.entries).heads }
 {}
 
 /// Two answers of `show` to one input are one text, or refusals of one number. Of a refused litmus text it isn't

@@ -3,6 +3,7 @@
 ghost use Rattle.std.specs.Prelude.{◌≡◌, ◌≤◌, length, IfOk};
 ghost use Rattle.std.specs.String.{string_bytes};
 ghost use Rattle.std.specs.Str.{IsUtf8};
+ghost use Rattle.litmus_reader.specs.Grammar.{IsTestOf};
 ghost use Rattle.litmus_reader.specs.Headings.{IsHeading, heading_of};
 ghost use Rattle.engine_parts.specs.Engines.{EndsBy};
 ghost use Rattle.engine_parts.specs.Faults.{AnswersAs};
@@ -19,7 +20,7 @@ use engine_parts::fault::Fault;
 use engine_parts::input::read_text;
 use engine_parts::output::end_with;
 use litmus::Test;
-use litmus_reader::{Heading, read_listing};
+use litmus_reader::{Heading, LitmusError, read_listing};
 use std::alloc::{AllocError, Global};
 use std::io::{Read, Write};
 
@@ -32,20 +33,22 @@ pub enum Form {
     Steps,
 }
 
-/// The lines of a text's test. A text with a test has a listing, so that only memory can be missing for it.
+/// The lines of a text's test. A text with a test has a listing.
 fn table_of(
     alloc: Global,
     text: &str,
     test: &Test,
     heading: &Heading,
 ) -> Result<(String, ()), Fault>
+    requires test { IsTestOf text.now test.now }
     requires locations { length test.now.opening.words ≡ length test.now.names }
     requires heading { IsHeading text.now (heading_of heading.now) }
     ensures { AnswersAs (IsShow Table text.now test.now) text_and_value result }
 {
     let rows = match read_listing(alloc, text) {
         Ok(rows) => rows,
-        Err(_) => return Err(Fault::NoMemory),
+        Err(LitmusError::NoMemory) => return Err(Fault::NoMemory),
+        Err(LitmusError::Refused(_)) => unreachable!(),
     };
     let lines = test_lines(alloc, test, heading, &rows)?;
     Ok((lines, ()))
@@ -67,6 +70,7 @@ fn shown(
     test: &Test,
     heading: &Heading,
 ) -> Result<(String, ()), Fault>
+    requires test { IsTestOf text.now test.now }
     requires locations { length test.now.opening.words ≡ length test.now.names }
     requires heading { IsHeading text.now (heading_of heading.now) }
     ensures { AnswersAs (IsShow form text.now test.now) text_and_value result }

@@ -7,7 +7,7 @@ use Rattle.ztso.proofs.Pieces.{Piece, plain, other, text_in, ArePlain, IsCommand
 use Rattle.ztso.specs.CommandLines.{Answers, capacity_said, job_said, number_if_said, ring_said, ◌>>=◌}
 use Rattle.ztso.specs.Numbers.{number_within}
 use Rattle.ztso.specs.Spellings.{AsksByFlag, AsksFor, AsksForNumber, AsksForStride, IsOnFiles, IsSpelling, IsSpellingOf}
-use Rattle.ztso.specs.Spellings.{IsWord, is_steps, is_svg, name_of, text_of}
+use Rattle.ztso.specs.Spellings.{IsWord, is_steps, is_of_memory, is_svg, name_of, text_of}
 use Rattle.ztso.specs.declared.job.Ring.{Ring}
 use Rattle.ztso.specs.declared.job.Ring.TheVariants.{Lamport, FastForward}
 use Rattle.ztso.specs.declared.job.Command.{Command}
@@ -20,6 +20,8 @@ use Rattle.ztso.specs.declared.job.Command.TheVariants.{Code, Machine, Find, Thr
 use Rattle.ztso.specs.declared.job.MachineCommand.{MachineCommand}
 use Rattle.ztso.specs.declared.job.MachineCommand.TheVariants.{Steps, Run, Replay, Move, Shrink, Chart, Show, Check, Debug, Try, Channel}
 use Rattle.poll_close.specs.declared.place.Place.{Place}
+use Rattle.chart.specs.declared.scenes.Selection.{Selection}
+use Rattle.chart.specs.declared.scenes.Selection.TheVariants.{EveryRow, MemoryRows}
 use Rattle.views.specs.declared.charting.Style.{Style}
 use Rattle.views.specs.declared.charting.Style.TheVariants.{Svg}
 use Rattle.views.specs.declared.charting.Style.TheVariants as style
@@ -246,16 +248,26 @@ chart_is_command : IsCommand (codes "chart")
 unfolding clap_on_literals
 chart_is_command = (refl, refl)
 
-chart_read : (file schedule : Text) (drawn : Style) (tail : Tail) (t : Text)
-    → said (codes "chart") (plain file ∷ plain schedule ∷ flag_pieces (codes "--svg") (is_svg drawn) (tail_of tail t))
-    ≡ on_files_of file schedule (machine_of (capacity_at tail t) (Some (Chart drawn)))
+abbrev chart_pieces : (file schedule : Text) → Style → Selection → List Piece → List Piece
+chart_pieces file schedule drawn selection tail =
+    plain file ∷ plain schedule ∷ flag_pieces (codes "--svg") (is_svg drawn) (flag_pieces (codes "--memory") (is_of_memory selection) tail)
+
+chart_read : (file schedule : Text) (drawn : Style) (selection : Selection) (tail : Tail) (t : Text)
+    → said (codes "chart") (chart_pieces file schedule drawn selection (tail_of tail t))
+    ≡ on_files_of file schedule (machine_of (capacity_at tail t) (Some (Chart drawn selection)))
 unfolding clap_on_literals pieces_fault
-chart_read file schedule style.Text none t = refl
-chart_read file schedule style.Text blank t = refl
-chart_read file schedule style.Text equals t = refl
-chart_read file schedule Svg none t = refl
-chart_read file schedule Svg blank t = refl
-chart_read file schedule Svg equals t = refl
+chart_read file schedule style.Text EveryRow none t = refl
+chart_read file schedule style.Text EveryRow blank t = refl
+chart_read file schedule style.Text EveryRow equals t = refl
+chart_read file schedule style.Text MemoryRows none t = refl
+chart_read file schedule style.Text MemoryRows blank t = refl
+chart_read file schedule style.Text MemoryRows equals t = refl
+chart_read file schedule Svg EveryRow none t = refl
+chart_read file schedule Svg EveryRow blank t = refl
+chart_read file schedule Svg EveryRow equals t = refl
+chart_read file schedule Svg MemoryRows none t = refl
+chart_read file schedule Svg MemoryRows blank t = refl
+chart_read file schedule Svg MemoryRows equals t = refl
 
 -- ---- `show` and `check`
 
@@ -498,15 +510,17 @@ spelled_of name rest (Machine Run capacity) wanted spelling = of_files name rest
 spelled_of name rest (Machine Replay capacity) wanted spelling = of_files name rest replaying capacity wanted spelling
 spelled_of name rest (Machine Move capacity) wanted spelling = of_files name rest moving capacity wanted spelling
 spelled_of name rest (Machine Shrink capacity) wanted spelling = of_files name rest shrinking capacity wanted spelling
-spelled_of name rest (Machine (Chart drawn) capacity) wanted (file, schedule, first, options, is, f, s, draws, asks, wants) =
+spelled_of name rest (Machine (Chart drawn selection) capacity) wanted (file, schedule, first, second, options, is, f, s, draws, chooses, asks, wants) =
     let to = capacity_spelled capacity options asks in
     let end = tail_of to.tail to.text in
-    by_pieces name (codes "chart") (plain file ∷ plain schedule ∷ flag_pieces (codes "--svg") (is_svg drawn) end) rest wanted chart_is_command
-    (f, (s, flag_plain (codes "--svg") (is_svg drawn) end to.are))
+    let behind = flag_pieces (codes "--memory") (is_of_memory selection) end in
+    by_pieces name (codes "chart") (chart_pieces file schedule drawn selection end) rest wanted chart_is_command
+    (f, (s, flag_plain (codes "--svg") (is_svg drawn) behind (flag_plain (codes "--memory") (is_of_memory selection) end to.are)))
     (is ∙ ap (λ (o : List Text). codes "chart" ∷ file ∷ schedule ∷ o)
-    (flag_texts (codes "--svg") (is_svg drawn) first options end draws to.is))
-    (chart_read file schedule drawn to.tail to.text
-    ∙ on_files_says (Chart drawn) file schedule capacity _ to.says ∙ ap (λ (w : Wanted). Some w) (sym wants))
+    (flag_texts (codes "--svg") (is_svg drawn) first (second ++ options) behind draws
+    (flag_texts (codes "--memory") (is_of_memory selection) second options end chooses to.is)))
+    (chart_read file schedule drawn selection to.tail to.text
+    ∙ on_files_says (Chart drawn selection) file schedule capacity _ to.says ∙ ap (λ (w : Wanted). Some w) (sym wants))
 spelled_of name rest (Machine (Show told) capacity) wanted (file, first, options, is, f, tells, asks, wants) =
     let to = capacity_spelled capacity options asks in
     let end = tail_of to.tail to.text in

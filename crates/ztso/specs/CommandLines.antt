@@ -16,6 +16,8 @@ use Rattle.ztso.specs.declared.job.CodeCommand.TheVariants.{Asm, Dis}
 use Rattle.ztso.specs.declared.job.Command.{Command}
 use Rattle.ztso.specs.declared.job.Command.TheVariants.{Code, Machine, Find, Threads}
 use Rattle.ztso.specs.declared.job.MachineCommand.{MachineCommand}
+use Rattle.chart.specs.declared.scenes.Selection.{Selection}
+use Rattle.chart.specs.declared.scenes.Selection.TheVariants.{EveryRow, MemoryRows}
 use Rattle.views.specs.declared.charting.Style.{Style}
 use Rattle.views.specs.declared.charting.Style.TheVariants.{Svg}
 use Rattle.views.specs.declared.charting.Style.TheVariants as style
@@ -70,10 +72,15 @@ number_if_said (Some text) = option_map (λ (number : ℕ). Some number) (number
 abbrev pub style_said : Text → Style
 style_said text = if flag_said text then Svg else style.Text
 
+-- which rows it draws, by its flag
+abbrev pub selection_said : Text → Selection
+selection_said text = if flag_said text then MemoryRows else EveryRow
+
 abbrev pub chart_in : List Row → Option MachineCommand
 chart_in options = do
   svg ← first_of (codes "svg") options
-  Some (Chart (style_said svg))
+  memory ← first_of (codes "memory") options
+  Some (Chart (style_said svg) (selection_said memory))
 
 -- the form in which `show` tells a test, by its flag
 abbrev pub form_said : Text → Form

@@ -88,9 +88,10 @@ flag name = record (new_rule name) {
   action = Some SetTrue;
 }
 
--- `chart FILE SCHEDULE [--svg] [--buffer B]`
+-- `chart FILE SCHEDULE [--svg] [--memory] [--buffer B]`
 abbrev pub chart_rules : List Rule
-chart_rules = word_wanted (codes "file") ∷ word_wanted (codes "schedule") ∷ flag (codes "svg") ∷ buffer_option ∷ []
+chart_rules =
+    word_wanted (codes "file") ∷ word_wanted (codes "schedule") ∷ flag (codes "svg") ∷ flag (codes "memory") ∷ buffer_option ∷ []
 
 abbrev pub chart_command : App
 chart_command = with_rules (new_app (codes "chart")) chart_rules

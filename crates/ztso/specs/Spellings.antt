@@ -9,6 +9,8 @@ use Rattle.ztso.specs.declared.job.Command.{Command}
 use Rattle.ztso.specs.declared.job.CodeCommand.TheVariants.{Asm, Dis}
 use Rattle.ztso.specs.declared.job.Command.TheVariants.{Code, Machine, Find, Threads}
 use Rattle.ztso.specs.declared.job.MachineCommand.{MachineCommand}
+use Rattle.chart.specs.declared.scenes.Selection.{Selection}
+use Rattle.chart.specs.declared.scenes.Selection.TheVariants.{EveryRow, MemoryRows}
 use Rattle.views.specs.declared.charting.Style.{Style}
 use Rattle.views.specs.declared.charting.Style.TheVariants.{Svg}
 use Rattle.views.specs.declared.charting.Style.TheVariants as style
@@ -95,6 +97,14 @@ is_svg Svg = true
 abbrev pub AsksForStyle : Style → List Text → Type 0
 AsksForStyle drawn words = AsksByFlag (codes "--svg") (is_svg drawn) words
 
+-- whether inner rows are left out, which `--memory` asks for
+abbrev pub is_of_memory : Selection → Bool
+is_of_memory EveryRow = false
+is_of_memory MemoryRows = true
+
+abbrev pub AsksForRows : Selection → List Text → Type 0
+AsksForRows drawn words = AsksByFlag (codes "--memory") (is_of_memory drawn) words
+
 -- whether a test is shown as a steps text, which `--steps` asks for
 abbrev pub is_steps : Form → Bool
 is_steps form.Table = false
@@ -123,10 +133,10 @@ IsSpellingOf (Machine Run capacity) wanted words = IsOnFiles (codes "run") Run c
 IsSpellingOf (Machine Replay capacity) wanted words = IsOnFiles (codes "replay") Replay capacity wanted words
 IsSpellingOf (Machine Move capacity) wanted words = IsOnFiles (codes "move") Move capacity wanted words
 IsSpellingOf (Machine Shrink capacity) wanted words = IsOnFiles (codes "shrink") Shrink capacity wanted words
-IsSpellingOf (Machine (Chart drawn) capacity) wanted words =
-    (file schedule : Text) × (first options : List Text) × (words ≡ codes "chart" ∷ file ∷ schedule ∷ (first ++ options))
-    × IsWord file × IsWord schedule × AsksForStyle drawn first × AsksFor capacity options
-    × (wanted ≡ two_inputs (Machine (Chart drawn) capacity) (File file) (File schedule))
+IsSpellingOf (Machine (Chart drawn selection) capacity) wanted words =
+    (file schedule : Text) × (first second options : List Text) × (words ≡ codes "chart" ∷ file ∷ schedule ∷ (first ++ (second ++ options)))
+    × IsWord file × IsWord schedule × AsksForStyle drawn first × AsksForRows selection second × AsksFor capacity options
+    × (wanted ≡ two_inputs (Machine (Chart drawn selection) capacity) (File file) (File schedule))
 IsSpellingOf (Machine (Show told) capacity) wanted words =
     (file : Text) × (first options : List Text) × (words ≡ codes "show" ∷ file ∷ (first ++ options))
     × IsWord file × AsksForForm told first × AsksFor capacity options

@@ -2,7 +2,7 @@
 
 ghost use Rattle.std.specs.Prelude.{◌≡◌, ◌∷◌, ℕ, List, IfOk, map, option_and_then, option_map};
 ghost use Rattle.clap.specs.Words.{FailsBy, fault_of, first_of, found_of, rows_of, subcommand_of, subcommand_rows_of};
-ghost use Rattle.ztso.specs.CommandLines.{Answers, capacity_said, job_in, channel_in, chart_in, find_in, flag_said, form_said, show_in, style_said, job_said, number_if_said, machine_in, on_file, on_file_and_schedule, on_file_and_standard, on_schedule_and_standard, on_standard, ring_said, threads_in, try_in};
+ghost use Rattle.ztso.specs.CommandLines.{Answers, capacity_said, job_in, channel_in, chart_in, find_in, flag_said, form_said, show_in, style_said, selection_said, job_said, number_if_said, machine_in, on_file, on_file_and_schedule, on_file_and_standard, on_schedule_and_standard, on_standard, ring_said, threads_in, try_in};
 ghost use Rattle.ztso.specs.Descriptions.{ztso_command};
 ghost use Rattle.ztso.specs.Spellings.{IsSpelling};
 ghost use Rattle.ztso.specs.Jobs.{Wanted, wanted_by};
@@ -17,7 +17,7 @@ use recorder::MAX_EVENTS;
 use std::alloc::Global;
 use std::convert::AsStr;
 use tries::trials::Runs;
-use views::charting::Style;
+use views::charting::{Selection, Style};
 use views::showing::Form;
 
 mod description;
@@ -219,7 +219,19 @@ fn chart_in(options: &ArgMatches<'_>) -> Option<MachineCommand>
     ensures { result ≡ chart_in (rows_of (found_of options.now)) }
 {
     let style = style_of(word_in(options, "svg")?);
-    Some(MachineCommand::Chart { style })
+    let selection = selection_of(word_in(options, "memory")?);
+    Some(MachineCommand::Chart { style, selection })
+}
+
+/// Which rows are drawn.
+fn selection_of(text: &str) -> Selection
+    ensures { result ≡ selection_said text.now }
+{
+    if flag_of(text) {
+        Selection::MemoryRows
+    } else {
+        Selection::EveryRow
+    }
 }
 
 fn style_of(text: &str) -> Style

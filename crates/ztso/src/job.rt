@@ -2,7 +2,7 @@
 
 use poll_close::Place;
 use tries::trials::Runs;
-use views::charting::Style;
+use views::charting::{Selection, Style};
 use views::showing::Form;
 
 /// How many stores a hart's buffer holds.
@@ -42,9 +42,10 @@ pub enum MachineCommand {
     Move,
     /// To leave out of a schedule what its outcome of a litmus test doesn't need.
     Shrink,
-    /// To draw a litmus test's run by a schedule, as text or as SVG.
+    /// To draw these rows of a litmus test's run by a schedule, as text or as SVG.
     Chart {
         style: Style,
+        selection: Selection,
     },
     /// To tell what a litmus test is, in this form.
     Show {

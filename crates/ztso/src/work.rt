@@ -204,8 +204,8 @@ fn do_buffered<const B: usize, F: Read, S: Read, C: Read, W: Write, T: Threads +
         MachineCommand::Shrink => {
             after(shrink_engine::<B, WORDS, _, _, _>(alloc, first, second, writer))
         }
-        MachineCommand::Chart { style } => {
-            after(chart_engine::<B, WORDS, _, _, _>(alloc, style, first, second, writer))
+        MachineCommand::Chart { style, selection } => {
+            after(chart_engine::<B, WORDS, _, _, _>(alloc, style, selection, first, second, writer))
         }
         MachineCommand::Show { form } => after(show_engine(alloc, form, first, writer)),
         MachineCommand::Check => after_runs(check::<B, _, _, _>(alloc, first, second, writer)),

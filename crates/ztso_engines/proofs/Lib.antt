@@ -11,3 +11,4 @@ pub mod OneAnswer
 pub mod OneChannel
 pub mod ChannelLaws
 pub mod SeatsComplete
+pub mod ShownSteps

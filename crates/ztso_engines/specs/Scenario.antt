@@ -1,6 +1,6 @@
 -- What a steps text tells: an opening, and the events to run from it.
 use Rattle.std.specs.Prelude.{ℕ, ◌+◌, ◌/◌, ◌<◌, ◌≤◌, zero, suc, List, [], ◌∷◌, ◌++◌, length, replicate, slice_set}
-use Rattle.memory.specs.Words.{IsAddress}
+use Rattle.memory.specs.Words.{IsAddress, opened_words}
 use Rattle.step_machine.specs.History.{HartStart, Start}
 use Rattle.step_machine.specs.declared.events.Event.{Event}
 use Rattle.step_machine.specs.declared.opening.TheConstants.{MAX_HARTS}
@@ -24,6 +24,10 @@ no_scenario M = record { harts = []; words = replicate M 0; events = [] }
 
 abbrev pub opening_of : Scenario → Start
 opening_of t = record { harts = t.harts; words = t.words }
+
+-- these events from this opening, on a machine with M words
+abbrev pub scenario_from : (M : ℕ) → Start → List Event → Scenario
+scenario_from M opening events = record { harts = opening.harts; words = opened_words M opening.words; events = events }
 
 -- what one line says
 pub data Statement : Type 0 where

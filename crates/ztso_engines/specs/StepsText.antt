@@ -3,6 +3,7 @@ use Rattle.std.specs.Prelude.{ℕ, ◌≡◌, ◌≤◌, ◌⊎◌, List, [], �
 use Rattle.std.specs.List.{AllZip}
 use Rattle.std.specs.Str.Lines.{lines}
 use Rattle.texts.specs.Numbers.{SaysWord, IsHexWord}
+use Rattle.step_machine.specs.declared.events.Event.{Event}
 use Rattle.recorder.specs.Schedule.{IsTokensOf}
 use Rattle.texts.specs.Cutting.{tokens, first_cut}
 use Rattle.ztso_engines.specs.Scenario.{Scenario, no_scenario, Statement, hart, reg, word, steps, with_statement, MayCome}
@@ -13,6 +14,10 @@ LineSays line (hart code) = (numbers : List (List ℕ)) × (tokens line ≡ code
 LineSays line (reg h n v) = (H N V : List ℕ) × (tokens line ≡ codes "reg" ∷ H ∷ N ∷ V ∷ []) × SaysWord H h × SaysWord N n × SaysWord V v
 LineSays line (word a v) = (A V : List ℕ) × (tokens line ≡ codes "word" ∷ A ∷ V ∷ []) × SaysWord A a × SaysWord V v
 LineSays line (steps events) = (tokens : List ℕ) × (first_cut line ≡ Some (codes "steps", tokens)) × IsTokensOf tokens events
+
+-- The text is one line, which says these events.
+abbrev pub IsStepsLine : List ℕ → List Event → Type 0
+IsStepsLine text events = (line : List ℕ) × (lines text ≡ line ∷ []) × LineSays line (steps events)
 
 -- From the top, each line says what may come there, or has no word and says nothing.
 abbrev pub LinesDescribe : Scenario → List (List ℕ) → Scenario → Type 0

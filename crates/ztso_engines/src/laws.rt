@@ -1,6 +1,6 @@
 //! Laws of the texts.
 
-ghost use Rattle.std.specs.Prelude.{◌≡◌, ◌<◌, ◌^◌, ◌↔◌, ℕ, Bool, true, false, List, Ok, Result, Some};
+ghost use Rattle.std.specs.Prelude.{◌≡◌, ◌<◌, ◌≤◌, ◌^◌, ◌↔◌, ◌++◌, [], length, ℕ, Bool, true, false, List, Ok, Result, Some};
 ghost use Rattle.std.specs.List.{All, flat_map};
 ghost use Rattle.rand_core.specs.Stream.{Stream};
 ghost use Rattle.poll_close.specs.Layout.{Layout};
@@ -8,8 +8,13 @@ ghost use Rattle.poll_close.specs.Laws.{Ring};
 ghost use Rattle.litmus.specs.declared.verdict.Verdict.{Verdict};
 ghost use Rattle.engine_parts.specs.declared.fault.Refusal.{Refusal};
 ghost use Rattle.engine_parts.specs.Engines.{Output, Accepted, AreAlike, AreOneAnswer, judged};
-ghost use Rattle.ztso_engines.specs.Scenario.{Scenario};
-ghost use Rattle.ztso_engines.specs.StepsText.{Describes};
+ghost use Rattle.step_machine.specs.declared.events.Event.{Event};
+ghost use Rattle.recorder.specs.declared.reading.TheConstants.{MAX_EVENTS};
+ghost use Rattle.litmus.specs.LitmusTests.{LitmusTest};
+ghost use Rattle.litmus_reader.specs.Grammar.{IsTestOf};
+ghost use Rattle.views.specs.Openings.{steps_text};
+ghost use Rattle.ztso_engines.specs.Scenario.{Scenario, scenario_from};
+ghost use Rattle.ztso_engines.specs.StepsText.{Describes, IsStepsLine};
 ghost use Rattle.ztso_engines.specs.StepsReading.{script_at};
 ghost use Rattle.ztso_engines.specs.Steps.{IsStepsAnswer};
 ghost use Rattle.ztso_engines.specs.Asm.{hex_line, IsAsmAnswer};
@@ -28,6 +33,13 @@ pub fn laws_of_steps_texts()
     ensures read { (M : ℕ) (text : List ℕ) (scenario : Scenario) → (script_at M text ≡ Ok scenario) ↔ Describes M text scenario }
     ensures judged { (M : ℕ) (input : List ℕ) (scenario : Scenario) → (judged (script_at M) input ≡ Ok scenario) ↔ Accepted (Describes M) input scenario }
     ensures one { (M : ℕ) (text : List ℕ) (a b : Scenario) → Describes M text a → Describes M text b → a ≡ b }
+{}
+
+/// What `show --steps` writes of a text's test is a steps text that opens as the test does, without events; with a
+/// line of events after it, it tells these events from there. It does nothing.
+pub fn shown_steps_open_alike()
+    ensures opens { (M : ℕ) (file : List ℕ) (test : LitmusTest) → IsTestOf file test → length test.opening.words ≤ M → Describes M (steps_text test.opening) (scenario_from M test.opening []) }
+    ensures steps { (M : ℕ) (file : List ℕ) (test : LitmusTest) (more : List ℕ) (events : List Event) → IsTestOf file test → length test.opening.words ≤ M → IsStepsLine more events → length events ≤ MAX_EVENTS → Describes M (steps_text test.opening ++ more) (scenario_from M test.opening events) }
 {}
 
 /// A text of words in hex says one code at most, and reading it from the top finds that; an input is

@@ -6,9 +6,10 @@ from dataclasses import dataclass, field
 from itertools import islice
 from pathlib import Path
 
+from bring_parts import Refused
 from core_log_parts import log, record
-from core_log_parts.opening import Fault, opening
-from shelf import Entry
+from core_log_parts.opening import opening
+from shelf import Entry, Fault
 
 from . import Wrong, bench, explaining, judge
 
@@ -82,16 +83,16 @@ def checked(asked, path):
     """The report of a test's runs."""
     try:
         return report_of(asked, path)
-    except (Fault, OSError, UnicodeDecodeError, log.LogError) as error:
+    except (Refused, Fault, OSError, UnicodeDecodeError, log.LogError) as error:
         raise Wrong(f"{path}: {getattr(error, 'strerror', None) or error}") from error
 
 
 def report_of(asked, path):
     """The report, where nothing keeps the test from being run."""
-    entry, test = Entry(Path(path)), opening(path)
+    entry, test = Entry(Path(path)), opening(asked.program, path)
     report = Report(entry.name, witnessed=set(entry.witnesses()))
     with tempfile.NamedTemporaryFile("w", suffix=".steps") as steps:
-        steps.write(test.text())
+        steps.write(test.text)
         steps.flush()
         lines = bench.log_of(asked.bench, steps.name, asked.seed, asked.runs)
     found = [(run, record.events(run, test, asked.order)) for run in log.runs(lines)]

@@ -3,6 +3,7 @@
 
 import { ask, isStopped, stop, trouble } from "./ask.js";
 import { by, el, say } from "./dom.js";
+import { notShown } from "./excluded.js";
 import { note, setEvents, shrunk } from "./run.js";
 import { expanded } from "./schedules.js";
 import { known, state } from "./state.js";
@@ -70,7 +71,7 @@ function finish(table) {
   by("go").textContent = "Draw";
   if (last !== table || !table.done) return;
   showTable(table);
-  say(`${many(table.done, "run")}, ${many(table.rows.size, "outcome")}. ${answer(table)}`);
+  say(`${many(table.done, "run")}, ${many(table.rows.size, "outcome")}. ${words(answer(table))}`);
 }
 
 async function drawParts(table) {
@@ -109,11 +110,12 @@ async function mark(table, { text, buffer }) {
   }
 }
 
+const words = parts => parts.filter(part => typeof part === "string").join("").trim();
+
 function answer({ shown }) {
-  return { exists: shown ? "Holds: a drawn run shows it." : "No drawn run shows it. That doesn't say that it can't happen.",
-    "~exists": shown ? "Holds in these runs: none shows it. That doesn't say that it can't happen."
-      : "Fails: a drawn run shows it.",
-    forall: shown ? "Holds in these runs." : "Fails: a drawn run breaks it." }[known.test.kind];
+  return { exists: shown ? ["Holds: a drawn run shows it."] : ["No drawn run shows it. ", ...notShown()],
+    "~exists": shown ? ["Holds in these runs: none shows it. ", ...notShown()] : ["Fails: a drawn run shows it."],
+    forall: shown ? ["Holds in these runs."] : ["Fails: a drawn run breaks it."] }[known.test.kind];
 }
 
 function showTable(table) {
@@ -131,7 +133,7 @@ function showTable(table) {
       unfinished || !listed.length ? rowOf({ values: ["unfinished"], count: unfinished }, most) : null)),
     sorted.length > LISTED ? el("p", { class: "quiet" }, `and ${sorted.length - LISTED} outcomes more`) : "",
     left ? el("p", { class: "quiet" }, `${many(left, "run")} had outcomes that aren't counted here: too many differ.`) : "",
-    drawing ? "" : el("p", { class: `word ${word}` }, answer(table)),
+    drawing ? "" : el("p", { class: `word ${word}` }, ...answer(table)),
     unfinished > done / 2 ? el("p", { class: "quiet" }, "Most runs didn't finish: draw longer ones.") : "");
   if (key?.startsWith("row ")) by("drawn").querySelector(`[data-key="${CSS.escape(key)}"]`)?.focus();
 }

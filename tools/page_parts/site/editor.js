@@ -3,6 +3,7 @@
 import { ask } from "./ask.js";
 import { by, el, prose } from "./dom.js";
 import { forget } from "./draws.js";
+import { showExcluded } from "./excluded.js";
 import { LINE, number } from "./gutter.js";
 import { close, move, note, setEvents } from "./run.js";
 import { expanded } from "./schedules.js";
@@ -101,15 +102,4 @@ function showWitnesses() {
 export function loadWitness(button) {
   note(`The shelf's shortest schedule of ${button.textContent}.`);
   return setEvents(expanded(button.dataset.schedule));
-}
-
-// what a source says can't happen, and which source that is
-function showExcluded(excluded) {
-  const marks = [...excluded.matchAll(/\[([^\]]+)\]/g)].map(match => match[1]);
-  by("excluded").hidden = !excluded;
-  by("excluded").open = false;
-  by("excluded").replaceChildren(el("summary", {}, "excluded by a source: ", ...prose(excluded)),
-    ...[...new Set(marks)].filter(mark => known.sources[mark]).map(mark =>
-      el("p", {}, el("b", {}, `[${mark}] `), ...prose(known.sources[mark].replaceAll("*", "")))),
-    el("p", {}, "The page, like the program, shows only what can happen. That something can't is the source's word."));
 }

@@ -61,7 +61,7 @@ async function openLitmus(text) {
 
 async function openC(text) {
   if (!known.can.c.length) {
-    note("No compiler for RISC-V is installed here: docs/from-c.md names the packages.");
+    note("C can't be compiled here: a compiler for RISC-V, or its binutils, isn't installed. docs/from-c.md names the packages.");
     return;
   }
   by("compiler").replaceChildren(...known.can.c.map(name => el("option", {}, name)));

@@ -10,7 +10,7 @@ import { compile, forgetSource, openFiles } from "./files.js";
 import { scrollNumbers } from "./gutter.js";
 import { onKey } from "./keyboard.js";
 import { find, threads } from "./makers.js";
-import { go, happen, move, note, setEvents, shrunk, toBreak, toggleBreak } from "./run.js";
+import { clearNote, go, happen, move, note, setEvents, shrunk, toBreak, toggleBreak } from "./run.js";
 import { copyLink, copySchedule, isLink, load, loadLink, savePicture, saveSchedule, saveTest, showPasting }
   from "./saving.js";
 import { expanded, tokens } from "./schedules.js";
@@ -53,10 +53,13 @@ function onEvents() {
   onClick("harts", "[data-key]", onHarts);
   onClick("strip", "[data-key]", found => go(Number(found.dataset.key.slice("to ".length))));
   onClick("witnesses", "button", loadWitness);
-  onClick("drawn", "button", found => stepRow(found.dataset.key.slice("row ".length)));
+  onClick("drawn", '[data-key^="row "]', found => stepRow(found.dataset.key.slice("row ".length)));
   by("chart").addEventListener("click", hand(clicked => {
     const place = placeOf(clicked);
-    return place === null ? null : go(place);
+    if (place === null) return null;
+    // the arrows go on from there, and don't scroll the picture
+    by("chart").blur();
+    return go(place);
   }));
 }
 
@@ -125,6 +128,7 @@ function onTyping() {
   by("text").addEventListener("scroll", scrollNumbers);
   const taken = hand(async () => {
     typing = 0;
+    clearNote();
     await take(by("text").value).finally(() => waiting(-1));
   });
   by("text").addEventListener("input", () => {

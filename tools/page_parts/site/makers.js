@@ -3,6 +3,7 @@
 
 import { ask, isAsked, stop } from "./ask.js";
 import { by, el } from "./dom.js";
+import { notShown } from "./excluded.js";
 import { note, setEvents } from "./run.js";
 import { expanded } from "./schedules.js";
 import { state } from "./state.js";
@@ -30,13 +31,13 @@ async function made(route, told) {
     return;
   }
   const answer = await answered(route);
-  note(told(answer));
+  note(...told(answer));
   if (answer.tokens !== undefined) await setEvents(expanded(answer.tokens));
 }
 
 export const find = () => made("find", ({ states }) => states === undefined
-  ? "A schedule of what the condition asks about; the search finds none with fewer events."
-  : `Not found in ${many(states, "state")}. That doesn't say that it can't happen.`);
+  ? ["A schedule of what the condition asks about; the search finds none with fewer events."]
+  : [`Not found in ${many(states, "state")}. `, ...notShown()]);
 
 export const threads = () => made("threads", () =>
-  "What threads of this machine did just now. Another time they do something else.");
+  ["What threads of this machine did just now. Another time they do something else."]);

@@ -22,6 +22,11 @@ export function note(...words) {
   by("note").replaceChildren(...words);
 }
 
+// what was noted of another place or text; the offer to bring events back stays
+export function clearNote() {
+  if (!dropped) note();
+}
+
 // nothing can be done until the machine of another text comes
 export function close() {
   stopAll();
@@ -70,7 +75,7 @@ function put(events) {
 }
 
 export function go(place) {
-  if (!dropped) note();
+  clearNote();
   state.place = Math.max(0, Math.min(place, state.events.length));
   return move();
 }

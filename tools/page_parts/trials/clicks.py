@@ -53,6 +53,9 @@ def message_passing(count, page):
                page.text("#drawn"))
     said = page.text("#excluded")
     count.told("a source excludes it, and is named", "1-0: [Ztso]" in said and "RISC-V Instruction Set Manual" in said, said)
+    page.click("#drawn .source")
+    opened = page.run("[document.getElementById('excluded').open, document.activeElement.parentElement.id]")
+    count.told("the answer leads to the source", opened == [True, "excluded"], opened)
 
 
 def back(count, page):

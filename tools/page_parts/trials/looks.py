@@ -20,6 +20,11 @@ PALE = """(() => {
         if (ratio < 4.5) found.push(`${element.tagName}.${element.className} ${ratio.toFixed(1)} ${texts.currentNode.textContent.trim().slice(0, 20)}`);
     }
     return [...new Set(found)]; })()"""
+# short words of tables and buttons that stand in more than one line
+BROKEN = """[...document.querySelectorAll("th, button:not(.event)")].filter(one => {
+    const range = document.createRange(); range.selectNodeContents(one);
+    return one.checkVisibility() && !/\\s/.test(one.textContent)
+        && new Set([...range.getClientRects()].map(box => Math.round(box.top / 8))).size > 1; }).map(one => one.textContent)"""
 CONTROLS = ("button", "combobox", "textbox", "checkbox", "region", "dialog", "image", "img")
 
 
@@ -31,6 +36,10 @@ def part(count, page):
         pale = page.run(PALE)
         count.told(f"contrast, {'dark' if dark else 'light'}", not pale, pale)
     page.browser.dark(False)
+    page.choose("iriw")
+    page.draw()
+    broken = page.run(BROKEN)
+    count.told("no button or heading is broken into lines", not broken, broken)
     nameless = [role for role, name in page.browser.nodes() if role in CONTROLS and not name]
     count.told("each control has a name", not nameless, nameless)
     tabbed(count, page)
@@ -38,6 +47,10 @@ def part(count, page):
     for width, height, scale in ((400, 800, 1), (640, 400, 2), (320, 640, 1)):
         page.browser.size(width, height, scale)
         count.told(f"nothing is wider than {width} pixels", not page.wide())
+    page.choose("iriw")
+    page.draw()
+    broken = page.run(BROKEN)
+    count.told("nor is a short word broken there", not broken and not page.wide(), broken)
     page.browser.size(1280, 800)
     page.choose("sb")
 

@@ -62,6 +62,12 @@ def menu(page):
     page.click("#saving summary")
 
 
+def not_shown(page):
+    page.choose("mp")
+    page.draw()
+    page.click("#drawn .source")
+
+
 def sized(width, height, scale=1):
     def shows(page):
         page.browser.size(width, height, scale)
@@ -71,8 +77,8 @@ def sized(width, height, scale=1):
 
 LOOKS = {"begin": lambda page: page.choose("sb"), "drawn": drawn, "narrow": sized(400, 800), "zoom": sized(640, 400, 2),
          "dark": lambda page: (drawn(page), page.browser.dark(True)), "veiled": veiled, "harts": many_harts,
-         "long-names": long_names, "fault": lambda page: page.over("text", texts.FAULTY), "compiled": compiled,
+         "long-names": long_names, "not-shown": not_shown, "fault": lambda page: page.over("text", texts.FAULTY), "compiled": compiled,
          "keys": lambda page: page.press("?"), "menu": menu,
          "many-outcomes": lambda page: (page.choose("iriw"), page.draw()),
          "dropping": lambda page: page.run("document.body.classList.add('dropping')")}
-WHOLE = ("narrow", "zoom")
+WHOLE = ("narrow", "zoom", "many-outcomes", "not-shown")

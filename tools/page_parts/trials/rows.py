@@ -1,5 +1,8 @@
 """The picture's rows, and schedules that the program finds."""
 
+from page_parts.trials import texts
+from page_parts.trials.limits import gone, started
+
 # two harts: each computes before it stores, and the first one goes round a loop
 COMPUTES = """RISCV computes
 { 0:x5=2; 0:x6=x; 1:x5=1; 1:x6=y; }
@@ -71,3 +74,14 @@ def finds(count, page):
     page.event("a0")
     page.click("#find")
     count.told("or it isn't, and the run stays", "Not found in" in page.note() and page.strip() == "a0", page.note())
+    count.told("which leads to what a source excludes", page.texts("#note .source") == ["What a source excludes"], page.note())
+    page.over("text", texts.MANY)
+    page.browser.click("#find")
+    running = started(page.served)
+    page.browser.until("document.getElementById('find').textContent.startsWith('Stop')")
+    page.browser.click("#find")
+    count.told("a search that is stopped ends its child", running and gone(page.served))
+    page.idle()
+    said = page.text("#find"), page.note(), page.text("#trouble")
+    count.told("and says nothing", said == ("Find the shortest", "", ""), said)
+    page.choose("sb")

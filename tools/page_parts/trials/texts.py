@@ -125,7 +125,7 @@ def dropped(count, page, folder):
     drop(page, ROOT / "examples/c/dekker.c")
     compilers = page.served.shelf()["can"]["c"]
     if not compilers:
-        count.told("C without a compiler", "No compiler" in page.note(), page.note())
+        count.told("C without a compiler", "isn't installed" in page.note(), page.note())
         return
     count.told("dropped: C", page.note().startswith("Made by tools/from-c") and "exists" in page.text("#verdict code")
                and page.text("#question") == f"tools/from-c dropped.c --compiler {compilers[0]}", page.note())

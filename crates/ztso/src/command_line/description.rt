@@ -133,7 +133,7 @@ fn threads_command<'a>(alloc: Global) -> Result<Command<'a>, AllocError>
     command_with(alloc, "threads", args)
 }
 
-/// `chart`, with its flag.
+/// `chart`, with its flags.
 fn chart_command<'a>(alloc: Global) -> Result<Command<'a>, AllocError>
     ensures { IfOk result (λ command. IsDescribed command chart_command) }
 {
@@ -141,6 +141,7 @@ fn chart_command<'a>(alloc: Global) -> Result<Command<'a>, AllocError>
         word_wanted(alloc, "file"),
         word_wanted(alloc, "schedule"),
         flag(alloc, "svg"),
+        flag(alloc, "memory"),
         buffer_option(alloc),
     ]?;
     command_with(alloc, "chart", args)

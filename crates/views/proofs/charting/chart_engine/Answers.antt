@@ -5,5 +5,6 @@ use Rattle.views.proofs.charting.chart_engine.Goals as goal
 
 pub returns-clause-ends : goal.returns-clause-ends
 returns-clause-ends g c =
-    ended (AnswersBoth (IsChartAnswer g.row.B g.row.M (drawing c.args.style)) (g.F.Read.remaining c.args.file.now) (g.S.Read.remaining c.args.schedule.now)) _
+    ended (AnswersBoth (IsChartAnswer g.row.B g.row.M (drawing c.args.style c.args.selection))
+    (g.F.Read.remaining c.args.file.now) (g.S.Read.remaining c.args.schedule.now)) _
     c.made.result c.end_with.result g.W.Write.contents _ _ c.made.ensures.made c.end_with.ensures

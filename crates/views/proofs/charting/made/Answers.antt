@@ -13,14 +13,14 @@ pub returns-in_err-test-clause-made : goal.returns-in_err-test-clause-made
 returns-in_err-test-clause-made g c =
     let p = err_from_is_err_and c.from_residual.result c.from_residual.ensures.1 in
     let fault = c.in_err-test.field-0.0 in
-    unread (IsChart g.row.B g.row.M (drawing c.args.style)) _ _ text_and_value c.from_residual.result
+    unread (IsChart g.row.B g.row.M (drawing c.args.style c.args.selection)) _ _ text_and_value c.from_residual.result
     (test_fault _ _ Nothing text_and_value c.from_residual.result (λ (q : LitmusTest). q) fault (rw p.2 at p.1)
     (no_heading _ (λ (read : LitmusTest × Heading). (read.0, heading_of read.1)) fault c.in_err-test.ensures.read))
 
 pub returns-in_err-said-clause-made : goal.returns-in_err-said-clause-made
 returns-in_err-said-clause-made g c =
     let p = err_from_is_err_and c.from_residual-in_err-said.result c.from_residual-in_err-said.ensures.1 in
-    unread (IsChart g.row.B g.row.M (drawing c.args.style)) _ _ text_and_value c.from_residual-in_err-said.result
+    unread (IsChart g.row.B g.row.M (drawing c.args.style c.args.selection)) _ _ text_and_value c.from_residual-in_err-said.result
     (schedule_fault _ _ Nothing text_and_value c.from_residual-in_err-said.result (λ (said : Said). said) c.in_ok-test.test c.in_err-said.field-0.0
     (rw p.2 at p.1) (test_read _ c.in_ok-test.test (heading_of c.in_ok-test.heading) c.in_ok-test.ensures.read) c.in_err-said.ensures.schedule)
 
@@ -29,6 +29,6 @@ picture-requires-clause-locations g c = words_named _ c.in_ok-test.test (heading
 
 pub returns-clause-made : goal.returns-clause-made
 returns-clause-made g c =
-    made_of_both (IsChart g.row.B g.row.M (drawing c.args.style)) _ _ text_and_value c.in_ok-test.test
+    made_of_both (IsChart g.row.B g.row.M (drawing c.args.style c.args.selection)) _ _ text_and_value c.in_ok-test.test
     (heading_of c.in_ok-test.heading) (said_of c.in_ok-said.said)
     c.in_ok-test.ensures.read c.in_ok-said.ensures.schedule c.picture.result c.picture.ensures

@@ -19,6 +19,6 @@ pub returns-in-Err : goal.returns-in-Err
 returns-in-Err g c =
     let q = c.args.test.now in
     let said = said_of c.args.schedule in
-    stopped_by (Runs g.row.B g.row.M q.opening said) (IsChart g.row.B g.row.M (drawing c.args.style) (heading_of c.args.heading.now) q said)
+    stopped_by (Runs g.row.B g.row.M q.opening said) (IsChart g.row.B g.row.M (drawing c.args.style c.args.selection) (heading_of c.args.heading.now) q said)
     (λ (machine : Progress). machine.history) text_and_value (Err c.in-Err.fault) c.in-Err.fault (λ refusal differ. differs refusal differ) refl
     c.in-Err.ensures.ran

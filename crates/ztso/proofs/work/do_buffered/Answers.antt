@@ -54,7 +54,7 @@ returns-in-Shrink-clause-does g c = rw c.in-Shrink.is
 
 pub returns-in-Chart-clause-does : goal.returns-in-Chart-clause-does
 returns-in-Chart-clause-does g c = rw c.in-Chart.is
-    (ends_with_status done_status (AnswersBoth (IsChartAnswer g.row.B 4096 (drawing c.in-Chart.style))
+    (ends_with_status done_status (AnswersBoth (IsChartAnswer g.row.B 4096 (drawing c.in-Chart.style c.in-Chart.selection))
     (g.F.Read.remaining c.args.first.now) (g.S.Read.remaining c.args.second.now))
     c.chart_engine.result g.W.Write.contents c.args.writer.now c.chart_engine.new.writer c.chart_engine.ensures.ends
     c.after-in-Chart.result c.after-in-Chart.ensures.ended)

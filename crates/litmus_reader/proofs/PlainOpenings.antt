@@ -1,0 +1,175 @@
+-- Each test of a text opens plainly.
+use Rattle.std.proofs.Common.{◌≡◌, ℕ, zero, suc, ◌+◌, ◌*◌, ◌<◌, ◌≤◌, Bool, true, false, cond, List, [], ◌∷◌, length, map, get_or, All, Option, Some, None}
+use Rattle.std.proofs.Common.{refl, sym, ap, subst, ◌∙◌, inl, inr, length-append, arith}
+use Rattle.std.specs.List.{AllByRecursion}
+use Rattle.std.proofs.lemmas.List.{length-map}
+use Rattle.std.proofs.lemmas.List.Elements.{recursion_from_All, All-head, All-tail}
+use Rattle.rv_decode.specs.Meaning.{meaning}
+use Rattle.rv_decode.specs.declared.instruction.Instr.{Instr}
+use Rattle.assembler.specs.Drafts.{Line, size_of, words_of}
+use Rattle.assembler.specs.Statements.{Made}
+use Rattle.assembler.specs.Program.{IsPlaced, ArePlaced}
+use Rattle.assembler.specs.Program.IsPlaced.{nothing, single, double, jumping, branching}
+use Rattle.step_machine.specs.History.{HartStart}
+use Rattle.litmus.specs.LitmusTests.{LitmusTest}
+use Rattle.litmus_tokens.specs.Names.{IsNumber, core}
+use Rattle.litmus_tokens.specs.Names.IsNumber.{plain, negated}
+use Rattle.litmus_tokens.specs.Settings.{NamedPlace, Value, Equation, IsValue, IsItem}
+use Rattle.litmus_tokens.specs.Settings.Value.{number, address_of}
+use Rattle.litmus_reader.specs.Locations.{Names}
+use Rattle.litmus_reader.specs.Shapes.{AreParts}
+use Rattle.litmus_reader.specs.Shapes.AreParts.{last, more}
+use Rattle.litmus_reader.specs.Openings.{AreItems, IsAt, or_else, last_put, is_register, is_location, IsFirstValue, AreRegisters, AreFirstWords}
+use Rattle.litmus_reader.specs.Openings.AreItems.{none, empty, item}
+use Rattle.litmus_reader.specs.Columns.{Cells, IsTable}
+use Rattle.litmus_reader.specs.Reading.{hart_content}
+use Rattle.litmus_reader.specs.Grammar.{AreHarts, HasPlainCode, IsTestOf}
+use Rattle.litmus_reader.specs.PlainOpenings.{IsWord, IsPlainHart, IsPlainOpening}
+
+-- ---- code
+
+placed_size : (all : List Line) (at : ℕ) (made : Option Made) (instrs : List Instr) → IsPlaced all at made instrs → length instrs ≡ size_of made
+placed_size all at made instrs nothing = refl
+placed_size all at made instrs (single i) = refl
+placed_size all at made instrs (double i j) = refl
+placed_size all at made instrs (jumping rd name place defined reached) = refl
+placed_size all at made instrs (branching op rs1 rs2 name place defined reached) = refl
+
+lines_size : (all : List Line) (at : ℕ) (lines : List Line) (instrs : List Instr) → ArePlaced all at lines instrs → length instrs ≡ words_of lines
+lines_size all at [] instrs placed = ap length placed
+lines_size all at (line ∷ below) instrs (front, rest, is, here, further) =
+    let first = placed_size all at line.made front here in
+    let others = lines_size all (at + size_of line.made) below rest further in
+    ap length is ∙ (length-append front rest ∙ omega (arith, first, others))
+
+-- ---- values
+
+-- the value is a word, if it is a number
+abbrev IsSmall : Value → Type 0
+IsSmall (number n) = IsWord n
+IsSmall (address_of name) = Unit {0}
+
+number_small : (text : List ℕ) (n : ℕ) → IsNumber text n → IsWord n
+number_small text n (plain digits m magnitude small) = small
+number_small text n (negated digits m magnitude few) = omega arith
+
+value_small : (text : List ℕ) (v : Value) → IsValue text v → IsSmall v
+value_small text (number n) is = number_small (core text) n is
+value_small text (address_of name) is = tt
+
+item_small : (text : List ℕ) (equation : Equation) → IsItem text equation → IsSmall equation.1
+item_small text equation (inl (left, right, whole, place, value)) = value_small right equation.1 value
+item_small text equation (inr (inl (left, right, whole, place, value))) = value_small right equation.1 value
+item_small text equation (inr (inr (declared, zero_put))) = subst IsSmall (sym zero_put) (omega arith)
+
+abbrev AreSmall : List Equation → Type 0
+AreSmall equations = AllByRecursion (λ (equation : Equation). IsSmall equation.1) equations
+
+items_small : (parts : List (List ℕ)) (equations : List Equation) → AreItems parts equations → AreSmall equations
+items_small parts equations none = tt
+items_small parts equations (empty part others rest blank are) = items_small others rest are
+items_small parts equations (item part others equation rest is are) = (item_small part equation is, items_small others rest are)
+
+abbrev IfSmall : Option Value → Type 0
+IfSmall None = Unit {0}
+IfSmall (Some v) = IsSmall v
+
+or_small : (a b : Option Value) → IfSmall a → IfSmall b → IfSmall (or_else a b)
+or_small None b p q = q
+or_small (Some v) b p q = p
+
+if_small : (b : Bool) (v : Value) → IsSmall v → IfSmall (cond b (Some v) None)
+if_small true v p = p
+if_small false v p = tt
+
+put_small : (is_there : NamedPlace → Bool) (equations : List Equation) → AreSmall equations → IfSmall (last_put is_there equations)
+put_small is_there [] all = tt
+put_small is_there (equation ∷ equations) all =
+    or_small (last_put is_there equations) (cond (is_there equation.0) (Some equation.1) None)
+    (put_small is_there equations all.1) (if_small (is_there equation.0) equation.1 all.0)
+
+address_small : (names : Names) (name : List ℕ) (index word : ℕ) → length names ≤ 1024 → IsAt names name index → word ≡ 4 * index → IsWord word
+address_small names name index word few (above, below, whole, at) is =
+    let total : length names ≡ length above + suc (length below) = ap length whole ∙ length-append above (name ∷ below) in
+    omega arith
+
+first_small : (names : Names) (put : Option Value) (word : ℕ) → length names ≤ 1024 → IfSmall put → IsFirstValue names put word → IsWord word
+first_small names None word few small is = omega (arith, is)
+first_small names (Some (number n)) word few small is = omega (arith, is, small)
+first_small names (Some (address_of name)) word few small (index, at, is) = address_small names name index word few at is
+
+-- ---- a list of words, by index
+
+all_from : (xs : List ℕ) → ((i : ℕ) → i < length xs → IsWord (get_or xs i 0)) → AllByRecursion IsWord xs
+all_from [] each = tt
+all_from (x ∷ xs) each = (each 0 (omega arith), all_from xs (λ i less. each (suc i) (omega (arith, less))))
+
+registers_small : (names : Names) (equations : List Equation) (hart : ℕ) (registers : List ℕ) → length names ≤ 1024 → AreSmall equations
+    → AreRegisters names equations hart registers → AllByRecursion IsWord registers
+registers_small names equations hart registers few small are = all_from registers each
+  where
+    each : (i : ℕ) → i < length registers → IsWord (get_or registers i 0)
+    each zero less = omega (arith, are.zero)
+    each (suc i) less = first_small names (last_put (is_register hart (suc i)) equations) (get_or registers (suc i) 0) few
+        (put_small (is_register hart (suc i)) equations small) (are.others (suc i) (omega arith) (omega (arith, less, are.count)))
+
+-- the name at an index
+name_at : (names : Names) (i : ℕ) → i < length names → (name : List ℕ) × IsAt names name i
+name_at [] i less = absurd (omega arith)
+name_at (name ∷ names) zero less = (name, ([], names, refl, refl))
+name_at (first ∷ names) (suc i) less =
+    let (name, (above, below, whole, at)) = name_at names i (omega arith) in
+    (name, (first ∷ above, below, ap (λ (ns : Names). first ∷ ns) whole, ap suc at))
+
+words_small : (names : Names) (equations : List Equation) (words : List ℕ) → length names ≤ 1024 → AreSmall equations
+    → AreFirstWords names equations words → AllByRecursion IsWord words
+words_small names equations words few small are = all_from words each
+  where
+    each : (i : ℕ) → i < length words → IsWord (get_or words i 0)
+    each i less =
+        let (name, at) = name_at names i (omega (arith, less, are.count)) in
+        first_small names (last_put (is_location name) equations) (get_or words i 0) few (put_small (is_location name) equations small) (are.values i name at)
+
+-- ---- harts
+
+plain_harts : (names : Names) (equations : List Equation) (rows : List Cells) (hart : ℕ) (harts : List HartStart) → length names ≤ 1024
+    → AreSmall equations → AreHarts names equations rows hart (map hart_content harts) → All HasPlainCode harts → AllByRecursion IsPlainHart harts
+plain_harts names equations rows hart [] few small are are_plain = tt
+plain_harts names equations rows hart (first ∷ others) few small ((all, instrs, lines, made, meant), registers, inbox, further) are_plain =
+    let long : length instrs ≡ words_of all = lines_size all 0 all instrs made.placed in
+    let same : length first.code ≡ length instrs = sym (length-map first.code meaning) ∙ (ap length meant ∙ length-map instrs Some) in (
+      record {
+        short = omega (arith, long, same, made.few);
+        code = recursion_from_All IsWord first.code (All-head HasPlainCode first others are_plain).1;
+        count = registers.count;
+        zero = registers.zero;
+        registers = registers_small names equations hart first.registers few small registers;
+        inbox = inbox;
+      },
+      plain_harts names equations rows (hart + 1) others few small further (All-tail HasPlainCode first others are_plain),
+    )
+
+-- ---- a test
+
+some_part : (byte : ℕ) (text : List ℕ) (cells : List (List ℕ)) → AreParts byte text cells → 1 ≤ length cells
+some_part byte text cells (last part without) = omega arith
+some_part byte text cells (more part rest others without are) = omega arith
+
+some_hart : (table : List ℕ) (harts : ℕ) (rows : List Cells) → IsTable table harts rows → 1 ≤ harts
+some_hart table harts rows is =
+    let some : 1 ≤ length is.names = some_part 124 is.row.0 is.names is.row.5 in
+    omega (arith, some, is.counted)
+
+pub plain_opening : (text : List ℕ) (test : LitmusTest) → IsTestOf text test → IsPlainOpening test.opening
+unfolding IsTestOf
+plain_opening text test (is, are_plain) =
+    let harts : length (map hart_content test.opening.harts) ≡ length test.opening.harts = length-map test.opening.harts hart_content in
+    let small : AreSmall is.equations = items_small is.parts is.equations is.items in
+    let few : length test.names ≤ 1024 = is.few in
+    record {
+      some_hart = omega (arith, harts, some_hart is.table (length (map hart_content test.opening.harts)) is.rows is.tabled);
+      few = omega (arith, harts, is.tabled.few);
+      harts = plain_harts test.names is.equations is.rows 0 test.opening.harts few small is.harts are_plain;
+      locations = omega (arith, few, is.first_words.count);
+      words = words_small test.names is.equations test.opening.words few small is.first_words;
+    }

@@ -1,0 +1,117 @@
+-- One event more of a run that is judged.
+use Rattle.std.proofs.Common.{ℕ, ◌≡◌, ◌+◌, ◌<◌, List, [], ◌∷◌, ◌++◌, length, take, get_or, Option, Some, None, refl, sym, ap, subst, ◌∙◌}
+use Rattle.std.proofs.Common.{append_assoc, append-nil}
+use Rattle.std.proofs.lemmas.List.{take_more}
+use Rattle.step_machine.specs.declared.events.Event.{Event}
+use Rattle.step_machine.specs.declared.events.Entry.{Entry}
+use Rattle.step_machine.specs.declared.events.Outcome.{Outcome}
+use Rattle.step_machine.specs.declared.events.Outcome.TheVariants as outcome
+use Rattle.step_machine.specs.History.{Start, History, unrun}
+use Rattle.step_machine.specs.Entries.{reported}
+use Rattle.step_machine.specs.Runs.{Happens}
+use Rattle.step_machine.specs.Standing.{StandsAt, MovesBy, BeginsAnew}
+use Rattle.step_machine.specs.inner.Config.{Config}
+use Rattle.step_machine.proofs.Running.{RunFrom-more}
+use Rattle.poll_close.specs.Layout.{Layout}
+use Rattle.poll_close.specs.Breaches.{breach_of, or_later, breach_after, first_breach, AreNotes}
+use Rattle.poll_close.specs.declared.clean.Breach.{Breach}
+use Rattle.poll_close.specs.declared.clean.Share.{Share}
+use Rattle.ring_trials.specs.Own.{lists_of, layout_from, start_of}
+use Rattle.ring_trials.specs.Trials.{AreNoted, entries_with, IsJudged, IsJudgedAt, StandsFrom}
+use Rattle.ring_trials.specs.declared.own.Own.{Own}
+
+or_later-assoc : (a b c : Option Breach) → or_later (or_later a b) c ≡ or_later a (or_later b c)
+or_later-assoc None b c = refl
+or_later-assoc (Some a) b c = refl
+
+or_later-none : (a : Option Breach) → or_later a None ≡ a
+or_later-none None = refl
+or_later-none (Some a) = refl
+
+after_more : (l : Layout) (lists : List (List ℕ)) (before es : List Entry) (e : Entry)
+    → breach_after l lists before (es ++ e ∷ []) ≡ or_later (breach_after l lists before es) (breach_of l lists (before ++ es) e)
+after_more l lists before [] e =
+    or_later-none (breach_of l lists before e) ∙ ap (λ ds. breach_of l lists ds e) (sym (append-nil before))
+after_more l lists before (d ∷ es) e =
+    ap (or_later (breach_of l lists before d)) (after_more l lists (before ++ d ∷ []) es e
+    ∙ ap (λ ds. or_later (breach_after l lists (before ++ d ∷ []) es) (breach_of l lists ds e)) (append_assoc before (d ∷ []) es))
+    ∙ sym (or_later-assoc (breach_of l lists before d) (breach_after l lists (before ++ d ∷ []) es) (breach_of l lists (before ++ d ∷ es) e))
+
+first_more : (l : Layout) (lists : List (List ℕ)) (es : List Entry) (e : Entry)
+    → first_breach l lists (es ++ e ∷ []) ≡ or_later (first_breach l lists es) (breach_of l lists es e)
+first_more l lists es e = after_more l lists [] es e
+
+-- an entry was noted where there was no breach yet
+pub noted_entry : (own : Own) (es : List Entry) (e : Entry) (found new : Option Breach) (shares more : List Share) → AreNoted own es found shares → found ≡ None
+    → (AreNotes (reported 0 es) shares → new ≡ breach_of (layout_from own) (lists_of own) es e)
+    → (AreNotes (reported 0 es) shares → new ≡ None → AreNotes (reported 0 (es ++ e ∷ [])) more) → length more ≡ length shares
+    → AreNoted own (es ++ e ∷ []) new more
+noted_entry own es e found new shares more noted none breach notes count = record {
+  breach = breach (noted.notes none)
+      ∙ ap (λ b. or_later b (breach_of (layout_from own) (lists_of own) es e)) (sym none ∙ noted.breach)
+      ∙ sym (first_more (layout_from own) (lists_of own) es e);
+  notes = notes (noted.notes none);
+  count = count ∙ noted.count;
+}
+
+-- and where there was one already
+pub noted_before : (own : Own) (es : List Entry) (e : Entry) (found : Option Breach) (first : Breach) (shares : List Share) → AreNoted own es found shares
+    → found ≡ Some first → AreNoted own (es ++ e ∷ []) found shares
+noted_before own es e found first shares noted some = record {
+  breach = some ∙ ap (λ b. or_later b (breach_of (layout_from own) (lists_of own) es e)) (sym some ∙ noted.breach)
+      ∙ sym (first_more (layout_from own) (lists_of own) es e);
+  notes = λ none. cc;
+  count = noted.count;
+}
+
+happens_entries : (B M : ℕ) (t u : History) (ev : Event) (o : Outcome) → Happens B M t ev o u → u.entries ≡ entries_with t.entries o
+happens_entries B M t u ev (outcome.Did e) happens = ap (λ (h : History). h.entries) happens.after
+happens_entries B M t u ev outcome.Waited happens = ap (λ (h : History). h.entries) happens.after
+happens_entries B M t u ev outcome.NothingToLand happens = ap (λ (h : History). h.entries) happens.after
+happens_entries B M t u ev outcome.Over happens = ap (λ (h : History). h.entries) happens.after
+happens_entries B M t u ev outcome.NoHart happens = ap (λ (h : History). h.entries) happens.after
+
+happens_opening : (B M : ℕ) (t u : History) (ev : Event) (o : Outcome) → Happens B M t ev o u → u.opening ≡ t.opening
+happens_opening B M t u ev (outcome.Did e) happens = ap (λ (h : History). h.opening) happens.after
+happens_opening B M t u ev outcome.Waited happens = ap (λ (h : History). h.opening) happens.after
+happens_opening B M t u ev outcome.NothingToLand happens = ap (λ (h : History). h.opening) happens.after
+happens_opening B M t u ev outcome.Over happens = ap (λ (h : History). h.opening) happens.after
+happens_opening B M t u ev outcome.NoHart happens = ap (λ (h : History). h.opening) happens.after
+
+pub judged_more : (B M : ℕ) (own : Own) (evs : List Event) (ev : Event) (o : Outcome) (c d : Config) (found new : Option Breach) (shares more : List Share)
+    → IsJudgedAt B M own evs c found shares → MovesBy B M ev o c d
+    → ((es : List Entry) → AreNoted own es found shares → AreNoted own (entries_with es o) new more) → IsJudgedAt B M own (evs ++ ev ∷ []) d new more
+judged_more B M own evs ev o c d found new shares more judged moves noted =
+    let moved = moves judged.history judged.stands in record {
+      history = moved.0;
+      run = RunFrom-more B M (unrun (start_of own)) evs judged.history ev o moved.0 judged.run moved.1;
+      opening = happens_opening B M judged.history moved.0 ev o moved.1 ∙ judged.opening;
+      stands = moved.2;
+      noted = subst (λ (es : List Entry). AreNoted own es new more) (sym (happens_entries B M judged.history moved.0 ev o moved.1))
+          (noted judged.history.entries judged.noted);
+    }
+
+-- one event of a list more
+pub judged_next : (B M : ℕ) (own : Own) (events : List Event) (i : ℕ) (none : Event) (o : Outcome) (c d : Config) (found new : Option Breach)
+    (shares more : List Share) → i < length events → IsJudgedAt B M own (take i events) c found shares → MovesBy B M (get_or events i none) o c d
+    → ((es : List Entry) → AreNoted own es found shares → AreNoted own (entries_with es o) new more) → IsJudgedAt B M own (take (i + 1) events) d new more
+judged_next B M own events i none o c d found new shares more within judged moves noted =
+    subst (λ (evs : List Event). IsJudgedAt B M own evs d new more) (sym (take_more events i none within))
+    (judged_more B M own (take i events) (get_or events i none) o c d found new shares more judged moves noted)
+
+-- at the opening
+pub judged_none : (B M : ℕ) (own : Own) (c d : Config) (shares : List Share) → StandsFrom B M (start_of own) c → BeginsAnew B M c d → AreNotes [] shares
+    → length shares ≡ length (lists_of own) → IsJudgedAt B M own [] d None shares
+judged_none B M own c d shares stands anew notes count = record {
+  history = unrun (start_of own);
+  run = refl;
+  opening = refl;
+  stands = subst (λ (o : Start). StandsAt B M (unrun o) d) stands.2 (anew stands.0 stands.1);
+  noted = record { breach = refl; notes = λ none. notes; count = count };
+}
+
+pub judged_at : (B M : ℕ) (own : Own) (events : List Event) (c : Config) (found : Option Breach) (shares : List Share)
+    → IsJudgedAt B M own events c found shares
+    → IsJudged B M own events found shares × StandsFrom B M (start_of own) c
+judged_at B M own events c found shares judged =
+    (record { history = judged.history; run = judged.run; noted = judged.noted }, (judged.history, judged.stands, judged.opening))

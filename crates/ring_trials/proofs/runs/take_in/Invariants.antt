@@ -1,0 +1,5 @@
+use Rattle.ring_trials.proofs.RunsLaws.{TakenIn}
+use Rattle.ring_trials.proofs.runs.take_in.Given as goal
+
+abbrev pub invariant-loop-index : goal.invariant-loop-index
+invariant-loop-index l = TakenIn l.initial.totals l.shares l.index l.totals

@@ -1,0 +1,143 @@
+-- Runs of a channel, by schedules that a generator draws, and what is told of them.
+use Rattle.std.specs.Prelude.{ℕ, ◌≡◌, ◌+◌, ◌*◌, ◌<◌, max, List, [], ◌∷◌, ◌++◌, length, map, if◌then◌else◌, All, Option, Some, None}
+use Rattle.std.specs.List.{slice_get}
+use Rattle.rand_core.specs.Stream.{Stream}
+use Rattle.step_machine.specs.declared.events.Event.{Event}
+use Rattle.step_machine.specs.declared.events.Entry.{Entry}
+use Rattle.step_machine.specs.declared.events.Outcome.{Outcome}
+use Rattle.step_machine.specs.declared.events.Outcome.TheVariants as outcome
+use Rattle.step_machine.specs.History.{Start, History}
+use Rattle.step_machine.specs.Entries.{reported}
+use Rattle.step_machine.specs.Runs.{Run}
+use Rattle.step_machine.specs.Standing.{StandsAt}
+use Rattle.step_machine.specs.inner.Config.{Config}
+use Rattle.recorder.specs.Drawing.{drawn, words, left_after}
+use Rattle.poll_close.specs.Reports.{taken}
+use Rattle.poll_close.specs.Plans.{is_closed}
+use Rattle.poll_close.specs.Breaches.{first_breach, AreNotes, IsKept}
+use Rattle.poll_close.specs.declared.clean.Breach.{Breach}
+use Rattle.poll_close.specs.declared.clean.Share.{Share}
+use Rattle.shrink.specs.Shrinking.{IsPartOf, without}
+use Rattle.ring_trials.specs.Own.{lists_of, layout_from, start_of}
+use Rattle.ring_trials.specs.declared.own.Own.{Own}
+use Rattle.ring_trials.specs.declared.runs.Total.{Total}
+use Rattle.ring_trials.specs.declared.runs.Found.{Found}
+use Rattle.ring_trials.specs.declared.runs.Found.TheVariants as found
+
+-- The schedule of this number, from 0. Each has `size` events and takes `size` words of the generator's stream,
+-- after those of the schedules before it.
+abbrev pub schedule_drawn : (harts size : ℕ) → Stream → (number : ℕ) → List Event
+schedule_drawn harts size stream number = map (drawn harts) (words size (left_after (number * size) stream))
+
+-- a machine that keeps no history stands at the end of one from this opening
+abbrev pub StandsFrom : ℕ → ℕ → Start → Config → Type 0
+StandsFrom B M o c = (t : History) × StandsAt B M t c × (t.opening ≡ o)
+
+-- what is noted of a run after these entries: the first breach, if there is one, and where there is none of each
+-- sender what it takes to find the next
+pub record AreNoted (own : Own) (es : List Entry) (found : Option Breach) (shares : List Share) : Type 0 where
+  pub breach : found ≡ first_breach (layout_from own) (lists_of own) es
+  pub notes : found ≡ None → AreNotes (reported 0 es) shares
+  pub count : length shares ≡ length (lists_of own)
+
+-- the entries after an event with this outcome
+abbrev pub entries_with : List Entry → Outcome → List Entry
+entries_with es (outcome.Did e) = es ++ e ∷ []
+entries_with es outcome.Waited = es
+entries_with es outcome.NothingToLand = es
+entries_with es outcome.Over = es
+entries_with es outcome.NoHart = es
+
+-- These events run from the opening of this channel, and their first breach is this one. Where there is none, this
+-- is noted of each sender.
+pub record IsJudged (B M : ℕ) (own : Own) (events : List Event) (found : Option Breach) (shares : List Share) : Type 0 where
+  pub history : History
+  pub run : Run B M (start_of own) events history
+  pub noted : AreNoted own history.entries found shares
+
+-- the same where a machine stands after them
+pub record IsJudgedAt (B M : ℕ) (own : Own) (events : List Event) (c : Config) (found : Option Breach) (shares : List Share) : Type 0 where
+  pub history : History
+  pub run : Run B M (start_of own) events history
+  pub opening : history.opening ≡ start_of own
+  pub stands : StandsAt B M history c
+  pub noted : AreNoted own history.entries found shares
+
+-- Where runs come from: buffers of B stores and a memory of M words, the channel, the stream that draws the
+-- schedules, and how many events each schedule has.
+pub record Source : Type 0 where
+  pub B : ℕ
+  pub M : ℕ
+  pub own : Own
+  pub stream : Stream
+  pub size : ℕ
+
+abbrev pub schedule_of : Source → (number : ℕ) → List Event
+schedule_of s number = schedule_drawn (length (start_of s.own).harts) s.size s.stream number
+
+-- the run of this number, from 0
+abbrev pub IsRunOf : Source → (number : ℕ) → History → Type 0
+IsRunOf s number t = Run s.B s.M (start_of s.own) (schedule_of s number) t
+
+-- the runs from this number on, one after the other
+abbrev pub AreRuns : Source → (number : ℕ) → List History → Type 0
+AreRuns s number [] = Unit {0}
+AreRuns s number (t ∷ ts) = IsRunOf s number t × AreRuns s (number + 1) ts
+
+-- the run keeps what a ring must
+abbrev pub KeepsAll : Own → History → Type 0
+KeepsAll own t = IsKept (layout_from own) (lists_of own) t.entries
+
+-- the runs before this number, all of which keep what a ring must
+pub record AreCleanRuns (s : Source) (number : ℕ) (ts : List History) : Type 0 where
+  pub runs : AreRuns s 0 ts
+  pub count : length ts ≡ number
+  pub kept : All (KeepsAll s.own) ts
+
+-- how many words of sender i were taken at most
+abbrev pub most_of : (i : ℕ) → List History → ℕ
+most_of i [] = 0
+most_of i (t ∷ ts) = max (length (taken (reported 0 t.entries) i)) (most_of i ts)
+
+-- in how many runs it was closed
+abbrev pub closed_in : (i : ℕ) → List History → ℕ
+closed_in i [] = 0
+closed_in i (t ∷ ts) = (if is_closed (reported 0 t.entries) i then 1 else 0) + closed_in i ts
+
+-- these are the totals of the senders, from sender 0 on
+pub record AreTotals (ts : List History) (totals : List Total) : Type 0 where
+  pub most : (i : ℕ) (s : Total) → slice_get totals i ≡ Some s → s.most ≡ most_of i ts
+  pub closed : (i : ℕ) (s : Total) → slice_get totals i ≡ Some s → s.closed ≡ closed_in i ts
+
+-- the run of this number is the first one that breaks something, and this is its first breach
+pub record IsFirstUnclean (s : Source) (number : ℕ) (breach : Breach) : Type 0 where
+  pub before : List History
+  pub clean : AreCleanRuns s number before
+  pub history : History
+  pub run : IsRunOf s number history
+  pub breaks : first_breach (layout_from s.own) (lists_of s.own) history.entries ≡ Some breach
+
+-- all runs are clean, with these totals
+pub record AreAllClean (s : Source) (runs : ℕ) (totals : List Total) : Type 0 where
+  pub histories : List History
+  pub clean : AreCleanRuns s runs histories
+  pub totals_are : AreTotals histories totals
+  pub count : length totals ≡ length (lists_of s.own)
+
+-- what was found of this number of runs
+abbrev pub IsFound : Source → (runs : ℕ) → Found → Type 0
+IsFound s runs (found.Clean totals) = AreAllClean s runs totals.items
+IsFound s runs (found.Unclean number breach) = (number < runs) × IsFirstUnclean s number breach
+
+-- the run of the events breaks something
+pub record IsUnclean (B M : ℕ) (own : Own) (events : List Event) : Type 0 where
+  pub history : History
+  pub run : Run B M (start_of own) events history
+  pub breach : Breach
+  pub breaks : first_breach (layout_from own) (lists_of own) history.entries ≡ Some breach
+
+-- the answer is a part of the given events and unclean; without any one event it isn't
+pub record IsShortened (B M : ℕ) (own : Own) (given answer : List Event) : Type 0 where
+  pub part : IsPartOf answer given
+  pub unclean : IsUnclean B M own answer
+  pub minimal : (i : ℕ) → i < length answer → IsUnclean B M own (without i 1 answer) → ⊥

@@ -1,0 +1,76 @@
+//! One run, judged as its entries come.
+
+ghost use Rattle.std.specs.Prelude.{◌≡◌, ◌≤◌, ◌<◌, ◌^◌, [], List, IfOk, OnOk, length};
+ghost use Rattle.step_machine.specs.declared.events.Entry.{Entry};
+ghost use Rattle.poll_close.specs.Layout.{base_of};
+ghost use Rattle.poll_close.specs.Breaches.{AreNotes};
+ghost use Rattle.ring_trials.specs.Own.{lists_of, layout_from, start_of};
+ghost use Rattle.ring_trials.specs.Trials.{AreNoted, entries_with, IsJudged, StandsFrom};
+
+use crate::own::Own;
+use poll_close::{Breach, Share, note_entry};
+use std::alloc::AllocError;
+use step_machine::{Event, MachineState, Outcome};
+
+/// Notes that there was no report yet.
+fn begin(shares: &mut [Share])
+    ensures notes { AreNotes [] shares.new }
+    ensures count { length shares.new ≡ length shares.old }
+{
+    for share in shares.iter_mut() {
+        *share = Share {
+            taken: 0,
+            closed: false,
+        };
+    }
+}
+
+/// Takes in what an event did, where there was no breach before it; gives the first breach after it.
+fn note_outcome(
+    own: &Own,
+    shares: &mut [Share],
+    found: Option<Breach>,
+    outcome: Outcome,
+) -> Option<Breach>
+    requires ends { base_of (layout_from own.now) (length (lists_of own.now)) < 2 ^ 32 }
+    requires count { length shares.old ≡ length (lists_of own.now) }
+    ensures noted { (es : List Entry) → AreNoted own.now es found shares.old → AreNoted own.now (entries_with es outcome) result shares.new }
+    ensures count { length shares.new ≡ length shares.old }
+{
+    match outcome {
+        Outcome::Did(entry) => match found {
+            None => note_entry(shares, &own.lists, own.place, entry),
+            Some(first) => Some(first),
+        },
+        Outcome::Waited => found,
+        Outcome::NothingToLand => found,
+        Outcome::Over => found,
+        Outcome::NoHart => found,
+    }
+}
+
+/// The first breach in the run of these events, if there is one, on a machine of the channel's opening, whatever
+/// it did before. Where there is none, `shares` has what is noted of each sender.
+#[tactic(auto, using(crate::proofs::JudgingLaws::judged_at))]
+pub fn judge<const B: usize, const M: usize>(
+    own: &Own,
+    machine: &mut MachineState<B, M>,
+    shares: &mut [Share],
+    events: &[Event],
+) -> Result<Option<Breach>, AllocError>
+    requires stands { StandsFrom B M (start_of own.now) machine.old }
+    requires ends { base_of (layout_from own.now) (length (lists_of own.now)) < 2 ^ 32 }
+    requires count { length shares.old ≡ length (lists_of own.now) }
+    ensures judged { IfOk result (λ found. IsJudged B M own.now events.now found shares.new) }
+    ensures stands { OnOk result (StandsFrom B M (start_of own.now) machine.new) }
+    ensures count { length shares.new ≡ length (lists_of own.now) }
+{
+    machine.restart();
+    begin(shares);
+    let mut found = None;
+    for event in events {
+        let outcome = machine.step(*event)?;
+        found = note_outcome(own, shares, found, outcome);
+    }
+    Ok(found)
+}

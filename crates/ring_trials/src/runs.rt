@@ -1,0 +1,98 @@
+//! Many runs, by schedules that are drawn one after the other.
+
+ghost use Rattle.std.specs.Prelude.{◌≡◌, ◌≤◌, ◌<◌, ◌++◌, ◌∷◌, ◌^◌, ℕ, [], List, Some, None, IfOk, OnOk, length};
+ghost use Rattle.std.specs.List.{slice_get};
+ghost use Rattle.step_machine.specs.History.{History};
+ghost use Rattle.step_machine.specs.Entries.{reported};
+ghost use Rattle.poll_close.specs.Layout.{base_of};
+ghost use Rattle.poll_close.specs.Breaches.{AreNotes};
+ghost use Rattle.ring_trials.specs.Own.{lists_of, layout_from, start_of};
+ghost use Rattle.ring_trials.specs.Trials.{AreTotals, IsFound, StandsFrom};
+
+use crate::judging::judge;
+use crate::own::{Own, senders};
+use poll_close::{Breach, Share, no_shares};
+use rand_core::Rng;
+use recorder::draw;
+use std::alloc::{AllocError, Global};
+use step_machine::MachineState;
+
+/// What is told of a sender after many runs.
+#[derive(Clone, Copy, Debug, PartialEq, Eq)]
+pub struct Total {
+    /// How many of its words a run took at most.
+    pub most: usize,
+    /// In how many runs it was reported closed.
+    pub closed: u32,
+}
+
+/// What was found of runs.
+#[derive(Drop)]
+pub enum Found {
+    /// All are clean.
+    Clean(Vec<Total>),
+    /// The run of this number is the first one that isn't, and this is its first breach.
+    Unclean { number: u32, breach: Breach },
+}
+
+/// The totals of no run.
+fn no_totals(alloc: Global, senders: usize) -> Result<Vec<Total>, AllocError>
+    ensures totals { IfOk result (λ totals. AreTotals [] totals.items) }
+    ensures count { IfOk result (λ totals. length totals.items ≡ senders) }
+{
+    let none = Total { most: 0, closed: 0 };
+    vec![in alloc; none; senders]
+}
+
+/// Takes in what is noted of one run more.
+#[tactic(auto, using(crate::proofs::RunsLaws::taken_more, crate::proofs::RunsLaws::taken_none, crate::proofs::RunsLaws::totals_more))]
+fn take_in(totals: &mut [Total], shares: &[Share])
+    requires count { length totals.old ≡ length shares.now }
+    requires few { (k : ℕ) (s : Total) → slice_get totals.old k ≡ Some s → s.closed < 4294967295 }
+    ensures totals { (ts : List History) (t : History) → AreTotals ts totals.old → AreNotes (reported 0 t.entries) shares.now → AreTotals
+        (ts ++ t ∷ []) totals.new }
+    ensures count { length totals.new ≡ length totals.old }
+{
+    for index in 0..totals.len() {
+        let share = shares[index];
+        let total = totals[index];
+        totals[index] = Total {
+            most: total.most.max(share.taken),
+            closed: if share.closed {
+                total.closed + 1
+            } else {
+                total.closed
+            },
+        };
+    }
+}
+
+/// What is found of `runs` runs of this channel, each by `size` events, on a machine of its opening, which serves
+/// them all.
+pub fn find_on<const B: usize, const M: usize, G: Rng>(
+    alloc: Global,
+    own: &Own,
+    generator: &mut G,
+    machine: &mut MachineState<B, M>,
+    runs: u32,
+    size: u32,
+) -> Result<Found, AllocError>
+    requires stands { StandsFrom B M (start_of own.now) machine.old }
+    requires ends { base_of (layout_from own.now) (length (lists_of own.now)) < 2 ^ 32 }
+    ensures { IfOk result (λ found. IsFound (record { B = B; M = M; own = own.now; stream = G.stream generator.old; size = size }) runs found) }
+{
+    let harts = machine.harts();
+    let count = senders(own);
+    let mut totals = no_totals(alloc, count)?;
+    let mut shares = no_shares(alloc, count)?;
+    let mut events = Vec::new(alloc);
+    for number in 0..runs {
+        draw(&mut events, generator, harts, size)?;
+        let found = judge(own, machine, &mut shares, &events)?;
+        match found {
+            Some(breach) => return Ok(Found::Unclean { number, breach }),
+            None => take_in(&mut totals, &shares),
+        }
+    }
+    Ok(Found::Clean(totals))
+}

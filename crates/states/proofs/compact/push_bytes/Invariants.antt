@@ -1,0 +1,10 @@
+use Rattle.std.proofs.Common.{◌≡◌, ◌++◌, take}
+use Rattle.std.specs.Prelude.{All}
+use Rattle.states.specs.inner.Compact.{bytes_of, IsWord}
+use Rattle.states.proofs.compact.push_bytes.Given as goal
+
+abbrev pub invariant-loop-word : goal.invariant-loop-word
+invariant-loop-word l = record {
+  bytes : l.out.items ≡ l.fn.out.items ++ bytes_of (take l.word-index l.words);
+  all : All IsWord (take l.word-index l.words);
+}
