@@ -70,7 +70,12 @@ has_room answers tally is few = record {
 pub nothing_counted : (tally : Tally) → ((outcome : List ℕ) → counted tally.outcomes outcome ≡ None)
     → tally.judged ≡ 0 → tally.unfinished ≡ 0 → tally.refused ≡ 0 → IsTallyOf [] tally
 nothing_counted tally nothing none unfinished refused =
-    record { counts = λ outcome. nothing outcome ∙ sym (seen_none gave first_record outcome); judged_are = none; unfinished_are = unfinished; refused_are = refused }
+    record {
+      counts = λ outcome. nothing outcome ∙ sym (seen_none gave first_record outcome);
+      judged_are = none;
+      unfinished_are = unfinished;
+      refused_are = refused;
+    }
 
 -- a finished run whose outcome was counted is tallied
 pub finished_tallied : {E : Type 0} (result : Result (Unit {0}) E) (values : List ℕ) (old new : Tally)
