@@ -1,2 +1,3 @@
 pub mod JudgingLaws
 pub mod RunsLaws
+pub mod TextLaws

@@ -10,3 +10,4 @@ pub mod judging;
 pub mod own;
 pub mod passes;
 pub mod runs;
+pub mod texts;
