@@ -1,3 +1,2 @@
 pub mod JudgingLaws
 pub mod RunsLaws
-pub mod TextLaws

@@ -10,4 +10,3 @@ pub mod judging;
 pub mod own;
 pub mod passes;
 pub mod runs;
-pub mod texts;
