@@ -15,6 +15,10 @@ CODES = {"Enter": 13, "Tab": 9, "ArrowLeft": 37, "ArrowRight": 39, "Home": 36, "
 SHIFT = 8
 
 
+class Unanswered(RuntimeError):
+    """The browser answers a question with an error of its own."""
+
+
 class Browser:
     def __init__(self, chromium="chromium"):
         self.folder = tempfile.TemporaryDirectory(prefix="browser-", ignore_cleanup_errors=True)
@@ -77,7 +81,7 @@ class Browser:
             got = self.message()
             if got.get("id") == self.number:
                 if "error" in got:
-                    raise RuntimeError(f"{method}: {got['error']}")
+                    raise Unanswered(f"{method}: {got['error']}")
                 return got["result"]
             self.events.append(got)
 
@@ -87,9 +91,16 @@ class Browser:
             raise RuntimeError(got["exceptionDetails"].get("exception", {}).get("description", got))
         return got["result"].get("value")
 
+    def holds(self, script):
+        """Whether the page says so now; one that is about to go elsewhere doesn't."""
+        try:
+            return self.run(script)
+        except Unanswered:
+            return False
+
     def until(self, script, seconds=60):
         end = time.monotonic() + seconds
-        while not self.run(script):
+        while not self.holds(script):
             if time.monotonic() > end:
                 raise TimeoutError(script)
             time.sleep(0.02)
