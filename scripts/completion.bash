@@ -21,16 +21,19 @@ _ztso() {
     find) inputs=(files) options='--buffer --states' ;;
     try) inputs=(files) options='--buffer --seed --runs --length --skip --jobs' ;;
     threads) inputs=(files) options='--buffer --turns' ;;
-    channel) inputs=('lamport fastforward' '' files) options='--buffer --base --stride --finish' ;;
+    channel) inputs=('lamport fastforward cached own' '' files) options='--buffer --base --stride --finish --sender --receiver' ;;
+    ring) inputs=(files files '') options='--buffer --seed --runs --length --skip --jobs --base --stride' ;;
     steps) inputs=() options='--buffer' ;;
     asm) inputs=() options='' ;;
     dis) inputs=() options='' ;;
     esac
     if ((COMP_CWORD == 1)); then
-        words='run replay move shrink chart show debug check find try threads channel steps asm dis'
+        words='run replay move shrink chart show debug check find try threads channel ring steps asm dis'
     elif ((at > COMP_CWORD)); then
         case $last in
         --buffer) words='1 2 4 16' ;;
+        --sender) compopt -o default ;;
+        --receiver) compopt -o default ;;
         esac
     elif [[ $word == -* ]]; then
         words=$options

@@ -15,6 +15,7 @@ _ztso() {
             'try:the outcomes of N drawn schedules of L events'
             'threads:the schedule that threads of the system made'
             'channel:what the receiver reports'
+            'ring:whether N drawn runs of L events report clean'
             'steps:the last state'
             'asm:words in hex'
             'dis:instructions'
@@ -101,10 +102,26 @@ _ztso() {
             '--buffer[a hart'\''s store buffer holds N stores: 1, 2, 4 or 16; 4 if it is left out]:N:(1 2 4 16)' \
             '--base[the first block begins at byte A of memory, a multiple of 4 below 4294967296; 0 if it is left out]:A:()' \
             '--stride[each block begins T bytes after the one before it, a multiple of 4 and at least 16 + 4 RING; that if it is left out]:T:()' \
-            '--finish[after the schedule a plan runs, until each list is taken and each sender closed]' \
-            '1:KIND:(lamport fastforward)' \
+            '--finish[after the schedule a plan runs, until each list is taken and each sender closed; not with own]' \
+            '--sender[the program of each sender, as assembly: with own, and only there]:SENDER:_files' \
+            '--receiver[the program of the receiver, as assembly: with own, and only there]:RECEIVER:_files' \
+            '1:KIND:(lamport fastforward cached own)' \
             '2:RING:()' \
             '3:SCHEDULE:_files'
+        ;;
+    ring)
+        _arguments \
+            '--buffer[a hart'\''s store buffer holds N stores: 1, 2, 4 or 16; 4 if it is left out]:N:(1 2 4 16)' \
+            '--seed[the generator'\''s seed, 0 to 18446744073709551615]:S:()' \
+            '--runs[how many schedules are drawn, 1 to 100000]:N:()' \
+            '--length[how many events each schedule has, 0 to 1048576]:L:()' \
+            '--skip[the first K runs of the seed are passed over, 0 to 18446744073709551615; 0 if it is left out]:K:()' \
+            '--jobs[J threads share the runs, 1 to 64, and the output is the same; 1 if it is left out]:J:()' \
+            '--base[the first block begins at byte A of memory, a multiple of 4 below 4294967296; 0 if it is left out]:A:()' \
+            '--stride[each block begins T bytes after the one before it, a multiple of 4 and at least 16 + 4 RING; that if it is left out]:T:()' \
+            '1:SENDER:_files' \
+            '2:RECEIVER:_files' \
+            '3:RING:()'
         ;;
     steps)
         _arguments \

@@ -4,6 +4,10 @@ a kind, and yields lines."""
 import re
 
 FILES = "files"
+# what the command line calls a file
+NAMES = ("FILE", "SCHEDULE", "SENDER", "RECEIVER")
+# the values of an argument, as a text lists them
+LISTED = r"(?:\w+, )*\w+ or \w+"
 
 
 class Command:
@@ -11,21 +15,26 @@ class Command:
 
     def __init__(self, words, reads, prints, options):
         self.name, self.prints = words.split()[0], re.split(r"[,:;(]", prints)[0]
-        listed = {name: either.split(" or ") for name, either in re.findall(r"\b([A-Z]+) is (\w+ or \w+)", reads)}
+        listed = {name: values_of(words) for name, words in re.findall(rf"\b([A-Z]+) is ({LISTED})", reads)}
         # the inputs in their order by name, each with FILES, a list of words, or nothing where it is any text
-        self.inputs = [(name, FILES if name in ("FILE", "SCHEDULE") else listed.get(name, []))
+        self.inputs = [(name, FILES if name in NAMES else listed.get(name, []))
                        for name in words.split(" --")[0].split()[1:]]
         self.options = [option for option in options if self.name in option.commands]
 
 
 class Option:
-    """An option with the name of its value, or nothing, and the values where its text lists them."""
+    """An option with the name of its value, or nothing, the values where its text lists them, and whether it is a file."""
 
     def __init__(self, words, commands, does):
         self.name, _, self.value = words.partition(" ")
         self.commands, self.does = commands.split(), does
-        listed = re.search(r": ((?:\w+, )+\w+ or \w+)(?:;|$)", does)
-        self.values = re.split(r", | or ", listed[1]) if listed else []
+        listed = re.search(rf": ({LISTED})(?:;|$)", does)
+        self.values = values_of(listed[1]) if listed else []
+        self.has_file = self.value in NAMES
+
+
+def values_of(listed):
+    return re.split(", | or ", listed)
 
 
 def read(rows):
@@ -56,6 +65,7 @@ def bash(rows):
     yield "    elif ((at > COMP_CWORD)); then"
     yield "        case $last in"
     yield from (f"        {option.name}) words='{' '.join(option.values)}' ;;" for option in options if option.values)
+    yield from (f"        {option.name}) compopt -o default ;;" for option in options if option.has_file)
     yield "        esac"
     yield "    elif [[ $word == -* ]]; then"
     yield "        words=$options"
@@ -106,7 +116,8 @@ def zsh(rows):
 
 def zsh_option(option):
     text = option.does.replace("[", "\\[").replace("]", "\\]")
-    return f"{option.name}[{text}]" + (f":{option.value}:({' '.join(option.values)})" if option.value else "")
+    values = "_files" if option.has_file else f"({' '.join(option.values)})"
+    return f"{option.name}[{text}]" + (f":{option.value}:{values}" if option.value else "")
 
 
 def zsh_input(number, pair):
@@ -137,7 +148,7 @@ def fish(rows):
             yield f"complete -c ztso -n '{fish_seen([command.name])}; and {fish_seen(words)}' -F"
     for option in options:
         line = f"complete -c ztso -n '{fish_seen(option.commands)}' -l {option.name[2:]}"
-        line += " -x" * bool(option.value) + f" -a '{' '.join(option.values)}'" * bool(option.values)
+        line += (" -r -F" if option.has_file else " -x") * bool(option.value) + f" -a '{' '.join(option.values)}'" * bool(option.values)
         yield f"{line} -d {fish_quoted(option.does)}"
 
 

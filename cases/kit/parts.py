@@ -5,15 +5,28 @@ import re
 from pathlib import Path
 
 ROOT = Path(__file__).resolve().parent.parent.parent
-HEADING = {"lamport": "## Lamport's ring", "fastforward": "## FastForward"}
-CRATE = {"lamport": "lamport_ring", "fastforward": "fastforward"}
+HEADING = {"lamport": "## Lamport's ring", "fastforward": "## FastForward",
+           "cached": "## Lamport's ring with a cached tail"}
+CRATE = {"lamport": "lamport_ring", "fastforward": "fastforward", "cached": "lamport_cached"}
 ROLES = ("sender", "receiver")
+# the program that a ring shares with another one, by that one's name
+SHARED = {("cached", "receiver"): "lamport_receiver"}
 # the words that all receivers share
 RECEIVER = ROOT / "crates/poll_close/src/listing.rt"
 
 
 class NoSuchPart(Exception):
     """A file hasn't the part that was asked for."""
+
+
+def named(kind, role):
+    """The name of a ring's program."""
+    return SHARED.get((kind, role), f"{kind}_{role}")
+
+
+def programs():
+    """The kind and the role of each program, of those that rings share once."""
+    return [(kind, role) for kind in CRATE for role in ROLES if (kind, role) not in SHARED]
 
 
 def listing(page, kind, role):
@@ -24,7 +37,8 @@ def listing(page, kind, role):
         found = [re.findall(r"^\| ([0-9A-F]{2}) \| `([^`]*)` \|(.*)\|", part, re.MULTILINE)
                  for part in section.split("\n\n")]
         return [{at: (line, remark.strip()) for at, line, remark in lines} for lines in found if lines]
-    return of(kind)[0] if role == "sender" else of("lamport")[1] | of(kind)[1]
+    sender, *own = of(kind)
+    return sender if role == "sender" else of("lamport")[1] | (own[0] if own else {})
 
 
 def program(assembly, name):

@@ -6,10 +6,10 @@ WIDEST = 160
 # The crates of which some lines are still to be broken, by the kind of file. A crate leaves the list with its last
 # such line.
 UNBROKEN = {
-    ".antt": "assembler engine_parts hart hart_threads litmus litmus_reader litmus_tokens memory recorder"
+    ".antt": "assembler engine_support hart hart_threads litmus litmus_reader litmus_tokens memory recorder"
              " rv_decode step_machine texts tries ztso ztso_axioms ztso_engines",
-    ".rt": "assembler chart fastforward hart hart_threads lamport_ring litmus litmus_reader litmus_tokens"
-           " memory recorder rv_decode step_machine texts tries views ztso ztso_axioms ztso_engines",
+    ".rt": "assembler chart fastforward hart hart_threads litmus litmus_reader litmus_tokens"
+           " memory recorder rv_decode step_machine texts tries view_engines ztso ztso_axioms ztso_engines",
 }
 ADVICE = {".antt": "tools/fold breaks it", ".rt": "break its clause, its imports or its text"}
 

@@ -144,3 +144,33 @@ fastforward_receiver:
     addi x17,x0,93                            # the end
     ecall
     .size fastforward_receiver, . - fastforward_receiver
+
+    .section .text.cached_sender, "ax", @progbits
+    .balign 4
+    .globl cached_sender
+    .type cached_sender, @function
+cached_sender:
+.Lcached_sender_next:
+    addi x17,x0,1                             # ask for the next word of the list:
+    ecall                                     # x10 is the word and x11 is 1, or x11 is 0
+    beq x11,x0,.Lcached_sender_done           # no word is left
+    addi x6,x5,4                              # the head after this word: one slot on,
+    bne x6,x9,.Lcached_sender_test            # and where that is past the last slot
+    addi x6,x0,0                              # the first one
+.Lcached_sender_test:
+    bne x7,x6,.Lcached_sender_store           # by the tail that it read last the slot is free
+.Lcached_sender_again:
+    lw x7,8(x8)                               # the tail
+    beq x7,x6,.Lcached_sender_again           # as long as the head would meet it the ring is full
+.Lcached_sender_store:
+    add x28,x8,x5
+    sw x10,16(x28)                            # the word into its slot,
+    sw x6,0(x8)                               # then the head
+    addi x5,x6,0
+    jal x0,.Lcached_sender_next
+.Lcached_sender_done:
+    addi x6,x0,1
+    sw x6,4(x8)                               # the closed mark
+    addi x17,x0,93                            # and the end
+    ecall
+    .size cached_sender, . - cached_sender

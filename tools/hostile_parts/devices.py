@@ -67,7 +67,7 @@ def commands(short):
 
 
 def reads_stdin(words):
-    return words[0] in ("steps", "asm", "dis", "channel", *examples.INTERACTIVE)
+    return words[0] in ("steps", "asm", "dis", "channel", "ring", *examples.INTERACTIVE)
 
 
 def feed(where, content):

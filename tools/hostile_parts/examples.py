@@ -66,6 +66,7 @@ c: ebreak # the end
  ret
 """
 WORDS = b"FE029EE3 00000000\n00532023\tfff28293\r\n1821a0af 0330000f\n 8330000f\n"
+RING_SENDER, RING_RECEIVER = (f"examples/rings/lamport-{role}.asm" for role in ("sender", "receiver"))
 # a schedule of version 2 of store buffering, with counts, blanks and all line ends, and one of a channel without words
 RECORD = b"""ztso-schedule 2\r
 a0 store 0 0 1
@@ -192,12 +193,19 @@ def kinds():
     yield ["try", TICKET, "--seed", "7", "--runs", "40", "--length", "60", "--skip", "5", "--jobs", "3"], b"", {}
     for test in (SB, TICKET, "litmus/own-reads/n6.litmus"):
         yield ["try", test, "--seed", "7", "--runs", "40", "--length", "60"], b"", {}
-    for kind in ("lamport", "fastforward"):
+    for kind in ("lamport", "fastforward", "cached"):
         yield ["channel", kind, "3", "examples/two-senders.schedule"], LISTS, {}
         yield ["channel", kind, "3", "none.schedule", "--finish"], LISTS, none
         yield ["channel", kind, "2", "none.schedule", "--finish", "--buffer", "1"], b"1 2 3\n\n4\n" * 3, none
     yield ["channel", "lamport", "3", "examples/two-senders.schedule", "--base", "64", "--stride", "40"], LISTS, {}
     yield ["channel", "lamport", "2", "record.schedule"], b"\n", {"record.schedule": CHANNEL_RECORD}
+    drawn = ["2", "--seed", "7", "--runs", "20", "--length", "200"]
+    yield ["ring", RING_SENDER, RING_RECEIVER, *drawn], LISTS, {}
+    yield ["ring", RING_SENDER, RING_RECEIVER, *drawn, "--jobs", "2"], LISTS, {}
+    # an unclean run, of which only one schedule can be printed
+    yield ["ring", "stops.asm", RING_RECEIVER, *drawn], b"7\n", {"stops.asm": b"ebreak\n"}
+    own = ["--sender", RING_SENDER, "--receiver", RING_RECEIVER]
+    yield ["channel", "own", "3", "examples/two-senders.schedule", *own], LISTS, {}
     yield ["debug", SB, WITNESS], COMMANDS, {}
     yield from ((["debug", SB, WITNESS], line + b"\n", {}) for line in sorted(set(COMMANDS.splitlines())))
     yield ["asm"], FORMS, {}

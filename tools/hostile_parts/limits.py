@@ -7,9 +7,11 @@ from .runs import BAD_COMMAND_LINE, refused
 INPUT, EVENTS, CODE = 1_048_576, 1_048_576, 4096
 NONE = b"ztso-schedule 1\n"
 SB = str(ROOT / "litmus/store-buffering/sb.litmus")
+SENDER, RECEIVER = (str(ROOT / f"examples/rings/lamport-{role}.asm") for role in ("sender", "receiver"))
+DRAWN = ["--seed", "1", "--runs", "1", "--length", "0"]
 KINDS = ["litmus", "schedules", "records", "shrink", "steps", "asm", "dis", "debug", "channels", "options"]
 # slots of a ring at the least
-LEAST = {"lamport": 2, "fastforward": 1}
+LEAST = {"lamport": 2, "fastforward": 1, "cached": 2}
 
 
 def litmus(harts=1, cells=(), items="", condition="exists (x=0)"):
@@ -128,13 +130,19 @@ def channels(short):
         yield ["channel", "lamport", "2", "schedule", *words, "--finish"], b"7\n8\n", wanted
     for more, wanted in ((0, None), (1, refused(37))):
         yield ["channel", "lamport", "2", "schedule"], b"7\n" + b" " * (INPUT - 2 + more), wanted
+    own = ["ring", SENDER, RECEIVER]
+    for senders, wanted in ((1, None), (63, None), (64, refused(18))):
+        yield [*own, "2", *DRAWN], b"7\n" * senders, wanted
+    for slots, wanted in (("1", None), ("0", refused(19)), ("4092", None), ("4093", refused(20)), (str(2**32 - 1), refused(20)),
+                          (str(2**32), BAD_COMMAND_LINE)):
+        yield [*own, slots, *DRAWN], b"7\n", wanted
     for text, wanted in ((b"4294967295", None), (b"4294967296", refused(34, " at line 1"))):
         yield ["channel", "lamport", "2", "schedule"], text, wanted
 
 
 def options(short):
     """Options at their ends and past them."""
-    drawn = {"--seed": "1", "--runs": "1", "--length": "0"}
+    drawn = dict(zip(DRAWN[::2], DRAWN[1::2]))
     for name, values in [
             ("--seed", [("0", None), (str(2**64 - 1), None), (str(2**64), BAD_COMMAND_LINE), ("-1", BAD_COMMAND_LINE)]),
             ("--runs", [("1", None), ("100000", None), ("0", BAD_COMMAND_LINE), ("100001", BAD_COMMAND_LINE)]),
@@ -146,9 +154,11 @@ def options(short):
         for value, wanted in values:
             if not (short and value in ("100000", "1048576")):
                 options = {**drawn, name: value}
-                yield ["try", SB, *(word for pair in options.items() for word in pair)], wanted
+                words = [word for pair in options.items() for word in pair]
+                yield ["try", SB, *words], b"", wanted
+                yield ["ring", SENDER, RECEIVER, "2", *words], b"7\n", wanted
     for value, wanted in [("0", None), ("10000000", None), ("10000001", BAD_COMMAND_LINE), ("-1", BAD_COMMAND_LINE)]:
-        yield ["threads", SB, "--turns", value], wanted
+        yield ["threads", SB, "--turns", value], b"", wanted
 
 
 def hold(runs, kind, text, words, stdin, wanted):
@@ -179,8 +189,8 @@ def rows(short):
         yield words[0], b"", words, stdin, wanted
     for words, stdin, wanted in channels(short):
         yield "channels", b"", words, stdin, wanted
-    for words, wanted in options(short):
-        yield "options", b"", words, b"", wanted
+    for words, stdin, wanted in options(short):
+        yield "options", b"", words, stdin, wanted
 
 
 def part(runs):

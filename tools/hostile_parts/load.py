@@ -110,7 +110,7 @@ def channel_load(runs, count):
         drawn.append(f"{'a' if runs.draw.random() < 0.7 else 'l'}{hart}*{times}")
         left -= times
     runs.put({"load.schedule": b"ztso-schedule 1\n" + " ".join(drawn).encode()})
-    for kind, slots in (("lamport", "2"), ("fastforward", "61")):
+    for kind, slots in (("lamport", "2"), ("fastforward", "61"), ("cached", "2")):
         words = ["channel", kind, slots, "load.schedule", *CAPACITY]
         before = None
         for flags in ([], ["--finish"]):

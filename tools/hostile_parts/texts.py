@@ -41,6 +41,11 @@ def grammars():
     sum_ = read("examples/sum.asm")
     for text in (sum_, examples.FORMS, b"loop: addi x5,x5,-1\nbnez x5,loop\n"):
         yield "assembly", text, ["asm"], text
+    # no event is drawn, so what is cut off changes whether the text is read and nothing else
+    drawn = ["2", "--seed", "1", "--runs", "2", "--length", "0"]
+    sender, receiver = (str(ROOT / name) for name in (examples.RING_SENDER, examples.RING_RECEIVER))
+    for text, words in ((sum_, ["text", receiver]), (b"loop: addi x5,x5,-1\nbnez x5,loop\n", [sender, "text"])):
+        yield "assembly", text, ["ring", *words, *drawn], b"7\n"
     yield "words", examples.WORDS, ["dis"], examples.WORDS
     files = [str(ROOT / examples.SB), str(ROOT / examples.WITNESS)]
     typed = "".join(f"{line}\n" for line in re.findall(

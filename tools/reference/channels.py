@@ -16,8 +16,11 @@ LINE, ZERO_WORD, NO_SENDERS, TOO_MANY, TOO_SMALL, NO_ROOM = 34, 16, 17, 18, 19, 
 UNEVEN_BASE, UNEVEN_STRIDE, BLOCKS_MEET = 41, 42, 43
 # a place is where block 0 begins, and how far apart the blocks begin, None if one follows the other
 DENSE = 0, None
-HEADING = {"lamport": "## Lamport's ring", "fastforward": "## FastForward"}
-LEAST = {"lamport": 2, "fastforward": 1}
+HEADING = {"lamport": "## Lamport's ring", "fastforward": "## FastForward",
+           "cached": "## Lamport's ring with a cached tail"}
+LEAST = {"lamport": 2, "fastforward": 1, "cached": 2}
+# where the sender of a ring of Lamport's reads the tail
+TAIL_READ = {"lamport": 0x18, "cached": 0x1C}
 # a ring whose programs the user gives, and its least size
 OWN, LEAST_OWN = "own", 1
 SENDERS = 63
@@ -35,15 +38,15 @@ def lists(text):
 
 
 def tables(kind):
-    """The page's lines for the sender and for the receiver, by their places."""
+    """The page's lines for the sender and those of the ring's own for the receiver, if any, by their places."""
     section = PAGE.read_text().split(f"{HEADING[kind]}\n")[1].split("\n## ")[0]
     tables = [re.findall(r"^\| ([0-9A-F]{2}) \| `([^`]*)`", part, re.MULTILINE) for part in section.split("\n\n")]
-    sender, receiver = (dict(lines) for lines in tables if lines)
-    return sender, receiver
+    sender, *own = (dict(lines) for lines in tables if lines)
+    return sender, own[0] if own else {}
 
 
 def listings(kind):
-    """The sender's instructions and the receiver's. All receivers are Lamport's but for lines of their own."""
+    """The sender's instructions and the receiver's. Each receiver is Lamport's, except for lines of the ring's own."""
     sender, own = tables(kind)
     receiver = tables("lamport")[1] | own
     return [assembled(program.values()) for program in (sender, receiver)]
@@ -111,10 +114,10 @@ class Channel:
     def is_ready(self, hart):
         """Whether a sender runs and doesn't wait for the receiver."""
         pc, registers, status, _, _ = self.state[0][hart]
-        if self.kind == "lamport":
-            waits = pc == 0x18 and word_at(self.state[1], registers[8] + 8) == registers[6]
-        else:
+        if self.kind == "fastforward":
             waits = pc == 0x10 and word_at(self.state[1], registers[28] + 16) != 0
+        else:
+            waits = pc == TAIL_READ[self.kind] and word_at(self.state[1], registers[8] + 8) == registers[6]
         return status == RUNNING and not waits
 
     def finish(self):

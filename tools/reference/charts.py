@@ -37,6 +37,41 @@ def shown(each):
     return chr(each) if 31 < each < 127 else "?"
 
 
+class Room:
+    """What columns have room for whatever the run, by the test's instructions: values of one digit, rows' numbers
+    as long as those of a run that does each instruction once, and a lane for each store."""
+
+    def __init__(self, code, names):
+        digits = len(str(sum(map(len, code)) + sum(map(stores, code))))
+        name = max(map(len, names), default=0)
+        after = [(text, *said_after(text, name, digits)) for text in sum(code, [])]
+        self.said = max((len(text) + 2 + said for text, said, _ in after), default=0)
+        self.brief = max((said for _, said, _ in after), default=0)
+        self.kept = max((kept for _, _, kept in after), default=0)
+        self.lanes, self.shared = max(map(stores, code), default=0), sum(map(stores, code))
+
+
+def mnemonic(text):
+    return text.split(" ")[0].split(".")[0]
+
+
+def stores(code):
+    return sum(mnemonic(text) in words.STORES for text in code)
+
+
+def said_after(text, name, digits):
+    """The cells of what a row says after its instruction, and in memory, for a location's name of so many."""
+    kind = mnemonic(text)
+    part = name + (2 if kind[1:2] in "bh" else 0)
+    if kind in ("lb", "lh", "lw", "lbu", "lhu"):
+        return part + len(" = 0 [mem ]") + digits, 0
+    if kind in words.STORES:
+        return part + len(" := 0"), part + len(" = 0 []") + digits
+    if kind in words.AMOS:
+        return name + len(": 0 -> 0 [mem ]") + digits, name + len(" = 0")
+    return len({"fence": "not full", "ecall": "ended"}.get(kind, "")), 0
+
+
 class Row:
     """What an entry says: beside its instruction, in memory, and where its bytes came from."""
 
@@ -113,20 +148,20 @@ def shortened(text):
 class Picture:
     """The rows in one form: their texts, their lanes and where all of it stands. Rows that are left out stay silent."""
 
-    def __init__(self, rows, harts, form, without=()):
+    def __init__(self, rows, harts, room, form, without=()):
         self.listed, instructions, self.most, stores = form
-        self.rows, self.drawn = rows, [n for n, row in enumerate(rows) if row.kind not in without]
+        self.rows, self.harts, self.drawn = rows, harts, [n for n, row in enumerate(rows) if row.kind not in without]
         effects = [beside("  ", f"P{r.hart}" if self.listed else "", r.instruction if instructions else "", r.effect) for r in rows]
         self.said = ["" if r.kind in without else shortened(beside(" ", effect, r.tag)) for effect, r in zip(effects, rows)]
         self.kept = [shortened(r.memory + (f" [{r.landed + 1}]" if stores and r.landed is not None else "")) for r in rows]
-        self.shown = [h for h in range(harts) if not rows or any(r.hart == h for r in rows)]
         self.lane()
-        self.text = max(map(len, self.said), default=0)
-        used = [own[2] + 1 for own, _ in self.lanes if own]
-        self.used = max(used, default=0)
+        caller = len(f"P{harts - 1}") + 2 if self.listed else 0
+        least = min(caller + (room.said if instructions else room.brief), LONGEST_TEXT)
+        self.text = max([least, *map(len, self.said)])
+        self.used = max([min(room.shared if self.listed else room.lanes, self.most), *(own[2] + 1 for own, _ in self.lanes if own)])
         self.pitch = self.text + 2 * self.used + 4
-        self.memory = 9 + (1 if self.listed else len(self.shown)) * self.pitch
-        self.width = self.memory + max([6, *map(len, self.kept)])
+        self.memory = 9 + (1 if self.listed else harts) * self.pitch
+        self.width = self.memory + max([6, room.kept, *map(len, self.kept)])
 
     def lane(self):
         """For each row the line that it begins or ends and those that pass it: row, column and lane."""
@@ -145,7 +180,7 @@ class Picture:
         self.held = held
 
     def begins(self, column):
-        return 7 + (0 if self.listed else self.shown.index(column)) * self.pitch
+        return 7 + (0 if self.listed else column) * self.pitch
 
     def at(self, held):
         return self.begins(held[1]) + self.text + 2 * (self.used - held[2])
@@ -186,7 +221,7 @@ class Picture:
 
     def lines(self):
         heads = [" "] * self.width
-        for column, name in [(None, "harts")] if self.listed else [(h, f"P{h}") for h in self.shown]:
+        for column, name in [(None, "harts")] if self.listed else [(h, f"P{h}") for h in range(self.harts)]:
             put(heads, 7 if column is None else self.begins(column), name)
         put(heads, self.memory, "memory")
         ends = [" "] * self.width
@@ -201,7 +236,7 @@ def put(cells, at, text):
 
 
 def limit(harts):
-    return 100 if harts <= 2 else min(20 + 40 * harts, 200)
+    return 110 if harts <= 2 else min(20 + 40 * harts, 200)
 
 
 def chart(text, test, machine, walk, without=()):
@@ -216,7 +251,8 @@ def chart(text, test, machine, walk, without=()):
             rows.add(hart, code[pc] if event[0] == "a" and pc < len(code) else "", told)
         state = after
     harts = len(test.codes)
-    pictures = [Picture(rows.rows, harts, form, without) for form in FORMS]
+    room = Room(heading.code, [rows.part(address) for address in test.locations.values()])
+    pictures = [Picture(rows.rows, harts, room, form, without) for form in FORMS]
     picture = next((p for p in pictures if p.width <= limit(harts)), pictures[-1])
     never = [f"still pending: P{h} {rows.part(place, width)} := {value} [{n + 1}]"
              for h in range(harts) for n, place, width, value in rows.pending.get(h, [])]

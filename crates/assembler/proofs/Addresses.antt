@@ -22,8 +22,8 @@ use Rattle.texts.specs.Numbers.IsMagnitude.{decimal, hex}
 use Rattle.assembler.specs.Spelled.{IsNumber, IsRegister, IsOffset, IsAddress, IsTarget}
 use Rattle.assembler.specs.Spelled.IsNumber.{plain, negative}
 use Rattle.assembler.proofs.Rows.{all_below, below_all}
-use Rattle.texts.proofs.CuttingLaws.{before_stop, after_stop, cut_byte}
-use Rattle.texts.proofs.TrimLaws.{trailing_append, stripped_padded, stripped_all, padded_stripped, all-append}
+use Rattle.texts.proofs.CuttingLaws.{before-stop, after-stop, cut_byte}
+use Rattle.texts.proofs.TrimLaws.{trailing_append, stripped-padded, stripped-all, padded_stripped, all-append}
 use Rattle.assembler.proofs.Leaves.{is_word_byte, is_operand_byte, Reads, all_weaker, none_of_all, not_this, word_operand, word_trimmed, register_word, register_found, register_only, digit_low, number_found, number_only, number_word, not_less, IsWithin, from_found, from_only}
 
 -- ---- names
@@ -88,11 +88,11 @@ target_found bound reach t to e = elim (cases_Bool (is_name t)) [
 less : (a b : ℤ) → a <ℤ b → int_lt a b ≡ true
 less a b lt = grind (arith, ints)
 
-pub is_reached_only : (bound z : ℤ) → neg_ℤ bound ≤ℤ z → z <ℤ bound → IsEven z → is_reached bound z ≡ true
-is_reached_only bound z low high even = rw (even, not_less z (neg_ℤ bound) low, less z bound high) refl
+pub is_reached-only : (bound z : ℤ) → neg_ℤ bound ≤ℤ z → z <ℤ bound → IsEven z → is_reached bound z ≡ true
+is_reached-only bound z low high even = rw (even, not_less z (neg_ℤ bound) low, less z bound high) refl
 
 target_only : (bound : ℤ) → IsReach bound → (t : List ℕ) (to : Target) → IsTarget bound t to → target_in bound (trimmed t) ≡ Ok to
-target_only bound reach t to is = grind (arith, word_trimmed, name_word, number_word, number_no_name, number_only, small_reached, is_reached_only)
+target_only bound reach t to is = grind (arith, word_trimmed, name_word, number_word, number_no_name, number_only, small_reached, is_reached-only)
 
 target_bytes : (bound : ℤ) (t : List ℕ) (to : Target) → IsTarget bound t to → list_all is_operand_byte t ≡ true
 target_bytes bound t to is = grind (arith, is_operand_byte, word_operand, name_word, number_word)
@@ -177,24 +177,24 @@ front_twice : (xs : List ℕ) → without_front (without_front xs) ≡ without_f
 front_twice [] = refl
 front_twice (x ∷ xs) = grind (arith, cases_Bool, front_twice xs)
 
-trimmed_after_front : (xs : List ℕ) → trimmed (without_front xs) ≡ trimmed xs
+trimmed-after_front : (xs : List ℕ) → trimmed (without_front xs) ≡ trimmed xs
 unfolding stripped
-trimmed_after_front xs = ap without_end (front_twice xs)
+trimmed-after_front xs = ap without_end (front_twice xs)
 
 pub front_stop : (xs : List ℕ) (c : ℕ) (ys : List ℕ) → is_blank c ≡ false → without_front (xs ++ c ∷ ys) ≡ without_front xs ++ c ∷ ys
 front_stop [] c ys solid = rw solid refl
 front_stop (x ∷ xs) c ys solid = grind (arith, cases_Bool, front_stop xs c ys solid)
 
-trimmed_address : (a b : List ℕ) → trimmed (a ++ 40 ∷ (b ++ 41 ∷ [])) ≡ without_front a ++ 40 ∷ (b ++ 41 ∷ [])
+trimmed-address : (a b : List ℕ) → trimmed (a ++ 40 ∷ (b ++ 41 ∷ [])) ≡ without_front a ++ 40 ∷ (b ++ 41 ∷ [])
 unfolding stripped
-trimmed_address a b =
+trimmed-address a b =
     let whole : without_front a ++ 40 ∷ (b ++ 41 ∷ []) ≡ (without_front a ++ 40 ∷ b) ++ 41 ∷ [] = sym (append_assoc (without_front a) (40 ∷ b) (41 ∷ [])) in
     ap without_end (front_stop a 40 (b ++ 41 ∷ []) refl ∙ whole) ∙ (trailing_append is_blank (without_front a ++ 40 ∷ b) (41 ∷ []) (omega arith) (refl, tt) ∙ sym whole)
 
 offset_only : (low high : ℤ) → IsWithin low high → (t : List ℕ) (z : ℤ) → IsOffset low high t z → or_zero low high (trimmed t) ≡ Ok z
-offset_only low high within t z (inl none) = rw (stripped_all is_blank t none.0) (ap Ok (sym none.1))
+offset_only low high within t z (inl none) = rw (stripped-all is_blank t none.0) (ap Ok (sym none.1))
 offset_only low high within t z (inr some) =
-    let core : trimmed t ≡ some.0 = stripped_padded is_blank some.0 t some.1 ∙ word_trimmed some.0 (number_word some.0 z some.2.0) in
+    let core : trimmed t ≡ some.0 = stripped-padded is_blank some.0 t some.1 ∙ word_trimmed some.0 (number_word some.0 z some.2.0) in
     rw (core, some_length some.0 z some.2.0) (from_only low high within some.0 z some.2)
   where
     magnitude_some : (s : List ℕ) (n : ℕ) → IsMagnitude s n → eqb (length s) 0 ≡ false
@@ -213,14 +213,14 @@ address_only_at low high within a b name r z offset pad is =
     let front = without_front a in
     let no_open : NonePass (is_byte 40) front = spaced_not 40 refl front (front_all is_spaced_byte a (offset_spaced low high a z offset)) in
     let no_close : NonePass (is_byte 41) b = spaced_not 41 refl b (padded_spaced name b pad (register_word name r is)) in
-    let core : trimmed b ≡ name = stripped_padded is_blank name b pad ∙ word_trimmed name (register_word name r is) in
-    let base : base_in (front ++ 40 ∷ (b ++ 41 ∷ [])) ≡ Ok r = rw (after_stop (is_byte 40) front 40 (b ++ 41 ∷ []) no_open refl, before_stop (is_byte 41) b 41 [] no_close refl, after_stop (is_byte 41) b 41 [] no_close refl, core) (register_only name r is) in
-    let number : offset_in low high (front ++ 40 ∷ (b ++ 41 ∷ [])) ≡ Ok z = rw (before_stop (is_byte 40) front 40 (b ++ 41 ∷ []) no_open refl, trimmed_after_front a) (offset_only low high within a z offset) in
+    let core : trimmed b ≡ name = stripped-padded is_blank name b pad ∙ word_trimmed name (register_word name r is) in
+    let base : base_in (front ++ 40 ∷ (b ++ 41 ∷ [])) ≡ Ok r = rw (after-stop (is_byte 40) front 40 (b ++ 41 ∷ []) no_open refl, before-stop (is_byte 41) b 41 [] no_close refl, after-stop (is_byte 41) b 41 [] no_close refl, core) (register_only name r is) in
+    let number : offset_in low high (front ++ 40 ∷ (b ++ 41 ∷ [])) ≡ Ok z = rw (before-stop (is_byte 40) front 40 (b ++ 41 ∷ []) no_open refl, trimmed-after_front a) (offset_only low high within a z offset) in
     rw (base, number) refl
 
 address_only : (low high : ℤ) → IsWithin low high → (t : List ℕ) (at : Reg × ℤ) → IsAddress low high t at → address_in low high (trimmed t) ≡ Ok at
 address_only low high within t at is =
-    subst (λ (s : List ℕ). address_in low high s ≡ Ok at) (sym (ap trimmed is.whole ∙ trimmed_address is.before is.inside))
+    subst (λ (s : List ℕ). address_in low high s ≡ Ok at) (sym (ap trimmed is.whole ∙ trimmed-address is.before is.inside))
     (address_only_at low high within is.before is.inside is.name at.0 at.1 is.offset is.padded is.named)
 
 address_bytes : (low high : ℤ) (t : List ℕ) (at : Reg × ℤ) → IsAddress low high t at → list_all is_operand_byte t ≡ true

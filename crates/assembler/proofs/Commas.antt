@@ -5,8 +5,8 @@ use Rattle.std.proofs.lemmas.List.Splits.{join_with_byte-slice_split}
 use Rattle.std.proofs.lemmas.Bool.{cases_Bool, eqb-true}
 use Rattle.texts.specs.Pieces.{is_blank}
 use Rattle.texts.specs.Cutting.{is_byte, without_front, without_end, trimmed, stripped, NonePass, AreBlanks, IsPadded, onto_kept, before, after}
-use Rattle.texts.proofs.CuttingLaws.{none-append, split_cut, split_none, split_stop, split_behind}
-use Rattle.texts.proofs.TrimLaws.{stripped_none, stripped_padded, stripped_trailing, padded_stripped}
+use Rattle.texts.proofs.CuttingLaws.{none-append, split_cut, split_none, split_stop, split_after}
+use Rattle.texts.proofs.TrimLaws.{stripped-none, stripped-padded, stripped-trailing, padded_stripped}
 use Rattle.assembler.specs.Lines.{between_commas}
 use Rattle.assembler.specs.Spelled.{AreListed}
 use Rattle.assembler.specs.Spelled.AreListed.{last, more}
@@ -18,10 +18,10 @@ pub record IsOperand (xs : List ℕ) : Type 0 where
   pub some : 0 < length xs
 
 pub two_between : (a b : List ℕ) → IsOperand a → IsOperand b → between_commas (Some (a ++ 44 ∷ b)) ≡ a ∷ b ∷ []
-two_between a b h k = rw (split_stop (is_byte 44) a 44 b h.commas refl, split_none (is_byte 44) b k.commas, stripped_none is_blank a h.blanks, stripped_none is_blank b k.blanks) refl
+two_between a b h k = rw (split_stop (is_byte 44) a 44 b h.commas refl, split_none (is_byte 44) b k.commas, stripped-none is_blank a h.blanks, stripped-none is_blank b k.blanks) refl
 
 pub three_between : (a b c : List ℕ) → IsOperand a → IsOperand b → IsOperand c → between_commas (Some (a ++ 44 ∷ (b ++ 44 ∷ c))) ≡ a ∷ b ∷ c ∷ []
-three_between a b c h k m = rw (split_stop (is_byte 44) a 44 (b ++ 44 ∷ c) h.commas refl, split_stop (is_byte 44) b 44 c k.commas refl, split_none (is_byte 44) c m.commas, stripped_none is_blank a h.blanks, stripped_none is_blank b k.blanks, stripped_none is_blank c m.blanks) refl
+three_between a b c h k m = rw (split_stop (is_byte 44) a 44 (b ++ 44 ∷ c) h.commas refl, split_stop (is_byte 44) b 44 c k.commas refl, split_none (is_byte 44) c m.commas, stripped-none is_blank a h.blanks, stripped-none is_blank b k.blanks, stripped-none is_blank c m.blanks) refl
 
 -- ---- blanks round the operands
 
@@ -78,7 +78,7 @@ split_front (x ∷ xs) = elim (cases_Bool (is_blank x)) [
 
 trims_ends : (parts : List (List ℕ)) → map trimmed (map without_end parts) ≡ map trimmed parts
 trims_ends [] = refl
-trims_ends (part ∷ parts) = rw (stripped_trailing is_blank part, trims_ends parts) refl
+trims_ends (part ∷ parts) = rw (stripped-trailing is_blank part, trims_ends parts) refl
 
 -- the blanks round a text are round its first and last operand
 pub split_trimmed : (text : List ℕ) → map trimmed (slice_split comma (trimmed text)) ≡ map trimmed (slice_split comma text)
@@ -103,12 +103,12 @@ padded_no_comma : (core text : List ℕ) → IsPadded core text → NonePass com
 padded_no_comma core text pad none = subst (λ (t : List ℕ). NonePass comma t) (sym pad.4) (none-append comma pad.0 (core ++ pad.1) (blanks_no_comma pad.0 pad.2) (none-append comma core pad.1 none (blanks_no_comma pad.1 pad.3)))
 
 pub split_listed : (text : List ℕ) (operands : List (List ℕ)) → AreListed text operands → NoCommas operands → map trimmed (slice_split comma text) ≡ map trimmed operands
-split_listed text operands (last whole operand pad) none = rw (split_none comma whole (padded_no_comma operand whole pad none.0)) (ap (λ o. o ∷ []) (stripped_padded is_blank operand whole pad))
-split_listed text operands (more first operand rest others pad listed) none = rw (split_stop comma first 44 rest (padded_no_comma operand first pad none.0) refl, stripped_padded is_blank operand first pad) (ap (λ os. trimmed operand ∷ os) (split_listed rest others listed none.1))
+split_listed text operands (last whole operand pad) none = rw (split_none comma whole (padded_no_comma operand whole pad none.0)) (ap (λ o. o ∷ []) (stripped-padded is_blank operand whole pad))
+split_listed text operands (more first operand rest others pad listed) none = rw (split_stop comma first 44 rest (padded_no_comma operand first pad none.0) refl, stripped-padded is_blank operand first pad) (ap (λ os. trimmed operand ∷ os) (split_listed rest others listed none.1))
 
 -- ---- the operands of a line, one by one
 
-rest_between : (rest : Option (List ℕ)) → map trimmed (split_behind (is_byte 44) rest) ≡ between_commas rest
+rest_between : (rest : Option (List ℕ)) → map trimmed (split_after (is_byte 44) rest) ≡ between_commas rest
 rest_between None = refl
 rest_between (Some text) = refl
 

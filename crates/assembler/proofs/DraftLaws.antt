@@ -107,13 +107,13 @@ all_placed-same f g same at line (first ∷ rest) = rw (placed-same f g same at 
 
 -- ---- the end of a draft
 
-pub finished_long : (all : List Line) → 4096 < words_of all → finished all ≡ Err (record { fault = TooLong; line = over 0 1 all })
+pub finished-long : (all : List Line) → 4096 < words_of all → finished all ≡ Err (record { fault = TooLong; line = over 0 1 all })
 unfolding finished
-finished_long all long = rw (lt-ltb 4096 (words_of all) long) refl
+finished-long all long = rw (lt-ltb 4096 (words_of all) long) refl
 
-pub finished_short : (found : List ℕ → Option ℕ) (all : List Line) → words_of all ≤ 4096 → ((name : List ℕ) → found name ≡ place_of all name) → all_placed found 0 1 all ≡ finished all
+pub finished-short : (found : List ℕ → Option ℕ) (all : List Line) → words_of all ≤ 4096 → ((name : List ℕ) → found name ≡ place_of all name) → all_placed found 0 1 all ≡ finished all
 unfolding finished
-finished_short found all few same = rw (le-ltb 4096 (words_of all) few) (all_placed-same found (place_of all) same 0 1 all)
+finished-short found all few same = rw (le-ltb 4096 (words_of all) few) (all_placed-same found (place_of all) same 0 1 all)
 
 pub lines-push : (items : List KeptLine) (line : KeptLine) → map line_of (items ++ line ∷ []) ≡ map line_of items ++ line_of line ∷ []
 lines-push [] line = refl

@@ -13,7 +13,7 @@ use Rattle.texts.specs.Numbers.IsMagnitude.{decimal, hex}
 use Rattle.texts.proofs.NumberLaws.{magnitude_found, magnitude_only, negative_text}
 use Rattle.texts.proofs.ResultLaws.{guard_ok, ok_is, bind_ok}
 use Rattle.rv_decode.specs.Meaning.{reg_of}
-use Rattle.rv_decode.proofs.Meanings.{reg_of_number}
+use Rattle.rv_decode.proofs.Meanings.{reg_of-number}
 use Rattle.rv_decode.specs.declared.instruction.Reg.{Reg}
 use Rattle.assembler.specs.declared.faults.AsmFault.{AsmFault}
 use Rattle.rv_decode.specs.Registers.{register_names, register_named}
@@ -23,7 +23,7 @@ use Rattle.assembler.specs.Operands.{register_in, known_register, in_range, numb
 use Rattle.assembler.specs.Spelled.{IsNumber, IsNumberFrom, IsNumberUpTo, IsRegister, IsSet}
 use Rattle.assembler.specs.Spelled.IsNumber.{plain, negative}
 use Rattle.rv_decode.proofs.TableLaws.{row_below}
-use Rattle.texts.proofs.TrimLaws.{stripped_none}
+use Rattle.texts.proofs.TrimLaws.{stripped-none}
 use Rattle.assembler.proofs.Rows.{all_below, below_all, found_in, are_apart, row_of_member, member_of_row, all_rows}
 
 -- a byte of a register, a number, a name or a set
@@ -67,7 +67,7 @@ pub word_solid : (t : List ℕ) → list_all is_word_byte t ≡ true → NonePas
 word_solid t h = none_of_all is_word_byte is_blank word_no_blank t h
 
 pub word_trimmed : (t : List ℕ) → list_all is_word_byte t ≡ true → trimmed t ≡ t
-word_trimmed t h = stripped_none is_blank t (word_solid t h)
+word_trimmed t h = stripped-none is_blank t (word_solid t h)
 
 -- ---- registers
 
@@ -98,7 +98,7 @@ register_found t r e = go (found_in register_names t) refl
 
 pub register_only : (t : List ℕ) (r : Reg) → IsRegister t r → register_in t ≡ Ok r
 unfolding register_named
-register_only t r is = rw (row_of_member register_names t r.number registers_apart is) (ap Ok (reg_of_number r))
+register_only t r is = rw (row_of_member register_names t r.number registers_apart is) (ap Ok (reg_of-number r))
 
 pub reads_register : Reads register_in IsRegister
 reads_register = record {

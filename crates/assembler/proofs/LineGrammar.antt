@@ -12,7 +12,7 @@ use Rattle.assembler.specs.Drafts.{Line}
 use Rattle.assembler.specs.Grammar.{IsBody, IsUncommented, IsLine}
 use Rattle.assembler.specs.Grammar.IsUncommented.{bare, labelled}
 use Rattle.assembler.specs.Grammar.IsLine.{code, commented}
-use Rattle.texts.proofs.CuttingLaws.{none-append, before_none, after_none, before_stop, after_stop, cut_byte, uncut}
+use Rattle.texts.proofs.CuttingLaws.{none-append, before-none, after-none, before-stop, after-stop, cut_byte, uncut}
 use Rattle.texts.proofs.TrimLaws.{leading_none, leading_past, leading_split}
 use Rattle.assembler.proofs.Leaves.{is_word_byte, none_of_all, not_this, word_solid}
 use Rattle.assembler.proofs.Addresses.{name_word}
@@ -54,8 +54,8 @@ no_byte_name byte fails name is = none_of_all is_word_byte (is_byte byte) (not_t
 labelled_parts : (blanks name text : List ℕ) (made : Option Made) → AreBlanks blanks → is_name name ≡ true → IsBody text made → Parts ((blanks ++ name) ++ 58 ∷ text) (line_with (Some name) made)
 labelled_parts blanks name text made are is body =
     let none : NonePass (is_byte 58) (blanks ++ name) = none-append (is_byte 58) blanks name (no_byte 58 refl blanks (blanks_code blanks are)) (no_byte_name 58 refl name is) in
-    let first = before_stop (is_byte 58) (blanks ++ name) 58 text none refl in
-    let rest = after_stop (is_byte 58) (blanks ++ name) 58 text none refl in
+    let first = before-stop (is_byte 58) (blanks ++ name) 58 text none refl in
+    let rest = after-stop (is_byte 58) (blanks ++ name) 58 text none refl in
     let front : without_front (blanks ++ name) ≡ name = leading_past is_blank blanks name are ∙ leading_none is_blank name (word_solid name (name_word name is)) in
     record {
       label = rw (first, rest, front, is) refl;
@@ -65,7 +65,7 @@ labelled_parts blanks name text made are is body =
 parts : (text : List ℕ) (line : Line) → IsUncommented text line → Parts text line
 parts text line (bare whole made body) =
     let none = no_byte 58 refl whole (body_code whole made body) in
-    let rest = after_none (is_byte 58) whole none in
+    let rest = after-none (is_byte 58) whole none in
     record { label = rw rest refl; made = rw rest (body_only whole made body) }
 parts text line (labelled blanks name rest made are is body) =
     subst (λ (t : List ℕ). Parts t (line_with (Some name) made)) (append_assoc blanks name (58 ∷ rest)) (labelled_parts blanks name rest made are is body)
@@ -79,9 +79,9 @@ no_hash text line (labelled blanks name rest made are is body) =
 
 -- ---- lines
 
-pub line_found : (text : List ℕ) (made : Option Made) → made_in (statement_text text) ≡ Ok made → IsLine text (line_with (label_of text) made)
+pub line-found : (text : List ℕ) (made : Option Made) → made_in (statement_text text) ≡ Ok made → IsLine text (line_with (label_of text) made)
 unfolding label_of statement_text
-line_found text made e = go (after (is_byte 35) text) refl (code_found (code_of text) made e)
+line-found text made e = go (after (is_byte 35) text) refl (code_found (code_of text) made e)
   where
     go : (o : Option (List ℕ)) → after (is_byte 35) text ≡ o → IsUncommented (code_of text) (line_with (parts_of (code_of text)).0 made) → IsLine text (line_with (parts_of (code_of text)).0 made)
     go None none is = subst (λ (t : List ℕ). IsLine t (line_with (parts_of (code_of text)).0 made)) (uncut (is_byte 35) text none) (code (code_of text) (line_with (parts_of (code_of text)).0 made) is)
@@ -95,15 +95,15 @@ reading : (text inner : List ℕ) (line : Line) → code_of text ≡ inner → I
 unfolding label_of statement_text
 reading text inner line same is = grind (arith, parts)
 
-pub line_only : (text : List ℕ) (line : Line) → IsLine text line → Reading text line
-line_only text line (code whole said is) = reading whole whole said (before_none (is_byte 35) whole (no_hash whole said is)) is
-line_only text line (commented whole comment said is) = reading (whole ++ 35 ∷ comment) whole said (before_stop (is_byte 35) whole 35 comment (no_hash whole said is) refl) is
+pub line-only : (text : List ℕ) (line : Line) → IsLine text line → Reading text line
+line-only text line (code whole said is) = reading whole whole said (before-none (is_byte 35) whole (no_hash whole said is)) is
+line-only text line (commented whole comment said is) = reading (whole ++ 35 ∷ comment) whole said (before-stop (is_byte 35) whole 35 comment (no_hash whole said is) refl) is
 
 same_line : (a b : Line) → a.label ≡ b.label → a.made ≡ b.made → a ≡ b
 same_line a b label made = ap (λ l. line_with l a.made) label ∙ ap (λ m. line_with b.label m) made
 
 pub one_line : (text : List ℕ) (a b : Line) → IsLine text a → IsLine text b → a ≡ b
 one_line text a b h k =
-    let first = line_only text a h in
-    let second = line_only text b k in
+    let first = line-only text a h in
+    let second = line-only text b k in
     same_line a b (sym first.label ∙ second.label) (ok_is AsmFault a.made b.made (sym first.made ∙ second.made))

@@ -54,8 +54,8 @@ halves v is = grind (arith, raised_is, low_is, raised, ints, cases_lt, left_is, 
 same_word : (n v s : ℤ) → (n ≡ v) ⊎ (n ≡ v +ℤ pos 4294967296) → (s ≡ v) ⊎ (s ≡ v +ℤ pos 4294967296) → IsSameWord n s
 same_word n v s h3 h4 = grind arith
 
-wrapped_word : (n : ℤ) → negsuc 2147483647 ≤ℤ n → n ≤ℤ pos 4294967295 → IsWordNumber (wrapped n) × ((n ≡ wrapped n) ⊎ (n ≡ wrapped n +ℤ pos 4294967296))
-wrapped_word n low high = grind (arith, cases_Bool, ints)
+wrapped-word : (n : ℤ) → negsuc 2147483647 ≤ℤ n → n ≤ℤ pos 4294967295 → IsWordNumber (wrapped n) × ((n ≡ wrapped n) ⊎ (n ≡ wrapped n +ℤ pos 4294967296))
+wrapped-word n low high = grind (arith, cases_Bool, ints)
 
 puts : (rd : Reg) (n v : ℤ) → IsWordNumber v → (n ≡ v) ⊎ (n ≡ v +ℤ pos 4294967296) → Puts rd n (loaded rd v)
 puts rd n v is same = elim (cases_Bool (is_short v)) [
@@ -75,4 +75,4 @@ puts rd n v is same = elim (cases_Bool (is_short v)) [
     signed fits = (let tests = and_parts (not (int_lt v (negsuc 2047))) (int_lt v (pos 2048)) fits in let above = not-true (int_lt v (negsuc 2047)) tests.0 in (omega (arith, ints, above), omega (arith, ints, tests.1)))
 
 pub number_put : (rd : Reg) (n : ℤ) → negsuc 2147483647 ≤ℤ n → n ≤ℤ pos 4294967295 → Puts rd n (loaded rd (wrapped n))
-number_put rd n low high = let word = wrapped_word n low high in puts rd n (wrapped n) word.0 word.1
+number_put rd n low high = let word = wrapped-word n low high in puts rd n (wrapped n) word.0 word.1

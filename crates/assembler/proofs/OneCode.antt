@@ -37,9 +37,9 @@ one_list [] (w ∷ b) instrs m n p q s t = absurd (let e = n.2 in cc)
 one_list (v ∷ a) [] instrs m n p q s t = absurd (let e = m.2 in cc)
 one_list (v ∷ a) (w ∷ b) instrs m n p q s t =
     let here : n.0 ≡ m.0 = (let e = m.2 in let f = n.2 in cc) in
-    let behind : n.1 ≡ m.1 = (let e = m.2 in let f = n.2 in cc) in
+    let following : n.1 ≡ m.1 = (let e = m.2 in let f = n.2 in cc) in
     let means : Means w m.0 = subst (λ (i : Instr). Means w i) here n.3 in
-    let words : AreWordsOf b m.1 = subst (λ (is : List Instr). AreWordsOf b is) behind n.4 in
+    let words : AreWordsOf b m.1 = subst (λ (is : List Instr). AreWordsOf b is) following n.4 in
     let first = one_plain_word m.0 v w (All-head IsSmall v a s, m.3, plain_from v m.0 m.3 p.0) (All-head IsSmall w b t, means, plain_from w m.0 means q.0) in
     let rest = one_list a b m.1 m.4 words p.1 q.1 (All-tail IsSmall v a s) (All-tail IsSmall w b t) in
     rw (first, rest) refl

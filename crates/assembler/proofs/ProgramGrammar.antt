@@ -8,7 +8,7 @@ use Rattle.std.proofs.lemmas.List.{map-append}
 use Rattle.std.specs.Prelude.{IfOk, OnOk}
 use Rattle.std.specs.declared.vec.Vec.{Vec}
 use Rattle.std.specs.declared.alloc.Global.{Global}
-use Rattle.texts.specs.Results.{Gives}
+use Rattle.texts.specs.Results.{GivesUpToMemory}
 use Rattle.texts.proofs.ResultLaws.{ok_is, bind_ok}
 use Rattle.rv_decode.specs.declared.instruction.Instr.{Instr}
 use Rattle.rv_decode.specs.declared.instruction.Instr.TheVariants as instr
@@ -23,10 +23,10 @@ use Rattle.assembler.specs.Drafts.{Line, size_of, words_of, is_label, place_from
 use Rattle.assembler.specs.Grammar.{IsLine}
 use Rattle.assembler.specs.Program.{AreLines, AreApart, EachOnce, IsFresh, Defines, IsPlaced, ArePlaced, AreInstrs, IsProgram, AreWordsOf}
 use Rattle.assembler.specs.Program.IsPlaced.{nothing, single, double, jumping, branching}
-use Rattle.assembler.proofs.Addresses.{is_reached_only, reached_true}
+use Rattle.assembler.proofs.Addresses.{is_reached-only, reached_true}
 use Rattle.assembler.proofs.LabelLaws.{label_is, is_the_label, Apart, fresh_apart, apart_fresh, apart-append}
 use Rattle.assembler.proofs.DraftLaws.{drafted_twice, drafted_added, drafted_faulty}
-use Rattle.assembler.proofs.LineGrammar.{line_found, line_only}
+use Rattle.assembler.proofs.LineGrammar.{line-found, line-only}
 
 -- ---- lines
 
@@ -36,21 +36,21 @@ pub record LineAdded (above : List Line) (text : List ℕ) (more : List Line) : 
   pub apart : Apart above line.label
   pub whole : more ≡ above ++ line ∷ []
 
-pub drafted_found : (above : List Line) (text : List ℕ) (more : List Line) → drafted above text ≡ Ok more → LineAdded above text more
-drafted_found above text more e = go (is_twice above (label_of text)) refl (made_in (statement_text text)) refl
+pub drafted-found : (above : List Line) (text : List ℕ) (more : List Line) → drafted above text ≡ Ok more → LineAdded above text more
+drafted-found above text more e = go (is_twice above (label_of text)) refl (made_in (statement_text text)) refl
   where
     go : (b : Bool) → is_twice above (label_of text) ≡ b → (r : Result (Option Made) AsmFault) → made_in (statement_text text) ≡ r → LineAdded above text more
     go true twice r is = absurd (let f = sym (drafted_twice above text twice) ∙ e in cc)
     go false fresh (Err fault) is = absurd (let f = sym (drafted_faulty above text fault fresh is) ∙ e in cc)
     go false fresh (Ok made) is = record {
       line = record { label = label_of text; made = made };
-      is = line_found text made is;
+      is = line-found text made is;
       apart = fresh_apart above (label_of text) fresh;
       whole = sym (ok_is Refusal (above ++ (record { label = label_of text; made = made }) ∷ []) more (sym (drafted_added above text made fresh is) ∙ e));
     }
 
-pub drafted_only : (above : List Line) (text : List ℕ) (line : Line) → IsLine text line → Apart above line.label → drafted above text ≡ Ok (above ++ line ∷ [])
-drafted_only above text line is apart = grind (arith, line_only, drafted_added, apart_fresh)
+pub drafted-only : (above : List Line) (text : List ℕ) (line : Line) → IsLine text line → Apart above line.label → drafted above text ≡ Ok (above ++ line ∷ [])
+drafted-only above text line is apart = grind (arith, line-only, drafted_added, apart_fresh)
 
 -- each of the lines below is apart from each line above
 abbrev pub AllApart : List Line → List Line → Type 0
@@ -87,7 +87,7 @@ pub all_found : (above : List Line) (texts : List (List ℕ)) (all : List Line) 
 all_found above [] all e = record { below = []; whole = sym (ok_is Refusal above all e) ∙ sym (append-nil above); written = refl; once = tt; apart = tt }
 all_found above (text ∷ texts) all e =
     let step = bind_ok (drafted above text) (λ more. all_drafted more texts) all e in
-    let first = drafted_found above text step.0 step.1 in
+    let first = drafted-found above text step.0 step.1 in
     let rest = all_found (above ++ first.line ∷ []) texts all (ap (λ more. all_drafted more texts) (sym first.whole) ∙ step.2) in
     record {
       below = first.line ∷ rest.below;
@@ -105,7 +105,7 @@ all_only above (text ∷ texts) (first ∷ below) written once apart =
     let tail : below ≡ written.1 = (let f = written.2 in cc) in
     let is : IsLine text first = subst (λ (l : Line). IsLine text l) (sym head) written.3 in
     let rest : AreLines texts below = subst (λ (ls : List Line). AreLines texts ls) (sym tail) written.4 in
-    rw (drafted_only above text first is apart.0)
+    rw (drafted-only above text first is apart.0)
     (all_only (above ++ first ∷ []) texts below rest once.1 (all_more above first below apart.1 once.0) ∙ ap Ok (append_assoc above (first ∷ []) below))
 
 -- ---- places
@@ -165,8 +165,8 @@ record Reaches (all : List Line) (bound : ℤ) (at : ℕ) (name : List ℕ) (n :
   near : IsReached bound (bytes (in_bytes at place))
   is : in_bytes at place ≡ n
 
-distance_found : (all : List Line) (bound : ℤ) (at : ℕ) (name : List ℕ) (n : ℤ) → distance bound at (place_of all name) ≡ Ok n → Reaches all bound at name n
-distance_found all bound at name n e = go (place_of all name) refl e
+distance-found : (all : List Line) (bound : ℤ) (at : ℕ) (name : List ℕ) (n : ℤ) → distance bound at (place_of all name) ≡ Ok n → Reaches all bound at name n
+distance-found all bound at name n e = go (place_of all name) refl e
   where
     go : (o : Option ℕ) → place_of all name ≡ o → distance bound at o ≡ Ok n → Reaches all bound at name n
     go None none f = absurd cc
@@ -175,55 +175,55 @@ distance_found all bound at name n e = go (place_of all name) refl e
       | inr far ↦ absurd (let g = rw far at f in cc)
     ]
 
-distance_only : (all : List Line) (bound : ℤ) (at : ℕ) (name : List ℕ) (place : ℕ) → EachOnce all → Defines all name place → IsReached bound (bytes (in_bytes at place)) → distance bound at (place_of all name) ≡ Ok (in_bytes at place)
-distance_only all bound at name place once defined near = rw (place_only all name place once defined, is_reached_only bound (in_bytes at place) near.0 near.1 near.2) refl
+distance-only : (all : List Line) (bound : ℤ) (at : ℕ) (name : List ℕ) (place : ℕ) → EachOnce all → Defines all name place → IsReached bound (bytes (in_bytes at place)) → distance bound at (place_of all name) ≡ Ok (in_bytes at place)
+distance-only all bound at name place once defined near = rw (place_only all name place once defined, is_reached-only bound (in_bytes at place) near.0 near.1 near.2) refl
 
 record Placing (all : List Line) (at : ℕ) (made : Option Made) (front : List (Option Instr)) : Type 0 where
   instrs : List Instr
   is : IsPlaced all at made instrs
   same : map some_instr instrs ≡ front
 
-placed_found : (all : List Line) (at : ℕ) (made : Option Made) (front : List (Option Instr)) → placed (place_of all) at made ≡ Ok front → Placing all at made front
-placed_found all at None front e = record { instrs = []; is = nothing; same = ok_is AsmFault [] front e }
-placed_found all at (Some (one i)) front e = record { instrs = i ∷ []; is = single i; same = ok_is AsmFault (Some i ∷ []) front e }
-placed_found all at (Some (two i j)) front e = record { instrs = i ∷ j ∷ []; is = double i j; same = ok_is AsmFault (Some i ∷ Some j ∷ []) front e }
-placed_found all at (Some (jump rd name)) front e =
+placed-found : (all : List Line) (at : ℕ) (made : Option Made) (front : List (Option Instr)) → placed (place_of all) at made ≡ Ok front → Placing all at made front
+placed-found all at None front e = record { instrs = []; is = nothing; same = ok_is AsmFault [] front e }
+placed-found all at (Some (one i)) front e = record { instrs = i ∷ []; is = single i; same = ok_is AsmFault (Some i ∷ []) front e }
+placed-found all at (Some (two i j)) front e = record { instrs = i ∷ j ∷ []; is = double i j; same = ok_is AsmFault (Some i ∷ Some j ∷ []) front e }
+placed-found all at (Some (jump rd name)) front e =
     let n = bind_ok (distance (pos 1048576) at (place_of all name)) (λ n. Ok (Some (instr.Jal rd n) ∷ [])) front e in
-    let r = distance_found all (pos 1048576) at name n.0 n.1 in
+    let r = distance-found all (pos 1048576) at name n.0 n.1 in
     record { instrs = instr.Jal rd (in_bytes at r.place) ∷ []; is = jumping rd name r.place r.defined r.near; same = ap (λ m. Some (instr.Jal rd m) ∷ []) r.is ∙ ok_is AsmFault (Some (instr.Jal rd n.0) ∷ []) front n.2 }
-placed_found all at (Some (branch op rs1 rs2 name)) front e =
+placed-found all at (Some (branch op rs1 rs2 name)) front e =
     let n = bind_ok (distance (pos 4096) at (place_of all name)) (λ n. Ok (Some (instr.Branch op rs1 rs2 n) ∷ [])) front e in
-    let r = distance_found all (pos 4096) at name n.0 n.1 in
+    let r = distance-found all (pos 4096) at name n.0 n.1 in
     record { instrs = instr.Branch op rs1 rs2 (in_bytes at r.place) ∷ []; is = branching op rs1 rs2 name r.place r.defined r.near; same = ap (λ m. Some (instr.Branch op rs1 rs2 m) ∷ []) r.is ∙ ok_is AsmFault (Some (instr.Branch op rs1 rs2 n.0) ∷ []) front n.2 }
 
-placed_only : (all : List Line) (at : ℕ) (made : Option Made) (instrs : List Instr) → EachOnce all → IsPlaced all at made instrs → placed (place_of all) at made ≡ Ok (map some_instr instrs)
-placed_only all at made instrs once h5 = grind (arith, distance_only)
+placed-only : (all : List Line) (at : ℕ) (made : Option Made) (instrs : List Instr) → EachOnce all → IsPlaced all at made instrs → placed (place_of all) at made ≡ Ok (map some_instr instrs)
+placed-only all at made instrs once h5 = grind (arith, distance-only)
 
 record AllPlacing (all : List Line) (at : ℕ) (below : List Line) (answers : List (Option Instr)) : Type 0 where
   instrs : List Instr
   are : ArePlaced all at below instrs
   same : map some_instr instrs ≡ answers
 
-at_line_ok : {A : Type 0} (line : ℕ) (r : Result A AsmFault) (x : A) → at_line line r ≡ Ok x → r ≡ Ok x
-at_line_ok line r x e = grind (arith, ok_is)
+at_line-ok : {A : Type 0} (line : ℕ) (r : Result A AsmFault) (x : A) → at_line line r ≡ Ok x → r ≡ Ok x
+at_line-ok line r x e = grind (arith, ok_is)
 
-all_placed_found : (all : List Line) (at line : ℕ) (below : List Line) (answers : List (Option Instr)) → all_placed (place_of all) at line below ≡ Ok answers → AllPlacing all at below answers
-all_placed_found all at line [] answers e = record { instrs = []; are = refl; same = ok_is Refusal [] answers e }
-all_placed_found all at line (first ∷ below) answers e =
+all_placed-found : (all : List Line) (at line : ℕ) (below : List Line) (answers : List (Option Instr)) → all_placed (place_of all) at line below ≡ Ok answers → AllPlacing all at below answers
+all_placed-found all at line [] answers e = record { instrs = []; are = refl; same = ok_is Refusal [] answers e }
+all_placed-found all at line (first ∷ below) answers e =
     let step = bind_ok (at_line line (placed (place_of all) at first.made)) (λ front. onto front (all_placed (place_of all) (at + size_of first.made) (line + 1) below)) answers e in
-    let front = placed_found all at first.made step.0 (at_line_ok line (placed (place_of all) at first.made) step.0 step.1) in
+    let front = placed-found all at first.made step.0 (at_line-ok line (placed (place_of all) at first.made) step.0 step.1) in
     let more = bind_ok (all_placed (place_of all) (at + size_of first.made) (line + 1) below) (λ more. Ok (step.0 ++ more)) answers step.2 in
-    let rest = all_placed_found all (at + size_of first.made) (line + 1) below more.0 more.1 in
+    let rest = all_placed-found all (at + size_of first.made) (line + 1) below more.0 more.1 in
     record {
       instrs = front.instrs ++ rest.instrs;
       are = (front.instrs, rest.instrs, refl, front.is, rest.are);
       same = map-append some_instr front.instrs rest.instrs ∙ (rw (front.same, rest.same) (ok_is Refusal (step.0 ++ more.0) answers more.2));
     }
 
-all_placed_only : (all : List Line) (at line : ℕ) (below : List Line) (instrs : List Instr) → EachOnce all → ArePlaced all at below instrs → all_placed (place_of all) at line below ≡ Ok (map some_instr instrs)
-all_placed_only all at line [] instrs once are = ap (λ is. Ok (map some_instr is)) (sym are)
-all_placed_only all at line (first ∷ below) instrs once are =
-    rw (placed_only all at first.made are.0 once are.3, all_placed_only all (at + size_of first.made) (line + 1) below are.1 once are.4)
+all_placed-only : (all : List Line) (at line : ℕ) (below : List Line) (instrs : List Instr) → EachOnce all → ArePlaced all at below instrs → all_placed (place_of all) at line below ≡ Ok (map some_instr instrs)
+all_placed-only all at line [] instrs once are = ap (λ is. Ok (map some_instr is)) (sym are)
+all_placed-only all at line (first ∷ below) instrs once are =
+    rw (placed-only all at first.made are.0 once are.3, all_placed-only all (at + size_of first.made) (line + 1) below are.1 once are.4)
     (ap Ok (sym (map-append some_instr are.0 are.1) ∙ ap (map some_instr) (sym are.2)))
 
 -- ---- programs
@@ -234,18 +234,18 @@ pub record Finishing (all : List Line) (answers : List (Option Instr)) : Type 0 
   pub placed : ArePlaced all 0 all instrs
   pub same : answers ≡ map some_instr instrs
 
-pub finished_found : (all : List Line) (answers : List (Option Instr)) → finished all ≡ Ok answers → Finishing all answers
+pub finished-found : (all : List Line) (answers : List (Option Instr)) → finished all ≡ Ok answers → Finishing all answers
 unfolding finished
-finished_found all answers e = elim (cases_Bool (ltb 4096 (words_of all))) [
+finished-found all answers e = elim (cases_Bool (ltb 4096 (words_of all))) [
   | inl long ↦ absurd (let f = rw long at e in cc)
   | inr few ↦ (
-      let answer = all_placed_found all 0 1 all answers (rw few at e) in
+      let answer = all_placed-found all 0 1 all answers (rw few at e) in
       record { instrs = answer.instrs; few = ltb-false 4096 (words_of all) few; placed = answer.are; same = sym answer.same })
 ]
 
 pub finished_only : (all : List Line) (instrs : List Instr) → AreInstrs all instrs → finished all ≡ Ok (map some_instr instrs)
 unfolding finished
-finished_only all instrs are = rw (le-ltb 4096 (words_of all) are.few) (all_placed_only all 0 1 all instrs are.once are.placed)
+finished_only all instrs are = rw (le-ltb 4096 (words_of all) are.few) (all_placed-only all 0 1 all instrs are.once are.placed)
 
 pub record Assembling (text : List ℕ) (answers : List (Option Instr)) : Type 0 where
   pub instrs : List Instr
@@ -258,7 +258,7 @@ program_found text answers e =
     let step = bind_ok (all_drafted [] (lines text)) finished answers e in
     let written = all_found [] (lines text) step.0 step.1 in
     let same : written.below ≡ step.0 = sym written.whole in
-    let answer = finished_found step.0 answers step.2 in
+    let answer = finished-found step.0 answers step.2 in
     record {
       instrs = answer.instrs;
       is = record {
@@ -293,13 +293,13 @@ one_program text a b h k = same_instrs a b (ok_is Refusal (map some_instr a) (ma
 
 -- ---- words
 
-pub words_of_instrs : (words : List ℕ) (instrs : List Instr) → map meaning words ≡ map some_instr instrs → AreWordsOf words instrs
-words_of_instrs [] [] e = refl
-words_of_instrs (word ∷ words) (i ∷ instrs) e =
+pub words-of_instrs : (words : List ℕ) (instrs : List Instr) → map meaning words ≡ map some_instr instrs → AreWordsOf words instrs
+words-of_instrs [] [] e = refl
+words-of_instrs (word ∷ words) (i ∷ instrs) e =
     let head : meaning word ≡ Some i = cc in
     let tail : map meaning words ≡ map some_instr instrs = cc in
-    (i, instrs, refl, (meaning_iff word i).0 head, words_of_instrs words instrs tail)
-words_of_instrs x y e = absurd cc
+    (i, instrs, refl, (meaning_iff word i).0 head, words-of_instrs words instrs tail)
+words-of_instrs x y e = absurd cc
 
 -- ---- what a function answered
 
@@ -309,27 +309,27 @@ Words = Vec ℕ Global
 abbrev meanings : Words → List (Option Instr)
 meanings words = map meaning words.items
 
-pub found_program : {E : Type 0} (refusal_of : E → Option Refusal) (text : List ℕ) (result : Result Words E) → Gives refusal_of meanings result (assembled text) → IfOk result (λ words. (instrs : List Instr) × IsProgram text instrs × AreWordsOf words.items instrs)
-found_program refusal_of text (Ok words) e = let made = program_found text (meanings words) e in (made.instrs, made.is, words_of_instrs words.items made.instrs made.same)
+pub found_program : {E : Type 0} (refusal_of : E → Option Refusal) (text : List ℕ) (result : Result Words E) → GivesUpToMemory refusal_of meanings result (assembled text) → IfOk result (λ words. (instrs : List Instr) × IsProgram text instrs × AreWordsOf words.items instrs)
+found_program refusal_of text (Ok words) e = let made = program_found text (meanings words) e in (made.instrs, made.is, words-of_instrs words.items made.instrs made.same)
 found_program refusal_of text (Err error) e = tt
 
-pub only_program : {E : Type 0} (refusal_of : E → Option Refusal) (text : List ℕ) (instrs : List Instr) (result : Result Words E) → Gives refusal_of meanings result (assembled text) → IsProgram text instrs → Gives refusal_of meanings result (Ok (map some_instr instrs))
-only_program refusal_of text instrs result e is = subst (λ (answer : Result (List (Option Instr)) Refusal). Gives refusal_of meanings result answer) (program_only text instrs is) e
+pub only_program : {E : Type 0} (refusal_of : E → Option Refusal) (text : List ℕ) (instrs : List Instr) (result : Result Words E) → GivesUpToMemory refusal_of meanings result (assembled text) → IsProgram text instrs → GivesUpToMemory refusal_of meanings result (Ok (map some_instr instrs))
+only_program refusal_of text instrs result e is = subst (λ (answer : Result (List (Option Instr)) Refusal). GivesUpToMemory refusal_of meanings result answer) (program_only text instrs is) e
 
 -- ---- a draft's line and its end
 
-pub found_line : {X E : Type 0} (refusal_of : E → Option Refusal) (above new : List Line) (text : List ℕ) (result : Result X E) → Gives refusal_of (λ x. new) result (drafted above text) → OnOk result ((more : Line) × IsLine text more × IsFresh above more × (new ≡ above ++ more ∷ []))
-found_line refusal_of above new text (Ok x) e = let first = drafted_found above text new e in (first.line, first.is, first.apart, first.whole)
+pub found_line : {X E : Type 0} (refusal_of : E → Option Refusal) (above new : List Line) (text : List ℕ) (result : Result X E) → GivesUpToMemory refusal_of (λ x. new) result (drafted above text) → OnOk result ((more : Line) × IsLine text more × IsFresh above more × (new ≡ above ++ more ∷ []))
+found_line refusal_of above new text (Ok x) e = let first = drafted-found above text new e in (first.line, first.is, first.apart, first.whole)
 found_line refusal_of above new text (Err error) e = tt
 
-pub only_line : {X E : Type 0} (refusal_of : E → Option Refusal) (above new : List Line) (text : List ℕ) (result : Result X E) → Gives refusal_of (λ x. new) result (drafted above text) → (more : Line) → IsLine text more → IsFresh above more → Gives refusal_of (λ x. new) result (Ok (above ++ more ∷ []))
-only_line refusal_of above new text result e more is fresh = subst (λ (answer : Result (List Line) Refusal). Gives refusal_of (λ x. new) result answer) (drafted_only above text more is fresh) e
+pub only_line : {X E : Type 0} (refusal_of : E → Option Refusal) (above new : List Line) (text : List ℕ) (result : Result X E) → GivesUpToMemory refusal_of (λ x. new) result (drafted above text) → (more : Line) → IsLine text more → IsFresh above more → GivesUpToMemory refusal_of (λ x. new) result (Ok (above ++ more ∷ []))
+only_line refusal_of above new text result e more is fresh = subst (λ (answer : Result (List Line) Refusal). GivesUpToMemory refusal_of (λ x. new) result answer) (drafted-only above text more is fresh) e
 
-pub found_instrs : {E : Type 0} (refusal_of : E → Option Refusal) (all : List Line) (result : Result Words E) → EachOnce all → Gives refusal_of meanings result (finished all) → IfOk result (λ words. (instrs : List Instr) × AreInstrs all instrs × AreWordsOf words.items instrs)
+pub found_instrs : {E : Type 0} (refusal_of : E → Option Refusal) (all : List Line) (result : Result Words E) → EachOnce all → GivesUpToMemory refusal_of meanings result (finished all) → IfOk result (λ words. (instrs : List Instr) × AreInstrs all instrs × AreWordsOf words.items instrs)
 found_instrs refusal_of all (Ok words) once e =
-    let answer = finished_found all (meanings words) e in
-    (answer.instrs, record { once = once; few = answer.few; placed = answer.placed }, words_of_instrs words.items answer.instrs answer.same)
+    let answer = finished-found all (meanings words) e in
+    (answer.instrs, record { once = once; few = answer.few; placed = answer.placed }, words-of_instrs words.items answer.instrs answer.same)
 found_instrs refusal_of all (Err error) once e = tt
 
-pub only_instrs : {E : Type 0} (refusal_of : E → Option Refusal) (all : List Line) (instrs : List Instr) (result : Result Words E) → Gives refusal_of meanings result (finished all) → AreInstrs all instrs → Gives refusal_of meanings result (Ok (map some_instr instrs))
-only_instrs refusal_of all instrs result e are = subst (λ (answer : Result (List (Option Instr)) Refusal). Gives refusal_of meanings result answer) (finished_only all instrs are) e
+pub only_instrs : {E : Type 0} (refusal_of : E → Option Refusal) (all : List Line) (instrs : List Instr) (result : Result Words E) → GivesUpToMemory refusal_of meanings result (finished all) → AreInstrs all instrs → GivesUpToMemory refusal_of meanings result (Ok (map some_instr instrs))
+only_instrs refusal_of all instrs result e are = subst (λ (answer : Result (List (Option Instr)) Refusal). GivesUpToMemory refusal_of meanings result answer) (finished_only all instrs are) e

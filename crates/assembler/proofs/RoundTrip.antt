@@ -21,8 +21,8 @@ use Rattle.assembler.specs.Spelled.{IsSpelled}
 use Rattle.assembler.specs.Lines.{label_of, statement_text, made_in, made_for, between_commas, some_text}
 use Rattle.assembler.specs.Drafts.{assembled, drafted, line_below, finished}
 use Rattle.assembler.specs.Writing.{register_text, address_text, set_text, branch_name, load_name, store_name, immediate_name, shift_name, register_name, amo_name, order_name, with_two, with_three, text_of}
-use Rattle.texts.proofs.CuttingLaws.{none-append, before_none, after_none, before_stop, after_stop, one_line, decimal_none, not_byte, not_low_byte, digit_no_blank}
-use Rattle.texts.proofs.TrimLaws.{stripped_none, stripped_ends}
+use Rattle.texts.proofs.CuttingLaws.{none-append, before-none, after-none, before-stop, after-stop, one_line, decimal_none, not_byte, not_low_byte, digit_no_blank}
+use Rattle.texts.proofs.TrimLaws.{stripped-none, stripped-ends}
 use Rattle.assembler.proofs.Commas.{IsOperand, two_between, three_between}
 use Rattle.assembler.proofs.Named.{is_plain, is_word, IsNameOf, branch_named, load_named, store_named, immediate_named, shift_named, register_named, amo_named}
 use Rattle.assembler.proofs.Rows.{all_below, below_all}
@@ -80,23 +80,23 @@ some_ops ops some = rw (ne_eqb (length ops) 0 (omega arith)) refl
 made_text : (name ops : List ℕ) → IsWord name → IsWord ops → made_in (name ++ 32 ∷ ops) ≡ made_for (form_named name) (between_commas (Some ops))
 unfolding made_in
 made_text name ops h k =
-    rw (ne_eqb (length (name ++ 32 ∷ ops)) 0 (long name), before_stop is_blank name 32 ops h.blanks refl, after_stop is_blank name 32 ops h.blanks refl, stripped_none is_blank ops k.blanks, some_ops ops k.some) refl
+    rw (ne_eqb (length (name ++ 32 ∷ ops)) 0 (long name), before-stop is_blank name 32 ops h.blanks refl, after-stop is_blank name 32 ops h.blanks refl, stripped-none is_blank ops k.blanks, some_ops ops k.some) refl
   where
     long : (xs : List ℕ) → length (xs ++ 32 ∷ ops) ≡ 0 → ⊥
     long [] e = absurd (omega arith)
     long (x ∷ xs) e = absurd (omega arith)
 
 -- a text of one statement, which makes one instruction
-assembled_one : (text : List ℕ) (i : Instr) → 0 < length text → NonePass (is_byte 10) text → NonePass (is_byte 35) text → NonePass (is_byte 58) text → trimmed text ≡ text → made_in text ≡ Ok (Some (one i)) → assembled text ≡ Ok (Some i ∷ [])
+assembled-one : (text : List ℕ) (i : Instr) → 0 < length text → NonePass (is_byte 10) text → NonePass (is_byte 35) text → NonePass (is_byte 58) text → trimmed text ≡ text → made_in text ≡ Ok (Some (one i)) → assembled text ≡ Ok (Some i ∷ [])
 unfolding assembled drafted line_below label_of statement_text finished
-assembled_one text i some feeds hashes colons same made = grind (arith, before_none, after_none, one_line)
+assembled-one text i some feeds hashes colons same made = grind (arith, before-none, after-none, one_line)
 
-assembled_text : (name ops : List ℕ) (i : Instr) → IsWord name → IsWord ops → made_for (form_named name) (between_commas (Some ops)) ≡ Ok (Some (one i)) → assembled (name ++ 32 ∷ ops) ≡ Ok (Some i ∷ [])
-assembled_text name ops i h k made = assembled_one (name ++ 32 ∷ ops) i (long name)
+assembled-text : (name ops : List ℕ) (i : Instr) → IsWord name → IsWord ops → made_for (form_named name) (between_commas (Some ops)) ≡ Ok (Some (one i)) → assembled (name ++ 32 ∷ ops) ≡ Ok (Some i ∷ [])
+assembled-text name ops i h k made = assembled-one (name ++ 32 ∷ ops) i (long name)
     (none-append (is_byte 10) name (32 ∷ ops) h.feeds (refl, k.feeds))
     (none-append (is_byte 35) name (32 ∷ ops) h.hashes (refl, k.hashes))
     (none-append (is_byte 58) name (32 ∷ ops) h.colons (refl, k.colons))
-    (stripped_ends is_blank name (32 ∷ []) ops h.some h.blanks k.some k.blanks)
+    (stripped-ends is_blank name (32 ∷ []) ops h.some h.blanks k.some k.blanks)
     (made_text name ops h k ∙ made)
   where
     long : (xs : List ℕ) → 0 < length (xs ++ 32 ∷ ops)
@@ -124,12 +124,12 @@ comma_between xs ys h k = word-append xs (44 ∷ ys) h (word-append (44 ∷ []) 
 
 made_three : (name : List ℕ) (f : Form) (a b c : List ℕ) (i : Instr) → IsNameOf name f → IsWord a → IsWord b → IsWord c → IsOperand a → IsOperand b → IsOperand c → statement_of f (a ∷ b ∷ c ∷ []) ≡ Ok (one i) → assembled (with_three name a b c) ≡ Ok (Some i ∷ [])
 made_three name f a b c i named wa wb wc h k m e =
-    assembled_text name (a ++ 44 ∷ (b ++ 44 ∷ c)) i (word_of_test name named.0) (comma_between a (b ++ 44 ∷ c) wa (comma_between b c wb wc))
+    assembled-text name (a ++ 44 ∷ (b ++ 44 ∷ c)) i (word_of_test name named.0) (comma_between a (b ++ 44 ∷ c) wa (comma_between b c wb wc))
     (rw (named.1, three_between a b c h k m, e) refl)
 
 made_two : (name : List ℕ) (f : Form) (a b : List ℕ) (i : Instr) → IsNameOf name f → IsWord a → IsWord b → IsOperand a → IsOperand b → statement_of f (a ∷ b ∷ []) ≡ Ok (one i) → assembled (with_two name a b) ≡ Ok (Some i ∷ [])
 made_two name f a b i named wa wb h k e =
-    assembled_text name (a ++ 44 ∷ b) i (word_of_test name named.0) (comma_between a b wa wb)
+    assembled-text name (a ++ 44 ∷ b) i (word_of_test name named.0) (comma_between a b wa wb)
     (rw (named.1, two_between a b h k, e) refl)
 
 operand_of : (xs : List ℕ) → IsWord xs → NonePass (is_byte 44) xs → IsOperand xs
@@ -204,13 +204,13 @@ unfolding made_in
 alone_read name f i named e =
     let h = word_of_test name named.0 in
     let some : 0 < length name = h.some in
-    assembled_one name i h.some h.feeds h.hashes h.colons (stripped_none is_blank name h.blanks)
-    (rw (ne_eqb (length name) 0 (omega arith), before_none is_blank name h.blanks, after_none is_blank name h.blanks, named.1, e) refl)
+    assembled-one name i h.some h.feeds h.hashes h.colons (stripped-none is_blank name h.blanks)
+    (rw (ne_eqb (length name) 0 (omega arith), before-none is_blank name h.blanks, after-none is_blank name h.blanks, named.1, e) refl)
 
 -- ---- operands, read again
 
 read : (kind : Kind) (text : List ℕ) (x : Value kind) → IsWord text → IsSpelled kind text x → value_in kind text ≡ Ok x
-read kind text x h is = subst (λ (t : List ℕ). value_in kind t ≡ Ok x) (stripped_none is_blank text h.blanks) ((reads_kind kind).only text x is)
+read kind text x h is = subst (λ (t : List ℕ). value_in kind t ≡ Ok x) (stripped-none is_blank text h.blanks) ((reads_kind kind).only text x is)
 
 register_read : (r : Reg) → value_in register (register_text r) ≡ Ok r
 register_read r = read register (register_text r) r (register_word r) (register_spelled r)
@@ -221,8 +221,8 @@ set_read n lt = read set (set_text n) n (set_word n lt) (set_spelled n lt)
 upper_read : (n : ℕ) → n ≤ 1048575 → value_in upper (decimal n) ≡ Ok n
 upper_read n le = read upper (decimal n) n (decimal_word n (omega arith)) (natural_spelled 1048575 n le (omega arith))
 
-address_read : (z : ℤ) (r : Reg) → IsSigned 11 z → value_in address (address_text z r) ≡ Ok (r, z)
-address_read z r fits = read address (address_text z r) (r, z) (address_word z r (short_wide z fits)) (address_spelled z r fits (short_wide z fits))
+address-read : (z : ℤ) (r : Reg) → IsSigned 11 z → value_in address (address_text z r) ≡ Ok (r, z)
+address-read z r fits = read address (address_text z r) (r, z) (address_word z r (short_wide z fits)) (address_spelled z r fits (short_wide z fits))
 
 -- the text of an instruction that has a word is assembled to it
 pub read_again : (i : Instr) → Fits i → assembled (text_of i) ≡ Ok (Some i ∷ [])
@@ -240,7 +240,7 @@ read_again (instr.Jal rd z) fits =
 read_again (instr.Jalr rd rs1 z) fits =
     let wide = short_wide z fits in
     made_two (codes "jalr") form.Jalr (register_text rd) (address_text z rs1) (instr.Jalr rd rs1 z) (refl, refl) (register_word rd) (address_word z rs1 wide) (register_operand rd) (address_operand z rs1 wide)
-    (rw (register_read rd, address_read z rs1 fits) refl)
+    (rw (register_read rd, address-read z rs1 fits) refl)
 read_again (instr.Branch op rs1 rs2 z) fits =
     let wide = branch_wide z fits.0 in
     made_three (branch_name op) (form.Branch op) (register_text rs1) (register_text rs2) (signed_decimal z) (instr.Branch op rs1 rs2 z) (branch_named op) (register_word rs1) (register_word rs2) (signed_word z wide) (register_operand rs1) (register_operand rs2) (signed_operand z wide)
@@ -248,11 +248,11 @@ read_again (instr.Branch op rs1 rs2 z) fits =
 read_again (instr.Load op rd rs1 z) fits =
     let wide = short_wide z fits in
     made_two (load_name op) (form.Load op) (register_text rd) (address_text z rs1) (instr.Load op rd rs1 z) (load_named op) (register_word rd) (address_word z rs1 wide) (register_operand rd) (address_operand z rs1 wide)
-    (rw (register_read rd, address_read z rs1 fits) refl)
+    (rw (register_read rd, address-read z rs1 fits) refl)
 read_again (instr.Store op rs1 rs2 z) fits =
     let wide = short_wide z fits in
     made_two (store_name op) (form.Store op) (register_text rs2) (address_text z rs1) (instr.Store op rs1 rs2 z) (store_named op) (register_word rs2) (address_word z rs1 wide) (register_operand rs2) (address_operand z rs1 wide)
-    (rw (register_read rs2, address_read z rs1 fits) refl)
+    (rw (register_read rs2, address-read z rs1 fits) refl)
 read_again (instr.Immediate op rd rs1 z) fits =
     let wide = short_wide z fits in
     made_three (immediate_name op) (form.Immediate op) (register_text rd) (register_text rs1) (signed_decimal z) (instr.Immediate op rd rs1 z) (immediate_named op) (register_word rd) (register_word rs1) (signed_word z wide) (register_operand rd) (register_operand rs1) (signed_operand z wide)

@@ -15,8 +15,8 @@ use Rattle.assembler.specs.Spelled.AreListed.{last, more}
 use Rattle.assembler.specs.Grammar.{Makes, IsStatement, IsBody}
 use Rattle.assembler.specs.Grammar.IsStatement.{alone, applied}
 use Rattle.assembler.specs.Grammar.IsBody.{nothing, statement}
-use Rattle.texts.proofs.CuttingLaws.{before_none, after_none, before_stop, after_stop, cut_whole, uncut}
-use Rattle.texts.proofs.TrimLaws.{onto_some, stripped_padded, stripped_all, stripped_trailing, padded_stripped, padded_twice, trailing_split}
+use Rattle.texts.proofs.CuttingLaws.{before-none, after-none, before-stop, after-stop, cut_whole, uncut}
+use Rattle.texts.proofs.TrimLaws.{onto_some, stripped-padded, stripped-all, stripped-trailing, padded_stripped, padded_twice, trailing_split}
 use Rattle.assembler.proofs.Rows.{found_in, are_apart, row_of_member, member_of_row, all_rows}
 use Rattle.assembler.proofs.Commas.{comma, NoCommas, listed_split, split_trimmed, split_listed}
 use Rattle.assembler.proofs.Leaves.{is_word_byte, is_operand_byte, all_weaker, none_of_all, not_this, word_solid, word_trimmed}
@@ -25,8 +25,8 @@ use Rattle.assembler.proofs.OperandTable.{OperandBytes, found_makes, only_makes,
 
 -- ---- mnemonics
 
-mnemonics_apart : are_apart mnemonics ≡ true
-mnemonics_apart = refl
+mnemonics-apart : are_apart mnemonics ≡ true
+mnemonics-apart = refl
 
 mnemonic_words : list_all (λ row. list_all is_word_byte row.0) mnemonics ≡ true
 mnemonic_words = refl
@@ -135,12 +135,12 @@ front_keep : (xs ys : List ℕ) → 0 < length xs → NonePass is_blank xs → w
 front_keep [] ys some h = absurd (omega arith)
 front_keep (x ∷ xs) ys some h = rw h.0 refl
 
-trimmed_applied : (name : List ℕ) (blank : ℕ) (text : List ℕ) → 0 < length name → NonePass is_blank name → 0 < length (without_end text) → trimmed (name ++ blank ∷ text) ≡ name ++ blank ∷ without_end text
+trimmed-applied : (name : List ℕ) (blank : ℕ) (text : List ℕ) → 0 < length name → NonePass is_blank name → 0 < length (without_end text) → trimmed (name ++ blank ∷ text) ≡ name ++ blank ∷ without_end text
 unfolding stripped
-trimmed_applied name blank text some solid kept = grind (arith, onto_some, front_keep, end_keep)
+trimmed-applied name blank text some solid kept = grind (arith, onto_some, front_keep, end_keep)
 
 end_some : (text : List ℕ) → (trimmed text ≡ [] → ⊥) → without_end text ≡ [] → ⊥
-end_some text some none = grind (arith, trailing_split is_blank text, stripped_all is_blank text)
+end_some text some none = grind (arith, trailing_split is_blank text, stripped-all is_blank text)
 
 applied_only : (name : List ℕ) (blank : ℕ) (text : List ℕ) (form : Form) (operands : List (List ℕ)) (made : Made) → Contains mnemonics (name, form) → is_blank blank ≡ true → AreListed text operands → Makes form operands made → made_in (trimmed (name ++ blank ∷ text)) ≡ Ok (Some made)
 unfolding made_in form_named
@@ -149,14 +149,14 @@ applied_only name blank text form operands made has is listed makes =
     let solid = word_solid name (mnemonic_word name form has) in
     let long : 0 < length name = some_length name (λ e. (let f : eqb (length name) 0 ≡ false = mnemonic_some name form has in let g : eqb (length name) 0 ≡ true = ap (λ t. eqb (length t) 0) e in (let h = sym f ∙ g in cc))) in
     let some : trimmed text ≡ [] → ⊥ = operands_some text form operands made listed makes in
-    let core : trimmed (name ++ blank ∷ text) ≡ name ++ blank ∷ kept = trimmed_applied name blank text long solid (some_length kept (end_some text some)) in
+    let core : trimmed (name ++ blank ∷ text) ≡ name ++ blank ∷ kept = trimmed-applied name blank text long solid (some_length kept (end_some text some)) in
     let whole : eqb (length (name ++ blank ∷ kept)) 0 ≡ false = ne_eqb (length (name ++ blank ∷ kept)) 0 (λ e. absurd_length name (blank ∷ kept) long e) in
-    let still : eqb (length (trimmed kept)) 0 ≡ false = ne_eqb (length (trimmed kept)) 0 (λ e. some (sym (stripped_trailing is_blank text) ∙ empty_length (trimmed kept) e)) in
+    let still : eqb (length (trimmed kept)) 0 ≡ false = ne_eqb (length (trimmed kept)) 0 (λ e. some (sym (stripped-trailing is_blank text) ∙ empty_length (trimmed kept) e)) in
     let split : map trimmed (slice_split comma (trimmed text)) ≡ map trimmed operands = split_trimmed text ∙ split_listed text operands listed (no_commas operands (makes_bytes form operands made makes)) in
-    let read : operands_of (Some kept) ≡ map trimmed operands = rw still (ap (λ t. map trimmed (slice_split comma t)) (stripped_trailing is_blank text) ∙ split) in
-    let name_is = before_stop is_blank name blank kept solid is in
-    let rest_is = after_stop is_blank name blank kept solid is in
-    let found : found_in mnemonics name ≡ Some form = row_of_member mnemonics name form mnemonics_apart has in
+    let read : operands_of (Some kept) ≡ map trimmed operands = rw still (ap (λ t. map trimmed (slice_split comma t)) (stripped-trailing is_blank text) ∙ split) in
+    let name_is = before-stop is_blank name blank kept solid is in
+    let rest_is = after-stop is_blank name blank kept solid is in
+    let found : found_in mnemonics name ≡ Some form = row_of_member mnemonics name form mnemonics-apart has in
     ap made_in core ∙ rw (whole, name_is, rest_is, read, found, only_makes form operands made makes) refl
   where
     absurd_length : (xs ys : List ℕ) → 0 < length xs → length (xs ++ ys) ≡ 0 → ⊥
@@ -172,8 +172,8 @@ unfolding made_in form_named
 alone_only name form made has makes =
     let word = mnemonic_word name form has in
     let solid = word_solid name word in
-    let found : found_in mnemonics name ≡ Some form = row_of_member mnemonics name form mnemonics_apart has in
-    ap made_in (word_trimmed name word) ∙ rw (mnemonic_some name form has, before_none is_blank name solid, after_none is_blank name solid, found, only_makes form [] made makes) refl
+    let found : found_in mnemonics name ≡ Some form = row_of_member mnemonics name form mnemonics-apart has in
+    ap made_in (word_trimmed name word) ∙ rw (mnemonic_some name form has, before-none is_blank name solid, after-none is_blank name solid, found, only_makes form [] made makes) refl
 
 statement_only : (core : List ℕ) (made : Made) → IsStatement core made → made_in (trimmed core) ≡ Ok (Some made)
 statement_only core made (alone name form result has makes) = alone_only name form result has makes
@@ -181,8 +181,8 @@ statement_only core made (applied name blank text form operands result has is li
 
 pub body_only : (text : List ℕ) (made : Option Made) → IsBody text made → made_in (trimmed text) ≡ Ok made
 unfolding made_in
-body_only text made (nothing blanks are) = rw (stripped_all is_blank blanks are) refl
-body_only text made (statement whole core result pad is) = ap made_in (stripped_padded is_blank core whole pad) ∙ statement_only core result is
+body_only text made (nothing blanks are) = rw (stripped-all is_blank blanks are) refl
+body_only text made (statement whole core result pad is) = ap made_in (stripped-padded is_blank core whole pad) ∙ statement_only core result is
 
 -- ---- the bytes of a statement
 

@@ -2,7 +2,7 @@
 
 ghost use Rattle.std.specs.Prelude.{◌≡◌, List, map, Ok, Some, IfOk};
 ghost use Rattle.rv_decode.specs.Meaning.{meaning};
-ghost use Rattle.texts.specs.Results.{Gives, refusal_of};
+ghost use Rattle.texts.specs.Results.{GivesUpToMemory, refusal_of};
 ghost use Rattle.assembler.specs.Drafts.{assembled, AllPlain};
 ghost use Rattle.assembler.specs.Program.{IsProgram, AreWordsOf};
 ghost use Rattle.rv_decode.specs.declared.instruction.Instr.{Instr};
@@ -14,7 +14,7 @@ use texts::first_line;
 
 #[tactic(auto, unfolding(crate::specs::Drafts::assembled))]
 fn words_of(alloc: Global, text: &str) -> Result<Vec<u32>, AsmError>
-    ensures exact { Gives refusal_of (λ words. map meaning words.items) result (assembled text.now) }
+    ensures exact { GivesUpToMemory refusal_of (λ words. map meaning words.items) result (assembled text.now) }
     ensures plain { IfOk result (λ words. AllPlain words.items) }
 {
     let mut draft = Draft::new(alloc);
@@ -34,8 +34,8 @@ fn words_of(alloc: Global, text: &str) -> Result<Vec<u32>, AsmError>
 #[tactic(auto, using(crate::proofs::ProgramGrammar::found_program, crate::proofs::ProgramGrammar::only_program))]
 pub fn assemble(alloc: Global, text: &str) -> Result<Vec<u32>, AsmError>
     ensures found { IfOk result (λ words. (instrs : List Instr) × IsProgram text.now instrs × AreWordsOf words.items instrs) }
-    ensures only { (instrs : List Instr) → IsProgram text.now instrs → Gives refusal_of (λ words. map meaning words.items) result (Ok (map (λ i. Some i) instrs)) }
-    ensures exact { Gives refusal_of (λ words. map meaning words.items) result (assembled text.now) }
+    ensures only { (instrs : List Instr) → IsProgram text.now instrs → GivesUpToMemory refusal_of (λ words. map meaning words.items) result (Ok (map (λ i. Some i) instrs)) }
+    ensures exact { GivesUpToMemory refusal_of (λ words. map meaning words.items) result (assembled text.now) }
     ensures plain { IfOk result (λ words. AllPlain words.items) }
 {
     words_of(alloc, text)

@@ -2,7 +2,7 @@
 
 ghost use Rattle.std.specs.Prelude.{◌≡◌, ◌≤◌, ◌<◌, ℕ, pos, ◌<ℤ◌, ◌≤ℤ◌, ◌^◌, List, map, IfSome, IfOk, OnOk, vec_len, ◌+◌, Some};
 ghost use Rattle.rv_decode.specs.Meaning.{meaning};
-ghost use Rattle.texts.specs.Results.{Gives, refusal_of};
+ghost use Rattle.texts.specs.Results.{GivesUpToMemory, refusal_of};
 ghost use Rattle.assembler.specs.Drafts.{in_bytes, distance, placed, onto, at_line, all_placed, over, words_of, size_of, AllFit, IsPlain, AllPlain};
 ghost use Rattle.rv_decode.specs.Fits.{Fits};
 ghost use Rattle.rv_decode.specs.declared.instruction.TheConstants.{MAX_CODE};
@@ -81,7 +81,7 @@ fn push_words(
     requires near { (name : List ℕ) → IfSome (found places.now name) (λ place. place ≤ MAX_CODE) }
     requires word { vec_len words.old ≤ MAX_CODE }
     requires fits { MadeFits (kept_made statement.now) }
-    ensures exact { Gives refusal_of (λ _. map meaning words.new.items) result (onto (map meaning words.old.items) (at_line line (placed (found places.now) (vec_len words.old) (Some (kept_made statement.now))))) }
+    ensures exact { GivesUpToMemory refusal_of (λ _. map meaning words.new.items) result (onto (map meaning words.old.items) (at_line line (placed (found places.now) (vec_len words.old) (Some (kept_made statement.now))))) }
     ensures plain { OnOk result (AllPlain words.old.items → AllPlain words.new.items) }
     ensures len { OnOk result (vec_len words.new ≡ vec_len words.old + size_of (Some (kept_made statement.now))) }
 {
@@ -119,7 +119,7 @@ pub fn place_all(alloc: Global, places: &Places, lines: &[KeptLine]) -> Result<V
     requires near { (name : List ℕ) → IfSome (found places.now name) (λ place. place ≤ MAX_CODE) }
     requires few { words_of (map line_of lines.now) ≤ MAX_CODE }
     requires fits { AllFit (map line_of lines.now) }
-    ensures exact { Gives refusal_of (λ words. map meaning words.items) result (all_placed (found places.now) 0 1 (map line_of lines.now)) }
+    ensures exact { GivesUpToMemory refusal_of (λ words. map meaning words.items) result (all_placed (found places.now) 0 1 (map line_of lines.now)) }
     ensures plain { IfOk result (λ words. AllPlain words.items) }
 {
     let mut words = Vec::new(alloc);

@@ -11,7 +11,7 @@ use Rattle.chart.specs.declared.lanes.Shape.{Shape}
 use Rattle.chart.specs.Rows.{RowOf}
 use Rattle.chart.specs.Lanes.{holds, is_held, in_lane, held_by, others, own_line}
 use Rattle.chart.specs.Lanes.{passing_lines, held_after_entry, laned_row, held_after, lanes_from, lanes_of, AreApart, IsApart}
-use Rattle.chart.proofs.LaneLaws.{first_free_is}
+use Rattle.chart.proofs.LaneLaws.{first_free-is}
 
 eqb-swap : (a b : ℕ) → (a == b) ≡ (b == a)
 eqb-swap a b = elim (cases_eq a b) [ inl e ↦ eq-eqb a b e ∙ sym (eq-eqb b a (sym e)) | inr n ↦ ne_eqb a b n ∙ sym (ne_eqb b a (λ e. n (sym e))) ]
@@ -36,9 +36,9 @@ apart_in_lane : (row column : ℕ) (held : List Held) (o : Option ℕ) → AreAp
     AreApart (held ++ option_to_list (in_lane row column o))
 apart_in_lane row column held o apart free = grind (arith, append-nil, apart_last)
 
-in_lane_apart : (row column : ℕ) (held : List Held) (o : Option ℕ) → AreApart held → ((j : ℕ) → o ≡ Some j → is_held held column j ≡ false) →
+in_lane-apart : (row column : ℕ) (held : List Held) (o : Option ℕ) → AreApart held → ((j : ℕ) → o ≡ Some j → is_held held column j ≡ false) →
     AreApart (option_to_list (in_lane row column o) ++ held)
-in_lane_apart row column held o apart free = grind arith
+in_lane-apart row column held o apart free = grind arith
 
 -- ---- the line of a store that lands
 
@@ -55,19 +55,19 @@ landed_apart row held o is apart = grind (arith, apart_others, found_apart)
 
 -- ---- rows
 
-row_apart : (shape : Shape) (row : ℕ) (held : List Held) (landed : Option ℕ) (e : Entry) → AreApart held →
+row-apart : (shape : Shape) (row : ℕ) (held : List Held) (landed : Option ℕ) (e : Entry) → AreApart held →
     AreApart (option_to_list (own_line shape row held landed e) ++ passing_lines held landed e)
-row_apart shape row held landed e apart = grind (arith, in_lane_apart, first_free_is, landed_apart)
+row-apart shape row held landed e apart = grind (arith, in_lane-apart, first_free-is, landed_apart)
 
 next_apart : (shape : Shape) (row : ℕ) (held : List Held) (landed : Option ℕ) (e : Entry) → AreApart held →
     AreApart (held_after_entry shape row held landed e)
-next_apart shape row held landed e apart = grind (arith, apart_in_lane, first_free_is, apart_others)
+next_apart shape row held landed e apart = grind (arith, apart_in_lane, first_free-is, apart_others)
 
 rows_apart : (shape : Shape) (row : ℕ) (held : List Held) (rs : List RowOf) → AreApart held → All IsApart (lanes_from shape row held rs)
 rows_apart shape row held [] apart = All-nil IsApart
 rows_apart shape row held (r ∷ rs) apart =
     All-cons IsApart (laned_row shape row held r) (lanes_from shape (row + 1) (held_after shape row held r) rs)
-    (row_apart shape row held r.landed r.entry apart)
+    (row-apart shape row held r.landed r.entry apart)
     (rows_apart shape (row + 1) (held_after shape row held r) rs (next_apart shape row held r.landed r.entry apart))
 
 pub lanes_apart : (shape : Shape) (rs : List RowOf) → All IsApart (lanes_of shape rs)

@@ -12,7 +12,7 @@ use Rattle.memory.specs.Writes.{covers, newest_of}
 use Rattle.step_machine.specs.declared.events.Entry.{Entry}
 use Rattle.step_machine.specs.Access.{Access, access_of}
 use Rattle.step_machine.specs.Entries.{hart_of, stored_by, written_by, store_of, stores, lands, pending, write_of, landed_after, landed}
-use Rattle.step_machine.proofs.Appended.{lands-append}
+use Rattle.step_machine.proofs.Appended.{entry_there, lands-append}
 use Rattle.chart.specs.declared.sources.RowWrite.{RowWrite}
 use Rattle.chart.specs.Sources.{at_row, stores_by_row, pending_by_row, landed_by_row_after, landed_by_row, newest_from, stored_at, written_at}
 
@@ -57,10 +57,6 @@ newest-is P a found (w ∷ ws) was all =
     [ true ↦ newest-is P a (Some w) ws (All-head P w ws all) (All-tail P w ws all) | false ↦ newest-is P a found ws was (All-tail P w ws all) ]
 
 -- ---- each row has made its write
-
-pub entry_there : (before : List Entry) (e : Entry) (es : List Entry) → slice_get (before ++ e ∷ es) (length before) ≡ Some e
-entry_there [] e es = refl
-entry_there (b ∷ before) e es = entry_there before e es
 
 entries_before : (before : List Entry) (e : Entry) (es : List Entry) → take (length before) (before ++ e ∷ es) ≡ before
 entries_before [] e es = refl

@@ -15,80 +15,82 @@ use Rattle.chart.specs.declared.pictures.Sign.{Sign}
 use Rattle.chart.specs.declared.pictures.Sign.TheVariants.{Down, To, Joins}
 use Rattle.chart.specs.declared.pictures.Stroke.{Stroke}
 use Rattle.chart.specs.declared.pictures.Weight.TheVariants.{Loud}
+use Rattle.chart.specs.declared.places.Places.{Places}
 use Rattle.chart.specs.declared.sources.Source.{Source}
 use Rattle.chart.specs.Rows.{RowOf}
 use Rattle.chart.specs.Lanes.{LanedOf}
 use Rattle.chart.specs.Pictures.{MarkOf, strikes, stands_in, IsClear}
-use Rattle.chart.specs.Places.{PlacesOf, rank, columns, pitch, begins, lane_cell, memory_cell}
+use Rattle.chart.specs.Places.{rank, columns, pitch, begins, lane_cell, memory_cell}
 use Rattle.chart.specs.Lines.{sign_at, across, own_strokes, is_read}
 use Rattle.chart.specs.Lines.{read_strokes, passing_stroke, row_strokes, text_at, number_mark, row_line}
 
 -- ---- cells of strokes
 
 -- right of the rows' numbers, left of memory, and beside a text from one cell on and before another
-abbrev Outside : (from behind memory cell : ℕ) → Type 0
-Outside from behind memory cell = (7 ≤ cell) × (cell < memory) × ((cell < from) ⊎ (behind ≤ cell))
+abbrev Outside : (from following memory cell : ℕ) → Type 0
+Outside from following memory cell = (7 ≤ cell) × (cell < memory) × ((cell < from) ⊎ (following ≤ cell))
 
-abbrev Avoids : (from behind memory : ℕ) → Stroke → Type 0
-Avoids from behind memory s = (cell : ℕ) → strikes s cell ≡ true → Outside from behind memory cell
+abbrev Avoids : (from following memory : ℕ) → Stroke → Type 0
+Avoids from following memory s = (cell : ℕ) → strikes s cell ≡ true → Outside from following memory cell
 
 pub struck_at : (at count cell : ℕ) → (nat_le at cell && nat_lt (cell - at) count) ≡ true → (at ≤ cell) × (cell < at + count)
 struck_at at count cell is = grind (arith, and_parts, leb-true, ltb-true)
 
-sign_avoids : (from behind memory : ℕ) (sign : Sign) (cell column : ℕ) → Outside from behind memory cell →
-    Avoids from behind memory (sign_at sign cell column)
-sign_avoids from behind memory sign cell column there other is = grind (arith, struck_at)
+sign_avoids : (from following memory : ℕ) (sign : Sign) (cell column : ℕ) → Outside from following memory cell →
+    Avoids from following memory (sign_at sign cell column)
+sign_avoids from following memory sign cell column there other is = grind (arith, struck_at)
 
-across_avoids : (from behind memory : ℕ) (sign : Sign) (first to column : ℕ) → 7 ≤ first → behind ≤ first → to ≤ memory →
-    Avoids from behind memory (across sign first to column)
-across_avoids from behind memory sign first to column low right high cell is = grind (arith, struck_at)
+across-avoids : (from following memory : ℕ) (sign : Sign) (first to column : ℕ) → 7 ≤ first → following ≤ first → to ≤ memory →
+    Avoids from following memory (across sign first to column)
+across-avoids from following memory sign first to column low right high cell is = grind (arith, struck_at)
 
-to_memory : (from behind memory column : ℕ) → 7 ≤ from → from ≤ behind → behind + 6 ≤ memory → Avoids from behind memory (sign_at To (memory - 2) column)
-to_memory from behind memory column low right high = grind (arith, sign_avoids)
+to_memory : (from following memory column : ℕ) → 7 ≤ from → from ≤ following → following + 6 ≤ memory
+    → Avoids from following memory (sign_at To (memory - 2) column)
+to_memory from following memory column low right high = grind (arith, sign_avoids)
 
-own_avoids : (from behind memory column : ℕ) (lane : Option ℕ) (e : Entry) → 7 ≤ from → from ≤ behind → behind + 6 ≤ memory →
-    IfSome lane (λ l. (behind ≤ l) × (l < memory)) → AllByRecursion (Avoids from behind memory) (own_strokes column behind memory lane e)
-own_avoids from behind memory column lane e low right high placed = grind (arith, sign_avoids, across_avoids, to_memory)
+own_avoids : (from following memory column : ℕ) (lane : Option ℕ) (e : Entry) → 7 ≤ from → from ≤ following → following + 6 ≤ memory →
+    IfSome lane (λ l. (following ≤ l) × (l < memory)) → AllByRecursion (Avoids from following memory) (own_strokes column following memory lane e)
+own_avoids from following memory column lane e low right high placed = grind (arith, sign_avoids, across-avoids, to_memory)
 
 -- ---- a row
 
 -- whether a pending store's line stands in a column and lane that the picture has
-abbrev pub Placed : PlacesOf → Held → Type 0
+abbrev pub Placed : Places → Held → Type 0
 Placed p h = (rank p h.column < columns p) × (h.lane < p.lanes)
 
-read_avoids : (p : PlacesOf) (from behind column : ℕ) (sources : List Source) (h : Held) → 7 ≤ from → from ≤ behind →
-    behind + 6 ≤ memory_cell p → lane_cell p h < memory_cell p →
-    AllByRecursion (Avoids from behind (memory_cell p)) (read_strokes p sources column behind h)
-read_avoids p from behind column sources h low right high placed = grind (arith, sign_avoids, across_avoids)
+read_avoids : (p : Places) (from following column : ℕ) (sources : List Source) (h : Held) → 7 ≤ from → from ≤ following →
+    following + 6 ≤ memory_cell p → lane_cell p h < memory_cell p →
+    AllByRecursion (Avoids from following (memory_cell p)) (read_strokes p sources column following h)
+read_avoids p from following column sources h low right high placed = grind (arith, sign_avoids, across-avoids)
 
-reads_avoid : (p : PlacesOf) (from behind column : ℕ) (sources : List Source) (hs : List Held) → 7 ≤ from → from ≤ behind →
-    behind + 6 ≤ memory_cell p → All (λ h. Outside from behind (memory_cell p) (lane_cell p h)) hs →
-    All (Avoids from behind (memory_cell p)) (flat_map (read_strokes p sources column behind) hs)
-reads_avoid p from behind column sources [] low right high all = All-nil (Avoids from behind (memory_cell p))
-reads_avoid p from behind column sources (h ∷ hs) low right high all =
-    rw (flat_map-cons (read_strokes p sources column behind) h hs)
-    (All-append (Avoids from behind (memory_cell p)) (read_strokes p sources column behind h) (flat_map (read_strokes p sources column behind) hs)
-    (All-from_recursion (Avoids from behind (memory_cell p)) (read_strokes p sources column behind h)
-    (read_avoids p from behind column sources h low right high (All-head (λ h. Outside from behind (memory_cell p) (lane_cell p h)) h hs all).1))
-    (reads_avoid p from behind column sources hs low right high (All-tail (λ h. Outside from behind (memory_cell p) (lane_cell p h)) h hs all)))
+reads_avoid : (p : Places) (from following column : ℕ) (sources : List Source) (hs : List Held) → 7 ≤ from → from ≤ following →
+    following + 6 ≤ memory_cell p → All (λ h. Outside from following (memory_cell p) (lane_cell p h)) hs →
+    All (Avoids from following (memory_cell p)) (flat_map (read_strokes p sources column following) hs)
+reads_avoid p from following column sources [] low right high all = All-nil (Avoids from following (memory_cell p))
+reads_avoid p from following column sources (h ∷ hs) low right high all =
+    rw (flat_map-cons (read_strokes p sources column following) h hs)
+    (All-append (Avoids from following (memory_cell p)) (read_strokes p sources column following h) (flat_map (read_strokes p sources column following) hs)
+    (All-from_recursion (Avoids from following (memory_cell p)) (read_strokes p sources column following h)
+    (read_avoids p from following column sources h low right high (All-head (λ h. Outside from following (memory_cell p) (lane_cell p h)) h hs all).1))
+    (reads_avoid p from following column sources hs low right high (All-tail (λ h. Outside from following (memory_cell p) (lane_cell p h)) h hs all)))
 
-passing_avoid : (p : PlacesOf) (from behind : ℕ) (sources : List Source) (hs : List Held) →
-    All (λ h. Outside from behind (memory_cell p) (lane_cell p h)) hs →
-    All (Avoids from behind (memory_cell p)) (map (passing_stroke p sources) hs)
-passing_avoid p from behind sources [] all = All-nil (Avoids from behind (memory_cell p))
-passing_avoid p from behind sources (h ∷ hs) all =
-    All-cons (Avoids from behind (memory_cell p)) (passing_stroke p sources h) (map (passing_stroke p sources) hs)
-    (sign_avoids from behind (memory_cell p) (if is_read sources h then Joins else Down) (lane_cell p h) h.column
-    (All-head (λ h. Outside from behind (memory_cell p) (lane_cell p h)) h hs all))
-    (passing_avoid p from behind sources hs (All-tail (λ h. Outside from behind (memory_cell p) (lane_cell p h)) h hs all))
+passing_avoid : (p : Places) (from following : ℕ) (sources : List Source) (hs : List Held) →
+    All (λ h. Outside from following (memory_cell p) (lane_cell p h)) hs →
+    All (Avoids from following (memory_cell p)) (map (passing_stroke p sources) hs)
+passing_avoid p from following sources [] all = All-nil (Avoids from following (memory_cell p))
+passing_avoid p from following sources (h ∷ hs) all =
+    All-cons (Avoids from following (memory_cell p)) (passing_stroke p sources h) (map (passing_stroke p sources) hs)
+    (sign_avoids from following (memory_cell p) (if is_read sources h then Joins else Down) (lane_cell p h) h.column
+    (All-head (λ h. Outside from following (memory_cell p) (lane_cell p h)) h hs all))
+    (passing_avoid p from following sources hs (All-tail (λ h. Outside from following (memory_cell p) (lane_cell p h)) h hs all))
 
-any_avoids : (from behind memory cell : ℕ) (ss : List Stroke) → All (Avoids from behind memory) ss →
-    list_any (λ s. strikes s cell) ss ≡ true → Outside from behind memory cell
-any_avoids from behind memory cell [] all is = cc
-any_avoids from behind memory cell (s ∷ ss) all is =
+any_avoids : (from following memory cell : ℕ) (ss : List Stroke) → All (Avoids from following memory) ss →
+    list_any (λ s. strikes s cell) ss ≡ true → Outside from following memory cell
+any_avoids from following memory cell [] all is = cc
+any_avoids from following memory cell (s ∷ ss) all is =
     elim (cases_Bool (strikes s cell)) [
-      | inl here ↦ All-head (Avoids from behind memory) s ss all cell here
-      | inr other ↦ any_avoids from behind memory cell ss (All-tail (Avoids from behind memory) s ss all) (rw other at is)
+      | inl here ↦ All-head (Avoids from following memory) s ss all cell here
+      | inr other ↦ any_avoids from following memory cell ss (All-tail (Avoids from following memory) s ss all) (rw other at is)
     ]
 
 -- at most one of four, where no two of them are at once
@@ -120,49 +122,49 @@ lane_beside : (w text lanes lane a b n : ℕ) → w ≡ text + 2 * lanes + 4 →
     Outside (7 + b * w) (7 + b * w + text + 2) (9 + n * w) (7 + a * w + text + 2 * (lanes - lane))
 lane_beside w text lanes lane a b n is first second below = grind (arith, room_left, cases_lt, mul-le-mul)
 
-lane_outside : (p : PlacesOf) (column : ℕ) (h : Held) → rank p column < columns p → Placed p h →
+lane_outside : (p : Places) (column : ℕ) (h : Held) → rank p column < columns p → Placed p h →
     Outside (begins p column) (begins p column + p.text + 2) (memory_cell p) (lane_cell p h)
 lane_outside p column h shown placed =
     lane_beside (pitch p) p.text p.lanes h.lane (rank p h.column) (rank p column) (columns p) refl placed.0 shown placed.1
 
 -- ---- a row's line
 
-abbrev pub IsPlacedIn : PlacesOf → (column : ℕ) → LanedOf → Type 0
+abbrev pub IsPlacedIn : Places → (column : ℕ) → LanedOf → Type 0
 IsPlacedIn p column l = IfSome l.own (λ h. Placed p h × (h.column ≡ column)) × All (Placed p) l.passing
 
-own_beside : (p : PlacesOf) (column cells : ℕ) (own : Option Held) → rank p column < columns p → cells ≤ p.text →
+own-beside : (p : Places) (column cells : ℕ) (own : Option Held) → rank p column < columns p → cells ≤ p.text →
     IfSome own (λ h. Placed p h × (h.column ≡ column)) →
     IfSome (option_map (lane_cell p) own) (λ l. (begins p column + cells ≤ l) × (l < memory_cell p))
-own_beside p column cells None shown short placed = tt
-own_beside p column cells (Some h) shown short placed =
+own-beside p column cells None shown short placed = tt
+own-beside p column cells (Some h) shown short placed =
     let there = lane_outside p column h shown placed.0 in
     let here : begins p h.column ≡ begins p column = ap (begins p) placed.1 in
     (omega (here, short, arith), there.1)
 
-strokes_avoid : (p : PlacesOf) (column cells : ℕ) (r : RowOf) (l : LanedOf) → rank p column < columns p → cells ≤ p.text → IsPlacedIn p column l →
+strokes_avoid : (p : Places) (column cells : ℕ) (r : RowOf) (l : LanedOf) → rank p column < columns p → cells ≤ p.text → IsPlacedIn p column l →
     All (Avoids (begins p column) (begins p column + cells) (memory_cell p)) (row_strokes p column (begins p column + cells) r l)
 strokes_avoid p column cells r l shown short placed =
     let from = begins p column in
-    let behind = begins p column + cells in
+    let following = begins p column + cells in
     let memory = memory_cell p in
     let room : rank p column * pitch p + pitch p ≤ columns p * pitch p = room_left (rank p column) (columns p) (pitch p) shown in
     let low : 7 ≤ from = omega arith in
-    let right : from ≤ behind = omega arith in
-    let high : behind + 6 ≤ memory = omega (room, short, arith) in
-    let P = Avoids from behind memory in
-    let beside : All (λ h. Outside from behind memory (lane_cell p h)) l.passing =
+    let right : from ≤ following = omega arith in
+    let high : following + 6 ≤ memory = omega (room, short, arith) in
+    let P = Avoids from following memory in
+    let beside : All (λ h. Outside from following memory (lane_cell p h)) l.passing =
     (λ k d below. let there = lane_outside p column (slice_index_or l.passing k d) shown (placed.1 k d below) in
     (there.0, there.1, elim there.2 [ inl before ↦ inl before | inr after ↦ inr (omega (after, short, arith)) ])) in
-    let own = own_strokes column behind memory (option_map (lane_cell p) l.own) r.entry in
-    let reads = flat_map (read_strokes p r.sources column behind) l.passing in
+    let own = own_strokes column following memory (option_map (lane_cell p) l.own) r.entry in
+    let reads = flat_map (read_strokes p r.sources column following) l.passing in
     All-append P (own ++ reads) (map (passing_stroke p r.sources) l.passing)
     (All-append P own reads
-    (All-from_recursion P own (own_avoids from behind memory column (option_map (lane_cell p) l.own) r.entry low right high
-    (own_beside p column cells l.own shown short placed.0)))
-    (reads_avoid p from behind column r.sources l.passing low right high beside))
-    (passing_avoid p from behind r.sources l.passing beside)
+    (All-from_recursion P own (own_avoids from following memory column (option_map (lane_cell p) l.own) r.entry low right high
+    (own-beside p column cells l.own shown short placed.0)))
+    (reads_avoid p from following column r.sources l.passing low right high beside))
+    (passing_avoid p from following r.sources l.passing beside)
 
-pub row_clear : (p : PlacesOf) (i column : ℕ) (said kept : List ℕ) (r : RowOf) (l : LanedOf) → i + 1 < 10 ^ 7 → rank p column < columns p →
+pub row_clear : (p : Places) (i column : ℕ) (said kept : List ℕ) (r : RowOf) (l : LanedOf) → i + 1 < 10 ^ 7 → rank p column < columns p →
     length said ≤ p.text → IsPlacedIn p column l → IsClear (row_line p i column said kept r l)
 row_clear p i column said kept r l few shown short placed =
     let digits : length (decimal (i + 1)) ≤ 7 = length-decimal-le 7 (i + 1) (omega arith) few (omega (few, arith)) in

@@ -1,37 +1,29 @@
 -- No head of a column stands on another one.
-use Rattle.std.proofs.Common.{◌≡◌, ℕ, zero, suc, ◌+◌, ◌*◌, ◌<◌, ◌≤◌, min, Bool, true, false, if◌then◌else◌}
-use Rattle.std.proofs.Common.{◌⊎◌, inl, inr, List, [], ◌∷◌, ◌++◌, length, map, refl, arith, append-nil}
-use Rattle.std.specs.Prelude.{nat_lt, codes}
+use Rattle.std.proofs.Common.{◌≡◌, ℕ, zero, suc, ◌+◌, ◌*◌, ◌<◌, ◌≤◌, min, Bool, true, false, cond}
+use Rattle.std.proofs.Common.{◌⊎◌, inl, inr, List, [], ◌∷◌, ◌++◌, length, refl, arith}
+use Rattle.std.specs.Prelude.{codes}
 use Rattle.std.specs.List.{count_by}
 use Rattle.std.proofs.Math.Nat.{suc-mul}
-use Rattle.std.proofs.lemmas.Bool.{cases_Bool, cases_eq, lt-ltb, le-ltb}
+use Rattle.std.proofs.lemmas.Bool.{cases_Bool}
 use Rattle.std.proofs.lemmas.Fmt.{length-decimal-le}
-use Rattle.std.proofs.lemmas.List.{length-append, map-append}
-use Rattle.step_machine.specs.declared.events.Entry.{Entry}
+use Rattle.std.proofs.lemmas.List.{length-append}
+use Rattle.std.proofs.lemmas.List.Sums.{sum_by-append}
 use Rattle.chart.specs.declared.pictures.Weight.TheVariants.{Bold}
+use Rattle.chart.specs.declared.places.Places.{Places}
 use Rattle.chart.specs.Pictures.{stands_in, IsClear}
-use Rattle.chart.specs.Places.{PlacesOf, pitch, begins, memory_cell}
-use Rattle.chart.specs.Scenes.{is_shown, shown_harts, hart_name}
-use Rattle.chart.specs.Lines.{text_at, head_mark, heads_line}
+use Rattle.chart.specs.Places.{pitch, begins, memory_cell}
+use Rattle.chart.specs.Scenes.{hart_name}
+use Rattle.chart.specs.Lines.{text_at, head_mark, head_marks, heads_line}
 use Rattle.chart.proofs.Clear.{struck_at, one_of}
-use Rattle.chart.proofs.Placed.{shown_few, count-append}
 
--- ---- as many columns stand to the left of a hart's as there are harts shown before it
+abbrev apart : (harts text lanes : ℕ) → Places
+apart harts text lanes = record { listed = false; harts = harts; text = text; lanes = lanes }
 
-all_below : (h n : ℕ) (es : List Entry) → n ≤ h → count_by (λ other. nat_lt other h) (shown_harts es n) ≡ length (shown_harts es n)
-all_below h zero es within = refl
-all_below h (suc n) es within = grind (arith, lt-ltb, count-append, length-append, append-nil, all_below h n es)
+starts : (harts text lanes n : ℕ) → n ≤ 255 → begins (apart harts text lanes) n ≡ 7 + n * pitch (apart harts text lanes)
+starts harts text lanes n few = let least : min n 255 ≡ n = omega (few, arith) in rw least refl
 
-shown_before : (h n : ℕ) (es : List Entry) → h ≤ n → count_by (λ other. nat_lt other h) (shown_harts es n) ≡ length (shown_harts es h)
-shown_before h zero es within = grind arith
-shown_before h (suc n) es within = grind (arith, cases_eq (suc n) h, all_below (suc n) (suc n) es, le-ltb n h, count-append, append-nil, shown_before h n es)
-
-abbrev apart : (es : List Entry) (harts text lanes : ℕ) → PlacesOf
-apart es harts text lanes = record { listed = false; shown = shown_harts es harts; text = text; lanes = lanes }
-
-starts : (es : List Entry) (harts text lanes n : ℕ) → n ≤ harts → harts ≤ 255 →
-    begins (apart es harts text lanes) n ≡ 7 + length (shown_harts es n) * pitch (apart es harts text lanes)
-starts es harts text lanes n within few = grind (arith, shown_before, shown_few)
+count-append : {X : Type 0} (p : X → Bool) (xs ys : List X) → count_by p (xs ++ ys) ≡ count_by p xs + count_by p ys
+count-append p xs ys = sum_by-append (λ x. cond (p x) 1 0) xs ys
 
 -- ---- heads
 
@@ -44,54 +36,41 @@ one_more : (before one left length width cell : ℕ) → before ≤ 1 → (7 + l
     (before + one ≤ 1) × (7 + (left + width) ≤ cell → before + one ≡ 0)
 one_more before one left length width cell most past h8 = grind arith
 
-head_there : (p : PlacesOf) (n cell : ℕ) → n ≤ 255 → (left : ℕ) → begins p n ≡ 7 + left →
+head_there : (p : Places) (n cell : ℕ) → n ≤ 255 → (left : ℕ) → begins p n ≡ 7 + left →
     ((count_by (stands_in cell) (head_mark p n ∷ []) ≡ 1) × (7 + left ≤ cell) × (cell < 7 + left + length (hart_name n)) × (length (hart_name n) ≤ pitch p))
     ⊎ (count_by (stands_in cell) (head_mark p n ∷ []) ≡ 0)
 head_there p n cell few left at = grind (arith, cases_Bool, struck_at, short_name)
 
-heads_apart : (es : List Entry) (harts text lanes n cell : ℕ) → n ≤ harts → harts ≤ 255 →
-    (count_by (stands_in cell) (map (head_mark (apart es harts text lanes)) (shown_harts es n)) ≤ 1)
-    × (7 + length (shown_harts es n) * pitch (apart es harts text lanes) ≤ cell →
-    count_by (stands_in cell) (map (head_mark (apart es harts text lanes)) (shown_harts es n)) ≡ 0)
-heads_apart es harts text lanes zero cell within few = (omega arith, λ past. refl)
-heads_apart es harts text lanes (suc n) cell within few =
-    let p = apart es harts text lanes in
-    let xs = shown_harts es n in
-    let rest = heads_apart es harts text lanes n cell (omega (within, arith)) few in
-    elim (is_shown es n) as
-    (λ b. (count_by (stands_in cell) (map (head_mark p) (xs ++ (if b then n ∷ [] else []))) ≤ 1)
-    × (7 + length (xs ++ (if b then n ∷ [] else [])) * pitch p ≤ cell → count_by (stands_in cell) (map (head_mark p) (xs ++ (if b then n ∷ [] else []))) ≡ 0)) [
-      | true ↦
-          let longer : length (xs ++ n ∷ []) ≡ suc (length xs) = omega (length-append xs (n ∷ []), arith) in
-          rw (
-            map-append (head_mark p) xs (n ∷ []),
-            count-append (stands_in cell) (map (head_mark p) xs) (head_mark p n ∷ []),
-            longer,
-            suc-mul (length xs) (pitch p),
-          )
-          (one_more (count_by (stands_in cell) (map (head_mark p) xs)) (count_by (stands_in cell) (head_mark p n ∷ [])) (length xs * pitch p)
-          (length (hart_name n)) (pitch p) cell rest.0 rest.1
-          (head_there p n cell (omega (within, few, arith)) (length xs * pitch p) (starts es harts text lanes n (omega (within, arith)) few)))
-      | false ↦ rw (append-nil xs) rest
-    ]
+heads_apart : (harts text lanes n cell : ℕ) → n ≤ 255 →
+    (count_by (stands_in cell) (head_marks (apart harts text lanes) n) ≤ 1)
+    × (7 + n * pitch (apart harts text lanes) ≤ cell → count_by (stands_in cell) (head_marks (apart harts text lanes) n) ≡ 0)
+heads_apart harts text lanes zero cell few = (omega arith, λ past. refl)
+heads_apart harts text lanes (suc n) cell few =
+    let p = apart harts text lanes in
+    let marks = head_marks p n in
+    let rest = heads_apart harts text lanes n cell (omega (few, arith)) in
+    rw (count-append (stands_in cell) marks (head_mark p n ∷ []), suc-mul n (pitch p))
+    (one_more (count_by (stands_in cell) marks) (count_by (stands_in cell) (head_mark p n ∷ [])) (n * pitch p)
+    (length (hart_name n)) (pitch p) cell rest.0 rest.1
+    (head_there p n cell (omega (few, arith)) (n * pitch p) (starts harts text lanes n (omega (few, arith)))))
 
 -- the heads and that of memory, which stands to the right of the columns
-with_memory : (es : List Entry) (harts text lanes cell : ℕ) → harts ≤ 255 →
-    count_by (stands_in cell) (map (head_mark (apart es harts text lanes)) (shown_harts es harts)
-    ++ text_at (memory_cell (apart es harts text lanes)) Bold (codes "memory") ∷ []) + 0 ≤ 1
-with_memory es harts text lanes cell few =
-    let p = apart es harts text lanes in
-    let heads = map (head_mark p) (shown_harts es harts) in
+with_memory : (harts text lanes cell : ℕ) → harts ≤ 255 →
+    count_by (stands_in cell) (head_marks (apart harts text lanes) harts
+    ++ text_at (memory_cell (apart harts text lanes)) Bold (codes "memory") ∷ []) + 0 ≤ 1
+with_memory harts text lanes cell few =
+    let p = apart harts text lanes in
+    let heads = head_marks p harts in
     let memory = text_at (memory_cell p) Bold (codes "memory") in
-    let before = heads_apart es harts text lanes harts cell (omega arith) few in
+    let before = heads_apart harts text lanes harts cell few in
     let parts : count_by (stands_in cell) (heads ++ memory ∷ []) ≡ count_by (stands_in cell) heads + count_by (stands_in cell) (memory ∷ []) =
     count-append (stands_in cell) heads (memory ∷ []) in
-    let columns : min (length (shown_harts es harts)) 255 ≡ length (shown_harts es harts) = omega (shown_few es harts, few, arith) in
+    let columns : min harts 255 ≡ harts = omega (few, arith) in
     elim (cases_Bool (stands_in cell memory)) [
       | inl here ↦
           let low : memory_cell p ≤ cell = (struck_at (memory_cell p) 6 cell here).0 in
-          let behind : 9 + length (shown_harts es harts) * pitch p ≤ cell = rw columns at low in
-          let none : count_by (stands_in cell) heads ≡ 0 = before.1 (omega (behind, arith)) in
+          let after : 9 + harts * pitch p ≤ cell = rw columns at low in
+          let none : count_by (stands_in cell) heads ≡ 0 = before.1 (omega (after, arith)) in
           let one : count_by (stands_in cell) (memory ∷ []) ≡ 1 = rw here refl in
           omega (parts, none, one, arith)
       | inr other ↦
@@ -100,7 +79,7 @@ with_memory es harts text lanes cell few =
           omega (parts, most, none, arith)
     ]
 
-pub heads_clear : (es : List Entry) (harts : ℕ) (listed : Bool) (text lanes : ℕ) → harts ≤ 255 →
-    IsClear (heads_line (record { listed = listed; shown = shown_harts es harts; text = text; lanes = lanes }))
-heads_clear es harts true text lanes few cell = grind (arith, struck_at, one_of)
-heads_clear es harts false text lanes few cell = with_memory es harts text lanes cell few
+pub heads_clear : (harts : ℕ) (listed : Bool) (text lanes : ℕ) → harts ≤ 255 →
+    IsClear (heads_line (record { listed = listed; harts = harts; text = text; lanes = lanes }))
+heads_clear harts true text lanes few cell = grind (arith, struck_at, one_of)
+heads_clear harts false text lanes few cell = with_memory harts text lanes cell few

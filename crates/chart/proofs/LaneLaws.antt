@@ -34,9 +34,9 @@ pub held_by_here : (row i : ℕ) (hs : List Held) (d : Held) → i < length hs �
 held_by_here row i hs d within is = ap (held_by row) (drop-cons hs i d within) ∙ rw is refl
 
 -- the first free lane is one of those that were looked at, and nobody holds it
-pub first_free_is : (held : List Held) (column k n j : ℕ) → first_free held column k n ≡ Some j → (j < k + n) × (is_held held column j ≡ false)
-first_free_is held column k zero j is = cc
-first_free_is held column k (suc n) j is = grind (arith, cases_Bool, first_free_is held column (k + 1) n j)
+pub first_free-is : (held : List Held) (column k n j : ℕ) → first_free held column k n ≡ Some j → (j < k + n) × (is_held held column j ≡ false)
+first_free-is held column k zero j is = cc
+first_free-is held column k (suc n) j is = grind (arith, cases_Bool, first_free-is held column (k + 1) n j)
 
 -- ---- one more row
 

@@ -8,6 +8,7 @@ pub mod Clear
 pub mod Placed
 pub mod HeadLaws
 pub mod PictureLaws
+pub mod ColumnLaws
 pub mod CellLaws
 pub mod PlaceLaws
 pub mod SceneLaws

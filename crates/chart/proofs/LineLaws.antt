@@ -1,11 +1,14 @@
--- The lines of one more row.
-use Rattle.std.proofs.Common.{◌≡◌, ℕ, suc, ◌+◌, List, ◌++◌, refl, arith}
+-- The lines of one more row, and the head of one more hart.
+use Rattle.std.proofs.Common.{◌≡◌, ℕ, suc, ◌+◌, List, [], ◌∷◌, ◌++◌, refl, arith}
+use Rattle.chart.specs.declared.places.Places.{Places}
 use Rattle.chart.specs.declared.scenes.Form.{Form}
 use Rattle.chart.specs.Lanes.{LanedOf}
-use Rattle.chart.specs.Places.{PlacesOf}
 use Rattle.chart.specs.Scenes.{SceneOf}
-use Rattle.chart.specs.Lines.{drawn_at, lines_of}
+use Rattle.chart.specs.Lines.{drawn_at, lines_of, head_mark, head_marks}
 
-pub lines_more : (form : Form) (scene : SceneOf) (p : PlacesOf) (lanes : List LanedOf) (n : ℕ) →
+pub lines_more : (form : Form) (scene : SceneOf) (p : Places) (lanes : List LanedOf) (n : ℕ) →
     lines_of form scene p lanes (n + 1) ≡ lines_of form scene p lanes n ++ drawn_at form scene p lanes n
 lines_more form scene p lanes n = let more : n + 1 ≡ suc n = omega arith in rw more refl
+
+pub heads_more : (p : Places) (n : ℕ) → head_marks p (n + 1) ≡ head_marks p n ++ head_mark p n ∷ []
+heads_more p n = let more : n + 1 ≡ suc n = omega arith in rw more refl

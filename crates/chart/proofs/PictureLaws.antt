@@ -9,13 +9,14 @@ use Rattle.step_machine.specs.declared.events.Entry.{Entry}
 use Rattle.step_machine.specs.Entries.{hart_of}
 use Rattle.chart.specs.declared.lanes.Held.{Held}
 use Rattle.chart.specs.declared.pictures.Stroke.{Stroke}
+use Rattle.chart.specs.declared.places.Places.{Places}
+use Rattle.chart.specs.declared.least_widths.LeastWidths.{LeastWidths}
 use Rattle.chart.specs.declared.scenes.Form.{Form}
 use Rattle.chart.specs.declared.scenes.Selection.{Selection}
 use Rattle.chart.specs.Rows.{RowOf, rows_of}
 use Rattle.chart.specs.Lanes.{LanedOf, held_at_end}
 use Rattle.chart.specs.Pictures.{LineOf, strikes, IsClear}
-use Rattle.chart.specs.Places.{PlacesOf}
-use Rattle.chart.specs.Scenes.{SceneOf, scene_of, said_at, widest_said, said_cells, shape_of, lanes_in, places_of, used_after}
+use Rattle.chart.specs.Scenes.{SceneOf, scene_of, said_at, widest_said, said_cells, shape_of, least_lanes, lanes_in, places_of, used_after}
 use Rattle.chart.specs.Lines.{laned_line, line_in, line_at, is_without_line, drawn_at, lines_of, open_lines}
 use Rattle.chart.specs.Layout.{AboutOf, layout, limit, form_or, form_of, body_of}
 use Rattle.chart.proofs.Clear.{row_clear}
@@ -28,11 +29,11 @@ use Rattle.chart.proofs.RowLaws.{entries_of_rows}
 no_texts : (ss : List Stroke) → IsClear (record { marks = []; strokes = ss })
 no_texts ss cell = elim (list_any (λ s. strikes s cell) ss) as (λ b. 0 + (if b then 1 else 0) ≤ 1) [ true ↦ omega arith | false ↦ omega arith ]
 
-laned_clear : (form : Form) (scene : SceneOf) (p : PlacesOf) (i : ℕ) (r : RowOf) (lo : Option LanedOf) → i + 1 < 10 ^ 7 →
+laned_clear : (form : Form) (scene : SceneOf) (p : Places) (i : ℕ) (r : RowOf) (lo : Option LanedOf) → i + 1 < 10 ^ 7 →
     length (said_at form scene i) ≤ p.text → RowFits p (shape_of form) (Some r) lo → IsClear (laned_line form scene p i r lo)
 laned_clear form scene p i r lo few room fits = grind (arith, no_texts, row_clear)
 
-line_clear : (form : Form) (scene : SceneOf) (p : PlacesOf) (lanes : List LanedOf) (i : ℕ) (ro : Option RowOf) → i + 1 < 10 ^ 7 →
+line_clear : (form : Form) (scene : SceneOf) (p : Places) (lanes : List LanedOf) (i : ℕ) (ro : Option RowOf) → i + 1 < 10 ^ 7 →
     length (said_at form scene i) ≤ p.text → RowFits p (shape_of form) ro (slice_get lanes i) → IsClear (line_in form scene p lanes i ro)
 line_clear form scene p lanes i ro few room fits = grind (arith, no_texts, laned_clear)
 
@@ -46,7 +47,7 @@ drawn_clear : (left_out : Bool) (line : LineOf) → IsClear line → All IsClear
 drawn_clear true line clear = All-nil IsClear
 drawn_clear false line clear = All-cons IsClear line [] clear (All-nil IsClear)
 
-lines_clear : (form : Form) (scene : SceneOf) (p : PlacesOf) (lanes : List LanedOf) (n : ℕ) → n ≤ length scene.rows → length scene.rows < 10 ^ 7 →
+lines_clear : (form : Form) (scene : SceneOf) (p : Places) (lanes : List LanedOf) (n : ℕ) → n ≤ length scene.rows → length scene.rows < 10 ^ 7 →
     p.text ≡ said_cells form scene → ((i : ℕ) → RowFits p (shape_of form) (slice_get scene.rows i) (slice_get lanes i)) →
     All IsClear (lines_of form scene p lanes n)
 lines_clear form scene p lanes zero within few room fits = All-nil IsClear
@@ -57,41 +58,43 @@ lines_clear form scene p lanes (suc n) within few room fits =
     (drawn_clear (is_without_line scene (slice_get scene.rows n)) (line_at form scene p lanes n)
     (line_clear form scene p lanes n (slice_get scene.rows n) (omega (within, few, arith)) (omega (said, room, arith)) (fits n)))
 
-open_clear : (p : PlacesOf) (hs : List Held) → All IsClear (open_lines p hs)
+open_clear : (p : Places) (hs : List Held) → All IsClear (open_lines p hs)
 open_clear p hs = grind (arith, All-nil, All-cons, no_texts)
 
 -- ---- the picture
 
-form_or_lanes : (scene : SceneOf) (most : ℕ) (form other : Form) → form.lanes ≤ 6 → other.lanes ≤ 6 → (form_or scene most form other).lanes ≤ 6
-form_or_lanes scene most form other first second = grind arith
+form_or-lanes : (scene : SceneOf) (most : ℕ) (form other : Form) → form.lanes ≤ 6 → other.lanes ≤ 6 → (form_or scene most form other).lanes ≤ 6
+form_or-lanes scene most form other first second = grind arith
 
 form_lanes : (scene : SceneOf) (most : ℕ) → (form_of scene most).lanes ≤ 6
-form_lanes scene most = grind (arith, form_or_lanes)
+form_lanes scene most = grind (arith, form_or-lanes)
 
 rows_count : (es : List Entry) → length (rows_of es) ≡ length es
 rows_count es = sym (length-map (rows_of es) (λ (r : RowOf). r.entry)) ∙ ap (λ (fs : List Entry). length fs) (entries_of_rows es)
 
-form_clear : (form : Form) (selection : Selection) (names instructions : List (List ℕ)) (es : List Entry) (harts : ℕ) → form.lanes ≤ 6 →
-    harts ≤ 255 → All (λ e. hart_of e < harts) es → length es < 10 ^ 7 → All IsClear (body_of form (scene_of selection names instructions es harts))
-form_clear form selection names instructions es harts lanes few below rows =
-    let scene = scene_of selection names instructions es harts in
+form_clear : (form : Form) (selection : Selection) (names instructions : List (List ℕ)) (es : List Entry) (harts : ℕ) (least : LeastWidths) →
+    form.lanes ≤ 6 → harts ≤ 255 → All (λ e. hart_of e < harts) es → length es < 10 ^ 7 →
+    All IsClear (body_of form (scene_of selection names instructions es harts least))
+form_clear form selection names instructions es harts least lanes few below rows =
+    let scene = scene_of selection names instructions es harts least in
+    let free = least_lanes form least in
     let p = places_of form scene in
     let count : length (rows_of es) ≡ length es = rows_count es in
     All-append IsClear (lines_of form scene p (lanes_in form scene) (length scene.rows)) (open_lines p (held_at_end (shape_of form) scene.rows))
     (lines_clear form scene p (lanes_in form scene) (length scene.rows) (omega arith) (omega (count, rows, arith)) refl
-    (λ i. row_fits p (shape_of form) es i refl
-    (columns_there es harts form.listed (said_cells form scene) (used_after 0 (lanes_in form scene)) form.lanes few below) (omega (lanes, arith))))
+    (λ i. row_fits p (shape_of form) es free i refl
+    (columns_there es harts form.listed (said_cells form scene) (used_after free (lanes_in form scene)) form.lanes few below) (omega (lanes, arith))))
     (open_clear p (held_at_end (shape_of form) scene.rows))
 
 pub picture_clear : (selection : Selection) (about : AboutOf) (es : List Entry) → about.harts ≤ 255 → All (λ e. hart_of e < about.harts) es →
     length es < 10 ^ 7 → All IsClear (layout selection about es).body
 picture_clear selection about es few below rows =
-    let scene = scene_of selection about.names about.instructions es about.harts in
+    let scene = scene_of selection about.names about.instructions es about.harts about.least in
     let form = form_of scene (limit about.harts) in
-    form_clear form selection about.names about.instructions es about.harts (form_lanes scene (limit about.harts)) few below rows
+    form_clear form selection about.names about.instructions es about.harts about.least (form_lanes scene (limit about.harts)) few below rows
 
 pub heads_of_picture : (selection : Selection) (about : AboutOf) (es : List Entry) → about.harts ≤ 255 → IsClear (layout selection about es).heads
 heads_of_picture selection about es few =
-    let scene = scene_of selection about.names about.instructions es about.harts in
+    let scene = scene_of selection about.names about.instructions es about.harts about.least in
     let form = form_of scene (limit about.harts) in
-    heads_clear es about.harts form.listed (said_cells form scene) (used_after 0 (lanes_in form scene)) few
+    heads_clear about.harts form.listed (said_cells form scene) (used_after (least_lanes form about.least) (lanes_in form scene)) few

@@ -1,31 +1,31 @@
 -- Each line of a row stands in a column and a lane that the picture has, and a row's own line in its hart's column.
-use Rattle.std.proofs.Common.{◌≡◌, ℕ, zero, suc, ◌+◌, ◌<◌, ◌≤◌, ◌==◌, max, get_or, Bool, true, false, not, cond}
+use Rattle.std.proofs.Common.{◌≡◌, ℕ, zero, suc, ◌+◌, ◌<◌, ◌≤◌, ◌==◌, max, Bool, false, not}
 use Rattle.std.proofs.Common.{List, [], ◌∷◌, ◌++◌, length, Option, Some, None, All, refl, ◌∙◌, subst, arith}
-use Rattle.std.specs.Prelude.{nat_lt, option_to_list, IfSome}
-use Rattle.std.specs.List.{slice_get, slice_index_or, count_by}
-use Rattle.std.proofs.lemmas.Bool.{cases_Bool, cases_eq, eq-eqb, eqb-true, ne_eqb, le-ltb}
+use Rattle.std.specs.Prelude.{option_to_list, IfSome}
+use Rattle.std.specs.List.{slice_get}
+use Rattle.std.proofs.lemmas.Bool.{cases_Bool, cases_eq, eqb-true, ne_eqb}
 use Rattle.std.proofs.lemmas.List.{length-append}
 use Rattle.std.proofs.lemmas.List.Elements.{All-nil, All-cons, All-head, All-tail, All-append, All-filter, All-weaker}
-use Rattle.std.proofs.lemmas.List.Folds.{list_any_at}
-use Rattle.std.proofs.lemmas.List.Sums.{sum_by-append, count_by-le-length}
 use Rattle.std.proofs.lemmas.Option.{IfSome_then}
 use Rattle.memory.specs.declared.writes.Write.{Write}
 use Rattle.step_machine.specs.declared.events.Entry.{Entry}
 use Rattle.step_machine.specs.declared.events.Entry.TheVariants as entry
 use Rattle.step_machine.specs.Access.{Access}
 use Rattle.step_machine.specs.Entries.{hart_of, stored_by, store_of}
+use Rattle.step_machine.proofs.Appended.{entry_there}
 use Rattle.chart.specs.declared.lanes.Held.{Held}
 use Rattle.chart.specs.declared.lanes.Shape.{Shape}
+use Rattle.chart.specs.declared.places.Places.{Places}
 use Rattle.chart.specs.declared.sources.RowWrite.{RowWrite}
 use Rattle.chart.specs.Sources.{pending_by_row, row_of, landed_store, stored_at}
 use Rattle.chart.specs.Rows.{RowOf, row_after, rows_after}
 use Rattle.chart.specs.Lanes.{LanedOf, column_of, first_free, in_lane, held_by, own_line, passing_lines}
 use Rattle.chart.specs.Lanes.{laned_row, held_after_entry, held_after, lanes_from}
-use Rattle.chart.specs.Places.{PlacesOf, rank, columns}
-use Rattle.chart.specs.Scenes.{is_shown, shown_harts, lanes_to, lanes_at, used_after}
-use Rattle.chart.proofs.ByRow.{HasStored, entry_there, pending_stored}
+use Rattle.chart.specs.Places.{rank, columns}
+use Rattle.chart.specs.Scenes.{lanes_to, lanes_at, used_after}
+use Rattle.chart.proofs.ByRow.{HasStored, pending_stored}
 use Rattle.chart.proofs.Clear.{Placed, IsPlacedIn}
-use Rattle.chart.proofs.LaneLaws.{first_free_is}
+use Rattle.chart.proofs.LaneLaws.{first_free-is}
 
 -- ---- what is held
 
@@ -33,7 +33,7 @@ use Rattle.chart.proofs.LaneLaws.{first_free_is}
 abbrev InItsColumn : Shape → List Entry → Held → Type 0
 InItsColumn shape before h = (e : Entry) × (slice_get before h.row ≡ Some e) × (h.column ≡ column_of shape (hart_of e))
 
-record Kept (p : PlacesOf) (shape : Shape) (before : List Entry) (h : Held) : Type 0 where
+record Kept (p : Places) (shape : Shape) (before : List Entry) (h : Held) : Type 0 where
   placed : Placed p h
   column : InItsColumn shape before h
 
@@ -42,12 +42,12 @@ slice_get-more y [] i x is = cc
 slice_get-more y (z ∷ xs) zero x is = is
 slice_get-more y (z ∷ xs) (suc i) x is = slice_get-more y xs i x is
 
-kept_more : (p : PlacesOf) (shape : Shape) (before : List Entry) (e : Entry) (hs : List Held) → All (Kept p shape before) hs →
+kept_more : (p : Places) (shape : Shape) (before : List Entry) (e : Entry) (hs : List Held) → All (Kept p shape before) hs →
     All (Kept p shape (before ++ e ∷ [])) hs
 kept_more p shape before e = All-weaker (Kept p shape before) (Kept p shape (before ++ e ∷ []))
     (λ h kept. record { placed = kept.placed; column = (kept.column.0, slice_get-more e before h.row kept.column.0 kept.column.1, kept.column.2) })
 
-all_placed : (p : PlacesOf) (shape : Shape) (before : List Entry) (hs : List Held) → All (Kept p shape before) hs → All (Placed p) hs
+all_placed : (p : Places) (shape : Shape) (before : List Entry) (hs : List Held) → All (Kept p shape before) hs → All (Placed p) hs
 all_placed p shape before = All-weaker (Kept p shape before) (Placed p) (λ h kept. kept.placed)
 
 one_held : (P : Held → Type 0) (o : Option Held) → IfSome o P → All P (option_to_list o)
@@ -55,20 +55,20 @@ one_held P o holds = grind (arith, All-nil, All-cons)
 
 -- ---- the line of a store
 
-record Taken (p : PlacesOf) (row column : ℕ) (h : Held) : Type 0 where
+record Taken (p : Places) (row column : ℕ) (h : Held) : Type 0 where
   placed : Placed p h
   in_column : h.column ≡ column
   of_row : h.row ≡ row
 
-in_lane_placed : (p : PlacesOf) (row column most : ℕ) (o : Option ℕ) → rank p column < columns p → most ≤ 254 →
+in_lane-placed : (p : Places) (row column most : ℕ) (o : Option ℕ) → rank p column < columns p → most ≤ 254 →
     lanes_to (in_lane row column o) ≤ p.lanes → ((j : ℕ) → o ≡ Some j → j < most) → IfSome (in_lane row column o) (Taken p row column)
-in_lane_placed p row column most o shown few used free = grind arith
+in_lane-placed p row column most o shown few used free = grind arith
 
-taken_placed : (p : PlacesOf) (shape : Shape) (row column : ℕ) (held : List Held) → rank p column < columns p → shape.lanes ≤ 254 →
+taken_placed : (p : Places) (shape : Shape) (row column : ℕ) (held : List Held) → rank p column < columns p → shape.lanes ≤ 254 →
     lanes_to (in_lane row column (first_free held column 0 shape.lanes)) ≤ p.lanes →
     IfSome (in_lane row column (first_free held column 0 shape.lanes)) (Taken p row column)
-taken_placed p shape row column held shown few used = in_lane_placed p row column shape.lanes (first_free held column 0 shape.lanes) shown few used
-    (λ j is. let free = first_free_is held column 0 shape.lanes j is in omega (free.0, arith))
+taken_placed p shape row column held shown few used = in_lane-placed p row column shape.lanes (first_free held column 0 shape.lanes) shown few used
+    (λ j is. let free = first_free-is held column 0 shape.lanes j is in omega (free.0, arith))
 
 -- ---- the line of a landing
 
@@ -94,7 +94,7 @@ column_same : (shape : Shape) (before : List Entry) (h row : ℕ) (w : Write) (k
     InItsColumn shape before k → k.column ≡ column_of shape h
 column_same shape before h row w k stored same its = grind (arith, hart_stored)
 
-landed_placed : (p : PlacesOf) (shape : Shape) (before : List Entry) (h row : ℕ) (held : List Held) →
+landed_placed : (p : Places) (shape : Shape) (before : List Entry) (h row : ℕ) (held : List Held) →
     landed_store before (entry.Land h) ≡ Some row → All (Kept p shape before) held →
     IfSome (held_by row held) (λ k. Placed p k × (k.column ≡ column_of shape h))
 landed_placed p shape before h row held landed all =
@@ -105,24 +105,24 @@ landed_placed p shape before h row held landed all =
 
 -- ---- rows
 
-row_placed : (p : PlacesOf) (shape : Shape) (before : List Entry) (row : ℕ) (held : List Held) (landed : Option ℕ) (e : Entry) →
+row-placed : (p : Places) (shape : Shape) (before : List Entry) (row : ℕ) (held : List Held) (landed : Option ℕ) (e : Entry) →
     landed_store before e ≡ landed → All (Kept p shape before) held → rank p (column_of shape (hart_of e)) < columns p → shape.lanes ≤ 254 →
     lanes_to (own_line shape row held landed e) ≤ p.lanes →
     IfSome (own_line shape row held landed e) (λ h. Placed p h × (h.column ≡ column_of shape (hart_of e))) × All (Placed p) (passing_lines held landed e)
-row_placed p shape before row held landed (entry.Store h a width v) is all shown few used = (
+row-placed p shape before row held landed (entry.Store h a width v) is all shown few used = (
   IfSome_then (in_lane row (column_of shape h) (first_free held (column_of shape h) 0 shape.lanes))
       {P = Taken p row (column_of shape h)} {Q = λ k. Placed p k × (k.column ≡ column_of shape h)}
       (taken_placed p shape row (column_of shape h) held shown few used) (λ k taken. (taken.placed, taken.in_column)),
   all_placed p shape before held all,
 )
-row_placed p shape before row held None (entry.Land h) is all shown few used = (tt, all_placed p shape before held all)
-row_placed p shape before row held (Some made) (entry.Land h) is all shown few used = (
+row-placed p shape before row held None (entry.Land h) is all shown few used = (tt, all_placed p shape before held all)
+row-placed p shape before row held (Some made) (entry.Land h) is all shown few used = (
   landed_placed p shape before h made held is all,
   All-filter (λ k. not (k.row == made)) (Placed p) held (all_placed p shape before held all),
 )
-row_placed p shape before row held landed other is all shown few used = (tt, all_placed p shape before held all)
+row-placed p shape before row held landed other is all shown few used = (tt, all_placed p shape before held all)
 
-next_kept : (p : PlacesOf) (shape : Shape) (before : List Entry) (row : ℕ) (held : List Held) (landed : Option ℕ) (e : Entry) →
+next_kept : (p : Places) (shape : Shape) (before : List Entry) (row : ℕ) (held : List Held) (landed : Option ℕ) (e : Entry) →
     row ≡ length before → All (Kept p shape before) held → rank p (column_of shape (hart_of e)) < columns p → shape.lanes ≤ 254 →
     lanes_to (own_line shape row held landed e) ≤ p.lanes →
     All (Kept p shape (before ++ e ∷ [])) (held_after_entry shape row held landed e)
@@ -141,34 +141,34 @@ next_kept p shape before row held (Some made) (entry.Land h) here all shown few 
 next_kept p shape before row held landed other here all shown few used = kept_more p shape before other held all
 
 -- a row with its lines, which stand in columns and lanes of the picture
-abbrev pub RowFits : PlacesOf → Shape → Option RowOf → Option LanedOf → Type 0
+abbrev pub RowFits : Places → Shape → Option RowOf → Option LanedOf → Type 0
 RowFits p shape None l = Unit {0}
 RowFits p shape (Some r) None = Unit {0}
 RowFits p shape (Some r) (Some l) = (rank p (column_of shape (hart_of r.entry)) < columns p) × IsPlacedIn p (column_of shape (hart_of r.entry)) l
 
-abbrev pub HasColumn : PlacesOf → Shape → Entry → Type 0
+abbrev pub HasColumn : Places → Shape → Entry → Type 0
 HasColumn p shape e = rank p (column_of shape (hart_of e)) < columns p
 
-abbrev pub UsesLanes : PlacesOf → LanedOf → Type 0
+abbrev pub UsesLanes : Places → LanedOf → Type 0
 UsesLanes p l = lanes_at l ≤ p.lanes
 
-rows_fit : (p : PlacesOf) (shape : Shape) (before es : List Entry) (held : List Held) (n i : ℕ) → n ≡ length before →
+rows-fit : (p : Places) (shape : Shape) (before es : List Entry) (held : List Held) (n i : ℕ) → n ≡ length before →
     All (Kept p shape before) held → All (HasColumn p shape) es → shape.lanes ≤ 254 →
     All (UsesLanes p) (lanes_from shape n held (rows_after before es)) →
     RowFits p shape (slice_get (rows_after before es) i) (slice_get (lanes_from shape n held (rows_after before es)) i)
-rows_fit p shape before [] held n i here all shown few used = tt
-rows_fit p shape before (e ∷ es) held n zero here all shown few used =
+rows-fit p shape before [] held n i here all shown few used = tt
+rows-fit p shape before (e ∷ es) held n zero here all shown few used =
     let there = All-head (HasColumn p shape) e es shown in (
       there,
-      row_placed p shape before n held (landed_store before e) e refl all there few
+      row-placed p shape before n held (landed_store before e) e refl all there few
           (All-head (UsesLanes p) (laned_row shape n held (row_after before e))
           (lanes_from shape (n + 1) (held_after shape n held (row_after before e)) (rows_after (before ++ e ∷ []) es)) used),
     )
-rows_fit p shape before (e ∷ es) held n (suc i) here all shown few used =
+rows-fit p shape before (e ∷ es) held n (suc i) here all shown few used =
     let row = row_after before e in
     let rest = lanes_from shape (n + 1) (held_after shape n held row) (rows_after (before ++ e ∷ []) es) in
     let longer : n + 1 ≡ length (before ++ e ∷ []) = omega (here, length-append before (e ∷ []), arith) in
-    rows_fit p shape (before ++ e ∷ []) es (held_after shape n held row) (n + 1) i longer
+    rows-fit p shape (before ++ e ∷ []) es (held_after shape n held row) (n + 1) i longer
     (next_kept p shape before n held (landed_store before e) e here all (All-head (HasColumn p shape) e es shown) few
     (All-head (UsesLanes p) (laned_row shape n held row) rest used))
     (All-tail (HasColumn p shape) e es shown) few (All-tail (UsesLanes p) (laned_row shape n held row) rest used)
@@ -181,42 +181,21 @@ used_all : (used : ℕ) (ls : List LanedOf) → All (λ l. lanes_at l ≤ used_a
 used_all used [] = All-nil (λ l. lanes_at l ≤ used)
 used_all used (l ∷ ls) = grind (arith, used_least, All-cons, used_all (max used (lanes_at l)) ls)
 
-pub row_fits : (p : PlacesOf) (shape : Shape) (es : List Entry) (i : ℕ) → p.lanes ≡ used_after 0 (lanes_from shape 0 [] (rows_after [] es)) →
+pub row_fits : (p : Places) (shape : Shape) (es : List Entry) (least i : ℕ) → p.lanes ≡ used_after least (lanes_from shape 0 [] (rows_after [] es)) →
     All (HasColumn p shape) es → shape.lanes ≤ 254 →
     RowFits p shape (slice_get (rows_after [] es) i) (slice_get (lanes_from shape 0 [] (rows_after [] es)) i)
-row_fits p shape es i lanes shown few = grind (arith, rows_fit, All-nil, used_all)
+row_fits p shape es least i lanes shown few = grind (arith, rows-fit, All-nil, used_all)
 
 -- ---- columns
 
-pub shown_few : (es : List Entry) (n : ℕ) → length (shown_harts es n) ≤ n
-shown_few es zero = omega arith
-shown_few es (suc n) = grind (arith, length-append, shown_few es n)
-
-pub count-append : {X : Type 0} (p : X → Bool) (xs ys : List X) → count_by p (xs ++ ys) ≡ count_by p xs + count_by p ys
-count-append p xs ys = sum_by-append (λ x. cond (p x) 1 0) xs ys
-
-count_more : (p : ℕ → Bool) (xs ys : List ℕ) → count_by p xs < length xs → count_by p (xs ++ ys) < length (xs ++ ys)
-count_more p xs ys less = grind (arith, count-append, count_by-le-length, length-append)
-
-count_last : (p : ℕ → Bool) (xs : List ℕ) (x : ℕ) → p x ≡ false → count_by p (xs ++ x ∷ []) < length (xs ++ x ∷ [])
-count_last p xs x fails = grind (arith, count-append, count_by-le-length, length-append)
-
-ranked : (es : List Entry) (h n : ℕ) → h < n → is_shown es h ≡ true →
-    count_by (λ other. nat_lt other h) (shown_harts es n) < length (shown_harts es n)
-ranked es h zero below is = absurd (omega (below, arith))
-ranked es h (suc n) below is = grind (arith, cases_eq, count_last, le-ltb, count_more, ranked es h n)
-
-column_there : (listed : Bool) (shown : List ℕ) (text lanes most h : ℕ) → length shown ≤ 255 → count_by (λ other. nat_lt other h) shown < length shown →
-    rank (record { listed = listed; shown = shown; text = text; lanes = lanes }) (column_of (record { listed = listed; lanes = most }) h)
-    < columns (record { listed = listed; shown = shown; text = text; lanes = lanes })
-column_there listed shown text lanes most h few less = grind arith
-
-is_shown_hart : (es : List Entry) (k : ℕ) (d : Entry) → k < length es → is_shown es (hart_of (get_or es k d)) ≡ true
-is_shown_hart es k d below = grind (arith, get_or, list_any_at, eq-eqb)
+column_there : (listed : Bool) (harts text lanes most h : ℕ) → harts ≤ 255 → h < harts →
+    rank (record { listed = listed; harts = harts; text = text; lanes = lanes }) (column_of (record { listed = listed; lanes = most }) h)
+    < columns (record { listed = listed; harts = harts; text = text; lanes = lanes })
+column_there listed harts text lanes most h few below = grind arith
 
 pub columns_there : (es : List Entry) (harts : ℕ) (listed : Bool) (text lanes most : ℕ) → harts ≤ 255 → All (λ e. hart_of e < harts) es →
-    All (HasColumn (record { listed = listed; shown = shown_harts es harts; text = text; lanes = lanes }) (record { listed = listed; lanes = most })) es
-columns_there es harts listed text lanes most few below k d within =
-    column_there listed (shown_harts es harts) text lanes most (hart_of (slice_index_or es k d))
-    (omega (shown_few es harts, few, arith))
-    (ranked es (hart_of (slice_index_or es k d)) harts (below k d within) (is_shown_hart es k d within))
+    All (HasColumn (record { listed = listed; harts = harts; text = text; lanes = lanes }) (record { listed = listed; lanes = most })) es
+columns_there es harts listed text lanes most few =
+    All-weaker (λ e. hart_of e < harts)
+    (HasColumn (record { listed = listed; harts = harts; text = text; lanes = lanes }) (record { listed = listed; lanes = most }))
+    (λ e below. column_there listed harts text lanes most (hart_of e) few below) es

@@ -1,13 +1,9 @@
--- One more hart, one more row and one more line.
-use Rattle.std.proofs.Common.{◌≡◌, ℕ, suc, ◌+◌, ◌<◌, if◌then◌else◌, List, [], ◌∷◌, ◌++◌, length, take, get_or, max, refl, arith}
+-- One more row and one more line.
+use Rattle.std.proofs.Common.{◌≡◌, ℕ, suc, ◌+◌, ◌<◌, List, [], ◌∷◌, ◌++◌, length, take, get_or, max, refl, arith}
 use Rattle.std.proofs.lemmas.List.{take_more}
-use Rattle.step_machine.specs.declared.events.Entry.{Entry}
 use Rattle.chart.specs.declared.scenes.Form.{Form}
 use Rattle.chart.specs.Lanes.{LanedOf}
-use Rattle.chart.specs.Scenes.{SceneOf, is_shown, shown_harts, said_at, kept_at, widest_said, widest_kept, lanes_at, used_after}
-
-pub harts_more : (es : List Entry) (n : ℕ) → shown_harts es (n + 1) ≡ shown_harts es n ++ (if is_shown es n then n ∷ [] else [])
-harts_more es n = let more : n + 1 ≡ suc n = omega arith in rw more refl
+use Rattle.chart.specs.Scenes.{SceneOf, said_at, kept_at, widest_said, widest_kept, lanes_at, used_after}
 
 pub said_more : (form : Form) (scene : SceneOf) (n : ℕ) →
     widest_said form scene (n + 1) ≡ max (widest_said form scene n) (length (said_at form scene n))
@@ -21,6 +17,6 @@ used_after-last : (used : ℕ) (ls : List LanedOf) (l : LanedOf) → used_after 
 used_after-last used [] l = refl
 used_after-last used (x ∷ ls) l = used_after-last (max used (lanes_at x)) ls l
 
-pub used_next : (i : ℕ) (ls : List LanedOf) (d : LanedOf) → i < length ls →
-    used_after 0 (take (i + 1) ls) ≡ max (used_after 0 (take i ls)) (lanes_at (get_or ls i d))
-used_next i ls d within = rw (take_more ls i d within) (used_after-last 0 (take i ls) (get_or ls i d))
+pub used_next : (least i : ℕ) (ls : List LanedOf) (d : LanedOf) → i < length ls →
+    used_after least (take (i + 1) ls) ≡ max (used_after least (take i ls)) (lanes_at (get_or ls i d))
+used_next least i ls d within = rw (take_more ls i d within) (used_after-last least (take i ls) (get_or ls i d))

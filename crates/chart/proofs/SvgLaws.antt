@@ -34,10 +34,10 @@ widest-last : (cells : ℕ) (ts : List (List ℕ)) (t : List ℕ) → widest cel
 widest-last cells [] t = refl
 widest-last cells (x ∷ ts) t = widest-last (max cells (length x)) ts t
 
-pub widest_grown : {A : Type 0} (g : A → List ℕ) (cells i : ℕ) (xs : List A) (x : A) (before n after : ℕ) →
+pub widest-grown : {A : Type 0} (g : A → List ℕ) (cells i : ℕ) (xs : List A) (x : A) (before n after : ℕ) →
     before ≡ widest cells (map g (take i xs)) → n ≡ length (g x) → x ≡ get_or xs i x → i < length xs →
     after ≡ max before n → after ≡ widest cells (map g (take (i + 1) xs))
-widest_grown g cells i xs x before n after was of at within is =
+widest-grown g cells i xs x before n after was of at within is =
     let last : length (g x) ≡ length (g (get_or xs i x)) = ap (λ y. length (g y)) at in
     rw (is, was, of, last, take_more xs i x within, map-append g (take i xs) (get_or xs i x ∷ []))
     (sym (widest-last cells (map g (take i xs)) (g (get_or xs i x))))

@@ -1,10 +1,11 @@
 -- A run's picture: the first form that is narrow enough, and the last one where none is.
-use Rattle.std.specs.Prelude.{ℕ, zero, suc, ◌+◌, ◌*◌, min, nat_le, if◌then◌else◌, true, false, List, [], ◌∷◌}
+use Rattle.std.specs.Prelude.{ℕ, zero, suc, ◌≡◌, ◌+◌, ◌*◌, min, max, nat_le, if◌then◌else◌, true, false, List, [], ◌∷◌}
 use Rattle.std.specs.Prelude.{◌++◌, length, map, codes, Option, None, Some}
 use Rattle.std.specs.List.{slice_get}
 use Rattle.std.specs.Fmt.{decimal}
 use Rattle.step_machine.specs.declared.events.Entry.{Entry}
 use Rattle.chart.specs.declared.sources.RowWrite.{RowWrite}
+use Rattle.chart.specs.declared.least_widths.LeastWidths.{LeastWidths}
 use Rattle.chart.specs.declared.scenes.Form.{Form}
 use Rattle.chart.specs.declared.scenes.Selection.{Selection}
 use Rattle.chart.specs.Names.{part_text}
@@ -12,7 +13,8 @@ use Rattle.chart.specs.Sources.{pending_by_row}
 use Rattle.chart.specs.Lanes.{held_at_end}
 use Rattle.chart.specs.Pictures.{LineOf, PictureOf, picture_text}
 use Rattle.chart.specs.Places.{memory_cell}
-use Rattle.chart.specs.Scenes.{SceneOf, scene_of, kept_cells, lanes_in, shape_of, places_of}
+use Rattle.chart.specs.Scenes.{SceneOf, scene_of, least_said, said_cells, kept_cells, least_lanes, used_after}
+use Rattle.chart.specs.Scenes.{lanes_in, shape_of, places_of}
 use Rattle.chart.specs.Lines.{row_lines, open_lines, heads_line}
 
 -- a left side of the condition, with its last value
@@ -20,11 +22,12 @@ pub record LastValueOf : Type 0 where
   pub left : List ℕ
   pub value : ℕ
 
--- what is known of a run beside its entries: the test's name, how many harts it has, the locations' names,
--- the instruction of each entry, the last values, the verdict and the condition
+-- what is known of a run beside its entries: the test's name, how many harts it has, how wide their columns are
+-- at least, the locations' names, the instruction of each entry, the last values, the verdict and the condition
 pub record AboutOf : Type 0 where
   pub name : List ℕ
   pub harts : ℕ
+  pub least : LeastWidths
   pub names : List (List ℕ)
   pub instructions : List (List ℕ)
   pub values : List LastValueOf
@@ -102,7 +105,7 @@ width_of form scene = memory_cell (places_of form scene) + kept_cells form scene
 
 -- the most cells of a line for this number of harts
 abbrev pub limit : ℕ → ℕ
-limit harts = if nat_le harts 2 then 100 else min (20 + 40 * harts) 200
+limit harts = if nat_le harts 2 then 110 else min (20 + 40 * harts) 200
 
 -- the form, or another one where it is too wide
 abbrev pub form_or : SceneOf → (most : ℕ) → (form other : Form) → Form
@@ -131,10 +134,20 @@ picture_in form scene head foot = record {
 abbrev pub picture_of : (harts : ℕ) → SceneOf → (head foot : List (List ℕ)) → PictureOf
 picture_of harts scene head foot = picture_in (form_of scene (limit harts)) scene head foot
 
+abbrev pub scene_of_run : Selection → AboutOf → List Entry → SceneOf
+scene_of_run selection about es = scene_of selection about.names about.instructions es about.harts about.least
+
 -- the picture of a run with these entries, of which these rows are drawn
 abbrev pub layout : Selection → AboutOf → List Entry → PictureOf
-layout selection about es =
-    picture_of about.harts (scene_of selection about.names about.instructions es about.harts) (head_of about) (foot_of about es)
+layout selection about es = picture_of about.harts (scene_of_run selection about es) (head_of about) (foot_of about es)
 
 abbrev pub chart_text : Selection → AboutOf → List Entry → List ℕ
 chart_text selection about es = picture_text (layout selection about es)
+
+-- ---- the law
+
+-- no row's text, none of memory's and no lane is outside what columns have whatever the run
+pub record FitsColumns (scene : SceneOf) (form : Form) : Type 0 where
+  pub said : said_cells form scene ≡ least_said form scene
+  pub kept : kept_cells form scene ≡ max 6 scene.least.kept
+  pub lanes : used_after (least_lanes form scene.least) (lanes_in form scene) ≡ least_lanes form scene.least

@@ -1,13 +1,14 @@
 -- What a picture is drawn of: a run's rows, and what they say in a form of it.
-use Rattle.std.specs.Prelude.{ℕ, zero, suc, ◌+◌, ◌==◌, nat_lt, min, max, if◌then◌else◌, Bool, true, false}
+use Rattle.std.specs.Prelude.{ℕ, zero, suc, ◌+◌, ◌-◌, ◌==◌, nat_lt, min, max, if◌then◌else◌, Bool, true, false}
 use Rattle.std.specs.Prelude.{List, [], ◌∷◌, ◌++◌, length, codes, Option, None, Some, unwrap_or}
-use Rattle.std.specs.List.{slice_get, list_any}
+use Rattle.std.specs.List.{slice_get}
 use Rattle.std.specs.Fmt.{decimal}
 use Rattle.step_machine.specs.declared.events.Entry.{Entry}
 use Rattle.step_machine.specs.declared.events.Entry.TheVariants as entry
-use Rattle.step_machine.specs.Entries.{hart_of}
 use Rattle.chart.specs.declared.lanes.Held.{Held}
 use Rattle.chart.specs.declared.lanes.Shape.{Shape}
+use Rattle.chart.specs.declared.places.Places.{Places}
+use Rattle.chart.specs.declared.least_widths.LeastWidths.{LeastWidths}
 use Rattle.chart.specs.declared.scenes.Form.{Form}
 use Rattle.chart.specs.declared.scenes.Selection.{Selection}
 use Rattle.chart.specs.declared.scenes.Selection.TheVariants.{EveryRow, MemoryRows}
@@ -15,7 +16,6 @@ use Rattle.chart.specs.declared.scenes.TheConstants.{LONGEST_TEXT}
 use Rattle.chart.specs.Rows.{RowOf, rows_of}
 use Rattle.chart.specs.RowTexts.{RowTextOf, row_text}
 use Rattle.chart.specs.Lanes.{LanedOf, lanes_of}
-use Rattle.chart.specs.Places.{PlacesOf}
 
 -- an instruction that neither touches memory nor waits for it, ends its hart or reports
 abbrev pub is_inner : Entry → Bool
@@ -27,36 +27,26 @@ abbrev pub is_left_out : Selection → Entry → Bool
 is_left_out EveryRow e = false
 is_left_out MemoryRows e = is_inner e
 
--- which rows are drawn, the locations' names, the instruction of each entry, the entries with their rows, and the
--- harts that the picture shows
+-- which rows are drawn, the locations' names, the instruction of each entry, the entries with their rows, how many
+-- harts there are, and how wide their columns are at least
 pub record SceneOf : Type 0 where
   pub selection : Selection
   pub names : List (List ℕ)
   pub instructions : List (List ℕ)
   pub entries : List Entry
   pub rows : List RowOf
-  pub shown : List ℕ
+  pub harts : ℕ
+  pub least : LeastWidths
 
-abbrev pub has_entry : List Entry → ℕ → Bool
-has_entry es h = list_any (λ e. hart_of e == h) es
-
--- whether hart h is shown: it has an entry, or no hart has one
-abbrev pub is_shown : List Entry → ℕ → Bool
-is_shown es h = if length es == 0 then true else has_entry es h
-
--- the shown ones of the first n harts
-abbrev pub shown_harts : List Entry → ℕ → List ℕ
-shown_harts es zero = []
-shown_harts es (suc n) = shown_harts es n ++ (if is_shown es n then n ∷ [] else [])
-
-abbrev pub scene_of : Selection → (names instructions : List (List ℕ)) → List Entry → (harts : ℕ) → SceneOf
-scene_of selection names instructions es harts = record {
+abbrev pub scene_of : Selection → (names instructions : List (List ℕ)) → List Entry → (harts : ℕ) → LeastWidths → SceneOf
+scene_of selection names instructions es harts least = record {
   selection = selection;
   names = names;
   instructions = instructions;
   entries = es;
   rows = rows_of es;
-  shown = shown_harts es harts;
+  harts = harts;
+  least = least;
 }
 
 -- ---- what rows say
@@ -110,13 +100,24 @@ kept_at form scene i = kept_in form scene (slice_get scene.rows i)
 
 -- ---- how much room it takes
 
--- the most cells that one of the first n rows takes
+-- the cells of the last hart's name and of the gap after it, where a row begins with its hart's name
+abbrev pub caller_cells : Form → (harts : ℕ) → ℕ
+caller_cells form harts = if form.listed then length (hart_name (harts - 1)) + 2 else 0
+
+-- the cells of a column's text, whatever the run: after its hart's name, and with it
+abbrev pub least_own : Form → LeastWidths → ℕ
+least_own form least = if form.instructions then least.said else least.brief
+
+abbrev pub least_said : Form → SceneOf → ℕ
+least_said form scene = min 255 (caller_cells form scene.harts + least_own form scene.least)
+
+-- the most cells that one of the first n rows takes, and no less than a column has
 abbrev pub widest_said : Form → SceneOf → ℕ → ℕ
-widest_said form scene zero = 0
+widest_said form scene zero = least_said form scene
 widest_said form scene (suc n) = max (widest_said form scene n) (length (said_at form scene n))
 
 abbrev pub widest_kept : Form → SceneOf → ℕ → ℕ
-widest_kept form scene zero = 6
+widest_kept form scene zero = max 6 scene.least.kept
 widest_kept form scene (suc n) = max (widest_kept form scene n) (length (kept_at form scene n))
 
 abbrev pub said_cells : Form → SceneOf → ℕ
@@ -124,6 +125,10 @@ said_cells form scene = widest_said form scene (length scene.rows)
 
 abbrev pub kept_cells : Form → SceneOf → ℕ
 kept_cells form scene = widest_kept form scene (length scene.rows)
+
+-- the lanes of a column, whatever the run
+abbrev pub least_lanes : Form → LeastWidths → ℕ
+least_lanes form least = min form.lanes (if form.listed then least.listed_lanes else least.lanes)
 
 -- the lanes that lines use
 abbrev pub lanes_to : Option Held → ℕ
@@ -143,10 +148,10 @@ shape_of form = record { listed = form.listed; lanes = form.lanes }
 abbrev pub lanes_in : Form → SceneOf → List LanedOf
 lanes_in form scene = lanes_of (shape_of form) scene.rows
 
-abbrev pub places_of : Form → SceneOf → PlacesOf
+abbrev pub places_of : Form → SceneOf → Places
 places_of form scene = record {
   listed = form.listed;
-  shown = scene.shown;
+  harts = scene.harts;
   text = said_cells form scene;
-  lanes = used_after 0 (lanes_in form scene);
+  lanes = used_after (least_lanes form scene.least) (lanes_in form scene);
 }

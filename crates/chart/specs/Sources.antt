@@ -7,7 +7,7 @@ use Rattle.std.specs.List.{slice_get}
 use Rattle.memory.specs.declared.writes.Write.{Write}
 use Rattle.memory.specs.Writes.{covers}
 use Rattle.step_machine.specs.declared.events.Entry.{Entry}
-use Rattle.step_machine.specs.History.{Start}
+use Rattle.step_machine.specs.History.{OpeningValue}
 use Rattle.step_machine.specs.Entries.{hart_of, is_land, store_of, lands, write_of, opening_byte}
 use Rattle.chart.specs.declared.sources.RowWrite.{RowWrite}
 use Rattle.chart.specs.declared.sources.Source.{Source}
@@ -81,7 +81,7 @@ byte_in a [] = 0
 byte_in a (w ∷ ws) = byte_at (a - w.addr) w.value
 
 -- the byte at address a that a source gives hart h
-abbrev pub byte_from : Start → List Entry → (h a : ℕ) → Source → ℕ
+abbrev pub byte_from : OpeningValue → List Entry → (h a : ℕ) → Source → ℕ
 byte_from o es h a (Own row) = byte_in a (stored_at h es row)
 byte_from o es h a (Memory row) = byte_in a (written_at es row)
 byte_from o es h a Opening = opening_byte o a

@@ -8,6 +8,7 @@ ghost use Rattle.chart.specs.Svg.{chart_svg as svg_of_chart};
 ghost use Rattle.chart.specs.Layout.{pending_line as line_of_pending, pending_text, pending_of_hart, pending_of_run, value_text, value_line as line_of_value, verdict_text, verdict_line as line_of_verdict, head_of, foot_of, layout as layout_of_run, chart_text as text_of_chart};
 
 use crate::layout::picture_of;
+pub use crate::least_widths::LeastWidths;
 use crate::naming::push_part;
 use crate::pictures::Picture;
 pub use crate::scenes::Selection;
@@ -35,13 +36,15 @@ impl Model for LastValue {
     ghost view = { λ v. record { left = string_bytes v.left; value = v.value } };
 }
 
-/// What is known of a run beside its entries: the test's name, how many harts it has, the locations' names
-/// in the order of their words, the instruction of each entry (none where the list has ended), the last
-/// values of the condition's left sides, the verdict and the condition's text.
+/// What is known of a run beside its entries: the test's name, how many harts it has, how wide their
+/// columns are at least, the locations' names in the order of their words, the instruction of each entry
+/// (none where the list has ended), the last values of the condition's left sides, the verdict and the
+/// condition's text.
 #[derive(Drop)]
 pub struct About {
     pub name: String,
     pub harts: u32,
+    pub least: LeastWidths,
     pub names: Vec<String>,
     pub instructions: Vec<String>,
     pub values: Vec<LastValue>,
@@ -56,7 +59,7 @@ impl Model for About {
 
     ghost Value = { AboutOf };
 
-    ghost view = { λ a. record { name = string_bytes a.name; harts = a.harts; names = map string_bytes a.names.items; instructions = map string_bytes a.instructions.items; values = a.values.items; verdict = string_bytes a.verdict; condition = string_bytes a.condition } };
+    ghost view = { λ a. record { name = string_bytes a.name; harts = a.harts; least = a.least; names = map string_bytes a.names.items; instructions = map string_bytes a.instructions.items; values = a.values.items; verdict = string_bytes a.verdict; condition = string_bytes a.condition } };
 }
 
 fn pending_line(
@@ -202,6 +205,7 @@ pub fn layout(
     let foot = foot(alloc, &about, entries)?;
     let own = Vec::from_slice(alloc, entries)?;
     let harts = about.harts;
+    let least = about.least;
     let scene = scene_of_run(
         alloc,
         selection,
@@ -209,6 +213,7 @@ pub fn layout(
         about.instructions,
         own,
         harts,
+        least,
     )?;
     picture_of(alloc, harts, &scene, head, foot)
 }

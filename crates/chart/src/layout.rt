@@ -5,7 +5,7 @@ ghost use Rattle.std.specs.List.{slice_get};
 ghost use Rattle.std.specs.String.{string_bytes};
 ghost use Rattle.chart.specs.declared.scenes.TheConstants.{LONGEST_TEXT};
 ghost use Rattle.chart.specs.declared.pictures.Weight.TheVariants.{Bold};
-ghost use Rattle.chart.specs.Lines.{text_at, number_mark as mark_of_number, row_line as line_of_row, empty_line, line_with, laned_line, line_at, is_without_line, drawn_at, row_lines as lines_of_rows, open_stroke, open_lines, head_mark, hart_marks, heads_line as line_of_heads};
+ghost use Rattle.chart.specs.Lines.{text_at, number_mark as mark_of_number, row_line as line_of_row, empty_line, line_with, laned_line, line_at, is_without_line, drawn_at, row_lines as lines_of_rows, open_stroke, open_lines, head_mark, head_marks as marks_of_heads, hart_marks, heads_line as line_of_heads};
 ghost use Rattle.chart.specs.Layout.{width_of as width_in, limit as limit_of, form_of as form_for, picture_in as picture_in_form, picture_of as picture_of_scene};
 
 use crate::lanes::{Held, Laned, held_at_end, lanes_of};
@@ -49,8 +49,8 @@ fn row_line(
     ensures { IfOk result (λ line. line ≡ line_of_row places.now i column (string_bytes said) (string_bytes kept) row.now laned.now) }
 {
     let begins = places.begins(column);
-    let behind = begins + said.len() as u32;
-    let strokes = row_strokes(alloc, places, column, behind, row, laned)?;
+    let following = begins + said.len() as u32;
+    let strokes = row_strokes(alloc, places, column, following, row, laned)?;
     let mut marks = Vec::new(alloc);
     marks.push(number_mark(alloc, i)?)?;
     marks.push(text_at(begins as usize, Weight::Loud, said))?;
@@ -199,12 +199,13 @@ fn head_mark(alloc: Global, places: &Places, hart: u32) -> Result<Mark, AllocErr
     Ok(text_at(places.begins(hart) as usize, Weight::Bold, name))
 }
 
-fn head_marks(alloc: Global, places: &Places, harts: &[u32]) -> Result<Vec<Mark>, AllocError>
-    ensures { IfOk result (λ marks. marks.items ≡ map (head_mark places.now) harts.now) }
+#[tactic(auto, using(crate::proofs::LineLaws::heads_more))]
+fn head_marks(alloc: Global, places: &Places) -> Result<Vec<Mark>, AllocError>
+    ensures { IfOk result (λ marks. marks.items ≡ marks_of_heads places.now places.now.harts) }
 {
     let mut marks = Vec::new(alloc);
-    for hart in harts {
-        marks.push(head_mark(alloc, places, *hart)?)?;
+    for hart in 0..places.harts {
+        marks.push(head_mark(alloc, places, hart)?)?;
     }
     Ok(marks)
 }
@@ -219,7 +220,7 @@ fn hart_marks(alloc: Global, places: &Places) -> Result<Vec<Mark>, AllocError>
     ensures { IfOk result (λ marks. marks.items ≡ hart_marks places.now) }
 {
     if !places.listed {
-        return head_marks(alloc, places, &places.shown);
+        return head_marks(alloc, places);
     }
     let mut marks = Vec::new(alloc);
     marks.push(one_head(alloc, 7, "harts")?)?;
@@ -249,7 +250,7 @@ fn limit(harts: u32) -> u64
     ensures { result ≡ limit_of harts }
 {
     if harts <= 2 {
-        100
+        110
     } else {
         (20 + 40 * u64::from(harts)).min(200)
     }

@@ -12,7 +12,7 @@
 //! (`specs/Layout.antt`, over `specs/Places.antt`, `specs/Scenes.antt` and `specs/Lines.antt`). [`pictures`]
 //! is a picture as a value, and [`text::text`] writes it (`specs/Pictures.antt`). [`charts::chart_svg`] writes
 //! the same picture in SVG (`specs/Svg.antt`). [`laws_of_texts`] states that no text of a row stands on another
-//! text or on a line.
+//! text or on a line, and [`laws_of_columns`] that columns stand still while a run grows.
 //! This crate runs no machine: it reads entries alone.
 
 #![tactic(auto)]
@@ -21,6 +21,7 @@ pub mod charts;
 pub mod lanes;
 pub mod laws;
 mod layout;
+mod least_widths;
 pub mod naming;
 pub mod pictures;
 mod places;
@@ -34,6 +35,6 @@ mod svg;
 pub mod tags;
 pub mod text;
 
-pub use laws::{laws_of_lanes, laws_of_sources, laws_of_texts};
+pub use laws::{laws_of_columns, laws_of_lanes, laws_of_sources, laws_of_texts};
 pub use rows::{Row, rows_of};
 pub use sources::{RowWrite, Source};

@@ -1,42 +1,25 @@
 //! Where the columns, lanes and texts of a picture stand.
 
-ghost use Rattle.std.specs.Prelude.{◌≡◌, ◌<◌, ◌≤◌, ◌^◌, ◌*◌, min, nat_lt};
-ghost use Rattle.std.specs.List.{count_by};
+ghost use Rattle.std.specs.Prelude.{◌≡◌, ◌<◌, ◌≤◌, ◌^◌, ◌*◌, min};
 ghost use Rattle.chart.specs.Places.{rank, columns, pitch, begins, lane_cell, memory_cell};
 
 use crate::lanes::Held;
-use std::marker::Model;
 
-/// Whether all harts share one column, the harts that have one otherwise, the cells of a column's text,
-/// and how many lanes it has.
-#[derive(Drop)]
+/// Whether all harts share one column, how many harts there are, the cells of a column's text, and how many
+/// lanes it has.
+#[derive(Clone, Copy, PartialEq, Eq)]
 pub struct Places {
     pub listed: bool,
-    pub shown: Vec<u32>,
+    pub harts: u32,
     pub text: u8,
     pub lanes: u8,
 }
 
-impl Model for Places {
-    ghost use Rattle.chart.specs.Places.{PlacesOf};
-
-    ghost Value = { PlacesOf };
-
-    ghost view = { λ p. record { listed = p.listed; shown = p.shown.items; text = p.text; lanes = p.lanes } };
-}
-
 /// A number of columns, at most 255.
-fn capped(count: usize) -> u8
+fn capped(count: u32) -> u8
     ensures { result ≡ min count 255 }
 {
     count.min(255) as u8
-}
-
-/// How many of these harts have a lower number.
-fn below(shown: &[u32], column: u32) -> usize
-    ensures { result ≡ count_by (λ other. nat_lt other column) shown.now }
-{
-    shown.iter().filter(|other| **other < column).count()
 }
 
 /// A column's first cell, where `rank` columns stand to its left.
@@ -52,21 +35,13 @@ impl Places {
     fn rank(&self, column: u32) -> u8
         ensures { result ≡ rank self.now column }
     {
-        if self.listed {
-            0
-        } else {
-            capped(below(&self.shown, column))
-        }
+        if self.listed { 0 } else { capped(column) }
     }
 
     fn columns(&self) -> u8
         ensures { result ≡ columns self.now }
     {
-        if self.listed {
-            1
-        } else {
-            capped(self.shown.len())
-        }
+        if self.listed { 1 } else { capped(self.harts) }
     }
 
     /// From one column's first cell to the next one's.

@@ -1,11 +1,12 @@
 //! What a picture is drawn of: a run's rows, and what they say in a form of it.
 
-ghost use Rattle.std.specs.Prelude.{◌≡◌, ◌≤◌, ◌==◌, ◌++◌, ◌∷◌, [], if◌then◌else◌, length, codes, map, IfOk, OnOk};
+ghost use Rattle.std.specs.Prelude.{◌≡◌, ◌≤◌, ◌<◌, ◌+◌, ◌^◌, ◌++◌, length, codes, map, IfOk, OnOk};
 ghost use Rattle.std.specs.String.{string_bytes};
 ghost use Rattle.chart.specs.declared.scenes.TheConstants.{LONGEST_TEXT};
-ghost use Rattle.chart.specs.Scenes.{has_entry, is_left_out, is_shown as has_column, shown_harts as harts_with_columns, scene_of, beside, caller, shown_instruction, shortened as short_text, said as said_by, of_row, instruction_at as instruction_of, said_at as said_of_row, kept_at as kept_of_row, said_cells, kept_cells, lanes_in, lanes_to, lanes_at as lanes_of_line, used_after, shape_of, places_of as places_in};
+ghost use Rattle.chart.specs.Scenes.{is_left_out, scene_of, beside, caller, shown_instruction, shortened as short_text, said as said_by, of_row, instruction_at as instruction_of, said_at as said_of_row, kept_at as kept_of_row, caller_cells as cells_of_caller, least_own, least_said as least_of_rows, said_cells, kept_cells, least_lanes, lanes_in, lanes_to, lanes_at as lanes_of_line, used_after, shape_of, places_of as places_in};
 
 use crate::lanes::{Held, Laned, Shape};
+use crate::least_widths::LeastWidths;
 use crate::places::Places;
 use crate::row_texts::{RowText, row_text};
 use crate::rows::{Row, rows_of};
@@ -35,7 +36,7 @@ pub enum Selection {
 }
 
 /// A run's rows: which of them are drawn, the locations' names, the instruction of each entry, the entries with
-/// their rows, and the harts that the picture shows.
+/// their rows, how many harts there are, and how wide their columns are at least.
 #[derive(Drop)]
 pub struct Scene {
     pub selection: Selection,
@@ -43,7 +44,8 @@ pub struct Scene {
     pub instructions: Vec<String>,
     pub entries: Vec<Entry>,
     pub rows: Vec<Row>,
-    pub shown: Vec<u32>,
+    pub harts: u32,
+    pub least: LeastWidths,
 }
 
 impl Model for Scene {
@@ -53,44 +55,7 @@ impl Model for Scene {
 
     ghost Value = { SceneOf };
 
-    ghost view = { λ s. record { selection = s.selection; names = map string_bytes s.names.items; instructions = map string_bytes s.instructions.items; entries = s.entries.items; rows = s.rows.items; shown = s.shown.items } };
-}
-
-fn has_entry(entries: &[Entry], hart: u32) -> bool
-    ensures { result ≡ has_entry entries.now hart }
-{
-    entries.iter().any(|entry| entry.hart() == hart)
-}
-
-fn is_shown(entries: &[Entry], hart: u32) -> bool
-    ensures { result ≡ has_column entries.now hart }
-{
-    if entries.is_empty() {
-        true
-    } else {
-        has_entry(entries, hart)
-    }
-}
-
-fn push_if_shown(shown: &mut Vec<u32>, entries: &[Entry], hart: u32) -> Result<(), AllocError>
-    ensures { OnOk result (shown.new.items ≡ shown.old.items ++ (if has_column entries.now hart then hart ∷ [] else [])) }
-{
-    if is_shown(entries, hart) {
-        shown.push(hart)?;
-    }
-    Ok(())
-}
-
-/// The harts with an entry, or all where no hart has one.
-#[tactic(auto, using(crate::proofs::SceneLaws::harts_more))]
-fn shown_harts(alloc: Global, entries: &[Entry], harts: u32) -> Result<Vec<u32>, AllocError>
-    ensures { IfOk result (λ shown. shown.items ≡ harts_with_columns entries.now harts) }
-{
-    let mut shown = Vec::new(alloc);
-    for hart in 0..harts {
-        push_if_shown(&mut shown, entries, hart)?;
-    }
-    Ok(shown)
+    ghost view = { λ s. record { selection = s.selection; names = map string_bytes s.names.items; instructions = map string_bytes s.instructions.items; entries = s.entries.items; rows = s.rows.items; harts = s.harts; least = s.least } };
 }
 
 /// The rows of a run of `harts` harts.
@@ -101,18 +66,19 @@ pub(crate) fn scene_of_run(
     instructions: Vec<String>,
     entries: Vec<Entry>,
     harts: u32,
+    least: LeastWidths,
 ) -> Result<Scene, AllocError>
-    ensures { IfOk result (λ scene. scene ≡ scene_of selection (map string_bytes names.items) (map string_bytes instructions.items) entries.items harts) }
+    ensures { IfOk result (λ scene. scene ≡ scene_of selection (map string_bytes names.items) (map string_bytes instructions.items) entries.items harts least) }
 {
     let rows = rows_of(alloc, &entries)?;
-    let shown = shown_harts(alloc, &entries, harts)?;
     Ok(Scene {
         selection,
         names,
         instructions,
         entries,
         rows,
-        shown,
+        harts,
+        least,
     })
 }
 
@@ -251,11 +217,40 @@ pub(crate) fn kept_at(
     }
 }
 
+/// The cells of the last hart's name and of the gap after it, where rows begin with names.
+fn caller_cells(alloc: Global, form: Form, harts: u32) -> Result<usize, AllocError>
+    ensures value { IfOk result (λ cells. cells ≡ cells_of_caller form harts) }
+    ensures most { IfOk result (λ cells. cells < 2 ^ 63 + 2) }
+{
+    let name = caller_of(alloc, form, harts.saturating_sub(1))?;
+    Ok(if form.listed { name.len() + 2 } else { 0 })
+}
+
+/// The cells of a column's text after its hart's name, whatever the run.
+fn least_own(form: Form, least: LeastWidths) -> u8
+    ensures { result ≡ least_own form least }
+{
+    if form.instructions {
+        least.said
+    } else {
+        least.brief
+    }
+}
+
+/// The cells of a column's text, whatever the run.
+fn least_said(alloc: Global, form: Form, scene: &Scene) -> Result<u8, AllocError>
+    ensures { IfOk result (λ cells. cells ≡ least_of_rows form scene.now) }
+{
+    let caller = caller_cells(alloc, form, scene.harts)?;
+    let own = least_own(form, scene.least);
+    Ok((caller + usize::from(own)).min(255) as u8)
+}
+
 #[tactic(auto, using(crate::proofs::SceneLaws::said_more))]
 fn widest_said(alloc: Global, form: Form, scene: &Scene) -> Result<u8, AllocError>
     ensures { IfOk result (λ cells. cells ≡ said_cells form scene.now) }
 {
-    let mut widest: u8 = 0;
+    let mut widest = least_said(alloc, form, scene)?;
     for i in 0..scene.rows.len() {
         let said = said_at(alloc, form, scene, i)?;
         widest = widest.max(said.len() as u8);
@@ -267,7 +262,7 @@ fn widest_said(alloc: Global, form: Form, scene: &Scene) -> Result<u8, AllocErro
 pub(crate) fn widest_kept(alloc: Global, form: Form, scene: &Scene) -> Result<u8, AllocError>
     ensures { IfOk result (λ cells. cells ≡ kept_cells form scene.now) }
 {
-    let mut widest: u8 = 6;
+    let mut widest = scene.least.kept.max(6);
     for i in 0..scene.rows.len() {
         let kept = kept_at(alloc, form, scene, i)?;
         widest = widest.max(kept.len() as u8);
@@ -290,11 +285,24 @@ fn lanes_at(laned: &Laned) -> u8
     lanes_to(laned.own)
 }
 
-#[tactic(auto, using(crate::proofs::SceneLaws::used_next))]
-fn used_lanes(lanes: &[Laned]) -> u8
-    ensures { result ≡ used_after 0 lanes.now }
+/// The lanes of a column, whatever the run.
+fn least_lanes(form: Form, least: LeastWidths) -> u8
+    ensures { result ≡ least_lanes form least }
 {
-    let mut used: u8 = 0;
+    let own = if form.listed {
+        least.listed_lanes
+    } else {
+        least.lanes
+    };
+    own.min(form.lanes)
+}
+
+/// The lanes that lines use, and no fewer than `least`.
+#[tactic(auto, using(crate::proofs::SceneLaws::used_next))]
+fn used_lanes(least: u8, lanes: &[Laned]) -> u8
+    ensures { result ≡ used_after least lanes.now }
+{
+    let mut used = least;
     for laned in lanes {
         used = used.max(lanes_at(laned));
     }
@@ -325,8 +333,8 @@ pub(crate) fn places_of(
     let text = widest_said(alloc, form, scene)?;
     Ok(Places {
         listed: form.listed,
-        shown: Vec::from_slice(alloc, &scene.shown)?,
+        harts: scene.harts,
         text,
-        lanes: used_lanes(lanes),
+        lanes: used_lanes(least_lanes(form, scene.least), lanes),
     })
 }

@@ -38,12 +38,12 @@ fn across(sign: Sign, from: usize, to: usize, column: u32) -> Stroke
 fn push_store(
     out: &mut Vec<Stroke>,
     column: u32,
-    behind: u32,
+    following: u32,
     lane: Option<u32>,
 ) -> Result<(), AllocError>
-    ensures { OnOk result (out.new.items ≡ out.old.items ++ store_strokes column behind lane) }
+    ensures { OnOk result (out.new.items ≡ out.old.items ++ store_strokes column following lane) }
 {
-    let from = behind as usize + 1;
+    let from = following as usize + 1;
     match lane {
         Some(lane) => {
             out.push(across(Sign::Flat, from, lane as usize, column))?;
@@ -74,12 +74,17 @@ fn push_landing(
     Ok(())
 }
 
-fn push_amo(out: &mut Vec<Stroke>, column: u32, behind: u32, memory: u32) -> Result<(), AllocError>
-    ensures { OnOk result (out.new.items ≡ out.old.items ++ amo_strokes column behind memory) }
+fn push_amo(
+    out: &mut Vec<Stroke>,
+    column: u32,
+    following: u32,
+    memory: u32,
+) -> Result<(), AllocError>
+    ensures { OnOk result (out.new.items ≡ out.old.items ++ amo_strokes column following memory) }
 {
     let to = memory.saturating_sub(2) as usize;
-    out.push(sign_at(Sign::From, behind as usize + 1, column))?;
-    out.push(across(Sign::Double, behind as usize + 2, to, column))?;
+    out.push(sign_at(Sign::From, following as usize + 1, column))?;
+    out.push(across(Sign::Double, following as usize + 2, to, column))?;
     out.push(sign_at(Sign::To, to, column))?;
     Ok(())
 }
@@ -88,17 +93,17 @@ fn push_amo(out: &mut Vec<Stroke>, column: u32, behind: u32, memory: u32) -> Res
 fn push_own(
     out: &mut Vec<Stroke>,
     column: u32,
-    behind: u32,
+    following: u32,
     memory: u32,
     lane: Option<u32>,
     entry: Entry,
 ) -> Result<(), AllocError>
-    ensures { OnOk result (out.new.items ≡ out.old.items ++ own_strokes column behind memory lane entry) }
+    ensures { OnOk result (out.new.items ≡ out.old.items ++ own_strokes column following memory lane entry) }
 {
     match entry {
-        Entry::Store { .. } => push_store(out, column, behind, lane),
+        Entry::Store { .. } => push_store(out, column, following, lane),
         Entry::Land { .. } => push_landing(out, column, memory, lane),
-        Entry::Amo { .. } => push_amo(out, column, behind, memory),
+        Entry::Amo { .. } => push_amo(out, column, following, memory),
         _ => Ok(()),
     }
 }
@@ -124,15 +129,15 @@ fn push_read(
     places: &Places,
     sources: &[Source],
     column: u32,
-    behind: u32,
+    following: u32,
     held: Held,
 ) -> Result<(), AllocError>
-    ensures { OnOk result (out.new.items ≡ out.old.items ++ read_strokes places.now sources.now column behind held) }
+    ensures { OnOk result (out.new.items ≡ out.old.items ++ read_strokes places.now sources.now column following held) }
 {
     if is_read(sources, held) {
         let lane = places.lane_cell(held) as usize;
-        out.push(sign_at(Sign::Reader, behind as usize + 1, column))?;
-        out.push(across(Sign::Reads, behind as usize + 2, lane, column))?;
+        out.push(sign_at(Sign::Reader, following as usize + 1, column))?;
+        out.push(across(Sign::Reads, following as usize + 2, lane, column))?;
     }
     Ok(())
 }
@@ -142,13 +147,13 @@ fn push_reads(
     places: &Places,
     sources: &[Source],
     column: u32,
-    behind: u32,
+    following: u32,
     passing: &[Held],
 ) -> Result<(), AllocError>
-    ensures { OnOk result (out.new.items ≡ out.old.items ++ flat_map (read_strokes places.now sources.now column behind) passing.now) }
+    ensures { OnOk result (out.new.items ≡ out.old.items ++ flat_map (read_strokes places.now sources.now column following) passing.now) }
 {
     for held in passing {
-        push_read(out, places, sources, column, behind, *held)?;
+        push_read(out, places, sources, column, following, *held)?;
     }
     Ok(())
 }
@@ -187,24 +192,24 @@ fn own_lane(places: &Places, own: Option<Held>) -> Option<u32>
     }
 }
 
-/// The strokes of a row whose text ends before the cell `behind`: those across, then those downwards, which
+/// The strokes of a row whose text ends before the cell `following`: those across, then those downwards, which
 /// are seen where they meet.
 pub(crate) fn row_strokes(
     alloc: Global,
     places: &Places,
     column: u32,
-    behind: u32,
+    following: u32,
     row: &Row,
     laned: &Laned,
 ) -> Result<Vec<Stroke>, AllocError>
-    ensures { IfOk result (λ strokes. strokes.items ≡ strokes_of_row places.now column behind row.now laned.now) }
+    ensures { IfOk result (λ strokes. strokes.items ≡ strokes_of_row places.now column following row.now laned.now) }
 {
     let mut out = Vec::new(alloc);
     let lane = own_lane(places, laned.own);
     push_own(
         &mut out,
         column,
-        behind,
+        following,
         places.memory_cell(),
         lane,
         row.entry,
@@ -214,7 +219,7 @@ pub(crate) fn row_strokes(
         places,
         &row.sources,
         column,
-        behind,
+        following,
         &laned.passing,
     )?;
     push_passing(&mut out, places, &row.sources, &laned.passing)?;

@@ -5,16 +5,16 @@ use Rattle.std.specs.Io.KnownBytes.{Appends}
 use Rattle.std.proofs.lemmas.List.{append-nil}
 use Rattle.litmus.specs.LitmusTests.{LitmusTest}
 use Rattle.litmus_reader.specs.Grammar.{IsTestOf}
-use Rattle.engine_parts.specs.declared.fault.Fault.{Fault}
-use Rattle.engine_parts.specs.declared.fault.Fault.TheVariants.{ReadFailed, WriteFailed, NoMemory, Refused}
-use Rattle.engine_parts.specs.declared.fault.Refusal.{Refusal}
-use Rattle.engine_parts.specs.Engines.{Accepted, OfInput}
-use Rattle.engine_parts.specs.Interactive.{EndsInteractive, OnStopped, OnUnwritten}
-use Rattle.engine_parts.specs.Tests.ByTest.{no_test, of_test}
-use Rattle.engine_parts.specs.inner.Failures.{IsFailure}
-use Rattle.engine_parts.specs.inner.Inputs.{IsReadAsTest}
-use Rattle.engine_parts.specs.inner.Making.{FindsBy}
-use Rattle.engine_parts.proofs.Endings.{weaker}
+use Rattle.engine_support.specs.declared.fault.Fault.{Fault}
+use Rattle.engine_support.specs.declared.fault.Fault.TheVariants.{ReadFailed, WriteFailed, NoMemory, Refused}
+use Rattle.engine_support.specs.declared.fault.Refusal.{Refusal}
+use Rattle.engine_support.specs.Engines.{Accepted, OfInput}
+use Rattle.engine_support.specs.Interactive.{EndsInteractive, OnStopped, OnUnwritten}
+use Rattle.engine_support.specs.Tests.ByTest.{no_test, of_test}
+use Rattle.engine_support.specs.inner.Failures.{IsFailure}
+use Rattle.engine_support.specs.inner.Inputs.{IsReadAsTest}
+use Rattle.engine_support.specs.inner.Making.{FindsByUpToReads}
+use Rattle.engine_support.proofs.Endings.{weaker}
 use Rattle.checking.specs.declared.tally.Tally.{Tally}
 use Rattle.checking.specs.RecordTexts.{is_left_out, texts_in, whole_lines}
 use Rattle.checking.specs.Judgements.{Judged, IsJudged}
@@ -24,7 +24,7 @@ use Rattle.checking.specs.Checking.{IsCheckAnswer, IsChecked, IsCheckFront, IsFr
 use Rattle.checking.specs.inner.Reporting.{AllReported, Closes, SomeReported}
 use Rattle.checking.specs.inner.Reporting.Closes.{reported}
 use Rattle.checking.specs.inner.Tallies.{IsTallyOf, Tallies}
-use Rattle.engine_parts.proofs.Written.{appends_more, appends_nothing}
+use Rattle.engine_support.proofs.Written.{appends_more, appends_nothing}
 
 -- ---- a text
 
@@ -36,10 +36,6 @@ closes_by B M test text old new before after answer line not_blank is tallies wr
     (subst (λ (out : List ℕ). Appends before after out) (written ∙ ap (λ (n : ℕ). report_line n answer) tallies.judged_are) appends)
 
 -- ---- all texts, and the table
-
-of_lines : (input : Option (List ℕ)) (P Q : List (List ℕ) → Type 0) → ((lines : List (List ℕ)) → P lines → Q lines) → OfLines input P → OfLines input Q
-of_lines None P Q more (lines, is) = (lines, more lines is)
-of_lines (Some bytes) P Q more is = more (whole_lines bytes) is
 
 module _ (B M : ℕ) (test : LitmusTest) (tally : Tally) (before mid : Option (List ℕ)) where
   all_front : (lines : List (List ℕ)) (all : AllReported B M test lines tally before mid) → IsFront B M lines test (reports_from 1 all.answers)
@@ -135,11 +131,11 @@ module _ (B M : ℕ) (input known : Option (List ℕ)) {W : Type 0} (contents : 
 
   -- no test was read
   module _ (result : Result Bool Fault) (fault : Fault) (is : result ≡ Err fault)
-      (found : FindsBy IsReadAsTest (λ (test : LitmusTest). test) known (Err fault)) where
+      (found : FindsByUpToReads IsReadAsTest (λ (test : LitmusTest). test) known (Err fault)) where
     pub ends_refused : (old : W) → EndsInteractive Answers result contents old old
     ends_refused old = rw is (at fault found)
       where
-        at : (f : Fault) → FindsBy IsReadAsTest (λ (test : LitmusTest). test) known (Err f) → EndsInteractive Answers (Err f) contents old old
+        at : (f : Fault) → FindsByUpToReads IsReadAsTest (λ (test : LitmusTest). test) known (Err f) → EndsInteractive Answers (Err f) contents old old
         at (Refused r) bad = (weaker known _ _ (λ bytes none. no_test r none) bad, refl)
         at ReadFailed bad = tt
         at NoMemory bad = tt
@@ -148,7 +144,7 @@ module _ (B M : ℕ) (input known : Option (List ℕ)) {W : Type 0} (contents : 
     pub unwritten_refused : (P : Type 0) → OnUnwritten result P
     unwritten_refused P = rw is (at fault found)
       where
-        at : (f : Fault) → FindsBy IsReadAsTest (λ (test : LitmusTest). test) known (Err f) → OnUnwritten {V = Bool} (Err f) P
+        at : (f : Fault) → FindsByUpToReads IsReadAsTest (λ (test : LitmusTest). test) known (Err f) → OnUnwritten {V = Bool} (Err f) P
         at (Refused r) bad = tt
         at ReadFailed bad = tt
         at NoMemory bad = tt

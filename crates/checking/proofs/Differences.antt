@@ -2,7 +2,7 @@
 use Rattle.std.proofs.Common.{◌≡◌, ◌≢◌, ℕ, ◌<◌, length, List, take, get_or, Result, Ok, Err, refl, sym, ◌∙◌}
 use Rattle.std.specs.Prelude.{IfOk, OnOk}
 use Rattle.std.proofs.lemmas.Option.{slice_get-get_or}
-use Rattle.step_machine.specs.History.{Start, History}
+use Rattle.step_machine.specs.History.{OpeningValue, History}
 use Rattle.step_machine.specs.Runs.{Happens}
 use Rattle.step_machine.specs.declared.events.Outcome.{Outcome}
 use Rattle.recorder.specs.Records.{Step}
@@ -14,7 +14,7 @@ use Rattle.checking.specs.Judgements.{IsSaidOf}
 use Rattle.checking.specs.Judgements.Judged.{differing}
 use Rattle.checking.specs.Judgements.IsSaidOf.{of_difference}
 
-pub differing_here : (B M : ℕ) (o : Start) (steps : List Step) (i : ℕ) (d : Step) (mid : History) (out : Outcome) (new : History) → i < length steps
+pub differing_here : (B M : ℕ) (o : OpeningValue) (steps : List Step) (i : ℕ) (d : Step) (mid : History) (out : Outcome) (new : History) → i < length steps
     → IsRunRecord B M o (take i steps) mid → Happens B M mid (get_or steps i d).0 out new → out ≢ (get_or steps i d).1
     → (f : DiffersAt B M o steps i) × (f.outcome ≡ out)
 differing_here B M o steps i d mid out new within is happens other = (

@@ -6,7 +6,7 @@ use Rattle.std.specs.Io.BufRead.{take_through, drop_through, DropsThrough}
 use Rattle.std.specs.Io.KnownBytes.{Appends}
 use Rattle.std.proofs.lemmas.List.{append-nil}
 use Rattle.litmus.specs.LitmusTests.{LitmusTest}
-use Rattle.engine_parts.proofs.Written.{appends_more, appends_nothing, no_byte}
+use Rattle.engine_support.proofs.Written.{appends_more, appends_nothing, no_byte}
 use Rattle.checking.specs.declared.tally.Tally.{Tally}
 use Rattle.checking.specs.RecordTexts.{whole_lines, begins_record, is_left_out, unless_blank, texts_in}
 use Rattle.checking.specs.Judgements.{Judged, IsJudged, AreJudged}

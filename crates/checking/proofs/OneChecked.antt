@@ -4,7 +4,7 @@ use Rattle.std.specs.Prelude.{◌==◌}
 use Rattle.std.specs.List.{flat_map, slice_get}
 use Rattle.texts.proofs.FormatLaws.{settled_one, settled_only}
 use Rattle.texts.proofs.ResultLaws.{some_is}
-use Rattle.step_machine.specs.History.{Start, History, unrun}
+use Rattle.step_machine.specs.History.{OpeningValue, History, at_opening}
 use Rattle.step_machine.specs.Runs.{Happens}
 use Rattle.step_machine.proofs.Running.{happens-one, run-one}
 use Rattle.litmus.specs.LitmusTests.{LitmusTest, left_sides}
@@ -15,12 +15,12 @@ use Rattle.recorder.specs.Records.{Step, events_in, IsRecordOf, record_at}
 use Rattle.recorder.specs.Replaying.{IsRunRecord, DiffersAt}
 use Rattle.recorder.proofs.HeadLaws.{record_settles}
 use Rattle.recorder.proofs.RunRecords.{no_other, record_runs}
-use Rattle.engine_parts.specs.declared.fault.Refusal.{Refusal}
-use Rattle.engine_parts.specs.Engines.{AreOneAnswer, judged}
-use Rattle.engine_parts.specs.Outcomes.{unfinished_line}
-use Rattle.engine_parts.proofs.OutcomeTables.{one_outcomes}
-use Rattle.engine_parts.proofs.OneInput.{alike_by_test, one_refusal, value_or_refusal}
-use Rattle.engine_parts.proofs.RunLaws.{one_place}
+use Rattle.engine_support.specs.declared.fault.Refusal.{Refusal}
+use Rattle.engine_support.specs.Engines.{AreOneAnswer, decoded}
+use Rattle.engine_support.specs.Outcomes.{unfinished_line}
+use Rattle.engine_support.proofs.OutcomeTables.{one_outcomes}
+use Rattle.engine_support.proofs.OneInput.{alike_by_test, one_refusal, value_or_refusal}
+use Rattle.engine_support.proofs.RunLaws.{one_place}
 use Rattle.checking.specs.EventLines.{line_of_event}
 use Rattle.checking.specs.RecordTexts.{texts_in, whole_lines}
 use Rattle.checking.specs.Judgements.{AreJudged, Difference, EndsAs, IsDifference, IsJudged, IsOfRun, IsSaidOf, Judged, judged_run, record_of}
@@ -33,10 +33,10 @@ use Rattle.checking.specs.Checking.{IsCheckAnswer, IsChecked, IsCheckedOf}
 
 -- ---- one run of a record
 
-one_history : (B M : ℕ) (o : Start) (steps others : List Step) (t u : History) → steps ≡ others
+one_history : (B M : ℕ) (o : OpeningValue) (steps others : List Step) (t u : History) → steps ≡ others
     → IsRunRecord B M o steps t → IsRunRecord B M o others u → t ≡ u
 one_history B M o steps others t u same is other =
-    run-one B M (unrun o) (events_in others) t u (record_runs B M o others t (subst (λ (xs : List Step). IsRunRecord B M o xs t) same is))
+    run-one B M (at_opening o) (events_in others) t u (record_runs B M o others t (subst (λ (xs : List Step). IsRunRecord B M o xs t) same is))
     (record_runs B M o others u other)
 
 one_end : (M : ℕ) (q : LitmusTest) (t : History) (a b : Judged) → EndsAs M q a t → EndsAs M q b t → a ≡ b
@@ -51,7 +51,7 @@ one_of_run B M q steps a b is other =
 
 -- ---- one first difference
 
-one_differing : (B M : ℕ) (o : Start) (steps : List Step) (i j : ℕ) → i ≡ j → (x : DiffersAt B M o steps i) (y : DiffersAt B M o steps j)
+one_differing : (B M : ℕ) (o : OpeningValue) (steps : List Step) (i j : ℕ) → i ≡ j → (x : DiffersAt B M o steps i) (y : DiffersAt B M o steps j)
     → (x.step ≡ y.step) × (x.outcome ≡ y.outcome)
 one_differing B M o steps i j places x y =
     let said : x.step ≡ y.step = some_is x.step y.step (sym x.stands ∙ ap (slice_get steps) places ∙ y.stands) in
@@ -86,7 +86,7 @@ unfolding record_of
 read_record text steps is = let found = settled_only (IsRecordOf text) (record_at text) steps (record_settles text) is in rw found refl
 
 one_judged : (B M : ℕ) (q : LitmusTest) (text : List ℕ) (a b : Judged) → IsJudged B M q text a → IsJudged B M q text b → a ≡ b
-one_judged B M q text a b (none r refused) (none s other) = ap no_record (one_refusal (judged record_of text) r s refused other)
+one_judged B M q text a b (none r refused) (none s other) = ap no_record (one_refusal (decoded record_of text) r s refused other)
 one_judged B M q text a b (none r refused) (record_is steps y also tells) =
     absurd (value_or_refusal record_of IsRecordOf text steps r (read_record text steps) also refused)
 one_judged B M q text a b (record_is steps x is says) (none s refused) =

@@ -1,9 +1,9 @@
 -- The text of a tally is the table of what was judged.
 use Rattle.std.proofs.Common.{◌≡◌, List, ℕ, ◌++◌, count_by, ap, ◌∙◌}
 use Rattle.litmus.specs.LitmusTests.{LitmusTest}
-use Rattle.engine_parts.specs.Outcomes.{unfinished_line}
-use Rattle.engine_parts.specs.Counting.{AreLines, counted}
-use Rattle.engine_parts.proofs.OutcomeTables.{are_outcomes, table_is}
+use Rattle.engine_support.specs.Outcomes.{unfinished_line}
+use Rattle.engine_support.specs.Counting.{AreLines, counted}
+use Rattle.engine_support.proofs.OutcomeTables.{are_outcomes, table_is}
 use Rattle.checking.specs.declared.tally.Tally.{Tally}
 use Rattle.checking.specs.Judgements.{Judged}
 use Rattle.checking.specs.Outcomes.{first_record, gave, is_refused, is_unfinished, refused_line, IsTable}

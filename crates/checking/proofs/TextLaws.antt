@@ -2,11 +2,13 @@
 use Rattle.std.proofs.Common.{arith, ◌≡◌, ℕ, ◌==◌, Bool, true, false, ◌&&◌, List, [], ◌∷◌, ◌++◌, length, refl, sym, ap, subst, ◌∙◌, append_assoc, inl, inr}
 use Rattle.std.specs.Prelude.{nat_eq, nat_le, if◌then◌else◌}
 use Rattle.std.specs.Io.BufRead.{take_through, drop_through}
+use Rattle.std.proofs.Math.Bool.{and-false}
 use Rattle.std.proofs.lemmas.Bool.{eqb-true, lt-leb}
 use Rattle.std.proofs.lemmas.List.{append-nil}
+use Rattle.step_machine.proofs.Placing.{and_left}
 use Rattle.litmus.specs.LitmusTests.{LitmusTest}
 use Rattle.recorder.specs.Reading.{has_head}
-use Rattle.engine_parts.proofs.Judging.{judged_large}
+use Rattle.engine_support.proofs.Judging.{judged-large}
 use Rattle.checking.specs.RecordTexts.{whole_lines, before_lines, begins_record, before_record, records_in, is_left_out, unless_blank}
 use Rattle.checking.specs.Judgements.{Judged, IsJudged, record_of}
 use Rattle.checking.specs.Judgements.IsJudged.{none, record_is}
@@ -37,24 +39,16 @@ first_whole byte (next ∷ bytes) = line_more byte (byte == 10) (next ∷ bytes)
 abbrev pub texts_from : (text : List ℕ) → (lines : List (List ℕ)) → List (List ℕ)
 texts_from text lines = unless_blank (text ++ before_record lines) ++ records_in lines
 
-both : (a b : Bool) → (a && b) ≡ true → a ≡ true
-both true b e = refl
-both false b e = absurd cc
-
-neither : (a : Bool) → (a && false) ≡ false
-neither true = refl
-neither false = refl
-
 -- a line at which a record begins has a byte that is no blank
 begins_by : (line : List ℕ) → begins_record line ≡ true → (rest : List ℕ) × (line ≡ 122 ∷ rest)
 unfolding has_head
 begins_by [] e = absurd cc
 begins_by (byte ∷ rest) e =
-    let whole = both _ _ e in
-    (rest, ap (λ (b : ℕ). b ∷ rest) (sym (eqb-true 122 byte (both (nat_eq 122 byte) _ whole))))
+    let whole = and_left _ _ e in
+    (rest, ap (λ (b : ℕ). b ∷ rest) (sym (eqb-true 122 byte (and_left (nat_eq 122 byte) _ whole))))
 
 not_left_out : (line more : List ℕ) → begins_record line ≡ true → is_left_out (line ++ more) ≡ false
-not_left_out line more e = let (rest, is) = begins_by line e in rw is (neither (nat_le (length ((122 ∷ rest) ++ more)) 1048576))
+not_left_out line more e = let (rest, is) = begins_by line e in rw is (and-false (nat_le (length ((122 ∷ rest) ++ more)) 1048576))
 
 -- where a record begins, the line before ended the text
 pub text_ends : (text line : List ℕ) (lines : List (List ℕ)) → begins_record line ≡ true
@@ -80,5 +74,5 @@ pub held_judged : (B M : ℕ) (test : LitmusTest) (text held : List ℕ) (answer
     → IsJudged B M test held answer → IsJudged B M test text answer
 held_judged B M test text held answer (inl same) is = subst (λ (xs : List ℕ). IsJudged B M test xs answer) same is
 held_judged B M test text held answer (inr (long, longer)) (none refusal refused) =
-    none refusal (judged_large record_of text longer ∙ sym (judged_large record_of held long) ∙ refused)
+    none refusal (judged-large record_of text longer ∙ sym (judged-large record_of held long) ∙ refused)
 held_judged B M test text held answer (inr (long, longer)) (record_is steps other accepted said) = absurd (omega (arith, long, accepted.few))

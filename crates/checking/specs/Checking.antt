@@ -1,8 +1,8 @@
 -- The command `check`: what is written of the records of an input.
 use Rattle.std.specs.Prelude.{ℕ, ◌≡◌, ◌==◌, Bool, List, ◌++◌, count_by, Option, None, Some, Result, Ok, Err}
 use Rattle.litmus.specs.LitmusTests.{LitmusTest}
-use Rattle.engine_parts.specs.declared.fault.Refusal.{Refusal}
-use Rattle.engine_parts.specs.Tests.{ByTest}
+use Rattle.engine_support.specs.declared.fault.Refusal.{Refusal}
+use Rattle.engine_support.specs.Tests.{ByTest}
 use Rattle.checking.specs.RecordTexts.{whole_lines, texts_in}
 use Rattle.checking.specs.Judgements.{Judged, AreJudged}
 use Rattle.checking.specs.Reports.{reports_from}

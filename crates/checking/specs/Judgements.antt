@@ -8,9 +8,9 @@ use Rattle.step_machine.specs.History.{History}
 use Rattle.step_machine.specs.declared.events.Outcome.{Outcome}
 use Rattle.recorder.specs.Records.{Step, IsRecordOf, record_at}
 use Rattle.recorder.specs.Replaying.{IsRunRecord, DiffersAt}
-use Rattle.engine_parts.specs.declared.fault.Refusal.{Refusal}
-use Rattle.engine_parts.specs.Engines.{Accepted, judged}
-use Rattle.engine_parts.specs.Schedules.{refused_schedule}
+use Rattle.engine_support.specs.declared.fault.Refusal.{Refusal}
+use Rattle.engine_support.specs.Engines.{Accepted, decoded}
+use Rattle.engine_support.specs.Schedules.{refused_schedule}
 use Rattle.checking.specs.EventLines.{line_of_event}
 
 -- an event of a record, counted from 0, and its line; the step that the record has there, and the run's outcome
@@ -65,7 +65,7 @@ pub data IsSaidOf (B M : ℕ) (test : LitmusTest) (text : List ℕ) (steps : Lis
 -- What is said of a text: why it is no record, or what its steps show, over store buffers of B stores and a
 -- memory of M words.
 pub data IsJudged (B M : ℕ) (test : LitmusTest) (text : List ℕ) : Judged → Type 0 where
-  none : (refusal : Refusal) → judged record_of text ≡ Err refusal → IsJudged B M test text (no_record refusal)
+  none : (refusal : Refusal) → decoded record_of text ≡ Err refusal → IsJudged B M test text (no_record refusal)
   record_is : (steps : List Step) (answer : Judged) → Accepted IsRecordOf text steps → IsSaidOf B M test text steps answer → IsJudged B M test text answer
 
 -- the same of each text, in order

@@ -4,7 +4,7 @@ use Rattle.std.specs.List.{flat_map, position_from}
 use Rattle.std.specs.Str.{bytes_eq as are_equal}
 use Rattle.std.specs.Fmt.{decimal}
 use Rattle.litmus.specs.LitmusTests.{LitmusTest}
-use Rattle.engine_parts.specs.Outcomes.{AreOutcomes, line_of, unfinished_line}
+use Rattle.engine_support.specs.Outcomes.{AreOutcomes, line_of, unfinished_line}
 use Rattle.checking.specs.Judgements.{Judged}
 use Rattle.checking.specs.Judgements.Judged.{finished, unfinished, differing, no_record}
 

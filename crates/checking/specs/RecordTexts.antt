@@ -4,7 +4,7 @@ use Rattle.std.specs.List.{list_all}
 use Rattle.texts.specs.Pieces.{is_blank_or_line_end}
 use Rattle.recorder.specs.Reading.{has_head}
 use Rattle.recorder.specs.Records.{record_head}
-use Rattle.engine_parts.specs.declared.input.TheConstants.{INPUT_BYTES}
+use Rattle.engine_support.specs.declared.input.TheConstants.{INPUT_BYTES}
 
 -- ---- lines
 

@@ -3,9 +3,9 @@ use Rattle.std.specs.Prelude.{ℕ, ◌+◌, List, [], ◌∷◌, ◌++◌, codes
 use Rattle.std.specs.Fmt.{decimal}
 use Rattle.recorder.specs.Schedule.{hart_of}
 use Rattle.recorder.specs.Outcomes.{outcome_text}
-use Rattle.engine_parts.specs.declared.fault.Refusal.{Refusal}
-use Rattle.engine_parts.specs.declared.fault.Position.{Position}
-use Rattle.engine_parts.specs.declared.fault.Position.TheVariants.{Nowhere, Line, Byte, Word, Event}
+use Rattle.engine_support.specs.declared.fault.Refusal.{Refusal}
+use Rattle.engine_support.specs.declared.fault.Position.{Position}
+use Rattle.engine_support.specs.declared.fault.Position.TheVariants.{Nowhere, Line, Byte, Word, Event}
 use Rattle.checking.specs.Judgements.{Difference, Judged}
 use Rattle.checking.specs.Judgements.Judged.{finished, unfinished, differing, no_record}
 

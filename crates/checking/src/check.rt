@@ -2,13 +2,13 @@
 
 ghost use Rattle.std.specs.Prelude.{◌≡◌, ◌≤◌, ◌⊎◌, ℕ, List, [], length, IfErr, IfOk, OnOk, Ok};
 ghost use Rattle.std.specs.Io.KnownBytes.{Appends};
+ghost use Rattle.step_machine.specs.Standing.{RepresentsRunFrom};
 ghost use Rattle.litmus.specs.declared.litmus_test.TheConstants.{MAX_LOCATIONS};
-ghost use Rattle.engine_parts.specs.Engines.{OfInput};
-ghost use Rattle.engine_parts.specs.Interactive.{EndsInteractive, OnStopped, OnUnwritten};
-ghost use Rattle.engine_parts.specs.Tests.{HasNoTest};
-ghost use Rattle.engine_parts.specs.inner.Failures.{IsFailure};
+ghost use Rattle.engine_support.specs.Engines.{OfInput};
+ghost use Rattle.engine_support.specs.Interactive.{EndsInteractive, OnStopped, OnUnwritten};
+ghost use Rattle.engine_support.specs.Tests.{HasNoTest};
+ghost use Rattle.engine_support.specs.inner.Failures.{IsFailure};
 ghost use Rattle.checking.specs.Checking.{IsCheckAnswer, IsChecked, IsCheckFront, IsFront, OfLines};
-ghost use Rattle.checking.specs.inner.Holding.{StandsFrom};
 ghost use Rattle.checking.specs.inner.Reporting.{AllReported, Closes, SomeReported, TakesLine};
 ghost use Rattle.checking.specs.inner.Tallies.{HasRoom};
 
@@ -17,9 +17,9 @@ use crate::reading::{begins_record, hold, is_left_out, read_line};
 use crate::reports::report;
 use crate::table::table;
 use crate::tally::Tally;
-use engine_parts::fault::Fault;
-use engine_parts::litmus_text::read_test;
-use engine_parts::output::end_with;
+use engine_support::fault::Fault;
+use engine_support::litmus_text::read_test;
+use engine_support::output::end_with;
 use litmus::Test;
 use std::alloc::Global;
 use std::io::{BufRead, Read, Write};
@@ -36,11 +36,11 @@ fn close<const B: usize, const M: usize, W: Write>(
     tally: &mut Tally,
     writer: &mut W,
 ) -> Result<(), Fault>
-    requires stands { StandsFrom B M test.now.opening machine.old }
+    requires stands { RepresentsRunFrom B M test.now.opening machine.old }
     requires names { length test.now.names ≤ M }
     requires room { HasRoom tally.old }
     ensures closed { OnOk result (Closes B M test.now text.now tally.old tally.new (W.contents writer.old) (W.contents writer.new)) }
-    ensures stands { OnOk result (StandsFrom B M test.now.opening machine.new) }
+    ensures stands { OnOk result (RepresentsRunFrom B M test.now.opening machine.new) }
     ensures err { IfErr result IsFailure }
     ensures left { OnStopped result (writer.new ≡ writer.old) }
 {
@@ -65,12 +65,12 @@ fn take_line<const B: usize, const M: usize, W: Write>(
     tally: &mut Tally,
     writer: &mut W,
 ) -> Result<(), Fault>
-    requires stands { StandsFrom B M test.now.opening machine.old }
+    requires stands { RepresentsRunFrom B M test.now.opening machine.old }
     requires names { length test.now.names ≤ M }
     requires room { HasRoom tally.old }
     ensures taken { OnOk result (TakesLine B M test.now line.old.items text.old.items text.new.items
         tally.old tally.new (W.contents writer.old) (W.contents writer.new)) }
-    ensures stands { OnOk result (StandsFrom B M test.now.opening machine.new) }
+    ensures stands { OnOk result (RepresentsRunFrom B M test.now.opening machine.new) }
     ensures err { IfErr result IsFailure }
     ensures left { OnStopped result (writer.new ≡ writer.old) }
 {
@@ -92,7 +92,7 @@ fn judge_all<const B: usize, const M: usize, R: BufRead, W: Write>(
     records: &mut R,
     writer: &mut W,
 ) -> Result<Tally, Fault>
-    requires stands { StandsFrom B M test.now.opening machine.old }
+    requires stands { RepresentsRunFrom B M test.now.opening machine.old }
     requires names { length test.now.names ≤ M }
     ensures judged { IfOk result (λ tally. OfLines (R.remaining records.old)
         (λ lines. AllReported B M test.now lines tally (W.contents writer.old) (W.contents writer.new))) }

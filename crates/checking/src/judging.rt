@@ -1,20 +1,20 @@
 //! What is said of one text.
 
 ghost use Rattle.std.specs.Prelude.{◌≡◌, ◌↔◌, ◌<◌, ◌≤◌, IsTrue, length, IfErr, IfOk, IfSome, OnOk};
-ghost use Rattle.step_machine.specs.History.{Start};
-ghost use Rattle.step_machine.specs.Standing.{OfEach};
+ghost use Rattle.step_machine.specs.History.{OpeningValue};
+ghost use Rattle.step_machine.specs.Standing.{ForEachHistory, RepresentsRunFrom};
 ghost use Rattle.litmus.specs.declared.verdict.Verdict.TheVariants.{Unfinished};
 ghost use Rattle.recorder.specs.Records.{IsRecordOf};
-ghost use Rattle.engine_parts.specs.Engines.{Accepted, judged};
-ghost use Rattle.engine_parts.specs.Faults.{Answers};
-ghost use Rattle.engine_parts.specs.declared.fault.Fault.TheVariants.{NoMemory};
+ghost use Rattle.engine_support.specs.Engines.{Accepted, decoded};
+ghost use Rattle.engine_support.specs.Faults.{Answers};
+ghost use Rattle.engine_support.specs.declared.fault.Fault.TheVariants.{NoMemory};
 ghost use Rattle.checking.specs.Judgements.{EndsAs, IsJudged, IsSaidOf, record_of};
-ghost use Rattle.checking.specs.inner.Holding.{Follows, StandsFrom};
+ghost use Rattle.checking.specs.inner.Holding.{Follows};
 ghost use Rattle.checking.specs.inner.Tallies.{judged_by};
 
 use crate::event_lines::line_of_event;
-use engine_parts::fault::{Fault, NOT_TEXT, Position, Refusal, TOO_LARGE};
-use engine_parts::input::INPUT_BYTES;
+use engine_support::fault::{Fault, NOT_TEXT, Position, Refusal, TOO_LARGE};
+use engine_support::input::INPUT_BYTES;
 use litmus::{Test, Verdict};
 use recorder::read_record;
 use std::alloc::{AllocError, Global};
@@ -62,7 +62,7 @@ fn steps_of(alloc: Global, text: &str) -> Result<Vec<(Event, Outcome)>, Fault>
 /// The steps of a text, or why it is no record: it is too large, no UTF-8, or has a fault at one of its bytes.
 fn read_steps(alloc: Global, text: &[u8]) -> Result<Vec<(Event, Outcome)>, Fault>
     ensures found { IfOk result (λ steps. Accepted IsRecordOf text.now steps.items) }
-    ensures exact { Answers (λ steps. steps.items) result (judged record_of text.now) }
+    ensures exact { Answers (λ steps. steps.items) result (decoded record_of text.now) }
 {
     if text.len() > INPUT_BYTES {
         return Err(Fault::refused(TOO_LARGE, Position::Nowhere));
@@ -86,7 +86,7 @@ fn first_difference<const B: usize, const M: usize>(
     machine: &mut MachineState<B, M>,
     steps: &[(Event, Outcome)],
 ) -> Result<Option<(usize, Outcome)>, AllocError>
-    ensures follows { IfOk result (λ found. (o : Start) → StandsFrom B M o machine.old → Follows B M o steps.now found machine.new) }
+    ensures follows { IfOk result (λ found. (o : OpeningValue) → RepresentsRunFrom B M o machine.old → Follows B M o steps.now found machine.new) }
     ensures within { IfOk result (λ found. IfSome found (λ difference. difference.0 < length steps.now)) }
 {
     machine.restart();
@@ -114,7 +114,7 @@ fn judge_end<const B: usize, const M: usize>(
 ) -> Result<Judgement, AllocError>
     requires harts { length machine.now.harts ≡ length test.now.opening.harts }
     requires names { length test.now.names ≤ M }
-    ensures { IfOk result (λ judgement. OfEach B M machine.now (EndsAs M test.now (judged_by judgement values.new.items))) }
+    ensures { IfOk result (λ judgement. ForEachHistory B M machine.now (EndsAs M test.now (judged_by judgement values.new.items))) }
 {
     if is_unfinished(test.verdict(machine)) {
         return Ok(Judgement::Unfinished);
@@ -131,10 +131,10 @@ fn judge_steps<const B: usize, const M: usize>(
     steps: &[(Event, Outcome)],
     values: &mut Vec<u32>,
 ) -> Result<Judgement, AllocError>
-    requires stands { StandsFrom B M test.now.opening machine.old }
+    requires stands { RepresentsRunFrom B M test.now.opening machine.old }
     requires names { length test.now.names ≤ M }
     ensures said { IfOk result (λ judgement. IsSaidOf B M test.now text.now steps.now (judged_by judgement values.new.items)) }
-    ensures stands { OnOk result (StandsFrom B M test.now.opening machine.new) }
+    ensures stands { OnOk result (RepresentsRunFrom B M test.now.opening machine.new) }
 {
     match first_difference(machine, steps)? {
         None => judge_end(test, machine, values),
@@ -156,10 +156,10 @@ pub fn judge<const B: usize, const M: usize>(
     text: &[u8],
     values: &mut Vec<u32>,
 ) -> Result<Judgement, Fault>
-    requires stands { StandsFrom B M test.now.opening machine.old }
+    requires stands { RepresentsRunFrom B M test.now.opening machine.old }
     requires names { length test.now.names ≤ M }
     ensures judged { IfOk result (λ judgement. IsJudged B M test.now text.now (judged_by judgement values.new.items)) }
-    ensures stands { OnOk result (StandsFrom B M test.now.opening machine.new) }
+    ensures stands { OnOk result (RepresentsRunFrom B M test.now.opening machine.new) }
     ensures err { IfErr result (λ fault. fault ≡ NoMemory) }
 {
     match read_steps(alloc, text) {

@@ -1,8 +1,8 @@
 //! Laws of what the command answers.
 
 ghost use Rattle.std.specs.Prelude.{ℕ, Bool, List, Result, Some};
-ghost use Rattle.engine_parts.specs.declared.fault.Refusal.{Refusal};
-ghost use Rattle.engine_parts.specs.Engines.{AreOneAnswer};
+ghost use Rattle.engine_support.specs.declared.fault.Refusal.{Refusal};
+ghost use Rattle.engine_support.specs.Engines.{AreOneAnswer};
 ghost use Rattle.checking.specs.Checking.{IsCheckAnswer};
 
 /// Two answers of `check` to one litmus text and one input of records are one text with one value, or refusals

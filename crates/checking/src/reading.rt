@@ -4,10 +4,10 @@ ghost use Rattle.std.specs.Prelude.{◌≡◌, ◌++◌, ℕ, List, IfErr, IfSom
 ghost use Rattle.std.specs.Io.BufRead.{take_through, DropsThrough};
 ghost use Rattle.checking.specs.RecordTexts.{begins_record, is_left_out};
 ghost use Rattle.checking.specs.inner.Holding.{IsHeld};
-ghost use Rattle.engine_parts.specs.inner.Failures.{IsReadFailure};
+ghost use Rattle.engine_support.specs.inner.Failures.{IsReadFailure};
 
-use engine_parts::fault::Fault;
-use engine_parts::input::INPUT_BYTES;
+use engine_support::fault::Fault;
+use engine_support::input::INPUT_BYTES;
 use recorder::{RECORD_HEAD, has_head};
 use std::alloc::AllocError;
 use std::io::{BufRead, ErrorKind};

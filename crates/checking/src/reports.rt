@@ -6,7 +6,7 @@ ghost use Rattle.checking.specs.Reports.{difference_place, difference_text, judg
 ghost use Rattle.checking.specs.inner.Tallies.{difference_of, judged_by};
 
 use crate::judging::{Difference, Judgement};
-use engine_parts::fault::{Position, Refusal};
+use engine_support::fault::{Position, Refusal};
 use recorder::push_outcome;
 use std::alloc::{AllocError, Global};
 

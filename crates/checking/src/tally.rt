@@ -2,12 +2,12 @@
 
 ghost use Rattle.std.specs.Prelude.{◌≡◌, ◌<◌, [], IfOk, IfSome, OnOk};
 ghost use Rattle.std.specs.String.{string_bytes};
-ghost use Rattle.engine_parts.specs.Counting.{counted, Counts};
+ghost use Rattle.engine_support.specs.Counting.{counted, Counts};
 ghost use Rattle.checking.specs.Outcomes.{record_end as end_of_record};
 ghost use Rattle.checking.specs.inner.Tallies.{HasRoom, IsTallyOf, judged_by, Tallies};
 
 use crate::judging::Judgement;
-use engine_parts::outcomes::Outcomes;
+use engine_support::outcomes::Outcomes;
 use std::alloc::{AllocError, Global};
 
 /// The outcomes of the runs, and how many texts were judged, of how many runs that did not finish, and how many

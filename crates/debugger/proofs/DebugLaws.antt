@@ -36,13 +36,13 @@ module _ (B M : ℕ) (points : List (ℕ × ℕ)) (first : Bool) (old : Debugger
       → DoesRest first old (break_line point.0 point.1) old
   held_up ev point e stop = rw (drop_at old.schedule old.place ev e, stop) (refl, refl)
 
-  -- the event is done, and then those behind it
+  -- the event is done, and then those after it
   pub runs_more : (ev : Event) (line : List ℕ) (mid : DebuggerState) (later : List ℕ) (new : DebuggerState) → slice_get old.schedule old.place ≡ Some ev
       → stop_before M points first old.past.history ev ≡ None → Does B M old ev Schedule line mid
       → DoesRest false mid later new → DoesRest first old (line ++ later) new
   runs_more ev line mid later new e stop does then =
-      let behind : drop mid.place mid.schedule ≡ drop (old.place + 1) old.schedule = rw (does.1.schedule, does.1.place) refl in
-      let rest : DoesAll B M points (drop (old.place + 1) old.schedule) false mid later new = rw behind at then in
+      let following : drop mid.place mid.schedule ≡ drop (old.place + 1) old.schedule = rw (does.1.schedule, does.1.place) refl in
+      let rest : DoesAll B M points (drop (old.place + 1) old.schedule) false mid later new = rw following at then in
       rw (drop_at old.schedule old.place ev e, stop) (line, mid, later, does, refl, rest)
 
   -- what was done so far, and then its last line

@@ -19,7 +19,7 @@ use Rattle.debugger.specs.Commands.{command_in}
 use Rattle.recorder.specs.Outcomes.{outcome_line}
 use Rattle.debugger.specs.Debugging.{Answers, Breaks, Does, DoesAll, DoesNext, Toggled, is_point, stop_before}
 use Rattle.debugger.specs.Transcripts.{AnswersLine, IsTranscript, Transcript, quits}
-use Rattle.engine_parts.specs.Engines.{Output}
+use Rattle.engine_support.specs.Engines.{Output}
 
 -- ---- each case of a choice
 
@@ -78,8 +78,8 @@ module _ (B M : ℕ) where
   one_all points (ev ∷ evs) first old s t x y a b =
       by_option (stop_before M points first old.past.history ev) (AreSame s t x y) a b
       (λ e f. let here = one_does old ev Schedule e.0 f.0 e.1 f.1 e.3 f.3 in
-      let behind = one_all points evs false e.1 e.2 f.2 x y e.5 (subst (λ (w : DebuggerState). DoesAll B M points evs false w f.2 y) (sym here.1) f.5) in
-      (e.4 ∙ ap (λ (line : List ℕ). line ++ e.2) here.0 ∙ ap (λ (later : List ℕ). f.0 ++ later) behind.0 ∙ sym f.4, behind.1))
+      let following = one_all points evs false e.1 e.2 f.2 x y e.5 (subst (λ (w : DebuggerState). DoesAll B M points evs false w f.2 y) (sym here.1) f.5) in
+      (e.4 ∙ ap (λ (line : List ℕ). line ++ e.2) here.0 ∙ ap (λ (later : List ℕ). f.0 ++ later) following.0 ∙ sym f.4, following.1))
       (λ point e f. (e.0 ∙ sym f.0, e.1 ∙ sym f.1))
 
   one_answers : (said : Command) (old x y : DebuggerState) (points p q : List (ℕ × ℕ)) (s t : List ℕ)

@@ -2,7 +2,7 @@
 use Rattle.std.proofs.Common.{◌≡◌, ℕ, List, [], ◌∷◌, ◌++◌, sym, subst}
 use Rattle.step_machine.specs.declared.events.Event.{Event}
 use Rattle.step_machine.specs.declared.events.Outcome.{Outcome}
-use Rattle.step_machine.specs.History.{Start, History, unrun}
+use Rattle.step_machine.specs.History.{OpeningValue, History, at_opening}
 use Rattle.step_machine.specs.Runs.{Happens, Run}
 use Rattle.step_machine.specs.Snapshots.{Taken}
 use Rattle.step_machine.proofs.Running.{RunFrom-more}
@@ -14,5 +14,5 @@ pub went_on : (B M : ℕ) (t : History) (evs : List Event) (ev : Event) (o : Out
     → (Run B M t.opening (evs ++ ev ∷ []) new → HasSnapshots B M t.opening (evs ++ ev ∷ []) ss)
     → Run B M new.opening (evs ++ ev ∷ []) new × HasSnapshots B M new.opening (evs ++ ev ∷ []) ss
 went_on B M t evs ev o new ss ran happens kept held =
-    let on = RunFrom-more B M (unrun t.opening) evs t ev o new ran happens in
-    subst (λ (opening : Start). Run B M opening (evs ++ ev ∷ []) new × HasSnapshots B M opening (evs ++ ev ∷ []) ss) (sym kept) (on, held on)
+    let on = RunFrom-more B M (at_opening t.opening) evs t ev o new ran happens in
+    subst (λ (opening : OpeningValue). Run B M opening (evs ++ ev ∷ []) new × HasSnapshots B M opening (evs ++ ev ∷ []) ss) (sym kept) (on, held on)

@@ -12,7 +12,7 @@ use Rattle.std.proofs.lemmas.Option.{slice_get_within, get_or_from_slice_get}
 use Rattle.step_machine.specs.declared.events.Entry.{Entry}
 use Rattle.step_machine.specs.declared.events.Event.{Event}
 use Rattle.step_machine.specs.declared.events.Outcome.{Outcome}
-use Rattle.step_machine.specs.History.{Start, History, history_of, up_to}
+use Rattle.step_machine.specs.History.{OpeningValue, History, history_of, up_to}
 use Rattle.step_machine.specs.Runs.{Happens, RunFrom, Run}
 use Rattle.step_machine.specs.Snapshots.{Taken, IsTakenAt}
 use Rattle.step_machine.proofs.Running.{shape_of, run-one, RunFrom-append}
@@ -48,20 +48,20 @@ run_front B M t evs more new mid run first = grind (arith, run_cut, run-one, goe
 -- ---- the snapshots
 
 -- an event more leaves those that were taken
-still_taken : (B M : ℕ) (o : Start) (evs : List Event) (ev : Event) (ss : List Taken) (k : ℕ) (d : Taken) → HasSnapshots B M o evs ss → k < length ss
+still_taken : (B M : ℕ) (o : OpeningValue) (evs : List Event) (ev : Event) (ss : List Taken) (k : ℕ) (d : Taken) → HasSnapshots B M o evs ss → k < length ss
     → IsTakenAfter B M o (take (k * SNAPSHOT_EVENTS) (evs ++ ev ∷ [])) (get_or ss k d)
 still_taken B M o evs ev ss k d has within =
     let before : k * SNAPSHOT_EVENTS ≤ length evs = omega (arith, has.count, within) in
     subst (λ (es : List Event). IsTakenAfter B M o es (get_or ss k d)) (sym (take-append-le (k * SNAPSHOT_EVENTS) evs (ev ∷ []) before)) (has.taken k d within)
 
 -- an event more, after which none is taken
-pub none_taken : (B M : ℕ) (o : Start) (evs : List Event) (ev : Event) (ss : List Taken) → HasSnapshots B M o evs ss
+pub none_taken : (B M : ℕ) (o : OpeningValue) (evs : List Event) (ev : Event) (ss : List Taken) → HasSnapshots B M o evs ss
     → ((length evs + 1) % SNAPSHOT_EVENTS ≡ 0 → ⊥)
     → HasSnapshots B M o (evs ++ ev ∷ []) ss
 none_taken B M o evs ev ss has between = grind (arith, length-append, still_taken)
 
 -- an event more, after which one is taken
-pub one_taken : (B M : ℕ) (o : Start) (evs : List Event) (ev : Event) (ss : List Taken) (t : History) (s : Taken)
+pub one_taken : (B M : ℕ) (o : OpeningValue) (evs : List Event) (ev : Event) (ss : List Taken) (t : History) (s : Taken)
     → HasSnapshots B M o evs ss → (length evs + 1) % SNAPSHOT_EVENTS ≡ 0
     → Run B M o (evs ++ ev ∷ []) t → IsTakenAt B M t s → HasSnapshots B M o (evs ++ ev ∷ []) (ss ++ s ∷ [])
 one_taken B M o evs ev ss t s has due ran taken =
@@ -79,7 +79,7 @@ one_taken B M o evs ev ss t s has due ran taken =
         rw (get_or_push ss s d k last) (rw (take_all (k * SNAPSHOT_EVENTS) (evs ++ ev ∷ []) all) (t, ran, taken))
 
 -- fewer events, with the snapshots that were taken by then
-cut_to : (B M : ℕ) (o : Start) (evs : List Event) (ss : List Taken) (n : ℕ) → HasSnapshots B M o evs ss → n ≤ length evs
+cut_to : (B M : ℕ) (o : OpeningValue) (evs : List Event) (ss : List Taken) (n : ℕ) → HasSnapshots B M o evs ss → n ≤ length evs
     → HasSnapshots B M o (take n evs) (take (n / SNAPSHOT_EVENTS + 1) ss)
 cut_to B M o evs ss n has within =
     let few : length (take n evs) ≡ n = length-take-le n evs within in
@@ -159,6 +159,6 @@ module _ (B M : ℕ) (t : History) (evs : List Event) (ss : List Taken) (k n : �
       let opening : new.opening ≡ t.opening = kept ∙ ap (λ (u : History). u.opening) same in
       let held : HasSnapshots B M t.opening (take n evs) (take (n / SNAPSHOT_EVENTS + 1) ss) = cut_to B M t.opening evs ss n has (omega arith) in (
         record { opening = opening; events = ap (λ (m : ℕ). take m evs) count; ran = subst (λ (m : ℕ). Run B M t.opening (take m evs) new) count again },
-        subst (λ (o : Start). Run B M o (take n evs) new) (sym opening) again,
-        subst (λ (o : Start). HasSnapshots B M o (take n evs) (take (n / SNAPSHOT_EVENTS + 1) ss)) (sym opening) held,
+        subst (λ (o : OpeningValue). Run B M o (take n evs) new) (sym opening) again,
+        subst (λ (o : OpeningValue). HasSnapshots B M o (take n evs) (take (n / SNAPSHOT_EVENTS + 1) ss)) (sym opening) held,
       )

@@ -22,19 +22,19 @@ use Rattle.debugger.specs.DebuggerStates.{DebuggerState, at_start}
 use Rattle.debugger.specs.Commands.{command_in}
 use Rattle.debugger.specs.declared.debug.command.Command.{Command}
 use Rattle.debugger.specs.declared.debug.command.Command.TheVariants.{Quit}
-use Rattle.engine_parts.specs.declared.fault.Fault.{Fault}
-use Rattle.engine_parts.specs.declared.fault.Fault.TheVariants.{ReadFailed, WriteFailed, NoMemory, Refused}
+use Rattle.engine_support.specs.declared.fault.Fault.{Fault}
+use Rattle.engine_support.specs.declared.fault.Fault.TheVariants.{ReadFailed, WriteFailed, NoMemory, Refused}
 use Rattle.debugger.specs.Transcripts.{AnswersLine, AnswersSaid, EndsInteractive, IsDebugAnswer, IsDebugFront}
 use Rattle.debugger.specs.Transcripts.{IsDebugSome, IsTranscript, OnRefused, OnStopped, OnUnwritten, Prints}
 use Rattle.debugger.specs.Transcripts.{PrintsFront, PrintsSome, Transcript, quits}
-use Rattle.engine_parts.specs.inner.Making.{Finds, IsEndOf, text_and_value}
+use Rattle.engine_support.specs.inner.Making.{FindsUpToReads, IsEndOf, text_and_value}
 use Rattle.debugger.specs.inner.Asking.{AsksNext, IsNextLine}
 use Rattle.debugger.specs.inner.Failures.{IsFailure, IsReadFailure, IsAtStart}
-use Rattle.engine_parts.specs.Engines.{AnswersBoth, Output}
-use Rattle.engine_parts.specs.Histories.{AnswersEvents, ByEvents}
-use Rattle.engine_parts.specs.Histories.BySchedule.{both}
-use Rattle.engine_parts.proofs.Written.{appends_more, appends_nothing, no_byte, stopped}
-use Rattle.engine_parts.proofs.ScheduleLaws.{by_schedule_as, weaker_both}
+use Rattle.engine_support.specs.Engines.{AnswersBoth, Output}
+use Rattle.engine_support.specs.Histories.{AnswersEvents, ByEvents}
+use Rattle.engine_support.specs.Histories.BySchedule.{both}
+use Rattle.engine_support.proofs.Written.{appends_more, appends_nothing, no_byte, stopped}
+use Rattle.engine_support.proofs.ScheduleLaws.{by_schedule_as, weaker_both}
 
 -- ---- the first line of an input, which ends through its first LF
 
@@ -275,7 +275,7 @@ module _ (B M : ℕ) (first second input : Option (List ℕ)) {W : Type 0} (cont
 
   -- and so does a fault before it begins
   pub not_begun : {X : Type 0} (view : X → DebuggerState) (result : Result (Unit {0}) Fault) (fault : Fault) (old : W) → result ≡ Err fault
-      → Finds (AnswersBoth (ByEvents IsAtStart) first second) view (Err fault) → Ends result old old
+      → FindsUpToReads (AnswersBoth (ByEvents IsAtStart) first second) view (Err fault) → Ends result old old
   not_begun view result (Refused refusal) old is finds =
       rw is (
         weaker_both first second (ByEvents IsAtStart) (IsDebugAnswer B M input) (Err refusal) (Err refusal)
@@ -285,7 +285,7 @@ module _ (B M : ℕ) (first second input : Option (List ℕ)) {W : Type 0} (cont
   not_begun view result other old is finds = rw is tt
 
   pub not_unwritten : {X : Type 0} (view : X → DebuggerState) (result : Result (Unit {0}) Fault) (fault : Fault) (P : Type 0) → result ≡ Err fault
-      → Finds (AnswersBoth (ByEvents IsAtStart) first second) view (Err fault) → OnUnwritten result P
+      → FindsUpToReads (AnswersBoth (ByEvents IsAtStart) first second) view (Err fault) → OnUnwritten result P
   not_unwritten view result WriteFailed P is finds = absurd finds
   not_unwritten view result other P is finds = rw is tt
 

@@ -1,6 +1,6 @@
 -- The debugger's state: a session whose events are the user's or come from a schedule, which has a place.
 use Rattle.std.specs.Prelude.{ℕ, ◌≡◌, ◌+◌, ◌-◌, ◌≤◌, Bool, true, false, List, [], ◌∷◌, ◌++◌, length, take, drop, count_by}
-use Rattle.step_machine.specs.History.{Start}
+use Rattle.step_machine.specs.History.{OpeningValue}
 use Rattle.step_machine.specs.declared.events.Event.{Event}
 use Rattle.step_machine.specs.declared.events.Outcome.{Outcome}
 use Rattle.debugger.specs.declared.debugger.Source.{Source}
@@ -38,7 +38,7 @@ pub record IsKept (w : DebuggerState) : Type 0 where
   pub done : of_schedule w.sources w.past.events ≡ take w.place w.schedule
 
 -- nothing was done yet
-abbrev pub at_start : Start → List Event → DebuggerState
+abbrev pub at_start : OpeningValue → List Event → DebuggerState
 at_start o schedule = record { past = begun o; schedule = schedule; sources = []; place = 0 }
 
 -- one more event from this source, with this outcome

@@ -15,7 +15,7 @@ use Rattle.debugger.specs.declared.debug.command.Command.TheVariants as command
 use Rattle.debugger.specs.declared.debugger.Source.{Source}
 use Rattle.debugger.specs.declared.debugger.Source.TheVariants.{Schedule, User}
 use Rattle.debugger.specs.DebuggerStates.{DebuggerState, TakesEvent, GoesBackBy}
-use Rattle.engine_parts.specs.StateText.{hart_shown}
+use Rattle.engine_support.specs.StateText.{hart_shown}
 use Rattle.recorder.specs.Outcomes.{outcome_line}
 use Rattle.debugger.specs.DebugText.{end_line, break_line, number_line, store_lines, unknown_line}
 

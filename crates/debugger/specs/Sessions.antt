@@ -1,19 +1,19 @@
 -- Sessions: which events were done since an opening, and what they made of it.
 use Rattle.std.specs.Prelude.{ℕ, ◌≡◌, ◌-◌, List, [], ◌∷◌, ◌++◌, length, take}
-use Rattle.step_machine.specs.History.{Start, History, unrun}
+use Rattle.step_machine.specs.History.{OpeningValue, History, at_opening}
 use Rattle.step_machine.specs.Runs.{Happens, Run}
 use Rattle.step_machine.specs.declared.events.Event.{Event}
 use Rattle.step_machine.specs.declared.events.Outcome.{Outcome}
 
 -- What a contract sees of a session. Every event since the opening is in the list, whatever its outcome.
 pub record Past : Type 0 where
-  pub opening : Start
+  pub opening : OpeningValue
   pub events : List Event
   pub history : History
 
 -- nothing was done yet
-abbrev pub begun : Start → Past
-begun o = record { opening = o; events = []; history = unrun o }
+abbrev pub begun : OpeningValue → Past
+begun o = record { opening = o; events = []; history = at_opening o }
 
 -- a list without its last k elements, or without all of them where there are fewer
 abbrev pub without_last : {A : Type 0} → ℕ → List A → List A

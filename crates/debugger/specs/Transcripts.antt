@@ -5,15 +5,15 @@ use Rattle.step_machine.specs.declared.events.Event.{Event}
 use Rattle.litmus.specs.LitmusTests.{LitmusTest}
 use Rattle.debugger.specs.declared.debug.command.Command.{Command}
 use Rattle.debugger.specs.declared.debug.command.Command.TheVariants as command
-use Rattle.engine_parts.specs.declared.fault.Refusal.{Refusal}
+use Rattle.engine_support.specs.declared.fault.Refusal.{Refusal}
 use Rattle.texts.specs.Cutting.{tokens}
-use Rattle.engine_parts.specs.Histories.{ByEvents}
+use Rattle.engine_support.specs.Histories.{ByEvents}
 use Rattle.debugger.specs.DebuggerStates.{DebuggerState, at_start}
 use Rattle.debugger.specs.Commands.{command_in}
 use Rattle.debugger.specs.DebugText.{unknown_line}
 use Rattle.debugger.specs.Debugging.{Answers}
-use Rattle.engine_parts.specs.Engines.{Output}
-pub use Rattle.engine_parts.specs.Interactive.{EndsInteractive, OnRefused, OnStopped, OnUnwritten}
+use Rattle.engine_support.specs.Engines.{Output}
+pub use Rattle.engine_support.specs.Interactive.{EndsInteractive, OnRefused, OnStopped, OnUnwritten}
 
 -- whether a line ends the transcript
 abbrev pub quits : Option Command → Bool

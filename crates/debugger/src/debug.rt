@@ -2,19 +2,19 @@
 
 ghost use Rattle.std.specs.Prelude.{◌≡◌, ◌≤◌, ◌⊎◌, ℕ, List, [], Ok};
 ghost use Rattle.std.specs.Io.KnownBytes.{Appends};
-ghost use Rattle.engine_parts.specs.Engines.{AnswersBoth};
-ghost use Rattle.engine_parts.specs.Tests.{HasNoTest};
-ghost use Rattle.engine_parts.specs.Histories.{ByEvents};
+ghost use Rattle.engine_support.specs.Engines.{AnswersBoth};
+ghost use Rattle.engine_support.specs.Tests.{HasNoTest};
+ghost use Rattle.engine_support.specs.Histories.{ByEvents};
 ghost use Rattle.debugger.specs.Transcripts.{EndsInteractive, IsDebugAnswer, IsDebugFront, IsDebugSome, OnRefused, OnStopped, OnUnwritten};
-ghost use Rattle.engine_parts.specs.inner.Making.{Finds};
+ghost use Rattle.engine_support.specs.inner.Making.{FindsUpToReads};
 ghost use Rattle.debugger.specs.inner.Failures.{IsAtStart};
 ghost use Rattle.litmus.specs.declared.litmus_test.TheConstants.{MAX_LOCATIONS};
 
 use crate::debug::conversation::converse;
 use crate::debugger::Debugger;
-use engine_parts::fault::Fault;
-use engine_parts::litmus_text::read_test;
-use engine_parts::schedule::read_schedule;
+use engine_support::fault::Fault;
+use engine_support::litmus_text::read_test;
+use engine_support::schedule::read_schedule;
 use std::alloc::Global;
 use std::io::{BufRead, Read, Write};
 
@@ -36,7 +36,7 @@ fn open_debugger<const B: usize, const M: usize, F: Read, S: Read>(
     requires capacity { B ≤ 64 }
     requires words { MAX_LOCATIONS ≤ M }
     requires size { M ≤ 65536 }
-    ensures debugger { Finds (AnswersBoth (ByEvents IsAtStart) (F.remaining file.old) (S.remaining schedule.old)) (λ debugger. debugger) result }
+    ensures debugger { FindsUpToReads (AnswersBoth (ByEvents IsAtStart) (F.remaining file.old) (S.remaining schedule.old)) (λ debugger. debugger) result }
     ensures unread { HasNoTest (F.remaining file.old) → schedule.new ≡ schedule.old }
 {
     let test = read_test(alloc, file)?;

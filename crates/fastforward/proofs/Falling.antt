@@ -14,9 +14,9 @@ use Rattle.step_machine.specs.WordReads.{word_in_memory}
 use Rattle.poll_close.specs.Rankings.{Decreases, runs, rank_of, next_by, ready_if, is_ready}
 use Rattle.poll_close.specs.Invariant.Blocks.{Block, slot, slot_store, tail_store}
 use Rattle.poll_close.specs.Invariant.SenderState.{SenderRegisters}
-use Rattle.poll_close.specs.Invariant.BlockMeaning.{unsent_of, unread_of}
+use Rattle.poll_close.specs.Invariant.BlockInvariant.{unsent_of, unread_of}
 use Rattle.poll_close.specs.Invariant.Outlines.{stands, Holds, Standing}
-use Rattle.poll_close.proofs.Windows.{none_left, singles_length, pairs_length}
+use Rattle.poll_close.proofs.Windows.{none_left, singles-length, pairs-length}
 use Rattle.poll_close.proofs.Blocks.{IsBlock, offset_low}
 use Rattle.poll_close.proofs.Outlines.{stands_at, has_ended, nearer}
 use Rattle.poll_close.proofs.Distance.{BlockProgress}
@@ -25,21 +25,21 @@ use Rattle.poll_close.proofs.Standing.{Sender, value_is}
 use Rattle.fastforward.specs.Listing.{fastforward}
 use Rattle.fastforward.specs.FastForward.{fastforward_blocks, fastforward_means, waits, fastforward_ranking}
 use Rattle.fastforward.specs.Invariant.Stores.{null_store, sender_stores, receiver_stores}
-use Rattle.fastforward.specs.Invariant.Numbers.{Numbers, sent, gone, taken, freed, Ordered, Words}
+use Rattle.fastforward.specs.Invariant.Counters.{Counters, sent, gone, taken, freed, CounterInvariant, Words}
 use Rattle.fastforward.specs.Invariant.Sender.{Marked, sender}
 use Rattle.fastforward.proofs.Sender.{fastforward_sender}
 use Rattle.fastforward.proofs.FastForwardLaws.{fastforward_laws, reasons}
 
 -- where nothing is pending all that was stored has landed
-module _ (k : Block) (n : Numbers) (order : Ordered k n) where
+module _ (k : Block) (n : Counters) (order : CounterInvariant k n) where
   pub all_sent : unsent_of fastforward_blocks k n ≡ [] → sent n.sender ≤ gone n.landed
   all_sent none = none_left (sender_stores k) (gone n.landed) (sent n.sender) none
-      (omega (arith, singles_length (slot_store k) (k.base + 4, 1) k.list, order.stored_all, order.marked_one))
+      (omega (arith, singles-length (slot_store k) (k.base + 4, 1) k.list, order.stored_all, order.marked_one))
 
   pub all_read : unread_of fastforward_blocks k n ≡ [] → taken n.receiver ≤ freed n.landed
   all_read none = none_left (receiver_stores k) (freed n.landed) (taken n.receiver) none (omega (
     arith,
-    pairs_length (null_store k) (tail_store k) (k.base + 12, 1) k.list,
+    pairs-length (null_store k) (tail_store k) (k.base + 12, 1) k.list,
     order.tails_nulls,
     order.nulls_slots,
     order.slots_landed,
@@ -48,12 +48,12 @@ module _ (k : Block) (n : Numbers) (order : Ordered k n) where
   ))
 
 -- about to read its slot
-at_10 : (k : Block) (n : Numbers) (s : HartState) → (st : Standing sender k n.sender s) → s.pc ≡ 0x10
+at_10 : (k : Block) (n : Counters) (s : HartState) → (st : Standing sender k n.sender s) → s.pc ≡ 0x10
     → (s ≡ stands sender k 0x10 n.sender st.written) × Holds sender 0x10 k n.sender st.written
 at_10 k n s st is = stands_at sender k n.sender s st 0x10 is (omega arith) (omega arith)
 
 -- a slot that is not empty when all has landed holds a word that the receiver has not taken
-ready : (k : Block) (n : Numbers) (s : HartState) (word : ℕ → ℕ) → IsBlock k → 1 ≤ k.size → Ordered k n
+ready : (k : Block) (n : Counters) (s : HartState) (word : ℕ → ℕ) → IsBlock k → 1 ≤ k.size → CounterInvariant k n
     → Words k n.landed word → Standing sender k n.sender s → s.status ≡ status.Running
     → unsent_of fastforward_blocks k n ≡ [] → unread_of fastforward_blocks k n ≡ [] → waits s word ≡ true
     → n.receiver.tails < n.landed.slots
@@ -85,7 +85,7 @@ ready k n s word is one order words st running none empty wait =
       | inr free ↦ absurd (some (ap word place ∙ words.empty n.sender.stored (omega (arith, order.slots_landed)) (omega (arith, free, order.room))))
     ]
 
-marked : (k : Block) (n : Numbers) (s : HartState) → IsBlock k → Ordered k n → Standing sender k n.sender s
+marked : (k : Block) (n : Counters) (s : HartState) → IsBlock k → CounterInvariant k n → Standing sender k n.sender s
     → runs (Some s) ≡ false → unsent_of fastforward_blocks k n ≡ [] → n.landed.mark ≡ 1
 marked k n s is order st off none =
     let h : Marked k n.sender = has_ended sender k n.sender s st off in

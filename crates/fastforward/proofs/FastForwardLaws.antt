@@ -6,12 +6,12 @@ use Rattle.poll_close.specs.Invariant.Blocks.{Block}
 use Rattle.poll_close.specs.Invariant.SenderState.{SenderRegisters}
 use Rattle.poll_close.proofs.Blocks.{IsBlock, Within, word_of, slot_of}
 use Rattle.poll_close.proofs.BlockLaws.{BlockLaws, Begins, opens_with}
-use Rattle.poll_close.proofs.Outlines.{Right, also, sends}
+use Rattle.poll_close.proofs.Outlines.{Right, and_intro, sends}
 use Rattle.poll_close.proofs.ChannelLaws.{opens, keeps, cleans, goes, stays}
 use Rattle.poll_close.specs.Listing.{words_of}
 use Rattle.fastforward.specs.Listing.{listing, fastforward}
 use Rattle.fastforward.specs.FastForward.{fastforward_blocks, fastforward_means}
-use Rattle.fastforward.specs.Invariant.Numbers.{Numbers, Landed, Ordered, Words}
+use Rattle.fastforward.specs.Invariant.Counters.{Counters, Landed, CounterInvariant, Words}
 use Rattle.fastforward.specs.Invariant.Sender.{sender}
 use Rattle.fastforward.proofs.Means.{receiver_decoded}
 use Rattle.fastforward.proofs.Stores.{sender_stores_are, receiver_stores_are}
@@ -23,7 +23,7 @@ use Rattle.fastforward.proofs.ReceiverActs.{stores_tail, stores_done, reported}
 use Rattle.fastforward.proofs.Receiver as between
 use Rattle.poll_close.specs.Invariant.Outlines.{Reasons}
 
-abbrev nothing : Numbers
+abbrev nothing : Counters
 nothing = record {
   sender = record { asked = 0; stored = 0; marked = 0; seen = 0 };
   receiver = record { tails = 0; done = 0; took = 0; closings = 0; seen = 0; mark = 0; own = 0 };
@@ -51,24 +51,24 @@ words_same : (k : Block) (n : Landed) (word new : ℕ → ℕ) → IsBlock k →
 words_same k n word new is same w = grind (arith, word_of, slot_of)
 
 -- the reason of each row of the sender's outline
-pub reasons : (k : Block) (n : Numbers) (word : ℕ → ℕ) (v : ℕ) (r : SenderRegisters) → IsBlock k → Ordered k n
+pub reasons : (k : Block) (n : Counters) (word : ℕ → ℕ) (v : ℕ) (r : SenderRegisters) → IsBlock k → CounterInvariant k n
     → Words k n.landed word → Reasons (Right fastforward_blocks fastforward_sender k n word v r) sender.rows
 reasons k n word v r is order words =
-    also (row.right_00 k n word v r is order words)
-    (also (row.right_04 k n word v r is order words)
-    (also (row.right_08 k n word v r is order words)
-    (also (row.right_0C k n word v r is order words)
-    (also (row.right_10 k n word v r is order words)
-    (also (row.right_14 k n word v r is order words)
-    (also (row.right_18 k n word v r is order words)
-    (also (row.right_1C k n word v r is order words)
-    (also (row.right_20 k n word v r is order words)
-    (also (row.right_24 k n word v r is order words)
-    (also (row.right_28 k n word v r is order words)
-    (also (row.right_2C k n word v r is order words)
-    (also (row.right_30 k n word v r is order words)
-    (also (row.right_34 k n word v r is order words)
-    (also (row.right_38 k n word v r is order words) tt))))))))))))))
+    and_intro (row.keeps_at_00 k n word v r is order words)
+    (and_intro (row.keeps_at_04 k n word v r is order words)
+    (and_intro (row.keeps_at_08 k n word v r is order words)
+    (and_intro (row.keeps_at_0C k n word v r is order words)
+    (and_intro (row.keeps_at_10 k n word v r is order words)
+    (and_intro (row.keeps_at_14 k n word v r is order words)
+    (and_intro (row.keeps_at_18 k n word v r is order words)
+    (and_intro (row.keeps_at_1C k n word v r is order words)
+    (and_intro (row.keeps_at_20 k n word v r is order words)
+    (and_intro (row.keeps_at_24 k n word v r is order words)
+    (and_intro (row.keeps_at_28 k n word v r is order words)
+    (and_intro (row.keeps_at_2C k n word v r is order words)
+    (and_intro (row.keeps_at_30 k n word v r is order words)
+    (and_intro (row.keeps_at_34 k n word v r is order words)
+    (and_intro (row.keeps_at_38 k n word v r is order words) tt))))))))))))))
 
 pub fastforward_laws : BlockLaws fastforward_blocks
 fastforward_laws = record {
@@ -93,12 +93,12 @@ fastforward_laws = record {
   stores_tail = λ k n order filled on. stores_tail k n order filled on;
   stores_done = λ k n order level all on. stores_done k n order level all on;
   reports = λ k n words closed order level known. reported k n order words closed level known;
-  moves_14 = λ k i count n word r v is order words. between.right_14 k i count n word r v is order words;
+  moves_14 = λ k i count n word r v is order words. between.keeps_at_14 k i count n word r v is order words;
   moves = λ k i count n word r v is order words.
-      also (between.right_18 k i count n word r v is order words)
-      (also (between.right_1C k i count n word r v is order words)
-      (also (between.right_20 k i count n word r v is order words)
-      (also (between.right_24 k i count n word r v is order words) tt)));
+      and_intro (between.keeps_at_18 k i count n word r v is order words)
+      (and_intro (between.keeps_at_1C k i count n word r v is order words)
+      (and_intro (between.keeps_at_20 k i count n word r v is order words)
+      (and_intro (between.keeps_at_24 k i count n word r v is order words) tt)));
 }
 
 pub fastforward_short : AreShort fastforward

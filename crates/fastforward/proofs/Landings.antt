@@ -9,11 +9,11 @@ use Rattle.poll_close.proofs.Blocks.{IsBlock}
 use Rattle.poll_close.proofs.BlockLaws.{Lands}
 use Rattle.fastforward.specs.FastForward.{fastforward_blocks}
 use Rattle.fastforward.specs.Invariant.Stores.{sender_stores, receiver_stores}
-use Rattle.fastforward.specs.Invariant.Numbers.{Numbers, sent, gone, nulls, taken, freed, Ordered, Words}
-use Rattle.fastforward.proofs.Stores.{slots_apart, slot_again, store_word, store_mark, store_null, store_tail, store_done}
+use Rattle.fastforward.specs.Invariant.Counters.{Counters, sent, gone, nulls, taken, freed, CounterInvariant, Words}
+use Rattle.fastforward.proofs.Stores.{slots_apart, slot-again, store_word, store_mark, store_null, store_tail, store_done}
 
 -- a store of the sender
-module _ (k : Block) (is : IsBlock k) (n : Numbers) (order : Ordered k n) (word new : ℕ → ℕ) (words : Words k n.landed word) where
+module _ (k : Block) (is : IsBlock k) (n : Counters) (order : CounterInvariant k n) (word new : ℕ → ℕ) (words : Words k n.landed word) where
   word_lands : n.landed.slots < n.sender.stored
       → IsWrite word new (slot k.size k.base n.landed.slots, slice_index k.list n.landed.slots)
       → Lands fastforward_blocks k n new (suc (gone n.landed)) (freed n.landed)
@@ -91,7 +91,7 @@ module _ (k : Block) (is : IsBlock k) (n : Numbers) (order : Ordered k n) (word 
           mark_lands full waits (is_of (k.base + 4, 1) (store_mark k (gone n.landed) (omega (arith, full, waits, order.marked_one))))
 
 -- a store of the receiver to the block
-module _ (k : Block) (is : IsBlock k) (n : Numbers) (order : Ordered k n) (word new : ℕ → ℕ) (words : Words k n.landed word) where
+module _ (k : Block) (is : IsBlock k) (n : Counters) (order : CounterInvariant k n) (word new : ℕ → ℕ) (words : Words k n.landed word) where
   null_lands : n.landed.nulls ≡ n.landed.tails → n.landed.nulls < nulls n.receiver
       → IsWrite word new (slot k.size k.base n.landed.nulls, 0)
       → Lands fastforward_blocks k n new (gone n.landed) (suc (freed n.landed))
@@ -118,7 +118,7 @@ module _ (k : Block) (is : IsBlock k) (n : Numbers) (order : Ordered k n) (word 
       empty : (j : ℕ) → n.landed.slots ≤ j → j < n.landed.nulls + 1 + k.size
           → (j ≡ n.landed.nulls + k.size) ⊎ (j ≢ n.landed.nulls + k.size) → new (slot k.size k.base j) ≡ 0
       empty j from below (inl round) = hit word new at 0 write (slot k.size k.base j)
-          (sym (ap (slot k.size k.base) round ∙ slot_again k.size k.base n.landed.nulls))
+          (sym (ap (slot k.size k.base) round ∙ slot-again k.size k.base n.landed.nulls))
       empty j from below (inr other) = miss word new at 0 write (slot k.size k.base j)
           (slots_apart k.size k.base n.landed.nulls j is.some_slot (omega (arith, from, some, order.nulls_slots))
           (omega (arith, below, other))) ∙ words.empty j from (omega (arith, below, other))

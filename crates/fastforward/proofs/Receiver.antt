@@ -10,33 +10,33 @@ use Rattle.hart.proofs.Instructions.{IsAt}
 use Rattle.poll_close.specs.Rankings.{runs}
 use Rattle.poll_close.specs.Invariant.Blocks.{Block, offset, slot}
 use Rattle.poll_close.specs.Invariant.ReceiverState.{ReceiverRegisters, whole_of, receiving}
-use Rattle.poll_close.specs.Invariant.BlockMeaning.{Flag, unread_of}
+use Rattle.poll_close.specs.Invariant.BlockInvariant.{Flag, unread_of}
 use Rattle.poll_close.proofs.Lines.{loads, stores, sum_line, load_line, store_line, same_jumps, other_goes_on}
 use Rattle.poll_close.proofs.Blocks.{IsBlock, offset_low, word_of, word_from, slot_of, slot_at}
 use Rattle.poll_close.proofs.BlockLaws.{found_in, Changes, Right_at}
 use Rattle.poll_close.proofs.Distance.{flags, far_off}
 use Rattle.poll_close.proofs.ReceiverMoves as step
 use Rattle.poll_close.specs.Listing.{lines_of}
-use Rattle.fastforward.specs.Listing.{middle, listing}
+use Rattle.fastforward.specs.Listing.{ring_lines, listing}
 use Rattle.fastforward.specs.FastForward.{fastforward_blocks}
-use Rattle.fastforward.specs.Invariant.Numbers.{Numbers, nulls, Ordered, Words}
-use Rattle.fastforward.specs.Invariant.Middle.{Loaded, Empty}
+use Rattle.fastforward.specs.Invariant.Counters.{Counters, nulls, CounterInvariant, Words}
+use Rattle.fastforward.specs.Invariant.RingLines.{Loaded, Empty}
 use Rattle.fastforward.proofs.Means.{receiver_decoded}
 use Rattle.fastforward.proofs.ReceiverReads.{seen_tail, seen_word, seen_none}
 use Rattle.fastforward.proofs.ReceiverActs.{stores_null}
 
-module _ (k : Block) (i count : ℕ) (n : Numbers) (word : ℕ → ℕ) (r : ReceiverRegisters) (v : ℕ) (is : IsBlock k)
-    (order : Ordered k n) (words : Words k n.landed word) where
+module _ (k : Block) (i count : ℕ) (n : Counters) (word : ℕ → ℕ) (r : ReceiverRegisters) (v : ℕ) (is : IsBlock k)
+    (order : CounterInvariant k n) (words : Words k n.landed word) where
   at : (j : ℕ) {instr : Instr} → slice_get (map Some (lines_of listing.receiver)) j ≡ Some (Some instr)
-      → IsAt (receiving middle (whole_of k count) (4 * j) r) instr
-  at j found = step.at_of middle receiver_decoded (whole_of k count) r j found
+      → IsAt (receiving ring_lines (whole_of k count) (4 * j) r) instr
+  at j found = step.at_of ring_lines receiver_decoded (whole_of k count) r j found
 
   abbrev Right_here : ℕ → Type 0
   Right_here here = Right_at fastforward_blocks k i count n word r v here
 
   -- its own tail
-  pub right_14 : Right_here 0x14  -- lw x7,8(x8)
-  right_14 h z =
+  pub keeps_at_14 : Right_here 0x14  -- lw x7,8(x8)
+  keeps_at_14 h z =
       let line = load_line (at 5 refl) (omega (arith, is.even, h.0.visits.base)) refl (omega (arith, is.inside, is.some_slot, h.0.visits.base)) is.small in
       let read : v ≡ offset k n.receiver.tails =
       z.find (k.base + 8) (word_of k is 8 (omega arith) refl) (line.wants ∙ ap (λ b. loads (b + 8)) h.0.visits.base)
@@ -47,8 +47,8 @@ module _ (k : Block) (i count : ℕ) (n : Numbers) (word : ℕ → ℕ) (r : Rec
       (λ rs states idle. (let ended : Bool = (r.x30 == 0) && not (runs (states (r.x22 + 1))) in
       flags 15 16 18 19 ended ended (omega arith) (far_off rs count (r.x22 + 1)) (λ on. on)))
 
-  pub right_18 : Right_here 0x18  -- add x28,x8,x7
-  right_18 h z =
+  pub keeps_at_18 : Right_here 0x18  -- add x28,x8,x7
+  keeps_at_18 h z =
       step.still fastforward_blocks k i count n order r v 0x18 0x1C (record r { x28 = r.x8 + r.x7 }) refl
       (sum_line (at 6 refl)
       (omega (arith, is.inside, is.small, h.0.visits.base, h.1.1, offset_low k is n.receiver.tails)))
@@ -57,8 +57,8 @@ module _ (k : Block) (i count : ℕ) (n : Numbers) (word : ℕ → ℕ) (r : Rec
       flags 14 15 17 18 ended ended (omega arith) (far_off rs count (r.x22 + 1)) (λ on. on)))
 
   -- the slot of the next word: it has landed, or it holds 0; the mark was read before, and so all had landed then
-  pub right_1C : Right_here 0x1C  -- lw x11,16(x28)
-  right_1C h z =
+  pub keeps_at_1C : Right_here 0x1C  -- lw x11,16(x28)
+  keeps_at_1C h z =
       let line = load_line (at 7 refl) (omega (arith, is.even, h.1.1, h.1.2)) refl
       (omega (arith, is.inside, h.1.1, h.1.2, offset_low k is n.receiver.tails)) is.small in
       let read = z.find (slot k.size k.base n.receiver.tails) (slot_of k is n.receiver.tails) (line.wants ∙ ap loads
@@ -106,8 +106,8 @@ module _ (k : Block) (i count : ℕ) (n : Numbers) (word : ℕ → ℕ) (r : Rec
           (sym (read ∙ seen_word k n word order words is h.0.quiet.level h.0.open_yet more) ∙ none))
 
   -- 0 means that nothing is there, since no word is 0
-  pub right_20 : Right_here 0x20  -- beq x11,x0,empty
-  right_20 h z =
+  pub keeps_at_20 : Right_here 0x20  -- beq x11,x0,empty
+  keeps_at_20 h z =
       elim (cases_eq r.x11 0) [
         | inl none ↦ step.still fastforward_blocks k i count n order r v 0x20 0x48 r refl (same_jumps (at 8 refl) none refl) (h.0, empty none h.1.0)
             (λ rs states idle. flags 11 13 14 16 (r.x30 == 0) ((r.x30 == 0) && (r.x11 == 0)) (omega arith)
@@ -127,8 +127,8 @@ module _ (k : Block) (i count : ℕ) (n : Numbers) (word : ℕ → ℕ) (r : Rec
       loaded some (inr h) = h
 
   -- it stores the null
-  pub right_24 : Right_here 0x24  -- sw x0,16(x28)
-  right_24 h z =
+  pub keeps_at_24 : Right_here 0x24  -- sw x0,16(x28)
+  keeps_at_24 h z =
       let low = offset_low k is n.receiver.tails in
       let line = store_line (at 9 refl) (omega (arith, is.even, h.1.1, h.1.2)) refl (omega (arith, is.inside, h.1.1, h.1.2, low)) is.small in
       let place : slot k.size k.base n.receiver.tails ≡ r.x28 + 16 = omega (arith, h.1.1, h.1.2) in

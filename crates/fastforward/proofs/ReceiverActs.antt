@@ -4,12 +4,12 @@ use Rattle.std.proofs.Common.{ℕ, ◌+◌, ◌<◌, ◌≡◌, [], ◌∷◌, l
 use Rattle.poll_close.specs.Invariant.Blocks.{Block, offset, slot}
 use Rattle.poll_close.proofs.BlockLaws.{Changes, Stepped}
 use Rattle.fastforward.specs.FastForward.{fastforward_blocks}
-use Rattle.fastforward.specs.Invariant.Numbers.{Numbers, nulls, taken, Ordered}
-use Rattle.fastforward.specs.Invariant.Middle.{Level, Filled}
+use Rattle.fastforward.specs.Invariant.Counters.{Counters, nulls, taken, CounterInvariant}
+use Rattle.fastforward.specs.Invariant.RingLines.{Level, Filled}
 use Rattle.fastforward.proofs.Stores.{store_null, store_tail, store_done}
 
 -- the receiver's own numbers grow
-module _ (k : Block) (n : Numbers) (order : Ordered k n) where
+module _ (k : Block) (n : Counters) (order : CounterInvariant k n) where
   pub stores_null : Level n.receiver → n.receiver.tails < n.receiver.seen → n.receiver.done ≡ 0
       → Changes fastforward_blocks k n (record n.receiver { own = nulls n.receiver + 1 })
       ((slot k.size k.base n.receiver.tails, 0) ∷ [])

@@ -4,16 +4,16 @@ use Rattle.std.specs.Prelude.{slice_index}
 use Rattle.std.specs.List.{slice_get}
 use Rattle.std.proofs.lemmas.Bool.{cases_lt, cases_eq}
 use Rattle.poll_close.specs.Invariant.Blocks.{Block, offset, slot}
-use Rattle.poll_close.specs.Invariant.BlockMeaning.{unread_of}
+use Rattle.poll_close.specs.Invariant.BlockInvariant.{unread_of}
 use Rattle.poll_close.proofs.Found.{in_memory, none_pending, newest_found, last_found}
 use Rattle.poll_close.proofs.Blocks.{IsBlock}
 use Rattle.poll_close.proofs.BlockLaws.{found_in}
 use Rattle.fastforward.specs.FastForward.{fastforward_blocks}
 use Rattle.fastforward.specs.Invariant.Stores.{receiver_stores}
-use Rattle.fastforward.specs.Invariant.Numbers.{Numbers, nulls, taken, freed, Ordered, Words}
-use Rattle.fastforward.proofs.Stores.{slots_apart, slot_again, store_null, store_tail, store_done, Place, place_at}
+use Rattle.fastforward.specs.Invariant.Counters.{Counters, nulls, taken, freed, CounterInvariant, Words}
+use Rattle.fastforward.proofs.Stores.{slots_apart, slot-again, store_null, store_tail, store_done, Place, place_at}
 
-module _ (k : Block) (n : Numbers) (word : ℕ → ℕ) (order : Ordered k n) (words : Words k n.landed word) where
+module _ (k : Block) (n : Counters) (word : ℕ → ℕ) (order : CounterInvariant k n) (words : Words k n.landed word) where
   pub seen_mark : found_in (unread_of fastforward_blocks k n) word (k.base + 4) ≡ n.landed.mark
   seen_mark = in_memory (receiver_stores k) (freed n.landed) (taken n.receiver) word
       (k.base + 4) (λ t x from below got. differs t x (place_at k t x got)) ∙ words.mark
@@ -113,7 +113,7 @@ module _ (k : Block) (n : Numbers) (word : ℕ → ℕ) (order : Ordered k n) (w
       at (inr far) =
           let round : n.receiver.tails ≡ n.landed.nulls + k.size = omega (arith, far, level, order.nulls_slots, order.slots_landed, order.room) in
           let here : slot k.size k.base n.landed.nulls ≡ slot k.size k.base n.receiver.tails =
-          sym (ap (slot k.size k.base) round ∙ slot_again k.size k.base n.landed.nulls) in
+          sym (ap (slot k.size k.base) round ∙ slot-again k.size k.base n.landed.nulls) in
           let store : slice_get (receiver_stores k) (2 * n.landed.nulls)
           ≡ Some (slot k.size k.base n.receiver.tails, 0) =
           store_null k n.landed.nulls (2 * n.landed.nulls)

@@ -10,8 +10,8 @@ use Rattle.hart.specs.declared.need.Need.TheVariants as need
 use Rattle.hart.proofs.Instructions.{IsAt, exit_need, exit_after}
 use Rattle.poll_close.specs.Invariant.Blocks.{Block, offset, slot}
 use Rattle.poll_close.specs.Invariant.SenderState.{SenderRegisters, fixed, running}
-use Rattle.poll_close.specs.Invariant.BlockMeaning.{unsent_of}
-use Rattle.poll_close.proofs.Lines.{loads, stores, word_plus, add_line, sum_line, load_line, store_line, jump_line}
+use Rattle.poll_close.specs.Invariant.BlockInvariant.{unsent_of}
+use Rattle.poll_close.proofs.Lines.{loads, stores, word-plus, add_line, sum_line, load_line, store_line, jump_line}
 use Rattle.poll_close.proofs.Lines.{same_jumps, other_goes_on, other_jumps, same_goes_on}
 use Rattle.poll_close.proofs.SenderLines.{line_04-word, line_04-none}
 use Rattle.poll_close.proofs.Modulo.{offset_step, offset_wrap}
@@ -24,11 +24,11 @@ use Rattle.poll_close.specs.Listing.{words_of, lines_of}
 use Rattle.fastforward.specs.Listing.{listing}
 use Rattle.fastforward.specs.FastForward.{fastforward_blocks}
 use Rattle.fastforward.specs.Invariant.Stores.{sender_stores}
-use Rattle.fastforward.specs.Invariant.Numbers.{Sent, Numbers, sent, gone, Ordered, Words}
+use Rattle.fastforward.specs.Invariant.Counters.{Sent, Counters, sent, gone, CounterInvariant, Words}
 use Rattle.fastforward.proofs.Means.{sender_decoded}
-use Rattle.fastforward.proofs.Stores.{slots_apart, slot_again, store_word, store_mark, word_at}
+use Rattle.fastforward.proofs.Stores.{slots_apart, slot-again, store_word, store_mark, word_at}
 
-module _ (k : Block) (is : IsBlock k) (n : Numbers) (order : Ordered k n) (word : ℕ → ℕ) (words : Words k n.landed word) where
+module _ (k : Block) (is : IsBlock k) (n : Counters) (order : CounterInvariant k n) (word : ℕ → ℕ) (words : Words k n.landed word) where
   -- a slot whose null is not in memory holds the word of a round before: in memory, or pending
   full_slot : n.sender.marked ≡ 0 → n.sender.stored < length k.list → n.sender.stored ≡ n.landed.nulls + k.size
       → found_in (unsent_of fastforward_blocks k n) word (slot k.size k.base n.sender.stored)
@@ -39,7 +39,7 @@ module _ (k : Block) (is : IsBlock k) (n : Numbers) (order : Ordered k n) (word 
       place = slot k.size k.base n.sender.stored
 
       here : place ≡ slot k.size k.base n.landed.nulls
-      here = ap (slot k.size k.base) round ∙ slot_again k.size k.base n.landed.nulls
+      here = ap (slot k.size k.base) round ∙ slot-again k.size k.base n.landed.nulls
 
       -- no mark is made, so all that is pending are words
       first : gone n.landed ≡ n.landed.slots
@@ -79,7 +79,8 @@ module _ (k : Block) (is : IsBlock k) (n : Numbers) (order : Ordered k n) (word 
 abbrev pub fastforward_sender : Sender fastforward_blocks
 fastforward_sender = record { lines = lines_of listing.sender; decoded = sender_decoded }
 
-module _ (k : Block) (n : Numbers) (word : ℕ → ℕ) (v : ℕ) (r : SenderRegisters) (is : IsBlock k) (order : Ordered k n) (words : Words k n.landed word) where
+module _ (k : Block) (n : Counters) (word : ℕ → ℕ) (v : ℕ) (r : SenderRegisters) (is : IsBlock k)
+    (order : CounterInvariant k n) (words : Words k n.landed word) where
   at : (j : ℕ) {i : Instr} → slice_get (map Some (lines_of listing.sender)) j ≡ Some (Some i)
       → IsAt (running (words_of listing.sender) (fixed k) (4 * j) r (drop n.sender.asked k.list)) i
   at j found = outline.at fastforward_blocks fastforward_sender k n word v r j found
@@ -93,11 +94,11 @@ module _ (k : Block) (n : Numbers) (word : ℕ → ℕ) (v : ℕ) (r : SenderReg
   abbrev Right_at : ℕ → Type 0
   Right_at here = outline.Right_at fastforward_blocks fastforward_sender k n word v r here
 
-  pub right_00 : Right_at 0x00  -- next: addi x17,x0,1
-  right_00 h = still 0x04 (record r { x17 = 1 }) (add_line (at 0 refl) (word_plus 0 1 (lit< tt))) (h.0, h.1, refl) (omega arith)
+  pub keeps_at_00 : Right_at 0x00  -- next: addi x17,x0,1
+  keeps_at_00 h = still 0x04 (record r { x17 = 1 }) (add_line (at 0 refl) (word-plus 0 1 (lit< tt))) (h.0, h.1, refl) (omega arith)
 
-  pub right_04 : Right_at 0x04  -- ecall
-  right_04 h =
+  pub keeps_at_04 : Right_at 0x04  -- ecall
+  keeps_at_04 h =
       elim (cases_lt n.sender.stored (length k.list)) [
         | inl more ↦
             let w : ℕ = slice_index k.list n.sender.asked in
@@ -119,8 +120,8 @@ module _ (k : Block) (n : Numbers) (word : ℕ → ℕ) (v : ℕ) (r : SenderReg
             (λ free. omega arith)
       ]
 
-  pub right_08 : Right_at 0x08  -- beq x11,x0,done
-  right_08 h =
+  pub keeps_at_08 : Right_at 0x08  -- beq x11,x0,done
+  keeps_at_08 h =
       elim h.answer [
         | inl some ↦ still 0x0C r (other_goes_on (at 2 refl) (omega (arith, some.0)))
             (record { taken = some.1; unmarked = h.unmarked; within = some.2; word = some.3; index = h.index })
@@ -128,14 +129,14 @@ module _ (k : Block) (n : Numbers) (word : ℕ → ℕ) (v : ℕ) (r : SenderReg
         | inr all ↦ still 0x2C r (same_jumps (at 2 refl) all.0 refl) (record { taken = all.1; unmarked = h.unmarked }, all.2) (omega (arith, all.0))
       ]
 
-  pub right_0C : Right_at 0x0C  -- add x28,x8,x5
-  right_0C h = still 0x10 (record r { x28 = k.base + r.x5 })
+  pub keeps_at_0C : Right_at 0x0C  -- add x28,x8,x5
+  keeps_at_0C h = still 0x10 (record r { x28 = k.base + r.x5 })
       (sum_line (at 3 refl) (omega (arith, is.inside, is.small, h.index, offset_low k is n.sender.stored))) (h, refl)
       (omega arith)
 
   -- where it reads 0 its slot is free, and it reads 0 where it doesn't wait
-  pub right_10 : Right_at 0x10  -- test: lw x7,16(x28)
-  right_10 h find =
+  pub keeps_at_10 : Right_at 0x10  -- test: lw x7,16(x28)
+  keeps_at_10 h find =
       let place : r.x28 + 16 ≡ slot k.size k.base n.sender.stored = omega (arith, h.1, h.0.index) in
       let line = load_line (at 4 refl) (omega (arith, is.even, h.0.index, h.1)) refl
       (omega (arith, is.inside, h.0.index, h.1, offset_low k is n.sender.stored)) is.small in
@@ -154,8 +155,8 @@ module _ (k : Block) (n : Numbers) (word : ℕ → ℕ) (v : ℕ) (r : SenderReg
       rw zero_is (omega arith))
       find
 
-  pub right_14 : Right_at 0x14  -- bne x7,x0,test
-  right_14 h =
+  pub keeps_at_14 : Right_at 0x14  -- bne x7,x0,test
+  keeps_at_14 h =
       elim (cases_eq r.x7 0) [
         | inl zero_is ↦ still 0x18 r (same_goes_on (at 5 refl) zero_is) (h.0, h.1, h.2 zero_is)
             (let on : (r.x7 == 0) ≡ true = grind (arith, nat_tests) in rw on (omega arith))
@@ -163,8 +164,8 @@ module _ (k : Block) (n : Numbers) (word : ℕ → ℕ) (v : ℕ) (r : SenderReg
             (let off : (r.x7 == 0) ≡ false = grind (arith, nat_tests) in rw off (omega arith))
       ]
 
-  pub right_18 : Right_at 0x18  -- sw x10,16(x28)
-  right_18 h =
+  pub keeps_at_18 : Right_at 0x18  -- sw x10,16(x28)
+  keeps_at_18 h =
       let place : slot k.size k.base n.sender.stored ≡ r.x28 + 16 = omega (arith, h.1, h.0.index) in
       let store : slice_get (sender_stores k) (sent n.sender) ≡ Some (r.x28 + 16, r.x10) =
       store_word k n.sender.stored (sent n.sender) h.0.within (omega (arith, h.0.unmarked))
@@ -178,13 +179,13 @@ module _ (k : Block) (n : Numbers) (word : ℕ → ℕ) (v : ℕ) (r : SenderReg
       (record { between = record { taken = h.0.taken; unmarked = h.0.unmarked }; last = n.sender.stored; next = refl }, h.0.index)
       (λ free. omega arith)
 
-  pub right_1C : Right_at 0x1C  -- addi x5,x5,4
-  right_1C h = still 0x20 (record r { x5 = r.x5 + 4 })
-      (add_line (at 7 refl) (word_plus r.x5 4 (omega (arith, is.inside, is.wide, h.1, offset_low k is h.0.last))))
+  pub keeps_at_1C : Right_at 0x1C  -- addi x5,x5,4
+  keeps_at_1C h = still 0x20 (record r { x5 = r.x5 + 4 })
+      (add_line (at 7 refl) (word-plus r.x5 4 (omega (arith, is.inside, is.wide, h.1, offset_low k is h.0.last))))
       (h.0, ap (λ o. o + 4) h.1) (omega arith)
 
-  pub right_20 : Right_at 0x20  -- bne x5,x9,next
-  right_20 h =
+  pub keeps_at_20 : Right_at 0x20  -- bne x5,x9,next
+  keeps_at_20 h =
       elim (cases_eq r.x5 (4 * k.size)) [
         | inl same ↦ still 0x24 r (same_goes_on (at 8 refl) same) (h.0, sym h.1 ∙ same) (omega arith)
         | inr other ↦ still 0x00 r (other_jumps (at 8 refl) other refl) (
@@ -194,18 +195,18 @@ module _ (k : Block) (n : Numbers) (word : ℕ → ℕ) (v : ℕ) (r : SenderReg
         ) (omega arith)
       ]
 
-  pub right_24 : Right_at 0x24  -- addi x5,x0,0
-  right_24 h = still 0x28 (record r { x5 = 0 }) (add_line (at 9 refl) (word_plus 0 0 (lit< tt)))
+  pub keeps_at_24 : Right_at 0x24  -- addi x5,x0,0
+  keeps_at_24 h = still 0x28 (record r { x5 = 0 }) (add_line (at 9 refl) (word-plus 0 0 (lit< tt)))
       (h.0.between, sym (offset_wrap k.size h.0.last is.some_slot h.1) ∙ ap (offset k) (sym h.0.next)) (omega arith)
 
-  pub right_28 : Right_at 0x28  -- jal x0,next
-  right_28 h = still 0x00 r (jump_line (at 10 refl) refl) h (omega arith)
+  pub keeps_at_28 : Right_at 0x28  -- jal x0,next
+  keeps_at_28 h = still 0x00 r (jump_line (at 10 refl) refl) h (omega arith)
 
-  pub right_2C : Right_at 0x2C  -- done: addi x6,x0,1
-  right_2C h = still 0x30 (record r { x6 = 1 }) (add_line (at 11 refl) (word_plus 0 1 (lit< tt))) (h.0, h.1, refl) (omega arith)
+  pub keeps_at_2C : Right_at 0x2C  -- done: addi x6,x0,1
+  keeps_at_2C h = still 0x30 (record r { x6 = 1 }) (add_line (at 11 refl) (word-plus 0 1 (lit< tt))) (h.0, h.1, refl) (omega arith)
 
-  pub right_30 : Right_at 0x30  -- sw x6,4(x8)
-  right_30 h =
+  pub keeps_at_30 : Right_at 0x30  -- sw x6,4(x8)
+  keeps_at_30 h =
       let store : slice_get (sender_stores k) (sent n.sender) ≡ Some (k.base + 4, r.x6) =
       store_mark k (sent n.sender) (omega (arith, h.0.unmarked, h.1)) ∙ rw h.2 refl in
       goes 0x34 (stores (k.base + 4) r.x6) (record n.sender { marked = 1 }) (λ u. r)
@@ -215,10 +216,10 @@ module _ (k : Block) (n : Numbers) (word : ℕ → ℕ) (v : ℕ) (r : SenderReg
       (record { taken = h.0.taken ∙ h.1; all = h.1; mark = refl })
       (λ free. omega arith)
 
-  pub right_34 : Right_at 0x34  -- addi x17,x0,93
-  right_34 h = still 0x38 (record r { x17 = 93 }) (add_line (at 13 refl) (word_plus 0 93 (lit< tt))) (h, refl) (omega arith)
+  pub keeps_at_34 : Right_at 0x34  -- addi x17,x0,93
+  keeps_at_34 h = still 0x38 (record r { x17 = 93 }) (add_line (at 13 refl) (word-plus 0 93 (lit< tt))) (h, refl) (omega arith)
 
-  pub right_38 : Right_at 0x38  -- ecall
-  right_38 h = goes 0x3C need.Exit n.sender (λ u. r) tt
+  pub keeps_at_38 : Right_at 0x38  -- ecall
+  keeps_at_38 h = goes 0x3C need.Exit n.sender (λ u. r) tt
       (record { wants = exit_need (at 14 refl) h.1; leaves = λ w. exit_after (at 14 refl) h.1 w }) order
       refl h.0 (λ free. omega arith)

@@ -5,7 +5,7 @@ use Rattle.std.specs.List.{slice_get}
 use Rattle.std.proofs.Math.Nat.{add-mod_right}
 use Rattle.poll_close.specs.Invariant.Blocks.{Block, offset, slot, slot_store, tail_store}
 use Rattle.poll_close.proofs.Modulo.{mod_apart}
-use Rattle.poll_close.proofs.Windows.{Each, single_at, single_last, first_at, second_at, pair_last, pair_is, singles_each, pairs_each}
+use Rattle.poll_close.proofs.Windows.{Each, single_at, single_last, first_at, second_at, pair_last, pair_is, singles-each, pairs-each}
 use Rattle.poll_close.proofs.Blocks.{IsBlock, IsStore, offset_small, word_of, slot_of}
 use Rattle.fastforward.specs.Invariant.Stores.{null_store, sender_stores, receiver_stores}
 
@@ -13,8 +13,8 @@ use Rattle.fastforward.specs.Invariant.Stores.{null_store, sender_stores, receiv
 pub slots_apart : (S b i j : ℕ) → 0 < S → i < j → j < i + S → slot S b i ≢ slot S b j
 slots_apart S b i j some less near same = mod_apart S i j some less near (omega arith)
 
-pub slot_again : (S b j : ℕ) → slot S b (j + S) ≡ slot S b j
-slot_again S b j = ap (λ n. b + 16 + 4 * n) (add-mod_right j S)
+pub slot-again : (S b j : ℕ) → slot S b (j + S) ≡ slot S b j
+slot-again S b j = ap (λ n. b + 16 + 4 * n) (add-mod_right j S)
 
 module _ (k : Block) where
   -- the sender's store i is word i, and its last the mark
@@ -53,12 +53,12 @@ module _ (k : Block) where
       ]
 
   pub sender_stores_are : IsBlock k → Each (IsStore k) (sender_stores k)
-  sender_stores_are is = singles_each (IsStore k) (slot_store k) (k.base + 4, 1) k.list
+  sender_stores_are is = singles-each (IsStore k) (slot_store k) (k.base + 4, 1) k.list
       (λ j less. record { place = slot_of k is j; word = is.words j less })
       (record { place = word_of k is 4 (omega arith) refl; word = omega arith })
 
   pub receiver_stores_are : IsBlock k → Each (IsStore k) (receiver_stores k)
-  receiver_stores_are is = pairs_each (IsStore k) (null_store k) (tail_store k) (k.base + 12, 1) k.list (λ j less. (
+  receiver_stores_are is = pairs-each (IsStore k) (null_store k) (tail_store k) (k.base + 12, 1) k.list (λ j less. (
     record { place = slot_of k is j; word = omega arith },
     record { place = word_of k is 8 (omega arith) refl; word = offset_small k is (j + 1) },
   )) (record { place = word_of k is 12 (omega arith) refl; word = omega arith })

@@ -3,25 +3,25 @@ use Rattle.std.specs.Prelude.{ℕ, ◌+◌, ◌==◌, Bool, not, ◌&&◌, slice
 use Rattle.hart.specs.State.{HartState}
 use Rattle.poll_close.specs.Laws.{Meaning}
 use Rattle.poll_close.specs.Rankings.{Ranking}
-use Rattle.poll_close.specs.Invariant.BlockMeaning.{BlockMeaning, ranking_of}
+use Rattle.poll_close.specs.Invariant.BlockInvariant.{BlockInvariant, ranking_of}
 use Rattle.poll_close.specs.Invariant.Channels.{means_by}
-use Rattle.fastforward.specs.Listing.{middle}
+use Rattle.fastforward.specs.Listing.{ring_lines}
 use Rattle.fastforward.specs.Invariant.Stores.{sender_stores, receiver_stores}
-use Rattle.fastforward.specs.Invariant.Numbers.{Landed, sent, gone, taken, freed, Ordered, Words}
+use Rattle.fastforward.specs.Invariant.Counters.{Landed, sent, gone, taken, freed, CounterInvariant, Words}
 use Rattle.fastforward.specs.Invariant.Sender.{sender}
-use Rattle.fastforward.specs.Invariant.Middle.{Level, Filled, rows}
+use Rattle.fastforward.specs.Invariant.RingLines.{Level, Filled, rows}
 
 -- it is about to read its slot, and will find a word there
 abbrev pub waits : HartState → (ℕ → ℕ) → Bool
 waits s word = (s.pc == 0x10) && not (word (slice_index s.registers 28 + 16) == 0)
 
-abbrev pub fastforward_blocks : BlockMeaning
+abbrev pub fastforward_blocks : BlockInvariant
 fastforward_blocks = record {
   sender = sender;
   Own = ℕ;
   Landed = Landed;
   marks = λ n. n.mark;
-  Ordered = Ordered;
+  CounterInvariant = CounterInvariant;
   Words = Words;
   sender_stores = sender_stores;
   receiver_stores = receiver_stores;
@@ -31,7 +31,7 @@ fastforward_blocks = record {
   freed = freed;
   Level = Level;
   Filled = Filled;
-  middle = middle;
+  ring_lines = ring_lines;
   rows = rows;
   waits = waits;
   Ready = λ k n. n.receiver.tails < n.landed.slots;

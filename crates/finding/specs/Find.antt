@@ -9,8 +9,8 @@ use Rattle.litmus.specs.Verdicts.{IsFinished, final_value}
 use Rattle.litmus.specs.declared.verdict.Quantifier.{Quantifier}
 use Rattle.litmus.specs.declared.verdict.Quantifier.TheVariants.{Exists, NotExists, ForAll}
 use Rattle.recorder.specs.Writing.{canon}
-use Rattle.engine_parts.specs.declared.fault.Refusal.{Refusal}
-use Rattle.engine_parts.specs.Tests.{ByTest}
+use Rattle.engine_support.specs.declared.fault.Refusal.{Refusal}
+use Rattle.engine_support.specs.Tests.{ByTest}
 use Rattle.finding.specs.declared.finds.Found.{Found}
 use Rattle.finding.specs.declared.finds.Found.TheVariants.{Shown, NotFound}
 

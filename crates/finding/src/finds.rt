@@ -2,17 +2,17 @@
 
 ghost use Rattle.std.specs.Prelude.{◌≡◌, ◌≤◌, ◌↔◌, IsTrue, IfOk, length};
 ghost use Rattle.std.specs.String.{string_bytes};
-ghost use Rattle.step_machine.specs.Standing.{OfEach};
-ghost use Rattle.engine_parts.specs.Engines.{EndsBy};
-ghost use Rattle.engine_parts.specs.inner.Making.{FindsBy, text_and_value};
+ghost use Rattle.step_machine.specs.Standing.{ForEachHistory};
+ghost use Rattle.engine_support.specs.Engines.{EndsBy};
+ghost use Rattle.engine_support.specs.inner.Making.{FindsByUpToReads, text_and_value};
 ghost use Rattle.finding.specs.Find.{EndsAsWanted, IsFindAnswer, IsFound, Shows};
 ghost use Rattle.litmus.specs.declared.litmus_test.TheConstants.{MAX_LOCATIONS};
 
 use crate::progress::SearchProgress;
 use crate::searching::{Searched, search};
-use engine_parts::fault::Fault;
-use engine_parts::litmus_text::read_test;
-use engine_parts::output::end_with;
+use engine_support::fault::Fault;
+use engine_support::litmus_text::read_test;
+use engine_support::output::end_with;
 use litmus::{Test, Verdict};
 use recorder::{replay_state, write_schedule};
 use std::alloc::{AllocError, Global};
@@ -35,7 +35,7 @@ pub(crate) fn ends_as_wanted<const B: usize, const M: usize>(
 ) -> bool
     requires harts { length machine.now.harts ≡ length test.now.opening.harts }
     requires names { length test.now.names ≤ M }
-    ensures { OfEach B M machine.now (λ t. IsTrue result ↔ EndsAsWanted M test.now t) }
+    ensures { ForEachHistory B M machine.now (λ t. IsTrue result ↔ EndsAsWanted M test.now t) }
 {
     match test.verdict(machine) {
         Verdict::Holds => test.by_exists(),
@@ -101,7 +101,7 @@ fn made<const B: usize, const M: usize, R: Read, P: SearchProgress>(
     requires words { MAX_LOCATIONS ≤ M }
     requires size { M ≤ 65536 }
     requires some_states { 1 ≤ states }
-    ensures { FindsBy (IsFindAnswer B M states) text_and_value (R.remaining file.old) result }
+    ensures { FindsByUpToReads (IsFindAnswer B M states) text_and_value (R.remaining file.old) result }
 {
     let test = read_test(alloc, file)?;
     let answered = answer::<B, M, P>(alloc, &test, states, progress)?;

@@ -133,7 +133,7 @@ fn search_from<const B: usize, const M: usize, P: SearchProgress>(
             way: Some(Vec::new(alloc)),
         });
     }
-    // states from `level_end` on are behind more than `depth` events
+    // states from `level_end` on follow more than `depth` events
     let mut depth = 0;
     let mut level_end = 1;
     for from in 0..limit {

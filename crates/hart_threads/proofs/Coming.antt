@@ -7,7 +7,7 @@ use Rattle.std.proofs.lemmas.List.Elements.{All-nil, All-cons, All-head, All-tai
 use Rattle.std.proofs.lemmas.Slice.Zip.{all_zipped_more}
 use Rattle.std.proofs.lemmas.List.Folds.{list_any-from_Any}
 use Rattle.step_machine.specs.declared.events.Entry.{Entry}
-use Rattle.step_machine.specs.History.{Start}
+use Rattle.step_machine.specs.History.{OpeningValue}
 use Rattle.hart_threads.specs.Seats.{SeatView, Continues}
 use Rattle.hart_threads.specs.Missing.{is_missing, IsFirst, IsComplete, sits_at, acts_for, lands_for}
 use Rattle.hart_threads.specs.Parts.{Fits, Merge}
@@ -120,11 +120,11 @@ harts_within n seats complete k d lt = elim (cases_lt (get_or seats k d).hart n)
 grown : (n : ℕ) (es : List Entry) (s t : SeatView) → Continues n s t → Fits es t → GrowsInto n es s
 grown n es s t on fits = grind arith
 
-pub merged_from : (n : ℕ) (o : Start) (es : List Entry) (given back : List SeatView) → IsComplete (length o.harts) given → AllZip (Continues n) given back → Merge (length o.harts) es back → IsMerged n o es given
+pub merged_from : (n : ℕ) (o : OpeningValue) (es : List Entry) (given back : List SeatView) → IsComplete (length o.harts) given → AllZip (Continues n) given back → Merge (length o.harts) es back → IsMerged n o es given
 merged_from n o es given back complete come merge = record { complete = complete; parts = zip_left (Continues n) (Fits es) (GrowsInto n es) (grown n es) given back come merge.fit }
 
 -- a refusal to gather the seats that come back
-pub fails_from : (B M n : ℕ) (o : Start) (given back : List SeatView) (e : Gather) → IsComplete (length o.harts) given → AllZip (Continues n) given back → Refuses B M o back e → Fails B M n o given (fault_of e)
+pub fails_from : (B M n : ℕ) (o : OpeningValue) (given back : List SeatView) (e : Gather) → IsComplete (length o.harts) given → AllZip (Continues n) given back → Refuses B M o back e → Fails B M n o given (fault_of e)
 fails_from B M n o given back gather.NoMemory complete come why = complete
 fails_from B M n o given back (gather.Missing h) complete come why =
     absurd (true≢false (sym why.here ∙ same_missing n (length o.harts) h given back come ∙ complete h))

@@ -5,7 +5,7 @@ use Rattle.std.specs.List.{Contains}
 use Rattle.std.proofs.lemmas.Bool.{cases_lt}
 use Rattle.std.proofs.lemmas.List.Elements.{All-nil, All-cons, All-append, All-contains, Contains-append_left, Contains-append_right}
 use Rattle.step_machine.specs.declared.events.Entry.{Entry}
-use Rattle.step_machine.specs.History.{Start, History}
+use Rattle.step_machine.specs.History.{OpeningValue, History}
 use Rattle.hart_threads.specs.Seats.{SeatView, acting_seat, landing_seat, seats_below, seats_of}
 use Rattle.hart_threads.specs.Parts.{part_of}
 use Rattle.hart_threads.specs.GettingOn.{OpensAs, AtMost}
@@ -16,14 +16,14 @@ use Rattle.hart_threads.specs.Returns.{GrowsInto, IsMerged}
 later : (h n : ℕ) → h < suc n → (h < n) ⊎ (h ≡ n)
 later h n lt = grind (arith, cases_lt)
 
-acting_below : (M : ℕ) (o : Start) (n h : ℕ) → h < n → Contains (seats_below M o n) (acting_seat M o h)
+acting_below : (M : ℕ) (o : OpeningValue) (n h : ℕ) → h < n → Contains (seats_below M o n) (acting_seat M o h)
 acting_below M o zero h lt = absurd (omega arith)
 acting_below M o (suc n) h lt = elim (later h n lt) [
   | inl less ↦ Contains-append_left (seats_below M o n) (acting_seat M o n ∷ landing_seat n ∷ []) (acting_seat M o h) (acting_below M o n h less)
   | inr is ↦ Contains-append_right (seats_below M o n) (acting_seat M o n ∷ landing_seat n ∷ []) (acting_seat M o h) (0, omega arith, ap (acting_seat M o) (sym is))
 ]
 
-landing_below : (M : ℕ) (o : Start) (n h : ℕ) → h < n → Contains (seats_below M o n) (landing_seat h)
+landing_below : (M : ℕ) (o : OpeningValue) (n h : ℕ) → h < n → Contains (seats_below M o n) (landing_seat h)
 landing_below M o zero h lt = absurd (omega arith)
 landing_below M o (suc n) h lt = elim (later h n lt) [
   | inl less ↦ Contains-append_left (seats_below M o n) (acting_seat M o n ∷ landing_seat n ∷ []) (landing_seat h) (landing_below M o n h less)
@@ -35,9 +35,9 @@ landing_below M o (suc n) h lt = elim (later h n lt) [
 short : (n : ℕ) (es : List Entry) (s : SeatView) → s.diary ≡ [] → GrowsInto n es s → length (part_of s es) ≤ n
 short n es s none grows = grind arith
 
-pub fresh_few : (n M : ℕ) (o : Start) (seats : List SeatView) (t : History) → seats ≡ seats_of M o → t.opening ≡ o → IsMerged n o t.entries seats → AtMost n t
+pub fresh_few : (n M : ℕ) (o : OpeningValue) (seats : List SeatView) (t : History) → seats ≡ seats_of M o → t.opening ≡ o → IsMerged n o t.entries seats → AtMost n t
 fresh_few n M o seats t fresh opening merge h lt =
-    let low : h < length o.harts = subst (λ (x : Start). h < length x.harts) opening lt in
+    let low : h < length o.harts = subst (λ (x : OpeningValue). h < length x.harts) opening lt in
     let all : All (GrowsInto n t.entries) (seats_of M o) = subst (All (GrowsInto n t.entries)) fresh merge.parts in (
       short n t.entries (acting_seat M o h) refl (All-contains (GrowsInto n t.entries) (seats_of M o) (acting_seat M o h) all (acting_below M o (length o.harts) h low)),
       short n t.entries (landing_seat h) refl (All-contains (GrowsInto n t.entries) (seats_of M o) (landing_seat h) all (landing_below M o (length o.harts) h low)),
@@ -45,12 +45,12 @@ fresh_few n M o seats t fresh opening merge h lt =
 
 -- ---- and each acting one opens as its hart
 
-opens_below : (M : ℕ) (o : Start) (n : ℕ) → All (OpensAs M o) (seats_below M o n)
+opens_below : (M : ℕ) (o : OpeningValue) (n : ℕ) → All (OpensAs M o) (seats_below M o n)
 opens_below M o zero = All-nil (OpensAs M o)
 opens_below M o (suc n) =
     All-append (OpensAs M o) (seats_below M o n) (acting_seat M o n ∷ landing_seat n ∷ []) (opens_below M o n)
     (All-cons (OpensAs M o) (acting_seat M o n) (landing_seat n ∷ []) (λ acts. refl)
     (All-cons (OpensAs M o) (landing_seat n) [] (λ acts. absurd (cc)) (All-nil (OpensAs M o))))
 
-pub fresh_opens : (M : ℕ) (o : Start) (seats : List SeatView) → seats ≡ seats_of M o → All (OpensAs M o) seats
+pub fresh_opens : (M : ℕ) (o : OpeningValue) (seats : List SeatView) → seats ≡ seats_of M o → All (OpensAs M o) seats
 fresh_opens M o seats fresh = subst (All (OpensAs M o)) (sym fresh) (opens_below M o (length o.harts))

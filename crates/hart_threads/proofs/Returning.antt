@@ -6,7 +6,7 @@ use Rattle.std.proofs.lemmas.List.{get_or-map, length-map}
 use Rattle.std.proofs.lemmas.List.Elements.{All-map, All-contains}
 use Rattle.hart.specs.State.{HartState}
 use Rattle.step_machine.specs.declared.events.Entry.{Entry}
-use Rattle.step_machine.specs.History.{HartStart, Start, History}
+use Rattle.step_machine.specs.History.{HartOpeningValue, OpeningValue, History}
 use Rattle.step_machine.specs.Entries.{own}
 use Rattle.step_machine.specs.Paths.{after_entries, opens_as, state_of}
 use Rattle.hart_threads.specs.Seats.{SeatView, AsksBank, Continues, state_in}
@@ -34,7 +34,7 @@ abbrev Went : ℕ → SeatView → Type 0
 Went n t = t.acts ≡ true → GotThere n t
 
 -- a seat that opened as its hart, and whose diary is its part of the entries
-abbrev OpensInto : ℕ → Start → List Entry → SeatView → Type 0
+abbrev OpensInto : ℕ → OpeningValue → List Entry → SeatView → Type 0
 OpensInto M o es t = OpensAs M o t × Fits es t
 
 abbrev WentInto : ℕ → ℕ → History → SeatView → Type 0
@@ -63,7 +63,7 @@ module _ (M : ℕ) (t : History) (h : ℕ) (s : SeatView) (acts : s.acts ≡ tru
       at (slice_get t.opening.harts h) (subst (λ (f : Option HartState). IsSomeAnd (option_map (λ s. after_entries s es) f) P)
       (into.0 acts ∙ ap (λ k. option_map (opens_as M) (slice_get t.opening.harts k)) hart) some)
     where
-      at : (so : Option HartStart) → IsSomeAnd (option_map (λ f. after_entries f es) (option_map (opens_as M) so)) P → IsSomeAnd (option_map (λ o. after_entries (opens_as M o) es) so) P
+      at : (so : Option HartOpeningValue) → IsSomeAnd (option_map (λ f. after_entries f es) (option_map (opens_as M) so)) P → IsSomeAnd (option_map (λ o. after_entries (opens_as M o) es) so) P
       at None some = some
       at (Some o) some = some
 
@@ -92,16 +92,16 @@ module _ {R : Type 0} (seat : R → SeatView) (ending_of : R → Ending) (calls_
   Asked r = (seat r).acts ≡ true → ending_of r ≡ ending.NoHart → IsSomeAnd (state_in (seat r)) AsksBank
 
   -- each opens as its hart, and its diary is its part
-  all_into : (M : ℕ) (o : Start) (t : History) → t.opening ≡ o → All (OpensAs M o) given → Merge (length o.harts) t.entries (map seat back)
+  all_into : (M : ℕ) (o : OpeningValue) (t : History) → t.opening ≡ o → All (OpensAs M o) given → Merge (length o.harts) t.entries (map seat back)
       → All (OpensInto M t.opening t.entries) (map seat back)
   all_into M o t opening opens merge k d low =
       let all : All (OpensAs M o) (map seat back) = zip_right (Continues n) (OpensAs M o) (OpensAs M o) (λ s t on. subst (OpensAs M o) (sym on.is)) given (map seat back) came opens in
-      (subst (λ (x : Start). OpensAs M x (get_or (map seat back) k d)) (sym opening) (all k d low), merge.fit k d low)
+      (subst (λ (x : OpeningValue). OpensAs M x (get_or (map seat back) k d)) (sym opening) (all k d low), merge.fit k d low)
 
-  pub all_get_on : (M : ℕ) (o : Start) (t : History) → t.opening ≡ o → unheld → All (OpensAs M o) given → All (λ r. ending_of r ≡ ending.NoMemory → ⊥) back
+  pub all_get_on : (M : ℕ) (o : OpeningValue) (t : History) → t.opening ≡ o → unheld → All (OpensAs M o) given → All (λ r. ending_of r ≡ ending.NoMemory → ⊥) back
       → All (λ r. (seat r).acts ≡ true → ending_of r ≡ ending.NoHart → ⊥) back → Merge (length o.harts) t.entries (map seat back) → AllGetOn n M t
   all_get_on M o t opening is_open opens found served merge h lt =
-      at (its_acting (WentInto n M t) (length o.harts) h (map seat back) merge.complete (subst (λ (x : Start). h < length x.harts) opening lt) both)
+      at (its_acting (WentInto n M t) (length o.harts) h (map seat back) merge.complete (subst (λ (x : OpeningValue). h < length x.harts) opening lt) both)
     where
       each : All Served back
       each = zip_right (λ (s : SeatView) (r : R). Ran unheld n s (ending_of r) (calls_of r) (seat r)) (OpensAs M o) Served
@@ -127,7 +127,7 @@ module _ {R : Type 0} (seat : R → SeatView) (ending_of : R → Ending) (calls_
       subst (λ (x : ℕ). x < k) least.bad.2 (All-contains (λ (r : R). (seat r).hart < k) back least.bad.0 within least.bad.1)
 
   -- and where it opened as its hart, that asks the bank
-  pub lost_asks : (M : ℕ) (o : Start) (t : History) (h : ℕ) (Good : R → Type 0) → t.opening ≡ o
+  pub lost_asks : (M : ℕ) (o : OpeningValue) (t : History) (h : ℕ) (Good : R → Type 0) → t.opening ≡ o
       → IsLeast (λ r. (seat r).hart) Good (λ r. ((seat r).acts ≡ true) × (ending_of r ≡ ending.NoHart)) back h
       → Merge (length o.harts) t.entries (map seat back) → All (OpensAs M o) given → IsSomeAnd (state_of M t h) AsksBank
   lost_asks M o t h Good opening least merge opens =

@@ -4,7 +4,7 @@ use Rattle.std.specs.List.{slice_get}
 use Rattle.hart.specs.Steps.{need_of}
 use Rattle.hart.specs.declared.status.Status.TheVariants as status
 use Rattle.step_machine.specs.declared.events.Entry.{Entry}
-use Rattle.step_machine.specs.History.{Start, History}
+use Rattle.step_machine.specs.History.{OpeningValue, History}
 use Rattle.step_machine.specs.Entries.{own}
 use Rattle.step_machine.specs.Paths.{after_entries, opens_as, state_of}
 use Rattle.step_machine.specs.Banks.{is_over}
@@ -29,7 +29,7 @@ abbrev pub AllGetOn : ℕ → ℕ → History → Type 0
 AllGetOn n M t = (h : ℕ) → h < length t.opening.harts → GetsOn n M t h
 
 -- the state in which an acting seat's hart opened is that of this opening
-abbrev pub OpensAs : ℕ → Start → SeatView → Type 0
+abbrev pub OpensAs : ℕ → OpeningValue → SeatView → Type 0
 OpensAs M o s = s.acts ≡ true → s.first ≡ option_map (opens_as M) (slice_get o.harts s.hart)
 
 -- each hart makes at most n entries of its own, and at most n of its stores land

@@ -2,7 +2,7 @@
 use Rattle.std.specs.Prelude.{ℕ, ◌≡◌, ◌≤◌, ◌<◌, ◌⊎◌, List, ◌++◌, length, All, IsSomeAnd}
 use Rattle.std.specs.List.{AllZip}
 use Rattle.step_machine.specs.declared.events.Entry.{Entry}
-use Rattle.step_machine.specs.History.{Start}
+use Rattle.step_machine.specs.History.{OpeningValue}
 use Rattle.step_machine.specs.Paths.{state_of}
 use Rattle.poll_close.specs.Layout.{Layout, dense}
 use Rattle.poll_close.specs.Laws.{Ring, opening_over, AcceptedAt}
@@ -29,14 +29,14 @@ pub record GrowsInto (n : ℕ) (es : List Entry) (s : SeatView) : Type 0 where
   pub few : length more ≤ n
 
 -- each hart has its two seats, and each seat's diary grows by at most n entries into its part
-pub record IsMerged (n : ℕ) (o : Start) (es : List Entry) (given : List SeatView) : Type 0 where
+pub record IsMerged (n : ℕ) (o : OpeningValue) (es : List Entry) (given : List SeatView) : Type 0 where
   pub complete : IsComplete (length o.harts) given
   pub parts : All (GrowsInto n es) given
 
 -- An act of hart h, one of the opening's, found no such hart in the bank, though the seats make a record. What a
 -- contract can say of that is in the record: at its end hart h is over or asks for memory next. That no lesser
 -- hart was lost isn't in it, since no contract sees what the bank answered.
-pub record IsLost (B M n : ℕ) (o : Start) (given : List SeatView) (h : ℕ) : Type 0 where
+pub record IsLost (B M n : ℕ) (o : OpeningValue) (given : List SeatView) (h : ℕ) : Type 0 where
   pub within : h < length o.harts
   pub made : Record B M
   pub record_of : IsRecord B M o made
@@ -45,7 +45,7 @@ pub record IsLost (B M n : ℕ) (o : Start) (given : List SeatView) (h : ℕ) : 
 
 -- The seats are all there. They come back, each with at most n entries more in its diary, and gathering those is
 -- refused: of hart h, the least such hart, a diary doesn't belong to these memory entries.
-pub record IsMismatched (B M n : ℕ) (o : Start) (given : List SeatView) (h : ℕ) (us : List Entry) : Type 0 where
+pub record IsMismatched (B M n : ℕ) (o : OpeningValue) (given : List SeatView) (h : ℕ) (us : List Entry) : Type 0 where
   pub complete : IsComplete (length o.harts) given
   pub within : h < length o.harts
   pub back : List SeatView
@@ -53,7 +53,7 @@ pub record IsMismatched (B M n : ℕ) (o : Start) (given : List SeatView) (h : �
   pub refused : IsMismatch B M o back h us
 
 -- why there is no record after n turns or less; where a seat is missing, that is the answer
-abbrev pub Fails : ℕ → ℕ → ℕ → Start → List SeatView → Fault → Type 0
+abbrev pub Fails : ℕ → ℕ → ℕ → OpeningValue → List SeatView → Fault → Type 0
 Fails B M n o given fault.NoMemory = IsComplete (length o.harts) given
 Fails B M n o given fault.NoThread = IsComplete (length o.harts) given
 Fails B M n o given (fault.Missing h) = IsFirst (is_missing (length o.harts) given) h ⊎ IsLost B M n o given h
@@ -63,7 +63,7 @@ Fails B M n o given (fault.Mismatch h es) = IsMismatched B M n o given h es.item
 
 -- why threads over an opening, with seats that have done nothing, give no record and no reports after n turns
 -- or less
-abbrev pub RecordFails : ℕ → ℕ → ℕ → Start → ChannelFault → Type 0
+abbrev pub RecordFails : ℕ → ℕ → ℕ → OpeningValue → ChannelFault → Type 0
 RecordFails B M n o (channel.Lists refused) = refused ≡ NoMemory
 RecordFails B M n o (channel.Threads fault) = Fails B M n o (seats_of M o) fault
 

@@ -28,7 +28,7 @@ impl Ended {
         }
     }
 
-    /// Whether it has ended.
+    /// Whether the hart's thread has ended, as that of a hart that isn't there has.
     pub(crate) fn has(&self, hart: u32) -> bool {
         match self.threads.get(hart as usize) {
             Some(thread) => thread.load(Ordering::SeqCst),

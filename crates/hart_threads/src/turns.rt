@@ -1,4 +1,13 @@
-//! What one thread does with its seat.
+//! What one thread does with its seat, and how it ends.
+//!
+//! A hart's thread asks its gate before each turn, and ends as [`Ending::HeldBack`] where the gate answers false. A
+//! lander has no gate, so it never ends so: that is its clause `free`. Else a thread ends by what its last call
+//! answered, or once its turns are done.
+//!
+//! The clauses' words are in `specs/inner/Threads.antt`. `IsEnding n e calls`: a thread with n turns ends as e after
+//! these calls. `GotOn n s t`: from seat s to seat t the hart did n instructions, or is over, or came to one that may
+//! have to wait. `WhereDone e P`: P holds unless e is for want of memory or of the hart in the bank. `ActsAlone`: what
+//! needs no memory is done whatever the bank answers. `Ran` is what a whole thread makes of its seat.
 
 ghost use Rattle.std.specs.Prelude.{◌≡◌, ◌<◌, ◌≤◌, ◌+◌, ◌-◌, ◌^◌, true, false, IfOk, IsSomeAnd};
 ghost use Rattle.hart_threads.specs.Seats.{SeatView, Answers, AsksBank, Continues, Notes, state_in};
@@ -21,14 +30,18 @@ const CALLS_AT_ONCE: u32 = 1024;
 /// How often a lander yields at most after a call that found nothing to land.
 const MOST_YIELDS: u32 = 16;
 
-/// How a thread ended: held back by its gate; at its hart's end; after its turns; since the bank has no such
-/// hart; or for want of memory.
+/// How a thread ended.
 #[derive(Clone, Copy, PartialEq, Eq)]
 pub(crate) enum Ending {
+    /// The gate answered false before a turn.
     HeldBack,
+    /// The last call answered that the hart is over.
     Over,
+    /// It made as many calls as it had turns.
     TurnsDone,
+    /// The last call found no such hart in the bank.
     NoHart,
+    /// The last call found no memory.
     NoMemory,
 }
 

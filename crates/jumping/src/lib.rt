@@ -1,16 +1,42 @@
-//! Generators that can jump over words that nobody draws.
+//! Generators that can jump over words that nobody draws, and which runs they draw ([`Runs`]).
 //!
 //! The contract: [`Jump::ahead`] returns a generator whose stream is what is left of this one's after so
-//! many words of 32 bits. This crate draws no event and knows no schedule.
+//! many words of 32 bits, and [`first_run`] shares runs among jobs. This crate draws no event and knows no
+//! schedule.
 
 #![tactic(auto)]
 
-ghost use Rattle.std.specs.Prelude.{◌≡◌, ◌*◌, IfOk};
+ghost use Rattle.std.specs.Prelude.{◌≡◌, ◌≤◌, ◌*◌, IfOk};
 ghost use Rattle.recorder.specs.Drawing.{left_after};
+ghost use Rattle.jumping.specs.Sharing.{first_of};
 
 use rand_core::Rng;
 use rand_pcg::Lcg64Xsh32;
 use std::alloc::AllocError;
+
+/// Which runs a generator draws, and how they are spread.
+#[derive(Clone, Copy)]
+pub struct Runs {
+    /// How many runs of the stream are passed over.
+    pub skip: u64,
+    /// How many runs after them are made.
+    pub number: u32,
+    /// How many events each run has, passed over or made.
+    pub length: u32,
+    /// How many threads share the runs, where 0 is one. The answer doesn't depend on it.
+    pub jobs: u32,
+}
+
+/// How many runs come before those of a job. No job has more than one run more than another.
+pub fn first_run(runs: u32, jobs: usize, job: usize) -> u32
+    requires some { 1 ≤ jobs }
+    requires most { jobs ≤ 4294967295 }
+    requires job { job ≤ jobs }
+    ensures place { result ≡ first_of runs jobs job }
+    ensures most { result ≤ runs }
+{
+    (u64::from(runs) * job as u64 / jobs as u64) as u32
+}
 
 /// A generator that can jump over words of 32 bits.
 pub trait Jump: Rng + Sized {

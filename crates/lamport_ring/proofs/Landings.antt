@@ -8,15 +8,16 @@ use Rattle.poll_close.proofs.Writes.{IsWrite, hit, miss, same_write}
 use Rattle.lamport_ring.specs.Invariant.Stores.{sender_stores, receiver_stores}
 use Rattle.lamport_ring.proofs.Stores.{store_slot, store_head, store_mark, store_tail, store_done}
 use Rattle.poll_close.specs.Invariant.Blocks.{Block, offset, slot}
-use Rattle.lamport_ring.specs.Invariant.Numbers.{Numbers, sent, gone, freed, taken, Ordered, Words}
+use Rattle.lamport_ring.specs.Invariant.Counters.{Counters, sent, gone, freed, taken, CounterInvariant, Words}
 use Rattle.poll_close.proofs.Blocks.{IsBlock}
 use Rattle.poll_close.proofs.BlockLaws.{Lands}
-use Rattle.lamport_ring.specs.Lamport.{lamport_blocks}
+use Rattle.lamport_ring.specs.Invariant.Programs.{Program, blocks_of}
 
-module _ (k : Block) (is : IsBlock k) (n : Numbers) (order : Ordered k n) (word new : ℕ → ℕ) (words : Words k n.landed word) where
+module _ (p : Program) (k : Block) (is : IsBlock k) (n : Counters) (order : CounterInvariant k n) (word new : ℕ → ℕ)
+    (words : Words k n.landed word) where
   slot_lands : n.landed.slots ≡ n.landed.heads → n.landed.heads < length k.list → gone n.landed < sent n.sender
       → IsWrite word new (slot k.size k.base n.landed.slots, slice_index k.list n.landed.slots)
-      → Lands lamport_blocks k n new (suc (gone n.landed)) (freed n.landed)
+      → Lands (blocks_of p) k n new (suc (gone n.landed)) (freed n.landed)
   slot_lands even more some write =
       record {
         after = record n.landed { slots = n.landed.slots + 1 };
@@ -53,7 +54,7 @@ module _ (k : Block) (is : IsBlock k) (n : Numbers) (order : Ordered k n) (word 
 
   head_lands : n.landed.slots ≡ n.landed.heads + 1 → gone n.landed < sent n.sender
       → IsWrite word new (k.base, offset k (n.landed.heads + 1))
-      → Lands lamport_blocks k n new (suc (gone n.landed)) (freed n.landed)
+      → Lands (blocks_of p) k n new (suc (gone n.landed)) (freed n.landed)
   head_lands odd more write =
       record {
         after = record n.landed { heads = n.landed.heads + 1 };
@@ -86,7 +87,7 @@ module _ (k : Block) (is : IsBlock k) (n : Numbers) (order : Ordered k n) (word 
       )
 
   mark_lands : n.landed.heads ≡ length k.list → gone n.landed < sent n.sender → IsWrite word new (k.base + 4, 1)
-      → Lands lamport_blocks k n new (suc (gone n.landed)) (freed n.landed)
+      → Lands (blocks_of p) k n new (suc (gone n.landed)) (freed n.landed)
   mark_lands all more write =
       record {
         after = record n.landed { mark = n.landed.mark + 1 };
@@ -110,7 +111,7 @@ module _ (k : Block) (is : IsBlock k) (n : Numbers) (order : Ordered k n) (word 
       one = omega (arith, room, order.marked_one)
 
   tail_lands : n.landed.tails < n.receiver.tails → IsWrite word new (k.base + 8, offset k (n.landed.tails + 1))
-      → Lands lamport_blocks k n new (gone n.landed) (suc (freed n.landed))
+      → Lands (blocks_of p) k n new (gone n.landed) (suc (freed n.landed))
   tail_lands more write =
       record {
         after = record n.landed { tails = n.landed.tails + 1 };
@@ -130,7 +131,7 @@ module _ (k : Block) (is : IsBlock k) (n : Numbers) (order : Ordered k n) (word 
       w = offset k (n.landed.tails + 1)
 
   done_lands : n.landed.tails ≡ length k.list → n.landed.done < n.receiver.done → IsWrite word new (k.base + 12, 1)
-      → Lands lamport_blocks k n new (gone n.landed) (suc (freed n.landed))
+      → Lands (blocks_of p) k n new (gone n.landed) (suc (freed n.landed))
   done_lands all more write =
       record {
         after = record n.landed { done = n.landed.done + 1 };
@@ -151,7 +152,7 @@ module _ (k : Block) (is : IsBlock k) (n : Numbers) (order : Ordered k n) (word 
 
   -- whichever of the sender's stores is the oldest pending one, it lands
   pub sender_lands : (x : ℕ × ℕ) → gone n.landed < sent n.sender → slice_get (sender_stores k) (gone n.landed) ≡ Some x
-      → IsWrite word new x → Lands lamport_blocks k n new (suc (gone n.landed)) (freed n.landed)
+      → IsWrite word new x → Lands (blocks_of p) k n new (suc (gone n.landed)) (freed n.landed)
   sender_lands x more oldest write = at (cases_lt n.landed.heads (length k.list)) (cases_eq n.landed.slots n.landed.heads)
     where
       is_of : (y : ℕ × ℕ) → slice_get (sender_stores k) (gone n.landed) ≡ Some y → IsWrite word new y
@@ -162,7 +163,7 @@ module _ (k : Block) (is : IsBlock k) (n : Numbers) (order : Ordered k n) (word 
 
       at : (n.landed.heads < length k.list) ⊎ (length k.list ≤ n.landed.heads)
           → (n.landed.slots ≡ n.landed.heads) ⊎ (n.landed.slots ≢ n.landed.heads)
-          → Lands lamport_blocks k n new (suc (gone n.landed)) (freed n.landed)
+          → Lands (blocks_of p) k n new (suc (gone n.landed)) (freed n.landed)
       at (inl some) (inl even) =
           slot_lands even some more (is_of (slot k.size k.base n.landed.slots, slice_index k.list n.landed.slots)
           (store_slot k n.landed.slots (gone n.landed) (omega arith) (omega (arith, unmarked some))))
@@ -187,7 +188,7 @@ module _ (k : Block) (is : IsBlock k) (n : Numbers) (order : Ordered k n) (word 
           )
 
   pub receiver_lands : (x : ℕ × ℕ) → freed n.landed < taken n.receiver → slice_get (receiver_stores k) (freed n.landed) ≡ Some x
-      → IsWrite word new x → Lands lamport_blocks k n new (gone n.landed) (suc (freed n.landed))
+      → IsWrite word new x → Lands (blocks_of p) k n new (gone n.landed) (suc (freed n.landed))
   receiver_lands x more oldest write = at (cases_lt n.landed.tails n.receiver.tails)
     where
       is_of : (y : ℕ × ℕ) → slice_get (receiver_stores k) (freed n.landed) ≡ Some y → IsWrite word new y
@@ -199,7 +200,7 @@ module _ (k : Block) (is : IsBlock k) (n : Numbers) (order : Ordered k n) (word 
       not_done : n.landed.tails < n.receiver.tails → n.landed.done ≡ 0
       not_done some = grind (arith, order.all_landed, within)
 
-      at : (n.landed.tails < n.receiver.tails) ⊎ (n.receiver.tails ≤ n.landed.tails) → Lands lamport_blocks k n new (gone n.landed) (suc (freed n.landed))
+      at : (n.landed.tails < n.receiver.tails) ⊎ (n.receiver.tails ≤ n.landed.tails) → Lands (blocks_of p) k n new (gone n.landed) (suc (freed n.landed))
       at (inl some) = tail_lands some (is_of (k.base + 8, offset k (n.landed.tails + 1))
           (store_tail k n.landed.tails (freed n.landed) (omega (arith, within)) (omega (arith, not_done some))))
       at (inr none) =

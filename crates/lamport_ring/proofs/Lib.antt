@@ -2,7 +2,9 @@ pub mod Means
 pub mod Stores
 pub mod Landings
 pub mod ReceiverReads
+pub mod SenderSteps
 pub mod Sender
 pub mod Receiver
-pub mod LamportLaws
+pub mod Laws
 pub mod Falling
+pub mod LamportLaws

@@ -11,7 +11,7 @@ use Rattle.poll_close.specs.Reports.{taken}
 use Rattle.poll_close.specs.Rankings.{runs}
 use Rattle.poll_close.specs.Invariant.Blocks.{Block, offset, slot}
 use Rattle.poll_close.specs.Invariant.ReceiverState.{ReceiverRegisters, whole_of, receiving}
-use Rattle.poll_close.specs.Invariant.BlockMeaning.{Flag}
+use Rattle.poll_close.specs.Invariant.BlockInvariant.{Flag}
 use Rattle.poll_close.proofs.Lines.{loads, sum_line, load_line, same_jumps, other_goes_on}
 use Rattle.poll_close.proofs.Modulo.{same_offset}
 use Rattle.poll_close.proofs.Blocks.{IsBlock, offset_low, base_word, word_of, word_from, slot_of, slot_at}
@@ -19,29 +19,29 @@ use Rattle.poll_close.proofs.BlockLaws.{Right_at}
 use Rattle.poll_close.proofs.Distance.{flags, far_off}
 use Rattle.poll_close.proofs.ReceiverMoves as step
 use Rattle.poll_close.specs.Listing.{lines_of}
-use Rattle.lamport_ring.specs.Listing.{middle, listing}
-use Rattle.lamport_ring.specs.Lamport.{lamport_blocks}
-use Rattle.lamport_ring.specs.Invariant.Numbers.{Numbers, Ordered, Words}
+use Rattle.lamport_ring.specs.Listing.{ring_lines, listing}
+use Rattle.lamport_ring.specs.Invariant.Programs.{Program, blocks_of}
+use Rattle.lamport_ring.specs.Invariant.Counters.{Counters, CounterInvariant, Words}
 use Rattle.lamport_ring.proofs.Means.{receiver_decoded}
 use Rattle.lamport_ring.proofs.ReceiverReads.{seen_head, seen_tail, seen_slot}
 
-module _ (k : Block) (i count : ℕ) (n : Numbers) (word : ℕ → ℕ) (r : ReceiverRegisters) (v : ℕ) (is : IsBlock k)
-    (order : Ordered k n) (words : Words k n.landed word) where
+module _ (p : Program) (k : Block) (i count : ℕ) (n : Counters) (word : ℕ → ℕ) (r : ReceiverRegisters) (v : ℕ) (is : IsBlock k)
+    (order : CounterInvariant k n) (words : Words k n.landed word) where
   at : (j : ℕ) {instr : Instr} → slice_get (map Some (lines_of listing.receiver)) j ≡ Some (Some instr)
-      → IsAt (receiving middle (whole_of k count) (4 * j) r) instr
-  at j found = step.at_of middle receiver_decoded (whole_of k count) r j found
+      → IsAt (receiving ring_lines (whole_of k count) (4 * j) r) instr
+  at j found = step.at_of ring_lines receiver_decoded (whole_of k count) r j found
 
   abbrev Right_here : ℕ → Type 0
-  Right_here here = Right_at lamport_blocks k i count n word r v here
+  Right_here here = Right_at (blocks_of p) k i count n word r v here
 
   -- it reads the head that landed last
-  pub right_14 : Right_here 0x14  -- lw x6,0(x8)
-  right_14 h z =
+  pub keeps_at_14 : Right_here 0x14  -- lw x6,0(x8)
+  keeps_at_14 h z =
       let line = load_line (at 5 refl) (omega (arith, is.even, h.0.visits.base)) refl (omega (arith, is.inside, is.some_slot, h.0.visits.base)) is.small in
       let read : v ≡ offset k n.landed.heads = z.find k.base (base_word k is)
       (line.wants ∙ ap loads (let same : r.x8 + 0 ≡ k.base = omega (arith, h.0.visits.base) in same))
       ∙ seen_head k n word order words in
-      step.acts lamport_blocks k i count n order r v 0x14 0x18 (loads (r.x8 + 0)) (λ w. record r { x6 = w })
+      step.acts (blocks_of p) k i count n order r v 0x14 0x18 (loads (r.x8 + 0)) (λ w. record r { x6 = w })
       (record n.receiver { seen = n.landed.heads }) (tt, word_from k is r.x8 0 h.0.visits.base (omega arith) refl)
       line (record { order = omega arith; stores = refl })
       (inl (
@@ -79,12 +79,12 @@ module _ (k : Block) (i count : ℕ) (n : Numbers) (word : ℕ → ℕ) (r : Rec
           absurd (omega (arith, same, ready refl))
 
   -- its own tail
-  pub right_18 : Right_here 0x18  -- lw x7,8(x8)
-  right_18 h z =
+  pub keeps_at_18 : Right_here 0x18  -- lw x7,8(x8)
+  keeps_at_18 h z =
       let line = load_line (at 6 refl) (omega (arith, is.even, h.0.visits.base)) refl (omega (arith, is.inside, is.some_slot, h.0.visits.base)) is.small in
       let read : v ≡ offset k n.receiver.tails = z.find (k.base + 8) (word_of k is 8 (omega arith) refl)
       (line.wants ∙ ap (λ b. loads (b + 8)) h.0.visits.base) ∙ seen_tail k n word order words h.0.open_yet in
-      step.reads lamport_blocks k i count n order r v 0x18 0x1C (r.x8 + 8) (λ w. record r { x7 = w }) refl
+      step.reads (blocks_of p) k i count n order r v 0x18 0x1C (r.x8 + 8) (λ w. record r { x7 = w }) refl
       (word_from k is r.x8 8 h.0.visits.base (omega arith) refl) line
       (h.0, (record { is = h.1.is; last = h.1.last }, read))
       (λ rs states idle. (let took = length (taken rs r.x22) in
@@ -95,15 +95,15 @@ module _ (k : Block) (i count : ℕ) (n : Numbers) (word : ℕ → ℕ) (r : Rec
       (λ on. sym (ap (λ y. (r.x30 == 0) && (r.x6 == y)) tail) ∙ on)))
 
   -- equal offsets mean that nothing is there: head and tail are less than a round apart
-  pub right_1C : Right_here 0x1C  -- beq x6,x7,empty
-  right_1C h z =
+  pub keeps_at_1C : Right_here 0x1C  -- beq x6,x7,empty
+  keeps_at_1C h z =
       elim (cases_eq r.x6 r.x7) [
-        | inl same ↦ step.still lamport_blocks k i count n order r v 0x1C 0x48 r refl (same_jumps (at 7 refl) same refl) (h.0, empty same h.1.0.last)
+        | inl same ↦ step.still (blocks_of p) k i count n order r v 0x1C 0x48 r refl (same_jumps (at 7 refl) same refl) (h.0, empty same h.1.0.last)
             (λ rs states idle. flags 11 14 14 17 (r.x30 == 0) ((r.x30 == 0) && (r.x6 == r.x7)) (omega arith)
             (far_off rs count (r.x22 + 1))
             (λ on. (let equal : (r.x6 == r.x7) ≡ true = grind (arith, nat_tests) in rw (on, equal) refl)))
         | inr other ↦
-            step.still lamport_blocks k i count n order r v 0x1C 0x20 r refl (other_goes_on (at 7 refl) other)
+            step.still (blocks_of p) k i count n order r v 0x1C 0x20 r refl (other_goes_on (at 7 refl) other)
             (h.0, (more other (cases_eq n.receiver.tails n.receiver.seen), h.1.1))
             (λ rs states idle. flags 0 14 16 17 false ((r.x30 == 0) && (r.x6 == r.x7)) (omega arith) (far_off rs count (r.x22 + 1)) (λ on. cc))
       ]
@@ -121,24 +121,24 @@ module _ (k : Block) (i count : ℕ) (n : Numbers) (word : ℕ → ℕ) (r : Rec
       more other (inl same) = absurd (other (h.1.0.is ∙ ap (offset k) (sym same) ∙ sym h.1.1))
       more other (inr less) = omega (arith, order.tails_seen)
 
-  pub right_20 : Right_here 0x20  -- add x28,x8,x7
-  right_20 h z =
-      step.still lamport_blocks k i count n order r v 0x20 0x24 (record r { x28 = r.x8 + r.x7 }) refl
+  pub keeps_at_20 : Right_here 0x20  -- add x28,x8,x7
+  keeps_at_20 h z =
+      step.still (blocks_of p) k i count n order r v 0x20 0x24 (record r { x28 = r.x8 + r.x7 }) refl
       (sum_line (at 8 refl)
       (omega (arith, is.inside, is.small, h.0.visits.base, h.1.1, offset_low k is n.receiver.tails)))
       (h.0, (h.1.0, h.1.1, (let same : r.x8 + r.x7 ≡ k.base + r.x7 = omega (arith, h.0.visits.base) in same)))
       (λ rs states idle. omega arith)
 
   -- the slot has landed, and no later store to it is made
-  pub right_24 : Right_here 0x24  -- lw x11,16(x28)
-  right_24 h z =
+  pub keeps_at_24 : Right_here 0x24  -- lw x11,16(x28)
+  keeps_at_24 h z =
       let line = load_line (at 9 refl) (omega (arith, is.even, h.1.1, h.1.2)) refl
       (omega (arith, is.inside, h.1.1, h.1.2, offset_low k is n.receiver.tails)) is.small in
       let read : v ≡ slice_index k.list n.receiver.tails =
       z.find (slot k.size k.base n.receiver.tails) (slot_of k is n.receiver.tails) (line.wants ∙ ap loads
       (let same : r.x28 + 16 ≡ slot k.size k.base n.receiver.tails = omega (arith, h.1.1, h.1.2) in same))
       ∙ seen_slot k n word order words (omega (arith, h.1.0, order.seen_heads, order.heads_slots)) in
-      step.reads lamport_blocks k i count n order r v 0x24 0x28 (r.x28 + 16) (λ w. record r { x11 = w }) refl
+      step.reads (blocks_of p) k i count n order r v 0x24 0x28 (r.x28 + 16) (λ w. record r { x11 = w }) refl
       (slot_at k is (r.x28 + 16) n.receiver.tails (omega (arith, h.1.1, h.1.2))) line
       (record { visits = h.0.visits; ahead = h.0.quiet.words; closed = h.0.quiet.closed; open_yet = h.0.open_yet; filled = h.1.0; word = read }, h.1.1)
       (λ rs states idle. omega arith)

@@ -1,48 +1,50 @@
 -- What the receiver finds at a block's words: its own newest pending store, else the word of memory.
-use Rattle.std.proofs.Common.{ℕ, zero, suc, ◌+◌, ◌<◌, ◌≤◌, ◌≡◌, ◌≢◌, ◌⊎◌, inl, inr, length, Some, refl, sym, ◌∙◌, ap, arith}
+use Rattle.std.proofs.Common.{ℕ, zero, suc, ◌+◌, ◌<◌, ◌≤◌, ◌≡◌, ◌≢◌, ◌⊎◌, inl, inr, List, length, Some, refl, sym, ◌∙◌, ap, arith}
 use Rattle.std.specs.Prelude.{slice_index}
 use Rattle.std.specs.List.{slice_get}
 use Rattle.std.proofs.lemmas.Bool.{cases_lt, cases_eq}
-use Rattle.poll_close.specs.Invariant.Blocks.{Block, offset, slot, tail_store}
-use Rattle.poll_close.specs.Invariant.BlockMeaning.{unread_of}
-use Rattle.poll_close.proofs.Windows.{singles_each}
+use Rattle.poll_close.specs.Invariant.Blocks.{Block, offset, slot, tail_store, window}
+use Rattle.poll_close.proofs.Windows.{singles-each}
 use Rattle.poll_close.proofs.Found.{in_memory, none_pending, last_found}
 use Rattle.poll_close.proofs.BlockLaws.{found_in}
-use Rattle.lamport_ring.specs.Lamport.{lamport_blocks}
 use Rattle.lamport_ring.specs.Invariant.Stores.{receiver_stores}
 use Rattle.lamport_ring.proofs.Stores.{store_tail, store_done}
-use Rattle.lamport_ring.specs.Invariant.Numbers.{Numbers, Ordered, Words, freed, taken}
+use Rattle.lamport_ring.specs.Invariant.Counters.{Counters, CounterInvariant, Words, freed, taken}
 
 -- a tail store is none to the done word
 none_done : (k : Block) (t : ℕ) (x : ℕ × ℕ) → t < length k.list → slice_get (receiver_stores k) t ≡ Some x → x.0 ≢ k.base + 12
 none_done k t x less got same = grind (arith, store_tail)
 
-module _ (k : Block) (n : Numbers) (word : ℕ → ℕ) (order : Ordered k n) (words : Words k n.landed word) where
-  seen_none : (a : ℕ) → a ≢ k.base + 8 → a ≢ k.base + 12 → found_in (unread_of lamport_blocks k n) word a ≡ word a
+module _ (k : Block) (n : Counters) (word : ℕ → ℕ) (order : CounterInvariant k n) (words : Words k n.landed word) where
+  -- the receiver's pending stores to the block
+  abbrev unread : List (ℕ × ℕ)
+  unread = window (receiver_stores k) (freed n.landed) (taken n.receiver)
+
+  seen_none : (a : ℕ) → a ≢ k.base + 8 → a ≢ k.base + 12 → found_in unread word a ≡ word a
   seen_none a tail done = in_memory (receiver_stores k) (freed n.landed) (taken n.receiver) word a
-      (λ t x from below. singles_each (λ y. y.0 ≢ a) (tail_store k) (k.base + 12, 1) k.list
+      (λ t x from below. singles-each (λ y. y.0 ≢ a) (tail_store k) (k.base + 12, 1) k.list
       (λ j less same. tail (sym same)) (λ same. done (sym same)) t x)
 
-  pub seen_mark : found_in (unread_of lamport_blocks k n) word (k.base + 4) ≡ n.landed.mark
+  pub seen_mark : found_in unread word (k.base + 4) ≡ n.landed.mark
   seen_mark = seen_none (k.base + 4) (λ h. omega arith) (λ h. omega arith) ∙ words.mark
 
-  pub seen_head : found_in (unread_of lamport_blocks k n) word k.base ≡ offset k n.landed.heads
+  pub seen_head : found_in unread word k.base ≡ offset k n.landed.heads
   seen_head = seen_none k.base (λ h. omega arith) (λ h. omega arith) ∙ words.head
 
   pub seen_slot : n.receiver.tails < n.landed.slots
-      → found_in (unread_of lamport_blocks k n) word (slot k.size k.base n.receiver.tails)
+      → found_in unread word (slot k.size k.base n.receiver.tails)
       ≡ slice_index k.list n.receiver.tails
   seen_slot more = seen_none (slot k.size k.base n.receiver.tails) (λ h. omega arith) (λ h. omega arith) ∙ words.slots n.receiver.tails (omega arith) more
 
   within : n.receiver.tails ≤ length k.list
   within = omega (arith, order.tails_seen, order.seen_heads, order.heads_slots, order.slots_landed, order.stored_all)
 
-  pub seen_tail : n.receiver.done ≡ 0 → found_in (unread_of lamport_blocks k n) word (k.base + 8) ≡ offset k n.receiver.tails
+  pub seen_tail : n.receiver.done ≡ 0 → found_in unread word (k.base + 8) ≡ offset k n.receiver.tails
   seen_tail on = at n.receiver.tails refl (cases_lt n.landed.tails n.receiver.tails)
     where
       at : (c : ℕ) → c ≡ n.receiver.tails
           → (n.landed.tails < n.receiver.tails) ⊎ (n.receiver.tails ≤ n.landed.tails)
-          → found_in (unread_of lamport_blocks k n) word (k.base + 8) ≡ offset k n.receiver.tails
+          → found_in unread word (k.base + 8) ≡ offset k n.receiver.tails
       at c is (inr none) =
           let same : n.landed.tails ≡ n.receiver.tails = omega (arith, order.tails_landed) in
           none_pending (receiver_stores k) (freed n.landed) (taken n.receiver) word (k.base + 8)
@@ -54,11 +56,11 @@ module _ (k : Block) (n : Numbers) (word : ℕ → ℕ) (order : Ordered k n) (w
           (omega arith) (omega (arith, order.done_landed)) (store_tail k c c (omega (arith, within)) refl)
           ∙ ap (offset k) next
 
-  pub seen_done : found_in (unread_of lamport_blocks k n) word (k.base + 12) ≡ n.receiver.done
+  pub seen_done : found_in unread word (k.base + 12) ≡ n.receiver.done
   seen_done = at (cases_eq n.receiver.done 0) (cases_eq n.landed.done 0)
     where
       at : (n.receiver.done ≡ 0) ⊎ (n.receiver.done ≢ 0) → (n.landed.done ≡ 0) ⊎ (n.landed.done ≢ 0)
-          → found_in (unread_of lamport_blocks k n) word (k.base + 12) ≡ n.receiver.done
+          → found_in unread word (k.base + 12) ≡ n.receiver.done
       at (inl none) kd =
           in_memory (receiver_stores k) (freed n.landed) (taken n.receiver) word (k.base + 12)
           (λ t x from below. none_done k t x (omega (arith, below, none, within)))

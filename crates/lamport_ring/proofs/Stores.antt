@@ -3,7 +3,7 @@ use Rattle.std.proofs.Common.{ℕ, ◌+◌, ◌*◌, ◌<◌, ◌≡◌, length,
 use Rattle.std.specs.Prelude.{slice_index}
 use Rattle.std.specs.List.{slice_get}
 use Rattle.poll_close.specs.Invariant.Blocks.{Block, offset, slot, slot_store, tail_store}
-use Rattle.poll_close.proofs.Windows.{Each, single_at, single_last, first_at, second_at, pair_last, singles_each, pairs_each}
+use Rattle.poll_close.proofs.Windows.{Each, single_at, single_last, first_at, second_at, pair_last, singles-each, pairs-each}
 use Rattle.poll_close.proofs.Blocks.{IsBlock, IsStore, offset_small, base_word, word_of, slot_of}
 use Rattle.lamport_ring.specs.Invariant.Stores.{head_store, sender_stores, receiver_stores}
 
@@ -24,12 +24,12 @@ module _ (k : Block) where
   store_done n at = single_last (tail_store k) (k.base + 12, 1) k.list n at
 
   pub sender_stores_are : IsBlock k → Each (IsStore k) (sender_stores k)
-  sender_stores_are is = pairs_each (IsStore k) (slot_store k) (head_store k) (k.base + 4, 1) k.list (λ j less. (
+  sender_stores_are is = pairs-each (IsStore k) (slot_store k) (head_store k) (k.base + 4, 1) k.list (λ j less. (
     record { place = slot_of k is j; word = is.words j less },
     record { place = base_word k is; word = offset_small k is (j + 1) },
   )) (record { place = word_of k is 4 (omega arith) refl; word = omega arith })
 
   pub receiver_stores_are : IsBlock k → Each (IsStore k) (receiver_stores k)
-  receiver_stores_are is = singles_each (IsStore k) (tail_store k) (k.base + 12, 1) k.list
+  receiver_stores_are is = singles-each (IsStore k) (tail_store k) (k.base + 12, 1) k.list
       (λ j less. record { place = word_of k is 8 (omega arith) refl; word = offset_small k is (j + 1) })
       (record { place = word_of k is 12 (omega arith) refl; word = omega arith })

@@ -8,7 +8,7 @@ use Rattle.rv_decode.specs.declared.instruction.LoadOp.TheVariants as load
 use Rattle.rv_decode.specs.declared.instruction.StoreOp.TheVariants as store
 use Rattle.rv_decode.specs.declared.instruction.Instr.TheVariants.{Jal, Branch, Load, Store, Immediate, Register, Ecall}
 use Rattle.poll_close.specs.Laws.{Ring}
-use Rattle.poll_close.specs.Listing.{Listed, line, Listing, words_of, Middle, receiver_with}
+use Rattle.poll_close.specs.Listing.{Listed, line, Listing, words_of, RingLines, receiver_with}
 
 abbrev pub sender_listing : List Listed
 sender_listing =
@@ -31,8 +31,8 @@ sender_listing =
     line 0x00000073 Ecall ∷  -- 40 ecall
     []
 
-abbrev pub middle : Middle
-middle = record {
+abbrev pub ring_lines : RingLines
+ring_lines = record {
   at_14 = line 0x00042303 (Load load.Word (reg_of 6) (reg_of 8) (pos 0));  -- lw x6,0(x8)
   at_18 = line 0x00842383 (Load load.Word (reg_of 7) (reg_of 8) (pos 8));  -- lw x7,8(x8)
   at_1C = line 0x02730663 (Branch branch.Equal (reg_of 6) (reg_of 7) (pos 44));  -- beq x6,x7,empty
@@ -41,7 +41,7 @@ middle = record {
 }
 
 abbrev pub listing : Listing
-listing = record { sender = sender_listing; receiver = receiver_with middle }
+listing = record { sender = sender_listing; receiver = receiver_with ring_lines }
 
 -- the ring: one slot stays free, so a ring has at least two
 abbrev pub lamport : Ring

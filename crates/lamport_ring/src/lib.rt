@@ -45,7 +45,7 @@ impl RingKind for Lamport {
         2
     }
 
-    #[tactic(auto, using(crate::proofs::LamportLaws::lamport_short, crate::proofs::LamportLaws::lamport_opens, crate::proofs::LamportLaws::lamport_keeps, crate::proofs::LamportLaws::lamport_cleans, crate::proofs::LamportLaws::lamport_goes, crate::proofs::LamportLaws::lamport_stays))]
+    #[tactic(auto, using(crate::proofs::LamportLaws::lamport_laws))]
     fn laws() {}
 }
 
@@ -65,7 +65,7 @@ impl<const B: usize, const M: usize> Finish<B, M> for Lamport {
         }
     }
 
-    #[tactic(auto, using(crate::proofs::Falling::lamport_falls))]
+    #[tactic(auto, using(crate::proofs::LamportLaws::lamport_falls))]
     fn falls() {}
 }
 

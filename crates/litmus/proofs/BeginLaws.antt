@@ -9,7 +9,7 @@ use Rattle.litmus.specs.Drafting.{Group, Stage, awaits, has, empty_group, disjun
 use Rattle.litmus.specs.inner.Building.{Build, build_at}
 use Rattle.litmus.proofs.StageLaws.{all_taken-append}
 use Rattle.litmus.proofs.GrammarLaws.{finished_only}
-use Rattle.litmus.proofs.FrontLaws.{finished_found}
+use Rattle.litmus.proofs.FrontLaws.{finished-found}
 
 -- what makes a condition of the symbols before a stage: an operand, and the parentheses that are missing
 abbrev closes : List Group → List Symbol
@@ -34,7 +34,7 @@ begins_at symbols stage same =
     let ends : (g : Formula) × (or_misplaced (formula_at (all_taken (Some stage) (rest_at stage))) ≡ Ok g) = rest-finishes stage in (
       rest_at stage,
       ends.0,
-      finished_found (symbols ++ rest_at stage) ends.0
+      finished-found (symbols ++ rest_at stage) ends.0
           (ap (λ (o : Option Stage). or_misplaced (formula_at o)) (all_taken-append (Some (awaits [] empty_group)) symbols (rest_at stage))
           ∙ ap (λ (o : Option Stage). or_misplaced (formula_at (all_taken o (rest_at stage)))) same
           ∙ ends.1),

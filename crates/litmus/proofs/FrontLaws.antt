@@ -139,7 +139,7 @@ found-at (Some (has [] here g)) symbols f reached same =
 found-at x symbols f reached same = absurd (cc)
 
 -- symbols that are read as a formula are a condition of it
-pub finished_found : (symbols : List Symbol) (f : Formula) → finished symbols ≡ Ok f → IsConditionOf symbols f
+pub finished-found : (symbols : List Symbol) (f : Formula) → finished symbols ≡ Ok f → IsConditionOf symbols f
 unfolding finished stage_after
-finished_found symbols f same =
+finished-found symbols f same =
     found-at (stage_after symbols) symbols f (reached-all_taken (Some (awaits [] empty_group)) [] symbols (record { outer = []; inner = []; outside = refl; front = record { ors = []; ands = []; or_front = refl; and_front = refl; is = refl }; is = refl })) same

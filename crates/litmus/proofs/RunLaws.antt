@@ -83,7 +83,7 @@ pub all_done-does : (value_of : Place → ℕ) (so_far : Bool) (i : ℕ) (steps 
 all_done-does value_of so_far i steps d small = rw (drop-cons steps i d small, add-one i) refl
 
 pub all_done-next : (value_of : Place → ℕ) (so_far new_so_far : Bool) (skip new_skip i : ℕ) (steps : List Step) (d : Step) (after : Bool × ℕ) → i < length steps → skip ≤ 0 → after ≡ done value_of (get_or steps i d) so_far → new_so_far ≡ after.0 → new_skip ≡ after.1 → all_done value_of new_so_far new_skip (drop (i + 1) steps) ≡ all_done value_of so_far skip (drop i steps)
-all_done-next value_of so_far new_so_far skip new_skip i steps d after small none after_is truth_is skip_is = grind (arith, all_done-does)
+all_done-next value_of so_far new_so_far skip new_skip i steps d after small none after-is truth_is skip_is = grind (arith, all_done-does)
 
 pub step_places-AsksThere : (harts locations : ℕ) (steps : List Step) → All (AsksThere harts locations) steps → All (IsThere harts locations) (step_places steps)
 step_places-AsksThere harts locations [] all = All-nil (IsThere harts locations)

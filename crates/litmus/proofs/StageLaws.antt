@@ -136,9 +136,9 @@ open-at stage incomplete = grind arith
 pub finished_complete : (symbols : List Symbol) (b : Build) → build_at (stage_after symbols) ≡ Some b → is_finished b ≡ true → Ends (stage_after symbols) b
 finished_complete symbols b same complete = grind (arith, some_same, ends-at)
 
-pub finished_open : (symbols : List Symbol) (b : Build) → build_at (stage_after symbols) ≡ Some b → is_finished b ≡ false → finished symbols ≡ Err tt
+pub finished-open : (symbols : List Symbol) (b : Build) → build_at (stage_after symbols) ≡ Some b → is_finished b ≡ false → finished symbols ≡ Err tt
 unfolding finished
-finished_open symbols b same incomplete = grind (arith, open-at, some_same)
+finished-open symbols b same incomplete = grind (arith, open-at, some_same)
 
 -- the steps of a formula are a condition's
 pub steps_again : (steps : List Step) (f : Formula) → steps ≡ steps_of f → steps_of (formula_of steps) ≡ steps
@@ -150,6 +150,6 @@ formula_again steps f same = ap formula_of same ∙ formula_of-steps_of f
 pub condition_steps : (symbols : List Symbol) (b : Build) (steps : List Step) → build_at (stage_after symbols) ≡ Some b → is_finished b ≡ true → steps ≡ all_closed b.here b.steps → steps_of (formula_of steps) ≡ steps
 condition_steps symbols b steps same complete closed = grind (arith, finished_complete symbols b same complete, steps_again steps)
 
-pub finished_steps : (symbols : List Symbol) (b : Build) (steps : List Step) (f : Formula) → build_at (stage_after symbols) ≡ Some b → is_finished b ≡ true → steps ≡ all_closed b.here b.steps → f ≡ formula_of steps → finished symbols ≡ Ok f
+pub finished-steps : (symbols : List Symbol) (b : Build) (steps : List Step) (f : Formula) → build_at (stage_after symbols) ≡ Some b → is_finished b ≡ true → steps ≡ all_closed b.here b.steps → f ≡ formula_of steps → finished symbols ≡ Ok f
 unfolding finished
-finished_steps symbols b steps f same complete closed answer = grind (arith, finished_complete symbols b same complete, formula_again steps)
+finished-steps symbols b steps f same complete closed answer = grind (arith, finished_complete symbols b same complete, formula_again steps)

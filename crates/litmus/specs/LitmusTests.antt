@@ -1,6 +1,6 @@
 -- A litmus test: where its machine begins, and what it asks at the end.
 use Rattle.std.specs.Prelude.{ℕ, ◌≡◌, ◌*◌, ◌%◌, ◌<◌, ◌≤◌, ◌==◌, ◌&&◌, Bool, false, not, List, [], ◌∷◌, length, filter, All}
-use Rattle.step_machine.specs.History.{HartStart, Start, FitsIn}
+use Rattle.step_machine.specs.History.{HartOpeningValue, OpeningValue, FitsIn}
 use Rattle.litmus.specs.declared.symbols.Place.{Place}
 use Rattle.litmus.specs.declared.symbols.Place.TheVariants as place
 use Rattle.litmus.specs.declared.verdict.Quantifier.{Quantifier}
@@ -9,7 +9,7 @@ use Rattle.litmus.specs.declared.litmus_test.TheConstants.{MAX_LOCATIONS}
 
 -- the names are those of the locations, whose words stand at 0, 4, 8 and on
 pub record LitmusTest : Type 0 where
-  pub opening : Start
+  pub opening : OpeningValue
   pub names : List (List ℕ)
   pub quantifier : Quantifier
   pub condition : Formula
@@ -41,5 +41,5 @@ firsts (p ∷ others) = p ∷ filter (λ q. not (is_same p q)) (firsts others)
 abbrev pub left_sides : Formula → List Place
 left_sides f = firsts (places f)
 
-abbrev pub litmus_test_of : List HartStart → List ℕ → List (List ℕ) → Quantifier → Formula → LitmusTest
+abbrev pub litmus_test_of : List HartOpeningValue → List ℕ → List (List ℕ) → Quantifier → Formula → LitmusTest
 litmus_test_of harts words names quantifier condition = record { opening = record { harts = harts; words = words }; names = names; quantifier = quantifier; condition = condition }

@@ -2,7 +2,7 @@
 
 ghost use Rattle.std.specs.Prelude.{◌≡◌, ◌+◌, ◌<◌, ◌≤◌, ◌^◌, ◌++◌, ◌-◌, IfSome, IsSome, OnOk, OnErr, false, true, length, replicate, vec_len, vec_capacity};
 ghost use Rattle.std.specs.List.{slice_get};
-ghost use Rattle.texts.specs.Results.{Gives};
+ghost use Rattle.texts.specs.Results.{GivesUpToMemory};
 ghost use Rattle.litmus.specs.declared.symbols.Step.TheVariants.{Not};
 ghost use Rattle.litmus.specs.inner.Building.{and_closed, or_closed, all_closed};
 
@@ -106,7 +106,7 @@ impl Builder {
     pub(crate) fn take(&mut self, token: Symbol) -> Result<(), ConditionError>
         requires room { self.old.here.negations + 1 < 2 ^ 64 }
         requires within { IsWithin (length self.old.steps) self.old.here }
-        ensures exact { Gives fault_of (λ _. self.new) result (or_misplaced (built self.old token)) }
+        ensures exact { GivesUpToMemory fault_of (λ _. self.new) result (or_misplaced (built self.old token)) }
         ensures kept { OnErr result (self.new ≡ self.old) }
     {
         if self.has_operand {
@@ -120,7 +120,7 @@ impl Builder {
     fn take_before_operand(&mut self, token: Symbol) -> Result<(), ConditionError>
         requires room { self.old.here.negations + 1 < 2 ^ 64 }
         requires before { self.old.has_operand ≡ false }
-        ensures exact { Gives fault_of (λ _. self.new) result (or_misplaced (built self.old token)) }
+        ensures exact { GivesUpToMemory fault_of (λ _. self.new) result (or_misplaced (built self.old token)) }
         ensures kept { OnErr result (self.new ≡ self.old) }
     {
         match token {
@@ -140,7 +140,7 @@ impl Builder {
     fn take_after_operand(&mut self, token: Symbol) -> Result<(), ConditionError>
         requires within { IsWithin (length self.old.steps) self.old.here }
         requires after { self.old.has_operand ≡ true }
-        ensures exact { Gives fault_of (λ _. self.new) result (or_misplaced (built self.old token)) }
+        ensures exact { GivesUpToMemory fault_of (λ _. self.new) result (or_misplaced (built self.old token)) }
         ensures kept { OnErr result (self.new ≡ self.old) }
     {
         match token {
@@ -208,7 +208,7 @@ impl Builder {
     fn close_group(&mut self) -> Result<(), ConditionError>
         requires within { IsWithin (length self.old.steps) self.old.here }
         requires after { self.old.has_operand ≡ true }
-        ensures exact { Gives fault_of (λ _. self.new) result (or_misplaced (with_close self.old (slice_get self.old.around (length self.old.around - 1)))) }
+        ensures exact { GivesUpToMemory fault_of (λ _. self.new) result (or_misplaced (with_close self.old (slice_get self.old.around (length self.old.around - 1)))) }
         ensures kept { OnErr result (self.new ≡ self.old) }
     {
         match innermost(&self.around) {

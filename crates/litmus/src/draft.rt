@@ -1,7 +1,7 @@
 //! A condition, given symbol by symbol.
 
 ghost use Rattle.std.specs.Prelude.{◌≡◌, ◌≢◌, ◌↔◌, [], ◌∷◌, ◌++◌, Ok, Err, IfOk, OnOk, OnErr};
-ghost use Rattle.texts.specs.Results.{Gives};
+ghost use Rattle.texts.specs.Results.{GivesUpToMemory};
 ghost use Rattle.litmus.specs.declared.draft.ConditionError.TheVariants.{NoMemory, Misplaced};
 ghost use Rattle.litmus.specs.Drafting.{symbol_added, finished};
 ghost use Rattle.litmus.specs.Faults.{fault_of};
@@ -77,7 +77,7 @@ impl ConditionDraft {
     /// Takes one more symbol. `Misplaced` comes exactly where no condition begins with the symbols so far
     /// and this one. An `Err` changes nothing.
     pub fn push(&mut self, token: Symbol) -> Result<(), ConditionError>
-        ensures exact { Gives fault_of (λ _. self.new) result (symbol_added self.old token) }
+        ensures exact { GivesUpToMemory fault_of (λ _. self.new) result (symbol_added self.old token) }
         ensures begins { OnOk result (Begins self.new) }
         ensures misplaced { result ≡ Err Misplaced → ¬ Begins (self.old ++ token ∷ []) }
         ensures kept { OnErr result (self.new ≡ self.old) }
@@ -95,7 +95,7 @@ impl ConditionDraft {
     /// The condition of the symbols. It is `Misplaced` exactly where they are none. It takes no memory,
     /// so there is no other `Err`.
     pub fn finish(self) -> Result<Condition, ConditionError>
-        ensures exact { Gives fault_of (λ (f : Formula). f) result (finished self) }
+        ensures exact { GivesUpToMemory fault_of (λ (f : Formula). f) result (finished self) }
         ensures found { IfOk result (IsConditionOf self) }
         ensures only { (f : Formula) → IsConditionOf self f → result ≡ Ok f }
         ensures misplaced { (result ≡ Err Misplaced) ↔ ((f : Formula) → ¬ IsConditionOf self f) }

@@ -1,7 +1,7 @@
 //! What a machine's last registers and words say of a condition.
 
 ghost use Rattle.std.specs.Prelude.{◌≡◌, ◌↔◌, ◌<◌, IsTrue, IfOk, OnOk, All, true, length, map};
-ghost use Rattle.step_machine.specs.Standing.{OfEach};
+ghost use Rattle.step_machine.specs.Standing.{ForEachHistory};
 ghost use Rattle.litmus.specs.Formulas.{truth, places};
 ghost use Rattle.litmus.specs.LitmusTests.{IsThere};
 ghost use Rattle.litmus.specs.inner.Running.{done, all_done, AsksThere};
@@ -26,14 +26,14 @@ pub(crate) fn is_satisfied(quantifier: Quantifier, is_true: bool) -> bool
 
 fn has_finished<const B: usize, const M: usize>(machine: &MachineState<B, M>, hart: u32) -> bool
     requires { hart < length machine.now.harts }
-    ensures { OfEach B M machine.now (λ t. IsTrue result ↔ HasFinished M t hart) }
+    ensures { ForEachHistory B M machine.now (λ t. IsTrue result ↔ HasFinished M t hart) }
 {
     machine.status(hart) == Status::Ended && machine.pending(hart).is_empty()
 }
 
 /// Whether each hart has ended, and all its stores have landed.
 pub(crate) fn is_finished<const B: usize, const M: usize>(machine: &MachineState<B, M>) -> bool
-    ensures { OfEach B M machine.now (λ t. IsTrue result ↔ IsFinished M t) }
+    ensures { ForEachHistory B M machine.now (λ t. IsTrue result ↔ IsFinished M t) }
 {
     for hart in 0..machine.harts() {
         if !has_finished(machine, hart) {
@@ -45,7 +45,7 @@ pub(crate) fn is_finished<const B: usize, const M: usize>(machine: &MachineState
 
 fn value_at<const B: usize, const M: usize>(place: Place, machine: &MachineState<B, M>) -> u32
     requires { IsThere (length machine.now.harts) M place }
-    ensures { OfEach B M machine.now (λ t. result ≡ final_value M t place) }
+    ensures { ForEachHistory B M machine.now (λ t. result ≡ final_value M t place) }
 {
     match place {
         Place::Register { hart, number } => machine.register(hart, number),
@@ -60,7 +60,7 @@ pub(crate) fn values_of<const B: usize, const M: usize>(
     machine: &MachineState<B, M>,
 ) -> Result<Vec<u32>, AllocError>
     requires { All (IsThere (length machine.now.harts) M) places.now }
-    ensures { IfOk result (λ values. OfEach B M machine.now (λ t. values.items ≡ map (final_value M t) places.now)) }
+    ensures { IfOk result (λ values. ForEachHistory B M machine.now (λ t. values.items ≡ map (final_value M t) places.now)) }
 {
     let mut values = Vec::new(alloc);
     values_into(&mut values, places, machine)?;
@@ -74,7 +74,7 @@ pub(crate) fn values_into<const B: usize, const M: usize>(
     machine: &MachineState<B, M>,
 ) -> Result<(), AllocError>
     requires { All (IsThere (length machine.now.harts) M) places.now }
-    ensures { OnOk result (OfEach B M machine.now (λ t. values.new.items ≡ map (final_value M t) places.now)) }
+    ensures { OnOk result (ForEachHistory B M machine.now (λ t. values.new.items ≡ map (final_value M t) places.now)) }
 {
     values.clear();
     for place in places {
@@ -90,7 +90,7 @@ fn after_step<const B: usize, const M: usize>(
     machine: &MachineState<B, M>,
 ) -> (bool, usize)
     requires { AsksThere (length machine.now.harts) M step }
-    ensures { OfEach B M machine.now (λ t. result ≡ done (final_value M t) step so_far) }
+    ensures { ForEachHistory B M machine.now (λ t. result ≡ done (final_value M t) step so_far) }
 {
     match step {
         Step::Is { place, value } => (value_at(place, machine) == value, 0),
@@ -102,7 +102,7 @@ fn after_step<const B: usize, const M: usize>(
 
 fn run_steps<const B: usize, const M: usize>(steps: &[Step], machine: &MachineState<B, M>) -> bool
     requires { All (AsksThere (length machine.now.harts) M) steps.now }
-    ensures { OfEach B M machine.now (λ t. result ≡ all_done (final_value M t) true 0 steps.now) }
+    ensures { ForEachHistory B M machine.now (λ t. result ≡ all_done (final_value M t) true 0 steps.now) }
 {
     let mut so_far = true;
     let mut skip = 0;
@@ -122,7 +122,7 @@ pub(crate) fn is_true<const B: usize, const M: usize>(
     machine: &MachineState<B, M>,
 ) -> bool
     requires { All (IsThere (length machine.now.harts) M) (places condition.now) }
-    ensures { OfEach B M machine.now (λ t. result ≡ truth (final_value M t) condition.now) }
+    ensures { ForEachHistory B M machine.now (λ t. result ≡ truth (final_value M t) condition.now) }
 {
     run_steps(condition.steps(), machine)
 }

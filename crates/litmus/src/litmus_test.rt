@@ -43,8 +43,8 @@ impl Model for Test {
 
 impl Test {
     ghost use Rattle.hart.specs.State.{HartState};
-    ghost use Rattle.step_machine.specs.History.{Start};
-    ghost use Rattle.step_machine.specs.Standing.{OfEach};
+    ghost use Rattle.step_machine.specs.History.{OpeningValue};
+    ghost use Rattle.step_machine.specs.Standing.{ForEachHistory};
     ghost use Rattle.litmus.specs.LitmusTests.{IsTest, IsThere, litmus_test_of, left_sides, LitmusTest};
     ghost use Rattle.litmus.specs.Verdicts.{IsVerdict, final_value};
     ghost use Rattle.litmus.specs.declared.verdict.Quantifier.TheVariants.{Exists};
@@ -110,7 +110,7 @@ impl Test {
     ) -> Result<Vec<u32>, AllocError>
         requires harts { length machine.now.harts ≡ length self.now.opening.harts }
         requires words { length self.now.names ≤ M }
-        ensures { IfOk result (λ values. OfEach B M machine.now (λ t. values.items ≡ map (final_value M t) (left_sides self.now.condition))) }
+        ensures { IfOk result (λ values. ForEachHistory B M machine.now (λ t. values.items ≡ map (final_value M t) (left_sides self.now.condition))) }
     {
         values_of(alloc, &self.lefts, machine)
     }
@@ -123,7 +123,7 @@ impl Test {
     ) -> Result<(), AllocError>
         requires harts { length machine.now.harts ≡ length self.now.opening.harts }
         requires words { length self.now.names ≤ M }
-        ensures { OnOk result (OfEach B M machine.now (λ t. values.new.items ≡ map (final_value M t) (left_sides self.now.condition))) }
+        ensures { OnOk result (ForEachHistory B M machine.now (λ t. values.new.items ≡ map (final_value M t) (left_sides self.now.condition))) }
     {
         values_into(values, &self.lefts, machine)
     }
@@ -133,7 +133,7 @@ impl Test {
     pub fn verdict<const B: usize, const M: usize>(&self, machine: &MachineState<B, M>) -> Verdict
         requires harts { length machine.now.harts ≡ length self.now.opening.harts }
         requires words { length self.now.names ≤ M }
-        ensures { OfEach B M machine.now (λ t. IsVerdict M self.now t result) }
+        ensures { ForEachHistory B M machine.now (λ t. IsVerdict M self.now t result) }
     {
         if !is_finished(machine) {
             return Verdict::Unfinished;

@@ -9,7 +9,7 @@ use Rattle.texts.specs.Cutting.{before, after, is_byte, AreBlanks}
 use Rattle.texts.proofs.ResultLaws.{ok_is, bind_ok}
 use Rattle.assembler.specs.Faults.{Refusal}
 use Rattle.assembler.specs.Drafts.{Line, words_of, drafted, all_drafted, finished}
-use Rattle.assembler.proofs.ProgramGrammar.{all_found, all_only, finished_found, finished_only, none_above}
+use Rattle.assembler.proofs.ProgramGrammar.{all_found, all_only, finished-found, finished_only, none_above}
 use Rattle.litmus_reader.specs.declared.faults.LitmusFault.{LitmusFault}
 use Rattle.litmus_reader.specs.Table.{Column, Code, as_instr, cell_added, cells_added, line_added, lines_added, table_from, table_at, codes_of}
 use Rattle.litmus_reader.specs.declared.marks.Mark.TheVariants as mark
@@ -19,14 +19,14 @@ use Rattle.litmus_reader.specs.Rows.{harts_in}
 use Rattle.litmus_reader.specs.Layout.{IsVisible}
 use Rattle.litmus_reader.specs.Columns.{Cells, IsRow, AreRows, IsTable, column_of, IsColumnCode}
 use Rattle.litmus_reader.specs.Columns.AreRows.{none, blank, row}
-use Rattle.litmus_reader.proofs.ShapeLaws.{parts_found, parts_only, cut_found, cut_only, visible_matches, first_found, first_only}
+use Rattle.litmus_reader.proofs.ShapeLaws.{parts_found, parts_only, cut_found, cut_only, visible_matches, first-found, first_only}
 use Rattle.litmus_reader.proofs.RowGrammar.{blank_found, blank_only, row_found, row_only, first_row_found, first_row_only}
 use Rattle.texts.specs.declared.pieces.Separators.TheVariants.{Byte}
 
 -- ---- one column
 
-as_instr_ok : {A : Type 0} (r : Result A Refusal) (x : A) → as_instr r ≡ Ok x → r ≡ Ok x
-as_instr_ok r x e = grind (arith, ok_is)
+as_instr-ok : {A : Type 0} (r : Result A Refusal) (x : A) → as_instr r ≡ Ok x → r ≡ Ok x
+as_instr-ok r x e = grind (arith, ok_is)
 
 words_of-append : (above below : List Line) → words_of (above ++ below) ≡ words_of above + words_of below
 words_of-append [] below = omega arith
@@ -38,7 +38,7 @@ words_grow above texts all e = grind (arith, all_found above texts all e, words_
 
 cell_found : (column : Column) (cell : List ℕ) (more : Column) → cell_added column cell ≡ Ok more → drafted column cell ≡ Ok more
 unfolding cell_added
-cell_found column cell more e = grind (arith, bind_ok, as_instr_ok, cases_Bool, ok_is)
+cell_found column cell more e = grind (arith, bind_ok, as_instr-ok, cases_Bool, ok_is)
 
 cell_only : (column : Column) (cell : List ℕ) (more : Column) → drafted column cell ≡ Ok more → words_of more ≤ 4096 → cell_added column cell ≡ Ok more
 unfolding cell_added
@@ -136,7 +136,7 @@ AreCodes rows hart [] = Unit {0}
 AreCodes rows hart (code ∷ codes) = IsColumnCode (column_of hart rows) code × AreCodes rows (hart + 1) codes
 
 code_found : (cells : List (List ℕ)) (end : Column) (code : Code) → all_drafted [] cells ≡ Ok end → finished end ≡ Ok code → IsColumnCode cells code
-code_found cells end code e done = grind (arith, all_found [] cells end e, finished_found end code done)
+code_found cells end code e done = grind (arith, all_found [] cells end e, finished-found end code done)
 
 codes_found : (rows : List Cells) (hart harts : ℕ) (ends : List Column) (codes : List Code) → AreEnds rows hart (replicate harts []) ends → codes_of ends ≡ Ok codes → AreCodes rows hart codes × (length codes ≡ harts)
 codes_found rows hart zero ends codes are e = grind (arith, ok_is)
@@ -146,7 +146,7 @@ codes_found rows hart (suc harts) ends codes are e =
     let rest = bind_ok (codes_of are.1) (λ (others : List Code). Ok (step.0 ∷ others)) codes step.2 in
     let below = codes_found rows (hart + 1) harts are.1 rest.0 are.4 rest.1 in
     subst (λ (cs : List Code). AreCodes rows hart cs × (length cs ≡ suc harts)) (ok_is LitmusFault (step.0 ∷ rest.0) codes rest.2)
-    ((code_found (column_of hart rows) are.0 step.0 are.3 (as_instr_ok (finished are.0) step.0 step.1), below.0), ap suc below.1)
+    ((code_found (column_of hart rows) are.0 step.0 are.3 (as_instr-ok (finished are.0) step.0 step.1), below.0), ap suc below.1)
 
 record Ends (rows : List Cells) (hart : ℕ) (codes : List Code) : Type 0 where
   ends : List Column
@@ -174,13 +174,13 @@ record IsLineOf (columns : List Column) (line : List ℕ) (more : List Column) :
   count : length cells ≡ length columns
   shown : cells_added columns cells ≡ Ok more
 
-line_found : (columns : List Column) (line : List ℕ) (more : List Column) → line_added columns line ≡ Ok more → (AreBlanks line × (columns ≡ more)) ⊎ IsLineOf columns line more
+line-found : (columns : List Column) (line : List ℕ) (more : List Column) → line_added columns line ≡ Ok more → (AreBlanks line × (columns ≡ more)) ⊎ IsLineOf columns line more
 unfolding line_added
-line_found columns line more e = grind (arith, cases_Bool, blank_found, ok_is, row_found, eqb-true)
+line-found columns line more e = grind (arith, cases_Bool, blank_found, ok_is, row_found, eqb-true)
 
-line_only : (columns : List Column) (line : List ℕ) (cells : Cells) → IsRow line cells → length cells ≡ length columns → line_added columns line ≡ cells_added columns cells
+line-only : (columns : List Column) (line : List ℕ) (cells : Cells) → IsRow line cells → length cells ≡ length columns → line_added columns line ≡ cells_added columns cells
 unfolding line_added
-line_only columns line cells is count = grind (arith, row_only line cells is, eq-eqb (length cells) (length columns) count)
+line-only columns line cells is count = grind (arith, row_only line cells is, eq-eqb (length cells) (length columns) count)
 
 record Rows (columns : List Column) (lines : List (List ℕ)) (ends : List Column) : Type 0 where
   rows : List Cells
@@ -192,7 +192,7 @@ lines_found columns [] ends e = record { rows = []; are = none; ended = subst (�
 lines_found columns (line ∷ lines) ends e =
     let step = bind_ok (line_added columns line) (λ (more : List Column). lines_added more lines) ends e in
     let rest = lines_found step.0 lines ends step.2 in
-    elim (line_found columns line step.0 step.1) [
+    elim (line-found columns line step.0 step.1) [
       | inl empty ↦ record {
         rows = rest.rows;
         are = blank line lines rest.rows empty.0 (subst (λ (cs : List Column). AreRows (length cs) lines rest.rows) (sym empty.1) rest.are);
@@ -216,7 +216,7 @@ lines_only harts columns lines rows ends count (blank line below others empty wr
 lines_only harts columns lines rows ends count (row line below cells others is full written) are few =
     let same : length cells ≡ length columns = full ∙ sym count in
     let front = cells_only others cells columns ends same are few in
-    line_first columns front.more line below ends (line_only columns line cells is same ∙ front.shown)
+    line_first columns front.more line below ends (line-only columns line cells is same ∙ front.shown)
     (lines_only harts front.more below others ends (front.count ∙ count) written front.below few)
   where
     line_first : (columns more : List Column) (line : List ℕ) (below : List (List ℕ)) (ends : List Column) → line_added columns line ≡ Ok more → lines_added more below ≡ Ok ends → lines_added columns (line ∷ below) ≡ Ok ends
@@ -249,7 +249,7 @@ table_found table columns codes e done = go (from_line mark.Visible table) refl 
             below = below;
             names = first.names;
             lines = pieces (Byte 10) below;
-            begins = first_found mark.Visible IsVisible visible_matches table from at;
+            begins = first-found mark.Visible IsVisible visible_matches table from at;
             cut = cut_found from;
             row = first.row;
             named = first.named;

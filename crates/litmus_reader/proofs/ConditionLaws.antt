@@ -17,7 +17,7 @@ use Rattle.litmus.specs.Formulas.{Formula}
 use Rattle.litmus.specs.Grammar.{IsConditionOf, Begins}
 use Rattle.litmus.specs.Drafting.{Stage, stage_after, with_symbol, or_misplaced, symbol_added, finished}
 use Rattle.litmus.proofs.GrammarLaws.{finished_only}
-use Rattle.litmus.proofs.FrontLaws.{finished_found}
+use Rattle.litmus.proofs.FrontLaws.{finished-found}
 use Rattle.litmus.proofs.BeginLaws.{refused_begins}
 use Rattle.litmus_tokens.specs.Settings as setting
 use Rattle.litmus_tokens.specs.Tokens as token
@@ -28,13 +28,13 @@ use Rattle.litmus_reader.specs.declared.faults.LitmusFault.TheVariants.{BadCondi
 use Rattle.litmus_reader.specs.declared.marks.Mark.TheVariants.{Unread}
 use Rattle.litmus_reader.specs.Marks.{has_token, before_line, from_line}
 use Rattle.litmus_reader.specs.Locations.{Names, resolved, value_resolved}
-use Rattle.litmus_reader.specs.Condition.{Quantified, ConditionSoFar, Condition, quantifier_of, quantifier_in, place_resolved, atom_resolved, token_resolved, as_condition, tokens_added, none_unread, behind_quantifier, condition_in}
+use Rattle.litmus_reader.specs.Condition.{Quantified, ConditionSoFar, Condition, quantifier_of, quantifier_in, place_resolved, atom_resolved, token_resolved, as_condition, tokens_added, none_unread, after_quantifier, condition_in}
 use Rattle.litmus_reader.specs.Shapes.{NoneBegins}
 use Rattle.litmus_reader.specs.Layout.{BeginsUnread}
 use Rattle.litmus_reader.specs.Openings.{names_in, name_of_place, name_of_value, each_once, IsWorth}
 use Rattle.litmus_reader.specs.ConditionGrammar.{token_for, IsFinalCondition, atoms_in, IsPlaceOf, IsKnown, AreKnown}
 use Rattle.litmus_reader.proofs.ShapeLaws.{unread_matches, nowhere_found, nowhere_only, token_cut}
-use Rattle.litmus_reader.proofs.FirstAppearances.{fewer, at_later, one_index, resolved_found, resolved_only, value_found, value_only, worth_later, one_worth}
+use Rattle.litmus_reader.proofs.FirstAppearances.{fewer, at_later, one_index, resolved-found, resolved-only, value_found, value_only, worth_later, one_worth}
 use Rattle.texts.specs.Pieces.{is_blank}
 
 -- ---- the quantifier
@@ -67,18 +67,18 @@ quantifier_only blanks rest quantifier all = ap quantifier_of (leading_past is_b
 
 -- ---- symbols that may stand after others
 
-with_symbol_found : (words : List Symbol) (next : Symbol) (o : Option Stage) (more : List Symbol) → as_condition (or_misplaced (with_symbol words next o)) ≡ Ok more → words ++ next ∷ [] ≡ more
-with_symbol_found words next o more e = grind arith
+with_symbol-found : (words : List Symbol) (next : Symbol) (o : Option Stage) (more : List Symbol) → as_condition (or_misplaced (with_symbol words next o)) ≡ Ok more → words ++ next ∷ [] ≡ more
+with_symbol-found words next o more e = grind arith
 
 symbol_found : (words : List Symbol) (next : Symbol) (more : List Symbol) → as_condition (symbol_added words next) ≡ Ok more → words ++ next ∷ [] ≡ more
 unfolding symbol_added
-symbol_found words next more e = with_symbol_found words next (stage_after (words ++ next ∷ [])) more e
+symbol_found words next more e = with_symbol-found words next (stage_after (words ++ next ∷ [])) more e
 
 symbol_begins : (words : List Symbol) (next : Symbol) → Begins (words ++ next ∷ []) → as_condition (symbol_added words next) ≡ Ok (words ++ next ∷ [])
 symbol_begins words next begun = grind (arith, symbol_found, refused_begins)
 
-finished_ok : (words : List Symbol) (formula : Formula) → as_condition (finished words) ≡ Ok formula → finished words ≡ Ok formula
-finished_ok words formula e = grind arith
+finished-ok : (words : List Symbol) (formula : Formula) → as_condition (finished words) ≡ Ok formula → finished words ≡ Ok formula
+finished-ok words formula e = grind arith
 
 -- ---- the places that atoms look at
 
@@ -98,7 +98,7 @@ unfolding place_resolved
 place_found harts ms (setting.NamedPlace.in_register hart register) found few e = register_found harts hart ms register (nat_lt hart harts) found refl few e
 place_found harts ms (setting.NamedPlace.at_location name) found few e =
     let first = bind_ok (resolved (each_once ms) name) (λ one. Ok (place.Word (4 * one.0), one.1)) found e in
-    let shown = resolved_found ms name first.0 first.1 in
+    let shown = resolved-found ms name first.0 first.1 in
     subst (PlaceFound harts ms (setting.NamedPlace.at_location name)) (ok_is LitmusFault (place.Word (4 * first.0.0), first.0.1) found first.2)
     (record { names = shown.0; few = shown.2 few; at = (first.0.0, shown.1, refl) })
 
@@ -110,7 +110,7 @@ place_only : (harts : ℕ) (ms more : Names) (spot : setting.NamedPlace) (at : P
 unfolding place_resolved
 place_only harts ms more (setting.NamedPlace.in_register hart register) at few is = rw (lt-ltb hart harts is.0, append-nil ms) (ap (λ (p : Place). Ok (p, each_once ms)) (sym is.1))
 place_only harts ms more (setting.NamedPlace.at_location name) at few is =
-    let shown = resolved_only ms name few in
+    let shown = resolved-only ms name few in
     let same : shown.0 ≡ is.0 = one_index ((ms ++ name ∷ []) ++ more) name shown.0 is.0 (at_later (ms ++ name ∷ []) more name shown.0 shown.2) is.1 in
     rw shown.1 (ap (λ (p : Place). Ok (p, each_once (ms ++ name ∷ []))) (ap (λ (index : ℕ). place.Word (4 * index)) same ∙ sym is.2))
 
@@ -165,8 +165,8 @@ atom_only harts ms more equation at value few is worth =
     let here = ms ++ name_of_place equation.0 in
     let split = both_names ms equation in
     let few_here : length (each_once (here ++ name_of_value equation.1)) ≤ 1024 = rw split few in
-    let behind : (ms ++ names_of (token.Token.atom equation)) ++ more ≡ here ++ (name_of_value equation.1 ++ more) = ap (λ (ns : Names). ns ++ more) (sym split) ∙ append_assoc here (name_of_value equation.1) more in
-    let placed = place_only harts ms (name_of_value equation.1 ++ more) equation.0 at (omega (arith, fewer here (name_of_value equation.1), few_here)) (subst (λ (ns : Names). IsPlaceOf harts (each_once ns) equation.0 at) behind is) in
+    let following : (ms ++ names_of (token.Token.atom equation)) ++ more ≡ here ++ (name_of_value equation.1 ++ more) = ap (λ (ns : Names). ns ++ more) (sym split) ∙ append_assoc here (name_of_value equation.1) more in
+    let placed = place_only harts ms (name_of_value equation.1 ++ more) equation.0 at (omega (arith, fewer here (name_of_value equation.1), few_here)) (subst (λ (ns : Names). IsPlaceOf harts (each_once ns) equation.0 at) following is) in
     let shown = value_only here equation.1 few_here in
     let same : shown.0 ≡ value = one_worth ((here ++ name_of_value equation.1) ++ more) equation.1 shown.0 value (worth_later (here ++ name_of_value equation.1) more equation.1 shown.0 shown.2) (subst (λ (ns : Names). IsWorth (each_once (ns ++ more)) equation.1 value) (sym split) worth) in
     rw (placed, shown.1) (ap (λ (ns : Names). Ok (symbol.Is at shown.0, each_once ns)) split ∙ ap (λ (w : ℕ). Ok (symbol.Is at w, each_once (ms ++ names_of (token.Token.atom equation)))) same)
@@ -188,14 +188,14 @@ token_only harts ms more token.Token.closing known few is = plain_only ms symbol
 names-more : (first : token.Token) (words : List token.Token) → names_in (atoms_in (first ∷ words)) ≡ names_of first ++ names_in (atoms_in words)
 names-more first words = grind (arith, append_assoc)
 
-names-behind : (ms : Names) (first : token.Token) (words : List token.Token) → (ms ++ names_of first) ++ names_in (atoms_in words) ≡ ms ++ names_in (atoms_in (first ∷ words))
-names-behind ms first words = append_assoc ms (names_of first) (names_in (atoms_in words)) ∙ ap (λ (ns : Names). ms ++ ns) (sym (names-more first words))
+names-after : (ms : Names) (first : token.Token) (words : List token.Token) → (ms ++ names_of first) ++ names_in (atoms_in words) ≡ ms ++ names_in (atoms_in (first ∷ words))
+names-after ms first words = append_assoc ms (names_of first) (names_in (atoms_in words)) ∙ ap (λ (ns : Names). ms ++ ns) (sym (names-more first words))
 
 record TokensFound (harts : ℕ) (ms : Names) (so_far : List Symbol) (text : Tokens) (gathered : ConditionSoFar) : Type 0 where
   words : List token.Token
   known : List Symbol
   whole : text ≡ listed words
-  behind : gathered.0 ≡ so_far ++ known
+  following : gathered.0 ≡ so_far ++ known
   names : gathered.1 ≡ each_once (ms ++ names_in (atoms_in words))
   few : length gathered.1 ≤ 1024
   all : AreKnown harts gathered.1 words known
@@ -206,8 +206,8 @@ token_taken harts ms so_far more first others gathered known taken is rest =
       words = first ∷ rest.words;
       known = known ∷ rest.known;
       whole = ap (λ (ws : Tokens). token.Tokens.goes_on first ws) rest.whole;
-      behind = rest.behind ∙ ap (λ (ws : List Symbol). ws ++ rest.known) (sym taken) ∙ append_assoc so_far (known ∷ []) rest.known;
-      names = rest.names ∙ ap each_once (names-behind ms first rest.words);
+      following = rest.following ∙ ap (λ (ws : List Symbol). ws ++ rest.known) (sym taken) ∙ append_assoc so_far (known ∷ []) rest.known;
+      names = rest.names ∙ ap each_once (names-after ms first rest.words);
       few = rest.few;
       all = (known, rest.known, refl, subst (λ (names : Names). IsKnown harts names first known) (sym rest.names) (known_later harts (ms ++ names_of first) (names_in (atoms_in rest.words)) first known is), rest.all);
     }
@@ -228,7 +228,7 @@ tokens_only harts ms so_far [] known formula few all stands = rw (append-nil ms)
 tokens_only harts ms so_far (first ∷ words) known formula few all stands =
     let here = ms ++ names_of first in
     let more = names_in (atoms_in words) in
-    let split = names-behind ms first words in
+    let split = names-after ms first words in
     let few_more : length (each_once (here ++ more)) ≤ 1024 = rw split few in
     let few_here : length (each_once here) ≤ 1024 = omega (arith, fewer here more, few_more) in
     let first_known : IsKnown harts (each_once (here ++ more)) first all.0 = rw split all.3 in
@@ -242,8 +242,8 @@ tokens_only harts ms so_far (first ∷ words) known formula few all stands =
 
 -- ---- the whole condition
 
-none_unread_found : (o : Option (List ℕ)) (end : Unit {0}) → none_unread o ≡ Ok end → o ≡ None
-none_unread_found o end e = grind arith
+none_unread-found : (o : Option (List ℕ)) (end : Unit {0}) → none_unread o ≡ Ok end → o ≡ None
+none_unread-found o end e = grind arith
 
 abbrev condition_so : Quantifier → Formula → Names → Result Condition LitmusFault
 condition_so quantifier formula names = Ok (record { quantifier = quantifier; formula = formula; names = names })
@@ -252,11 +252,11 @@ condition_so quantifier formula names = Ok (record { quantifier = quantifier; fo
 abbrev pub IsConditionFound : (harts : ℕ) → Names → List ℕ → Condition → Type 0
 IsConditionFound harts ms text condition = (words : List token.Token) × (known : List Symbol) × IsFinalCondition text condition.quantifier words × (condition.names ≡ each_once (ms ++ names_in (atoms_in words))) × (length condition.names ≤ 1024) × AreKnown harts condition.names words known × IsConditionOf known condition.formula
 
-finished_condition : (harts : ℕ) (ms : Names) (text : List ℕ) (quantified : Quantified) (gathered : ConditionSoFar) (condition : Condition) → IsQuantified text quantified → NoneBegins BeginsUnread text → TokensFound harts ms [] (tokens_of quantified.1) gathered → (as_condition (finished gathered.0) >>= λ formula. condition_so quantified.0 formula gathered.1) ≡ Ok condition → IsConditionFound harts ms text condition
-finished_condition harts ms text quantified gathered condition front none walk e =
+finished-condition : (harts : ℕ) (ms : Names) (text : List ℕ) (quantified : Quantified) (gathered : ConditionSoFar) (condition : Condition) → IsQuantified text quantified → NoneBegins BeginsUnread text → TokensFound harts ms [] (tokens_of quantified.1) gathered → (as_condition (finished gathered.0) >>= λ formula. condition_so quantified.0 formula gathered.1) ≡ Ok condition → IsConditionFound harts ms text condition
+finished-condition harts ms text quantified gathered condition front none walk e =
     let formula = bind_ok (as_condition (finished gathered.0)) (λ formula. condition_so quantified.0 formula gathered.1) condition e in
     let spelled : AreTokens quantified.1 walk.words = are_tokens walk.words quantified.1 walk.whole in
-    let stands : IsConditionOf walk.known formula.0 = finished_found walk.known formula.0 (subst (λ (ws : List Symbol). finished ws ≡ Ok formula.0) walk.behind (finished_ok gathered.0 formula.0 formula.1)) in
+    let stands : IsConditionOf walk.known formula.0 = finished-found walk.known formula.0 (subst (λ (ws : List Symbol). finished ws ≡ Ok formula.0) walk.following (finished-ok gathered.0 formula.0 formula.1)) in
     subst (IsConditionFound harts ms text) (ok_is LitmusFault (record { quantifier = quantified.0; formula = formula.0; names = gathered.1 }) condition formula.2)
     (walk.words, walk.known, (front.0, quantified.1, front.1, front.2, spelled, none), walk.names, walk.few, walk.all, stands)
 
@@ -265,14 +265,14 @@ pub condition_found : (harts : ℕ) (ms : Names) (text : List ℕ) (condition : 
 unfolding condition_in
 condition_found harts ms text condition few e = go (quantifier_in (before_line Unread text)) refl e
   where
-    go : (o : Option Quantified) → quantifier_in (before_line Unread text) ≡ o → behind_quantifier harts (each_once ms) text o ≡ Ok condition → IsConditionFound harts ms text condition
+    go : (o : Option Quantified) → quantifier_in (before_line Unread text) ≡ o → after_quantifier harts (each_once ms) text o ≡ Ok condition → IsConditionFound harts ms text condition
     go None first shown = absurd cc
     go (Some quantified) first shown =
         let gathered = bind_ok (tokens_added harts ([], each_once ms) (tokens_of quantified.1)) (λ gathered. none_unread (from_line Unread text) >>= λ end. as_condition (finished gathered.0) >>= λ formula. condition_so quantified.0 formula gathered.1) condition shown in
         let end = bind_ok (none_unread (from_line Unread text)) (λ end. as_condition (finished gathered.0.0) >>= λ formula. condition_so quantified.0 formula gathered.0.1) condition gathered.2 in
-        let none = nowhere_found Unread BeginsUnread unread_matches text (none_unread_found (from_line Unread text) end.0 end.1) in
+        let none = nowhere_found Unread BeginsUnread unread_matches text (none_unread-found (from_line Unread text) end.0 end.1) in
         let whole : before_line Unread text ≡ text = (nowhere_only Unread BeginsUnread unread_matches text none).0 in
-        finished_condition harts ms text quantified gathered.0 condition (quantifier_found text quantified (ap quantifier_in (sym whole) ∙ first)) none (tokens_found harts ms [] (tokens_of quantified.1) gathered.0 few gathered.1) end.2
+        finished-condition harts ms text quantified gathered.0 condition (quantifier_found text quantified (ap quantifier_in (sym whole) ∙ first)) none (tokens_found harts ms [] (tokens_of quantified.1) gathered.0 few gathered.1) end.2
 
 -- what the text asks is read
 pub condition_only : (harts : ℕ) (ms : Names) (text : List ℕ) (quantifier : Quantifier) (words : List token.Token) (known : List Symbol) (formula : Formula) → IsFinalCondition text quantifier words → length (each_once (ms ++ names_in (atoms_in words))) ≤ 1024 → AreKnown harts (each_once (ms ++ names_in (atoms_in words))) words known → IsConditionOf known formula → condition_in harts (each_once ms) text ≡ Ok (record { quantifier = quantifier; formula = formula; names = each_once (ms ++ names_in (atoms_in words)) })

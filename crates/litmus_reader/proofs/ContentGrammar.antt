@@ -9,23 +9,24 @@ use Rattle.litmus_tokens.specs.Settings.{Equation}
 use Rattle.litmus_tokens.proofs.CommentLaws.{is_cleaned, only_cleaned}
 use Rattle.litmus_reader.specs.declared.marks.Mark.TheVariants as mark
 use Rattle.litmus_reader.specs.Marks.{before_line, from_line}
-use Rattle.litmus_reader.specs.Header.{behind_header, behind_brace}
+use Rattle.litmus_reader.specs.Header.{after_header, after_brace}
 use Rattle.texts.specs.Pieces.{pieces}
 use Rattle.litmus_reader.specs.Locations.{Names}
-use Rattle.litmus_reader.specs.Init.{InitItems, items_at, behind_init, no_items, pieces_added}
+use Rattle.litmus_reader.specs.Init.{InitItems, items_at, after_init, no_items, pieces_added}
 use Rattle.litmus_reader.specs.Table.{Code, Column, table_at, codes_of}
 use Rattle.litmus_reader.specs.Values.{Values, values_at, padded}
 use Rattle.litmus_reader.specs.Condition.{Condition, condition_in, condition_at}
-use Rattle.litmus_reader.specs.Reading.{HartContent, Content, with_registers, content, content_below, content_behind, content_at, test_at}
+use Rattle.litmus_reader.specs.Reading.{HartContent, Content, with_registers, content, content_below, content_after, content_at, test_at}
 use Rattle.litmus_reader.specs.Openings.{names_in, each_once, AreRegisters, AreFirstWords, IsHartThere}
 use Rattle.litmus_reader.specs.Columns.{Cells, IsTable}
 use Rattle.litmus_reader.specs.ConditionGrammar.{atoms_in, AreKnown}
 use Rattle.litmus_reader.specs.Grammar.{AreHarts, IsContent}
 use Rattle.litmus_reader.proofs.FirstAppearances.{fewer}
+use Rattle.litmus_reader.proofs.HeadingLaws.{init-some}
 use Rattle.litmus_reader.proofs.ShapeLaws.{parts_found, parts_only}
 use Rattle.litmus_reader.proofs.LayoutLaws.{layout_found, layout_only}
 use Rattle.litmus_reader.proofs.ItemLaws.{items_found, items_only}
-use Rattle.litmus_reader.proofs.FirstValueLaws.{values_found, values_only, registers_later, words_later, registers_one, words_one}
+use Rattle.litmus_reader.proofs.FirstValueLaws.{values_found, values_only, registers-later, words-later, registers_one, words_one}
 use Rattle.litmus_reader.proofs.ColumnLaws.{AreCodes, table_found, table_only}
 use Rattle.litmus_reader.proofs.ConditionLaws.{condition_found, condition_only}
 use Rattle.texts.specs.declared.pieces.Separators.TheVariants.{Byte}
@@ -77,9 +78,6 @@ harts_only ms equations rows hart (first ∷ others) (next ∷ registers) same a
 
 -- ---- the whole, from its reading
 
-behind_some : (o : Option (List ℕ)) (rest : List ℕ) → behind_init o ≡ Ok rest → o ≡ Some rest
-behind_some o rest e = grind (arith, ok_is)
-
 record Asking (harts : ℕ) (names : Names) (o : Option (List ℕ)) (condition : Condition) : Type 0 where
   text : List ℕ
   begins : o ≡ Some text
@@ -99,51 +97,51 @@ below_of : (settings : InitItems) (codes : List Code) (o : Option (List ℕ)) (w
 unfolding content_below
 below_of settings codes o whole e = grind (arith, bind_ok, ok_is)
 
-record Behind (settings : InitItems) (text : List ℕ) (whole : Content) : Type 0 where
+record Following (settings : InitItems) (text : List ℕ) (whole : Content) : Type 0 where
   columns : List Column
   codes : List Code
   rows : table_at (before_line mark.Condition text) ≡ Ok columns
   placed : codes_of columns ≡ Ok codes
   below : Below settings codes (from_line mark.Condition text) whole
 
-behind_of : (settings : InitItems) (text : List ℕ) (whole : Content) → content_behind settings text ≡ Ok whole → Behind settings text whole
-unfolding content_behind
-behind_of settings text whole e = grind (arith, bind_ok, below_of)
+after_of : (settings : InitItems) (text : List ℕ) (whole : Content) → content_after settings text ≡ Ok whole → Following settings text whole
+unfolding content_after
+after_of settings text whole e = grind (arith, bind_ok, below_of)
 
 record Read (text : List ℕ) (whole : Content) : Type 0 where
   below : List ℕ
   inner : List ℕ
   settings : InitItems
   rest : List ℕ
-  headed : behind_header text ≡ Ok below
-  braced : behind_brace below ≡ Ok inner
+  headed : after_header text ≡ Ok below
+  braced : after_brace below ≡ Ok inner
   items : pieces_added no_items (pieces (Byte 59) (before (is_byte 125) inner)) ≡ Ok settings
   closed : after (is_byte 125) inner ≡ Some rest
-  behind : Behind settings rest whole
+  following : Following settings rest whole
 
 read_of : (text : List ℕ) (whole : Content) → content_at text ≡ Ok whole → Read text whole
 unfolding content_at items_at
-read_of text whole e = grind (arith, bind_ok, behind_some, behind_of)
+read_of text whole e = grind (arith, bind_ok, init-some, after_of)
 
 pub content_found : (text : List ℕ) (whole : Content) → test_at text ≡ Ok whole → IsContent text whole
 unfolding test_at
 content_found text whole e =
     let read = read_of (cleaned_text text) whole e in
-    let behind = read.behind in
-    let below = behind.below in
-    let harts = length behind.codes in
+    let following = read.following in
+    let below = following.below in
+    let harts = length following.codes in
     let asking = asking harts read.settings.names (from_line mark.Condition read.rest) below.condition below.asks in
     let items = items_found (pieces (Byte 59) (before (is_byte 125) read.inner)) read.settings read.items in
     let equations = items.0 in
     let few : length (each_once (names_in equations)) ≤ 1024 = subst (λ (names : Names). length names ≤ 1024) items.2 items.3 in
-    let table = table_found (before_line mark.Condition read.rest) behind.columns behind.codes behind.rows behind.placed in
+    let table = table_found (before_line mark.Condition read.rest) following.columns following.codes following.rows following.placed in
     let first = values_found harts equations read.settings below.values items.2 items.4 below.equation in
     let condition_text = condition_found harts (names_in equations) asking.text below.condition few (subst (λ (names : Names). condition_in harts names asking.text ≡ Ok below.condition) items.2 asking.reads) in
     let more = names_in (atoms_in condition_text.0) in
     let names : below.condition.names ≡ each_once (names_in equations ++ more) = condition_text.3 in
-    let count : length (with_registers behind.codes below.values.registers) ≡ harts = length-with behind.codes below.values.registers first.1 in
-    let registers : AreAllRegisters below.condition.names equations 0 below.values.registers = subst (λ (ns : Names). AreAllRegisters ns equations 0 below.values.registers) (sym names) (from_first (each_once (names_in equations ++ more)) equations below.values.registers (λ i less. registers_later (names_in equations) more equations i (slice_index_or below.values.registers i []) (subst (λ (ns : Names). AreRegisters ns equations i (slice_index_or below.values.registers i [])) items.2 (first.2 i (omega (arith, less, first.1)))))) in
-    let words : AreFirstWords below.condition.names equations (padded (length below.condition.names) below.values.words) = subst (λ (ns : Names). AreFirstWords ns equations (padded (length ns) below.values.words)) (sym names) (words_later equations more below.values.words (subst (λ (ns : Names). AreFirstWords ns equations below.values.words) items.2 first.3)) in
+    let count : length (with_registers following.codes below.values.registers) ≡ harts = length-with following.codes below.values.registers first.1 in
+    let registers : AreAllRegisters below.condition.names equations 0 below.values.registers = subst (λ (ns : Names). AreAllRegisters ns equations 0 below.values.registers) (sym names) (from_first (each_once (names_in equations ++ more)) equations below.values.registers (λ i less. registers-later (names_in equations) more equations i (slice_index_or below.values.registers i []) (subst (λ (ns : Names). AreRegisters ns equations i (slice_index_or below.values.registers i [])) items.2 (first.2 i (omega (arith, less, first.1)))))) in
+    let words : AreFirstWords below.condition.names equations (padded (length below.condition.names) below.values.words) = subst (λ (ns : Names). AreFirstWords ns equations (padded (length ns) below.values.words)) (sym names) (words-later equations more below.values.words (subst (λ (ns : Names). AreFirstWords ns equations below.values.words) items.2 first.3)) in
     subst (IsContent text) below.is (record {
       clean = cleaned_text text;
       init = before (is_byte 125) read.inner;
@@ -159,7 +157,7 @@ content_found text whole e =
       parted = parts_found 59 (before (is_byte 125) read.inner);
       items = items.1;
       tabled = subst (λ (n : ℕ). IsTable (before_line mark.Condition read.rest) n table.0) (sym count) table.1;
-      harts = harts_found below.condition.names equations table.0 0 behind.codes below.values.registers table.2 registers;
+      harts = harts_found below.condition.names equations table.0 0 following.codes below.values.registers table.2 registers;
       there = subst (λ (n : ℕ). All (IsHartThere n) equations) (sym count) first.0;
       quantified = condition_text.2;
       named = names;
@@ -172,7 +170,7 @@ content_found text whole e =
 -- ---- and back
 
 pub content_only : (text : List ℕ) (whole : Content) → IsContent text whole → test_at text ≡ Ok whole
-unfolding test_at content_at content_behind content_below items_at
+unfolding test_at content_at content_after content_below items_at
 content_only text whole is =
     let harts = length whole.harts in
     let more = names_in (atoms_in is.tokens) in
@@ -189,8 +187,8 @@ content_only text whole is =
     let equation = values_only harts is.equations settings items.2 items.3 is.there in
     let values = equation.0 in
     let first = values_found harts is.equations settings values items.2 items.3 equation.1 in
-    let registers : AreAllRegisters (each_once all) is.equations 0 values.registers = from_first (each_once all) is.equations values.registers (λ i less. registers_later (names_in is.equations) more is.equations i (slice_index_or values.registers i []) (subst (λ (ns : Names). AreRegisters ns is.equations i (slice_index_or values.registers i [])) items.2 (first.2 i (omega (arith, less, first.1))))) in
+    let registers : AreAllRegisters (each_once all) is.equations 0 values.registers = from_first (each_once all) is.equations values.registers (λ i less. registers-later (names_in is.equations) more is.equations i (slice_index_or values.registers i []) (subst (λ (ns : Names). AreRegisters ns is.equations i (slice_index_or values.registers i [])) items.2 (first.2 i (omega (arith, less, first.1))))) in
     let same_harts : with_registers codes values.registers ≡ whole.harts = harts_only all is.equations is.rows 0 whole.harts values.registers first.1 (subst (λ (ns : Names). AreHarts ns is.equations is.rows 0 whole.harts) is.named is.harts) registers in
-    let same_words : padded (length (each_once all)) values.words ≡ whole.words = words_one all is.equations _ whole.words (words_later is.equations more values.words (subst (λ (ns : Names). AreFirstWords ns is.equations values.words) items.2 first.3)) (subst (λ (ns : Names). AreFirstWords ns is.equations whole.words) is.named is.first_words) in
+    let same_words : padded (length (each_once all)) values.words ≡ whole.words = words_one all is.equations _ whole.words (words-later is.equations more values.words (subst (λ (ns : Names). AreFirstWords ns is.equations values.words) items.2 first.3)) (subst (λ (ns : Names). AreFirstWords ns is.equations whole.words) is.named is.first_words) in
     let asks : condition_in harts settings.names is.condition_text ≡ Ok (record { quantifier = whole.quantifier; formula = whole.condition; names = each_once all }) = subst (λ (ns : Names). condition_in harts ns is.condition_text ≡ Ok (record { quantifier = whole.quantifier; formula = whole.condition; names = each_once all })) (sym items.2) (condition_only harts (names_in is.equations) is.condition_text whole.quantifier is.tokens is.known whole.condition is.quantified total (subst (λ (ns : Names). AreKnown harts ns is.tokens is.known) is.named is.all_known) is.condition) in
     rw (clean, laying.headed, laying.braced, laying.opened, parts_only 59 is.init is.parts is.parted, items.1, laying.closed, laying.above, table.1, table.2, count, equation.1, laying.asks, asks, same_harts, same_words, ← is.named) refl

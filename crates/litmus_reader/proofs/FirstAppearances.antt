@@ -115,7 +115,8 @@ one_name ms a b i first second = same_middle first.0 second.0 first.1 second.1 a
 pub at_below : (names : Names) (name : List ℕ) (index : ℕ) → IsAt names name index → index < length names
 at_below names name index at = rw (at.2, at.3) (simp length-append (omega arith))
 
-at_any : (names : Names) (index : ℕ) → index < length names → (name : List ℕ) × IsAt names name index
+-- the name at an index
+pub at_any : (names : Names) (index : ℕ) → index < length names → (name : List ℕ) × IsAt names name index
 at_any [] index less = absurd (omega arith)
 at_any (name ∷ names) zero less = (name, ([], names, refl, refl))
 at_any (name ∷ names) (suc index) less =
@@ -169,9 +170,9 @@ new_resolved ms name is room = grind (arith, once_new, unindexed, length-append)
 abbrev resolved_as : ℕ × Names → Result (ℕ × Names) LitmusFault
 resolved_as found = Ok found
 
-pub resolved_found : (ms : Names) (name : List ℕ) (found : ℕ × Names) → resolved (each_once ms) name ≡ Ok found → IsResolved ms name found
+pub resolved-found : (ms : Names) (name : List ℕ) (found : ℕ × Names) → resolved (each_once ms) name ≡ Ok found → IsResolved ms name found
 unfolding resolved
-resolved_found ms name found e = go (index_from 0 (each_once ms) name) refl e
+resolved-found ms name found e = go (index_from 0 (each_once ms) name) refl e
   where
     go : (o : Option ℕ) → index_from 0 (each_once ms) name ≡ o → joined (each_once ms) name o ≡ Ok found → IsResolved ms name found
     go (Some index) is shown = subst (IsResolved ms name) (ok_is LitmusFault (index, each_once ms) found shown) (old_resolved ms name index is)
@@ -181,9 +182,9 @@ resolved_found ms name found e = go (index_from 0 (each_once ms) name) refl e
     ]
 
 -- the name of the value is resolved, and the value is the word
-pub resolved_only : (ms : Names) (name : List ℕ) → length (each_once (ms ++ name ∷ [])) ≤ 1024 → (index : ℕ) × (resolved (each_once ms) name ≡ Ok (index, each_once (ms ++ name ∷ []))) × IsAt (each_once (ms ++ name ∷ [])) name index
+pub resolved-only : (ms : Names) (name : List ℕ) → length (each_once (ms ++ name ∷ [])) ≤ 1024 → (index : ℕ) × (resolved (each_once ms) name ≡ Ok (index, each_once (ms ++ name ∷ []))) × IsAt (each_once (ms ++ name ∷ [])) name index
 unfolding resolved
-resolved_only ms name few = go (index_from 0 (each_once ms) name) refl
+resolved-only ms name few = go (index_from 0 (each_once ms) name) refl
   where
     Answer : Option ℕ → Type 0
     Answer o = (index : ℕ) × (joined (each_once ms) name o ≡ Ok (index, each_once (ms ++ name ∷ []))) × IsAt (each_once (ms ++ name ∷ [])) name index
@@ -205,7 +206,7 @@ value_found ms (number n) found e = grind (arith, ok_is, append-nil)
 value_found ms (address_of name) found e =
     let step = bind_ok (resolved (each_once ms) name) (λ found. resolved_as (4 * found.0, found.1)) found e in
     let is = ok_is LitmusFault (4 * step.0.0, step.0.1) found step.2 in
-    let resolved = resolved_found ms name step.0 step.1 in
+    let resolved = resolved-found ms name step.0 step.1 in
     subst (λ (f : ℕ × Names). (f.1 ≡ each_once (ms ++ name ∷ [])) × IsWorth f.1 (address_of name) f.0 × (length (each_once ms) ≤ 1024 → length f.1 ≤ 1024)) is
     (resolved.0, (step.0.0, resolved.1, refl), resolved.2)
 
@@ -213,7 +214,7 @@ pub value_only : (ms : Names) (value : Value) → length (each_once (ms ++ name_
 unfolding value_resolved
 value_only ms (number n) few = (n, ap (λ (names : Names). resolved_as (n, names)) (ap each_once (sym (append-nil ms))), refl)
 value_only ms (address_of name) few =
-    let resolved = resolved_only ms name few in
+    let resolved = resolved-only ms name few in
     (4 * resolved.0, (rw resolved.1 refl), (resolved.0, resolved.2, refl))
 
 pub worth_later : (ms more : Names) (value : Value) (word : ℕ) → IsWorth (each_once ms) value word → IsWorth (each_once (ms ++ more)) value word

@@ -33,11 +33,11 @@ at_register values hart number = slice_index_or (slice_index_or values.registers
 abbrev at_word : Values → (index : ℕ) → ℕ
 at_word values index = slice_index_or values.words index 0
 
-zeros_at : (harts locations hart n : ℕ) → hart < harts → n < 32 → at_register (zeros harts locations) hart n ≡ 0
-zeros_at harts locations hart n here few = rw (get_or-replicate harts hart (replicate {A = ℕ} 32 0) [] here) (get_or-replicate 32 n 0 0 few)
+zeros-at : (harts locations hart n : ℕ) → hart < harts → n < 32 → at_register (zeros harts locations) hart n ≡ 0
+zeros-at harts locations hart n here few = rw (get_or-replicate harts hart (replicate {A = ℕ} 32 0) [] here) (get_or-replicate 32 n 0 0 few)
 
-zeros_shaped : (harts locations : ℕ) → IsShaped harts locations (zeros harts locations)
-zeros_shaped harts locations = grind (arith, length-replicate, get_or-replicate, zeros_at)
+zeros-shaped : (harts locations : ℕ) → IsShaped harts locations (zeros harts locations)
+zeros-shaped harts locations = grind (arith, length-replicate, get_or-replicate, zeros-at)
 
 -- ---- one item
 
@@ -168,13 +168,13 @@ values_found harts equations settings values same items e =
     let here = subst (λ (names : Names). AreSettings names equations settings.items) same items in
     let begun = subst (λ (names : Names). items_put (zeros harts (length names)) settings.items ≡ Ok values) same e in
     let start = zeros harts (length (each_once ms)) in
-    let equation = all_put ms equations settings.items harts start values (zeros_shaped harts (length (each_once ms))) here begun in (
+    let equation = all_put ms equations settings.items harts start values (zeros-shaped harts (length (each_once ms))) here begun in (
       equation.there,
       equation.shaped.all,
       λ hart within. subst (λ (names : Names). AreRegisters names equations hart (slice_index_or values.registers hart [])) (sym same) (record {
         count = equation.shaped.counts hart within;
         zero = equation.shaped.zeros hart within;
-        others = λ n some few. first_value (each_once ms) (last_put (is_register hart n) equations) (at_register start hart n) (at_register values hart n) (zeros_at harts (length (each_once ms)) hart n within few) (equation.registers hart n within some few);
+        others = λ n some few. first_value (each_once ms) (last_put (is_register hart n) equations) (at_register start hart n) (at_register values hart n) (zeros-at harts (length (each_once ms)) hart n within few) (equation.registers hart n within some few);
       }),
       subst (λ (names : Names). AreFirstWords names equations values.words) (sym same) (record {
         count = equation.shaped.words;
@@ -184,15 +184,15 @@ values_found harts equations settings values same items e =
 
 -- ---- items whose harts are there can be put
 
-put_at_hart : (hart : ℕ) (register : Reg) (value : ℕ) (values : Values) (harts : ℕ) → length values.registers ≡ harts → hart < harts → (more : Values) × (put_at (Register hart register) value values ≡ Ok more) × (length more.registers ≡ harts)
-put_at_hart hart register value values harts count here =
+put_at-hart : (hart : ℕ) (register : Reg) (value : ℕ) (values : Values) (harts : ℕ) → length values.registers ≡ harts → hart < harts → (more : Values) × (put_at (Register hart register) value values ≡ Ok more) × (length more.registers ≡ harts)
+put_at-hart hart register value values harts count here =
     let changed = with_register register.number value (slice_index_or values.registers hart []) in
     (record values { registers = slice_set values.registers hart changed }, rw (lt-ltb hart (length values.registers) (omega (arith, count, here))) refl, length-set values.registers hart changed ∙ count)
 
 item_there : (names : Names) (equation : Equation) (item : InitItem) (values : Values) (harts : ℕ) → length values.registers ≡ harts → IsSettingOf names equation item → IsHartThere harts equation → (more : Values) × (item_put values item ≡ Ok more) × (length more.registers ≡ harts)
 unfolding item_put
 item_there names (in_register hart register, value) item values harts count setting there =
-    subst (λ (target : Target). (more : Values) × (put_at target item.value values ≡ Ok more) × (length more.registers ≡ harts)) (sym setting.0) (put_at_hart hart register item.value values harts count there)
+    subst (λ (target : Target). (more : Values) × (put_at target item.value values ≡ Ok more) × (length more.registers ≡ harts)) (sym setting.0) (put_at-hart hart register item.value values harts count there)
 item_there names (at_location name, value) item values harts count setting there =
     subst (λ (target : Target). (more : Values) × (put_at target item.value values ≡ Ok more) × (length more.registers ≡ harts)) (sym setting.0.2) (record values { words = slice_set values.words setting.0.0 item.value }, refl, count)
 
@@ -213,12 +213,12 @@ values_only harts equations settings same items there = all_there settings.names
 first_later : (ms more : Names) (equation : Option Value) (word : ℕ) → IsFirstValue (each_once ms) equation word → IsFirstValue (each_once (ms ++ more)) equation word
 first_later ms more equation word first = grind (arith, worth_later)
 
-pub registers_later : (ms more : Names) (equations : List Equation) (hart : ℕ) (registers : List ℕ) → AreRegisters (each_once ms) equations hart registers → AreRegisters (each_once (ms ++ more)) equations hart registers
-registers_later ms more equations hart registers are = grind (arith, first_later, slice_index_or)
+pub registers-later : (ms more : Names) (equations : List Equation) (hart : ℕ) (registers : List ℕ) → AreRegisters (each_once ms) equations hart registers → AreRegisters (each_once (ms ++ more)) equations hart registers
+registers-later ms more equations hart registers are = grind (arith, first_later, slice_index_or)
 
-has_behind : (xs ys : Names) (name : List ℕ) → has ys name ≡ true → has (xs ++ ys) name ≡ true
-has_behind [] ys name is = is
-has_behind (x ∷ xs) ys name is = or_right (bytes_eq x name) (has (xs ++ ys) name) (has_behind xs ys name is)
+has_after : (xs ys : Names) (name : List ℕ) → has ys name ≡ true → has (xs ++ ys) name ≡ true
+has_after [] ys name is = is
+has_after (x ∷ xs) ys name is = or_right (bytes_eq x name) (has (xs ++ ys) name) (has_after xs ys name is)
 
 has_put : (equation : Equation) (others : Names) (name : List ℕ) → is_location name equation.0 ≡ true → has (name_of_place equation.0 ++ others) name ≡ true
 has_put equation others name is = grind (arith, or_left, has)
@@ -226,7 +226,7 @@ has_put equation others name is = grind (arith, or_left, has)
 -- where an item puts a value, its name is one of the items'
 has_last : (equations : List Equation) (name : List ℕ) (value : Value) → last_put (is_location name) equations ≡ Some value → has (names_in equations) name ≡ true
 has_last [] name value e = absurd cc
-has_last (equation ∷ equations) name value e = grind (arith, has, has_behind, cases_Bool, has_put, has_last equations name)
+has_last (equation ∷ equations) name value e = grind (arith, has, has_after, cases_Bool, has_put, has_last equations name)
 
 -- a name that appeared has an index
 at_resolved : (ms : Names) (name : List ℕ) → has ms name ≡ true → (index : ℕ) × IsAt (each_once ms) name index
@@ -245,12 +245,12 @@ at_resolved (m ∷ ms) name is = elim (cases_Bool (bytes_eq m name)) [
     without : Names
     without = filter (λ other. not (bytes_eq m other)) (each_once ms)
 
-pub words_later : (equations : List Equation) (more : Names) (words : List ℕ) → AreFirstWords (each_once (names_in equations)) equations words → AreFirstWords (each_once (names_in equations ++ more)) equations (padded (length (each_once (names_in equations ++ more))) words)
-words_later equations more words are = record {
+pub words-later : (equations : List Equation) (more : Names) (words : List ℕ) → AreFirstWords (each_once (names_in equations)) equations words → AreFirstWords (each_once (names_in equations ++ more)) equations (padded (length (each_once (names_in equations ++ more))) words)
+words-later equations more words are = record {
   count = length-append words (replicate (length all - length words) 0) ∙ (rw (length-replicate {A = ℕ} (length all - length words) 0) (omega (arith, are.count, fewer (names_in equations) more)));
   values = λ index name at. elim (cases_lt index (length words)) [
     | inl within ↦ old index name at within
-    | inr behind ↦ new index name at behind
+    | inr following ↦ new index name at following
   ];
 }
   where
@@ -265,17 +265,17 @@ words_later equations more words are = record {
         subst (IsFirstValue all (last_put (is_location name) equations)) (sym (get_or_append_left words (replicate (length all - length words) 0) 0 index within)) (first_later (names_in equations) more (last_put (is_location name) equations) (slice_index_or words index 0) first)
 
     new : (index : ℕ) (name : List ℕ) → IsAt all name index → length words ≤ index → IsFirstValue all (last_put (is_location name) equations) (slice_index_or (padded (length all) words) index 0)
-    new index name at behind = go (last_put (is_location name) equations) refl
+    new index name at following = go (last_put (is_location name) equations) refl
       where
         go : (equation : Option Value) → last_put (is_location name) equations ≡ equation → IsFirstValue all equation (slice_index_or (padded (length all) words) index 0)
         go None is =
             let within = at_below all name index at in
-            get_or-append_right words (replicate (length all - length words) 0) (length words) index 0 refl behind ∙ get_or-replicate (length all - length words) (index - length words) 0 0 (omega arith)
+            get_or-append_right words (replicate (length all - length words) 0) (length words) index 0 refl following ∙ get_or-replicate (length all - length words) (index - length words) 0 0 (omega arith)
         go (Some value) is =
             let here = at_resolved (names_in equations) name (has_last equations name value is) in
             let same = one_index (names_in equations ++ more) name here.0 index (at_later (names_in equations) more name here.0 here.1) at in
             let within = at_below (each_once (names_in equations)) name here.0 here.1 in
-            absurd (omega (arith, same, within, behind, are.count))
+            absurd (omega (arith, same, within, following, are.count))
 
 -- ---- at most one list of first values
 

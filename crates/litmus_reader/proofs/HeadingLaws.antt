@@ -6,17 +6,17 @@ use Rattle.std.proofs.lemmas.Bool.{ne_eqb}
 use Rattle.texts.specs.declared.pieces.Separators.TheVariants.{Gaps}
 use Rattle.texts.specs.Pieces.{is_blank, pieces, pieces_after}
 use Rattle.texts.specs.Cutting.{before, after, is_byte, without_front, tokens, NonePass}
-use Rattle.texts.specs.Results.{Gives}
-use Rattle.texts.proofs.CuttingLaws.{before_stop, after_stop}
+use Rattle.texts.specs.Results.{GivesUpToMemory}
+use Rattle.texts.proofs.CuttingLaws.{before-stop, after-stop}
 use Rattle.texts.proofs.ResultLaws.{bind_ok, ok_is}
-use Rattle.texts.proofs.TokenLaws.{filter_kept, first_is, tokens_cut}
+use Rattle.texts.proofs.TokenLaws.{filter_kept, first_is, tokens-cut}
 use Rattle.litmus_tokens.specs.Cleaning.{cleaned_text}
 use Rattle.litmus_tokens.proofs.CommentLaws.{is_cleaned, only_cleaned}
 use Rattle.litmus_reader.specs.declared.faults.LitmusFault.{LitmusFault}
 use Rattle.litmus_reader.specs.declared.marks.Mark.TheVariants as mark
 use Rattle.litmus_reader.specs.Marks.{before_line, from_line}
-use Rattle.litmus_reader.specs.Header.{behind_header, behind_brace}
-use Rattle.litmus_reader.specs.Init.{behind_init}
+use Rattle.litmus_reader.specs.Header.{after_header, after_brace}
+use Rattle.litmus_reader.specs.Init.{after_init}
 use Rattle.litmus_reader.specs.Layout.{IsVisible, IsHeader, IsLaidOut}
 use Rattle.litmus_reader.specs.Reading.{Content}
 use Rattle.litmus_reader.specs.Grammar.{IsContent}
@@ -62,16 +62,16 @@ header_tokens line (blanks, gap, rest, b, c, are, apart, solid, whole) =
     let plain : NonePass is_blank (codes "RISCV") = (refl, (refl, (refl, (refl, (refl, tt))))) in
     let front : word ≡ without_front line = sym (ap without_front whole ∙ front_of blanks 82 (codes "ISCV" ++ b ∷ (gap ++ c ∷ rest)) are refl) in
     let first = first_is line word (codes "RISCV") (Some (gap ++ c ∷ rest)) front (omega arith)
-    (sym (before_stop is_blank (codes "RISCV") b (gap ++ c ∷ rest) plain apart.0))
-    (sym (after_stop is_blank (codes "RISCV") b (gap ++ c ∷ rest) plain apart.0)) in
+    (sym (before-stop is_blank (codes "RISCV") b (gap ++ c ∷ rest) plain apart.0))
+    (sym (after-stop is_blank (codes "RISCV") b (gap ++ c ∷ rest) plain apart.0)) in
     let second = first_is (gap ++ c ∷ rest) (c ∷ rest) (before is_blank (c ∷ rest)) (after is_blank (c ∷ rest))
     (sym (front_of gap c rest apart.1 solid)) (omega arith) refl refl in
     let name = before is_blank (c ∷ rest) in
-    let behind = unwrap_or (after is_blank (c ∷ rest)) [] in (
+    let following = unwrap_or (after is_blank (c ∷ rest)) [] in (
       name,
-      tokens behind,
-      tokens_cut line (codes "RISCV") (gap ++ c ∷ rest) first
-          ∙ ap (λ (ts : List (List ℕ)). codes "RISCV" ∷ ts) (tokens_cut (gap ++ c ∷ rest) name behind second),
+      tokens following,
+      tokens-cut line (codes "RISCV") (gap ++ c ∷ rest) first
+          ∙ ap (λ (ts : List (List ℕ)). codes "RISCV" ∷ ts) (tokens-cut (gap ++ c ∷ rest) name following second),
     )
 
 -- the line that is read as the header
@@ -97,19 +97,19 @@ record Asking (from : Option (List ℕ)) (condition : List ℕ) : Type 0 where
 asking : (from : Option (List ℕ)) (condition : List ℕ) → condition_of from ≡ Ok condition → Asking from condition
 asking from condition e = grind (arith, ok_is)
 
-some_behind : (from : Option (List ℕ)) (rest : List ℕ) → behind_init from ≡ Ok rest → from ≡ Some rest
-some_behind from rest e = grind (arith, ok_is)
+pub init-some : (from : Option (List ℕ)) (rest : List ℕ) → after_init from ≡ Ok rest → from ≡ Some rest
+init-some from rest e = grind (arith, ok_is)
 
 pub heading_found : (text : List ℕ) (is : HeadingOf) → heading_at text ≡ Ok is → IsHeading text is
 unfolding heading_at heading_in
 heading_found text is e =
     let clean = cleaned_text text in
-    let first = bind_ok (behind_header clean) _ is e in
-    let second = bind_ok (behind_brace first.0) _ is first.2 in
-    let third = bind_ok (behind_init (after (is_byte 125) second.0)) _ is second.2 in
+    let first = bind_ok (after_header clean) _ is e in
+    let second = bind_ok (after_brace first.0) _ is first.2 in
+    let third = bind_ok (after_init (after (is_byte 125) second.0)) _ is second.2 in
     let fourth = bind_ok (condition_of (from_line mark.Condition third.0)) _ is third.2 in
     let asks = asking (from_line mark.Condition third.0) fourth.0 fourth.1 in
-    let closed = some_behind (after (is_byte 125) second.0) third.0 third.1 in
+    let closed = init-some (after (is_byte 125) second.0) third.0 third.1 in
     let laid = layout_found clean first.0 second.0 third.0 asks.condition_text first.1 second.1 closed asks.begins in
     let named = header_tokens laid.header laid.named in
     let same : heading (name_in clean) fourth.0 ≡ is = ok_is LitmusFault (heading (name_in clean) fourth.0) is fourth.2 in
@@ -137,13 +137,13 @@ heading_only text is h =
 
 -- what a reader answers
 pub found_heading : {X E : Type 0} (fault_of : E → Option LitmusFault) (view : X → HeadingOf) (text : List ℕ) (result : Result X E)
-    → Gives fault_of view result (heading_at text) → IfOk result (λ x. IsHeading text (view x))
+    → GivesUpToMemory fault_of view result (heading_at text) → IfOk result (λ x. IsHeading text (view x))
 found_heading fault_of view text result gives = grind (arith, heading_found)
 
 pub only_heading : {X E : Type 0} (fault_of : E → Option LitmusFault) (view : X → HeadingOf) (text : List ℕ) (is : HeadingOf) (result : Result X E)
-    → Gives fault_of view result (heading_at text) → IsHeading text is → Gives fault_of view result (Ok is)
+    → GivesUpToMemory fault_of view result (heading_at text) → IsHeading text is → GivesUpToMemory fault_of view result (Ok is)
 only_heading fault_of view text is result gives h =
-    subst (λ (answer : Result HeadingOf LitmusFault). Gives fault_of view result answer) (heading_only text is h) gives
+    subst (λ (answer : Result HeadingOf LitmusFault). GivesUpToMemory fault_of view result answer) (heading_only text is h) gives
 
 pub one_heading : (text : List ℕ) (a b : HeadingOf) → IsHeading text a → IsHeading text b → a ≡ b
 one_heading text a b first second = ok_is LitmusFault a b (sym (heading_only text a first) ∙ heading_only text b second)

@@ -12,7 +12,7 @@ use Rattle.texts.specs.Cutting.{AllPass}
 use Rattle.litmus_tokens.specs.Settings.{NamedPlace, Equation, IsDeclared, IsItem}
 use Rattle.litmus_tokens.specs.Settings.NamedPlace.{in_register, at_location}
 use Rattle.litmus_tokens.specs.Reading.{item_at}
-use Rattle.texts.proofs.TrimLaws.{stripped_all}
+use Rattle.texts.proofs.TrimLaws.{stripped-all}
 use Rattle.litmus_tokens.proofs.ItemLaws.{item_found, item_read}
 use Rattle.litmus_reader.specs.declared.faults.LitmusFault.{LitmusFault}
 use Rattle.litmus_reader.specs.declared.init.Target.{Target}
@@ -21,7 +21,7 @@ use Rattle.litmus_reader.specs.Locations.{Names, resolved, value_resolved}
 use Rattle.litmus_reader.specs.Init.{InitItem, InitItems, no_items, target_resolved, item_added, piece_added, pieces_added}
 use Rattle.litmus_reader.specs.Openings.{AreItems, IsAt, IsWorth, each_once, name_of_place, name_of_value, names_in}
 use Rattle.litmus_reader.specs.Openings.AreItems.{none, empty, item}
-use Rattle.litmus_reader.proofs.FirstAppearances.{resolved_found, resolved_only, value_found, value_only, at_later, worth_later, fewer}
+use Rattle.litmus_reader.proofs.FirstAppearances.{resolved-found, resolved-only, value_found, value_only, at_later, worth_later, fewer}
 
 -- ---- items with indices for names
 
@@ -75,14 +75,14 @@ target_found ms (in_register hart register) found e = grind (arith, ok_is, appen
 target_found ms (at_location name) found e =
     let step = bind_ok (resolved (each_once ms) name) (λ found. resolved_as (Word found.0, found.1)) found e in
     let is = ok_is LitmusFault (Word step.0.0, step.0.1) found step.2 in
-    let resolved = resolved_found ms name step.0 step.1 in
+    let resolved = resolved-found ms name step.0 step.1 in
     subst (IsTargetResolved ms (at_location name)) is (resolved.0, (step.0.0, resolved.1, refl), resolved.2)
 
 target_only : (ms : Names) (place : NamedPlace) → length (each_once (ms ++ name_of_place place)) ≤ 1024 → (target : Target) × (target_resolved (each_once ms) place ≡ Ok (target, each_once (ms ++ name_of_place place))) × IsTarget (each_once (ms ++ name_of_place place)) place target
 unfolding target_resolved
 target_only ms (in_register hart register) few = (Register hart register, ap (λ (names : Names). resolved_as (Register hart register, names)) (ap each_once (sym (append-nil ms))), refl)
 target_only ms (at_location name) few =
-    let resolved = resolved_only ms name few in
+    let resolved = resolved-only ms name few in
     (Word resolved.0, (rw resolved.1 refl), (resolved.0, resolved.2, refl))
 
 -- ---- the items so far
@@ -135,7 +135,7 @@ gaps_are [] all = refl
 gaps_are (c ∷ rest) all = and_from (is_gap c) (list_all is_gap rest) all.0 (gaps_are rest all.1)
 
 no_core : (text : List ℕ) → list_all is_gap text ≡ true → core text ≡ []
-no_core text e = stripped_all is_gap text (gaps_in text e)
+no_core text e = stripped-all is_gap text (gaps_in text e)
 
 declared_solid : (text : List ℕ) (place : NamedPlace) → IsDeclared text place → list_all is_gap text ≡ true → ⊥
 declared_solid text place is gaps = grind (arith, no_core)

@@ -1,7 +1,7 @@
 -- A text with a test has a listing, so that only memory can be missing for it.
 use Rattle.std.proofs.Common.{◌≡◌, ℕ, ◌-◌, List, length, Result, Ok, Err, refl}
 use Rattle.std.specs.Result.{IfErr}
-use Rattle.texts.specs.Results.{Gives}
+use Rattle.texts.specs.Results.{GivesUpToMemory}
 use Rattle.texts.specs.declared.errors.AtLine.{AtLine}
 use Rattle.texts.specs.declared.errors.TextError.{TextError}
 use Rattle.texts.specs.declared.errors.TextError.TheVariants.{NoMemory, Refused}
@@ -14,11 +14,11 @@ use Rattle.litmus_reader.specs.Faults.{fault_of}
 use Rattle.litmus_reader.specs.Marks.{before_line}
 use Rattle.litmus_reader.specs.Reading.{Content, content_of}
 use Rattle.litmus_reader.specs.Grammar.{IsContent, IsTestOf}
-use Rattle.litmus_reader.specs.Listings.{RowOf, rows_at, behind_items, listing_in, listing_at}
+use Rattle.litmus_reader.specs.Listings.{RowOf, rows_at, after_items, listing_in, listing_at}
 use Rattle.litmus_reader.proofs.LayoutLaws.{layout_only}
 
 pub test_listed : (text : List ℕ) (content : Content) → IsContent text content → (rows : List RowOf) × (listing_at text ≡ Ok rows)
-unfolding behind_items listing_in listing_at
+unfolding after_items listing_in listing_at
 test_listed text content c =
     let clean : cleaned_text text ≡ c.clean = only_cleaned text c.clean c.cleaned in
     let laying = layout_only c.clean c.init c.table c.condition_text c.laid_out in
@@ -26,7 +26,7 @@ test_listed text content c =
 
 -- what a reader of listings answers where a test stands
 pub only_memory : {X : Type 0} (view : X → List RowOf) (text : List ℕ) (result : Result X (TextError (AtLine LitmusFault)))
-    → Gives fault_of view result (listing_at text) → (test : LitmusTest) → IsTestOf text test → IfErr result (λ error. error ≡ NoMemory)
+    → GivesUpToMemory fault_of view result (listing_at text) → (test : LitmusTest) → IsTestOf text test → IfErr result (λ error. error ≡ NoMemory)
 unfolding IsTestOf
 only_memory view text (Ok x) gives test is = tt
 only_memory view text (Err NoMemory) gives test is = refl

@@ -3,7 +3,7 @@ use Rattle.std.proofs.Common.{arith, ◌≡◌, ℕ, Bool, List, Option, Some, s
 use Rattle.std.specs.Prelude.{if◌then◌else◌}
 use Rattle.litmus_tokens.specs.Settings.{NamedPlace, Value, Equation, IsNamedPlace, IsValue, IsSetting, IsDeclared, IsItem}
 use Rattle.litmus_tokens.specs.Reading.{setting_at}
-use Rattle.litmus_tokens.specs.Tokens.{Token, Beginning, nothing, begins, no_token, is_mark, behind_not, paired, atom_from, negation_or, unmarked, begun, beginning_of}
+use Rattle.litmus_tokens.specs.Tokens.{Token, Beginning, nothing, begins, no_token, is_mark, after_not, paired, atom_from, negation_or, unmarked, begun, beginning_of}
 use Rattle.texts.specs.Cutting.{before, from_first, without_leading}
 use Rattle.litmus_tokens.proofs.SettingLaws.{setting_found}
 use Rattle.litmus_reader.specs.Locations.{HasLocation, HasName, HasNames}
@@ -41,8 +41,8 @@ Named no_token = Unit {0}
 either_named : (b : Bool) (x y : Beginning) → Named x → Named y → Named (if b then x else y)
 either_named b x y first second = grind arith
 
-paired_named : (token : Token) (second : ℕ) (text : List ℕ) → TokenHasNames token → Named (paired token second text)
-paired_named token second text names = grind (arith, either_named)
+paired-named : (token : Token) (second : ℕ) (text : List ℕ) → TokenHasNames token → Named (paired token second text)
+paired-named token second text names = grind (arith, either_named)
 
 atom_named : (o : Option Equation) (rest : List ℕ) → ((equation : Equation) → o ≡ Some equation → HasNames equation) → Named (atom_from o rest)
 atom_named o rest names = grind arith
@@ -50,17 +50,17 @@ atom_named o rest names = grind arith
 not_named : (o : Option (List ℕ)) (other : Beginning) → Named other → Named (negation_or o other)
 not_named o other names = grind arith
 
-unmarked_named : (text : List ℕ) → Named (unmarked text)
+unmarked-named : (text : List ℕ) → Named (unmarked text)
 unfolding unmarked
-unmarked_named text = not_named (behind_not text) _ (atom_named (setting_at (before is_mark text)) (from_first is_mark text) (λ equation is. setting_names (before is_mark text) equation (setting_found (before is_mark text) equation is)))
+unmarked-named text = not_named (after_not text) _ (atom_named (setting_at (before is_mark text)) (from_first is_mark text) (λ equation is. setting_names (before is_mark text) equation (setting_found (before is_mark text) equation is)))
 
-begun_named : (text : List ℕ) → Named (begun text)
+begun-named : (text : List ℕ) → Named (begun text)
 unfolding begun
-begun_named text = grind (arith, either_named, paired_named, unmarked_named)
+begun-named text = grind (arith, either_named, paired-named, unmarked-named)
 
 pub first_named : (text : List ℕ) → Named (beginning_of text)
 unfolding beginning_of
-first_named text = begun_named (without_leading is_gap text)
+first_named text = begun-named (without_leading is_gap text)
 
 pub token_named : (text rest : List ℕ) (token : Token) → begins token rest ≡ beginning_of text → TokenHasNames token
 token_named text rest token is = let P : Beginning → Type 0 = λ b. Named b in subst P (sym is) (first_named text)

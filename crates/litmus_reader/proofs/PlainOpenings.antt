@@ -10,7 +10,7 @@ use Rattle.assembler.specs.Drafts.{Line, size_of, words_of}
 use Rattle.assembler.specs.Statements.{Made}
 use Rattle.assembler.specs.Program.{IsPlaced, ArePlaced}
 use Rattle.assembler.specs.Program.IsPlaced.{nothing, single, double, jumping, branching}
-use Rattle.step_machine.specs.History.{HartStart}
+use Rattle.step_machine.specs.History.{HartOpeningValue}
 use Rattle.litmus.specs.LitmusTests.{LitmusTest}
 use Rattle.litmus_tokens.specs.Names.{IsNumber, core}
 use Rattle.litmus_tokens.specs.Names.IsNumber.{plain, negated}
@@ -25,6 +25,7 @@ use Rattle.litmus_reader.specs.Columns.{Cells, IsTable}
 use Rattle.litmus_reader.specs.Reading.{hart_content}
 use Rattle.litmus_reader.specs.Grammar.{AreHarts, HasPlainCode, IsTestOf}
 use Rattle.litmus_reader.specs.PlainOpenings.{IsWord, IsPlainHart, IsPlainOpening}
+use Rattle.litmus_reader.proofs.FirstAppearances.{at_any}
 
 -- ---- code
 
@@ -35,7 +36,7 @@ placed_size all at made instrs (double i j) = refl
 placed_size all at made instrs (jumping rd name place defined reached) = refl
 placed_size all at made instrs (branching op rs1 rs2 name place defined reached) = refl
 
-lines_size : (all : List Line) (at : ℕ) (lines : List Line) (instrs : List Instr) → ArePlaced all at lines instrs → length instrs ≡ words_of lines
+pub lines_size : (all : List Line) (at : ℕ) (lines : List Line) (instrs : List Instr) → ArePlaced all at lines instrs → length instrs ≡ words_of lines
 lines_size all at [] instrs placed = ap length placed
 lines_size all at (line ∷ below) instrs (front, rest, is, here, further) =
     let first = placed_size all at line.made front here in
@@ -104,35 +105,27 @@ all_from : (xs : List ℕ) → ((i : ℕ) → i < length xs → IsWord (get_or x
 all_from [] each = tt
 all_from (x ∷ xs) each = (each 0 (omega arith), all_from xs (λ i less. each (suc i) (omega (arith, less))))
 
-registers_small : (names : Names) (equations : List Equation) (hart : ℕ) (registers : List ℕ) → length names ≤ 1024 → AreSmall equations
+registers-small : (names : Names) (equations : List Equation) (hart : ℕ) (registers : List ℕ) → length names ≤ 1024 → AreSmall equations
     → AreRegisters names equations hart registers → AllByRecursion IsWord registers
-registers_small names equations hart registers few small are = all_from registers each
+registers-small names equations hart registers few small are = all_from registers each
   where
     each : (i : ℕ) → i < length registers → IsWord (get_or registers i 0)
     each zero less = omega (arith, are.zero)
     each (suc i) less = first_small names (last_put (is_register hart (suc i)) equations) (get_or registers (suc i) 0) few
         (put_small (is_register hart (suc i)) equations small) (are.others (suc i) (omega arith) (omega (arith, less, are.count)))
 
--- the name at an index
-name_at : (names : Names) (i : ℕ) → i < length names → (name : List ℕ) × IsAt names name i
-name_at [] i less = absurd (omega arith)
-name_at (name ∷ names) zero less = (name, ([], names, refl, refl))
-name_at (first ∷ names) (suc i) less =
-    let (name, (above, below, whole, at)) = name_at names i (omega arith) in
-    (name, (first ∷ above, below, ap (λ (ns : Names). first ∷ ns) whole, ap suc at))
-
-words_small : (names : Names) (equations : List Equation) (words : List ℕ) → length names ≤ 1024 → AreSmall equations
+words-small : (names : Names) (equations : List Equation) (words : List ℕ) → length names ≤ 1024 → AreSmall equations
     → AreFirstWords names equations words → AllByRecursion IsWord words
-words_small names equations words few small are = all_from words each
+words-small names equations words few small are = all_from words each
   where
     each : (i : ℕ) → i < length words → IsWord (get_or words i 0)
     each i less =
-        let (name, at) = name_at names i (omega (arith, less, are.count)) in
+        let (name, at) = at_any names i (omega (arith, less, are.count)) in
         first_small names (last_put (is_location name) equations) (get_or words i 0) few (put_small (is_location name) equations small) (are.values i name at)
 
 -- ---- harts
 
-plain_harts : (names : Names) (equations : List Equation) (rows : List Cells) (hart : ℕ) (harts : List HartStart) → length names ≤ 1024
+plain_harts : (names : Names) (equations : List Equation) (rows : List Cells) (hart : ℕ) (harts : List HartOpeningValue) → length names ≤ 1024
     → AreSmall equations → AreHarts names equations rows hart (map hart_content harts) → All HasPlainCode harts → AllByRecursion IsPlainHart harts
 plain_harts names equations rows hart [] few small are are_plain = tt
 plain_harts names equations rows hart (first ∷ others) few small ((all, instrs, lines, made, meant), registers, inbox, further) are_plain =
@@ -143,7 +136,7 @@ plain_harts names equations rows hart (first ∷ others) few small ((all, instrs
         code = recursion_from_All IsWord first.code (All-head HasPlainCode first others are_plain).1;
         count = registers.count;
         zero = registers.zero;
-        registers = registers_small names equations hart first.registers few small registers;
+        registers = registers-small names equations hart first.registers few small registers;
         inbox = inbox;
       },
       plain_harts names equations rows (hart + 1) others few small further (All-tail HasPlainCode first others are_plain),
@@ -171,5 +164,5 @@ plain_opening text test (is, are_plain) =
       few = omega (arith, harts, is.tabled.few);
       harts = plain_harts test.names is.equations is.rows 0 test.opening.harts few small is.harts are_plain;
       locations = omega (arith, few, is.first_words.count);
-      words = words_small test.names is.equations test.opening.words few small is.first_words;
+      words = words-small test.names is.equations test.opening.words few small is.first_words;
     }

@@ -6,8 +6,8 @@ use Rattle.std.proofs.lemmas.Slice.Eq.{bytes_eq-Decides}
 use Rattle.texts.specs.Pieces.{is_blank}
 use Rattle.texts.specs.Cutting.{before, after, is_byte, trimmed, AreBlanks, IsPadded, NonePass}
 use Rattle.texts.proofs.ResultLaws.{ok_is, bind_ok, guard_ok}
-use Rattle.texts.proofs.CuttingLaws.{before_stop, after_stop, decimal_none, digit_no_blank, cut_byte, before_passes_not}
-use Rattle.texts.proofs.TrimLaws.{stripped_none, padded_stripped, stripped_padded}
+use Rattle.texts.proofs.CuttingLaws.{before-stop, after-stop, decimal_none, digit_no_blank, cut_byte, before-passes_not}
+use Rattle.texts.proofs.TrimLaws.{stripped-none, padded_stripped, stripped-padded}
 use Rattle.litmus_reader.specs.Rows.{is_blank_line, ended_by, row_in, cells_of, names_hart, name_harts, harts_within, all_named, harts_in}
 use Rattle.litmus_reader.specs.Columns.{Cells, IsRow, AreNames}
 use Rattle.litmus_reader.proofs.ShapeLaws.{none_passes, has_none, parts_found, parts_only}
@@ -30,8 +30,8 @@ among_blanks (b ∷ front) c rest are = among_blanks front c rest are.1
 abbrev some_row : List ℕ → Option (List ℕ)
 some_row row = Some row
 
-row_is : (a b : List ℕ) → some_row a ≡ some_row b → a ≡ b
-row_is a b e = cc
+row-is : (a b : List ℕ) → some_row a ≡ some_row b → a ≡ b
+row-is a b e = cc
 
 pub row_found : (line row : List ℕ) → row_in line ≡ Some row → IsRow line (cells_of row)
 unfolding row_in
@@ -41,8 +41,8 @@ row_found line row e = go (after (is_byte 59) line) refl e
     go None none f = absurd cc
     go (Some rest) cut f = elim (cases_Bool (is_blank_line rest)) [
       | inl blank ↦ (
-          let same : before (is_byte 59) line ≡ row = row_is (before (is_byte 59) line) row (rw blank at f) in
-          (row, rest, has_none 59 row (subst (λ (r : List ℕ). NonePass (is_byte 59) r) same (before_passes_not (is_byte 59) line)), blank_found rest blank, cut_byte 59 line rest cut ∙ ap (λ (r : List ℕ). r ++ 59 ∷ rest) same, parts_found 124 row))
+          let same : before (is_byte 59) line ≡ row = row-is (before (is_byte 59) line) row (rw blank at f) in
+          (row, rest, has_none 59 row (subst (λ (r : List ℕ). NonePass (is_byte 59) r) same (before-passes_not (is_byte 59) line)), blank_found rest blank, cut_byte 59 line rest cut ∙ ap (λ (r : List ℕ). r ++ 59 ∷ rest) same, parts_found 124 row))
       | inr other ↦ absurd (let g = rw other at f in cc)
     ]
 
@@ -54,7 +54,7 @@ pub record RowRead (line : List ℕ) (cells : Cells) : Type 0 where
 
 pub row_only : (line : List ℕ) (cells : Cells) → IsRow line cells → RowRead line cells
 unfolding row_in
-row_only line cells is = grind (arith, none_passes, false_from_ne_true, among_blanks, blank_found, before_stop, after_stop, blank_only, parts_only)
+row_only line cells is = grind (arith, none_passes, false_from_ne_true, among_blanks, blank_found, before-stop, after-stop, blank_only, parts_only)
 
 -- ---- the first row
 
@@ -71,7 +71,7 @@ name_solid hart fits = (refl, decimal_none is_blank (λ d lt. digit_no_blank d) 
 names_only : (hart : ℕ) (cells : Cells) → hart + length cells ≤ 64 → AreNames hart cells → name_harts hart cells ≡ true
 names_only hart [] few are = refl
 names_only hart (cell ∷ cells) few are =
-    let same = stripped_padded is_blank (80 ∷ decimal hart) cell are.0 ∙ stripped_none is_blank (80 ∷ decimal hart) (name_solid hart (omega arith)) in
+    let same = stripped-padded is_blank (80 ∷ decimal hart) cell are.0 ∙ stripped-none is_blank (80 ∷ decimal hart) (name_solid hart (omega arith)) in
     let named : names_hart hart cell ≡ true = (bytes_eq-Decides (trimmed cell) (80 ∷ decimal hart)).1 same in
     rw named (names_only (hart + 1) cells (omega arith) are.1)
 
@@ -82,15 +82,15 @@ pub record FirstRow (line : List ℕ) (harts : ℕ) : Type 0 where
   pub counted : length names ≡ harts
   pub few : harts ≤ 64
 
-named_found : (cells : Cells) (harts : ℕ) → all_named cells ≡ Ok harts → AreNames 0 cells × (length cells ≡ harts)
-named_found cells harts e = grind (arith, cases_Bool, names_found, ok_is)
+named-found : (cells : Cells) (harts : ℕ) → all_named cells ≡ Ok harts → AreNames 0 cells × (length cells ≡ harts)
+named-found cells harts e = grind (arith, cases_Bool, names_found, ok_is)
 
 few_found : (all harts : ℕ) → harts_within all ≡ Ok harts → (all ≡ harts) × (harts ≤ 64)
 few_found all harts e = grind (arith, guard_ok, ltb, ltb-false)
 
 pub first_row_found : (line : List ℕ) (harts : ℕ) → harts_in line ≡ Ok harts → FirstRow line harts
 unfolding harts_in
-first_row_found line harts e = grind (arith, bind_ok, few_found, named_found, row_found)
+first_row_found line harts e = grind (arith, bind_ok, few_found, named-found, row_found)
 
 pub first_row_only : (line : List ℕ) (harts : ℕ) → FirstRow line harts → harts_in line ≡ Ok harts
 unfolding harts_in

@@ -7,7 +7,7 @@ use Rattle.std.proofs.lemmas.Slice.Eq.{starts_is}
 use Rattle.std.proofs.lemmas.Bool.Decides.{Decides-eqb}
 use Rattle.texts.specs.Pieces.{is_blank, pieces}
 use Rattle.texts.specs.Cutting.{before, after, is_byte, without_front, AreBlanks, NonePass}
-use Rattle.texts.proofs.CuttingLaws.{before_none, after_none, before_stop, after_stop, cut_byte, uncut, before_passes_not, split_cut}
+use Rattle.texts.proofs.CuttingLaws.{before-none, after-none, before-stop, after-stop, cut_byte, uncut, before-passes_not, split_cut}
 use Rattle.texts.proofs.TrimLaws.{leading_first, leading_past, leading_split}
 use Rattle.litmus_reader.specs.declared.marks.Mark.{Mark}
 use Rattle.litmus_reader.specs.declared.marks.Mark.TheVariants as mark
@@ -40,19 +40,19 @@ parts_found byte (c ∷ text) = elim (cases_Bool (c == byte)) [
 ]
 
 pub parts_only : (byte : ℕ) (text : List ℕ) (ps : List (List ℕ)) → AreParts byte text ps → pieces (Byte byte) text ≡ ps
-parts_only byte text ps (shape.AreParts.last part none) = grind (arith, none_passes, split_cut, before_none, after_none)
+parts_only byte text ps (shape.AreParts.last part none) = grind (arith, none_passes, split_cut, before-none, after-none)
 parts_only byte text ps (shape.AreParts.more part rest others none below) =
     let passes = none_passes byte part none in
     let stops : is_byte byte byte ≡ true = eq-eqb byte byte refl in
-    split_cut (is_byte byte) (part ++ byte ∷ rest) ∙ rw (before_stop (is_byte byte) part byte rest passes stops, after_stop (is_byte byte) part byte rest passes stops) (ap (λ (qs : List (List ℕ)). part ∷ qs) (parts_only byte rest others below))
+    split_cut (is_byte byte) (part ++ byte ∷ rest) ∙ rw (before-stop (is_byte byte) part byte rest passes stops, after-stop (is_byte byte) part byte rest passes stops) (ap (λ (qs : List (List ℕ)). part ∷ qs) (parts_only byte rest others below))
 
 -- ---- the first line
 
 pub cut_found : (text : List ℕ) → IsCut text (before (is_byte 10) text) (unwrap_or (after (is_byte 10) text) [])
-cut_found text = grind (arith, has_none, before_passes_not, uncut, cut_byte)
+cut_found text = grind (arith, has_none, before-passes_not, uncut, cut_byte)
 
 pub cut_only : (text line below : List ℕ) → IsCut text line below → (before (is_byte 10) text ≡ line) × (unwrap_or (after (is_byte 10) text) [] ≡ below)
-cut_only text line below cut = grind (arith, none_passes, before_stop, after_stop, before_none, after_none)
+cut_only text line below cut = grind (arith, none_passes, before-stop, after-stop, before-none, after-none)
 
 -- ---- how a line begins
 
@@ -74,8 +74,8 @@ visible_matches = grind (arith, split_visible, front_of)
 pub token_cut : (word line : List ℕ) → has_token word line ≡ true → line ≡ word ++ drop (length word) line
 token_cut word line h = (starts_is Decides-eqb line word (has_token word line) refl).0 h
 
-pub word_found : (word text : List ℕ) → has_token word (without_front text) ≡ true → BeginsWith word text
-word_found word text h = grind (arith, leading_split is_blank text, token_cut word (without_front text) h)
+pub word-found : (word text : List ℕ) → has_token word (without_front text) ≡ true → BeginsWith word text
+word-found word text h = grind (arith, leading_split is_blank text, token_cut word (without_front text) h)
 
 pub word_only : (c : ℕ) (letters text : List ℕ) → is_blank c ≡ false → BeginsWith (c ∷ letters) text → has_token (c ∷ letters) (without_front text) ≡ true
 word_only c letters text solid is =
@@ -92,8 +92,8 @@ brace_matches = grind (arith, split_brace, front_of)
 
 unread_found : (text : List ℕ) → is_unread (without_front text) ≡ true → BeginsUnread text
 unread_found text h = elim (or_cases (has_token (codes "locations") (without_front text)) (has_token (codes "filter") (without_front text)) h) [
-  | inl locations ↦ inl (word_found (codes "locations") text locations)
-  | inr filter ↦ inr (word_found (codes "filter") text filter)
+  | inl locations ↦ inl (word-found (codes "locations") text locations)
+  | inr filter ↦ inr (word-found (codes "filter") text filter)
 ]
 
 unread_only : (text : List ℕ) → BeginsUnread text → is_unread (without_front text) ≡ true
@@ -114,10 +114,10 @@ exists_or_not text = begun_by (codes "exists") text || begun_by (codes "~exists"
 condition_found : (text : List ℕ) → is_condition (without_front text) ≡ true → BeginsCondition text
 condition_found text h = elim (or_cases (exists_or_not text) (begun_by (codes "forall") text) h) [
   | inl other ↦ elim (or_cases (begun_by (codes "exists") text) (begun_by (codes "~exists") text) other) [
-    | inl exists ↦ inl (word_found (codes "exists") text exists)
-    | inr never ↦ inr (inl (word_found (codes "~exists") text never))
+    | inl exists ↦ inl (word-found (codes "exists") text exists)
+    | inr never ↦ inr (inl (word-found (codes "~exists") text never))
   ]
-  | inr forall ↦ inr (inr (inl (word_found (codes "forall") text forall)))
+  | inr forall ↦ inr (inr (inl (word-found (codes "forall") text forall)))
 ]
 
 begun : (text : List ℕ) → is_condition (without_front text) ≡ true → (is_condition (without_front text) || is_unread (without_front text)) ≡ true
@@ -137,7 +137,7 @@ condition_matches = record {
     | inl exists ↦ begun text (or_not_begins text (or_left (begun_by (codes "exists") text) (begun_by (codes "~exists") text) (word_only 101 (codes "xists") text refl exists)))
     | inr other ↦ elim other [
       | inl never ↦ begun text (or_not_begins text (or_right (begun_by (codes "exists") text) (begun_by (codes "~exists") text) (word_only 126 (codes "exists") text refl never)))
-      | inr behind ↦ elim behind [
+      | inr following ↦ elim following [
         | inl forall ↦ begun text (or_right (exists_or_not text) (begun_by (codes "forall") text) (word_only 102 (codes "orall") text refl forall))
         | inr unread ↦ or_right (is_condition (without_front text)) (is_unread (without_front text)) (unread_only text unread)
       ]
@@ -154,7 +154,7 @@ starts_other : (m : Mark) (B : List ℕ → Type 0) → Matches m B → (text : 
 starts_other m B matches text other = false_from_ne_true (begins m text) (λ begun. other (matches.found text begun))
 
 -- where a line after the first one begins so
-record Behind (m : Mark) (B : List ℕ → Type 0) (text from : List ℕ) : Type 0 where
+record Following (m : Mark) (B : List ℕ → Type 0) (text from : List ℕ) : Type 0 where
   line : List ℕ
   rest : List ℕ
   above : List ℕ
@@ -163,13 +163,13 @@ record Behind (m : Mark) (B : List ℕ → Type 0) (text from : List ℕ) : Type
   front : before_next m text ≡ line ++ 10 ∷ above
   first : IsFirst B rest above from
 
-first_behind : (m : Mark) (B : List ℕ → Type 0) → Matches m B → (text from : List ℕ) → begins m text ≡ false → Behind m B text from → IsFirst B text (before_next m text) from
-first_behind m B matches text from other b =
+first_after : (m : Mark) (B : List ℕ → Type 0) → Matches m B → (text from : List ℕ) → begins m text ≡ false → Following m B text from → IsFirst B text (before_next m text) from
+first_after m B matches text from other b =
     let is : IsFirst B (b.line ++ 10 ∷ b.rest) (b.line ++ 10 ∷ b.above) from = further b.line b.rest b.above from b.none (starts_not m B matches (b.line ++ 10 ∷ b.rest) (rw b.whole at other)) b.first in
     rw b.front (subst (λ (t : List ℕ). IsFirst B t (b.line ++ 10 ∷ b.above) from) (sym b.whole) is)
 
-behind_more : (m : Mark) (B : List ℕ → Type 0) (c : ℕ) (text from : List ℕ) → (c == 10) ≡ false → Behind m B text from → Behind m B (c ∷ text) from
-behind_more m B c text from other b = record {
+after_more : (m : Mark) (B : List ℕ → Type 0) (c : ℕ) (text from : List ℕ) → (c == 10) ≡ false → Following m B text from → Following m B (c ∷ text) from
+after_more m B c text from other b = record {
   line = c ∷ b.line;
   rest = b.rest;
   above = b.above;
@@ -179,7 +179,7 @@ behind_more m B c text from other b = record {
   first = b.first;
 }
 
-next_found : (m : Mark) (B : List ℕ → Type 0) → Matches m B → (text from : List ℕ) → from_next m text ≡ Some from → Behind m B text from
+next_found : (m : Mark) (B : List ℕ → Type 0) → Matches m B → (text from : List ℕ) → from_next m text ≡ Some from → Following m B text from
 next_found m B matches [] from e = absurd cc
 next_found m B matches (c ∷ text) from e = elim (cases_Bool (c == 10)) [
   | inl ends ↦ (
@@ -190,20 +190,20 @@ next_found m B matches (c ∷ text) from e = elim (cases_Bool (c == 10)) [
             let is : text ≡ from = cc in
             record { line = []; rest = text; above = []; none = tt; whole = ap (λ (b : ℕ). b ∷ text) same; front = rw (ends, begun, same) refl; first = subst (λ (t : List ℕ). IsFirst B text [] t) is (here text (matches.found text begun)) })
         | inr other ↦ (
-            let behind = next_found m B matches text from (rw (ends, other) at e) in
-            record { line = []; rest = text; above = before_next m text; none = tt; whole = ap (λ (b : ℕ). b ∷ text) same; front = rw (ends, other, same) refl; first = first_behind m B matches text from other behind })
+            let following = next_found m B matches text from (rw (ends, other) at e) in
+            record { line = []; rest = text; above = before_next m text; none = tt; whole = ap (λ (b : ℕ). b ∷ text) same; front = rw (ends, other, same) refl; first = first_after m B matches text from other following })
       ])
-  | inr goes_on ↦ behind_more m B c text from goes_on (next_found m B matches text from (rw goes_on at e))
+  | inr goes_on ↦ after_more m B c text from goes_on (next_found m B matches text from (rw goes_on at e))
 ]
 
-pub first_found : (m : Mark) (B : List ℕ → Type 0) → Matches m B → (text from : List ℕ) → from_line m text ≡ Some from → IsFirst B text (before_line m text) from
+pub first-found : (m : Mark) (B : List ℕ → Type 0) → Matches m B → (text from : List ℕ) → from_line m text ≡ Some from → IsFirst B text (before_line m text) from
 unfolding before_line from_line
-first_found m B matches text from e = elim (cases_Bool (begins m text)) [
+first-found m B matches text from e = elim (cases_Bool (begins m text)) [
   | inl begun ↦ (
       let e' : Some text ≡ Some from = rw begun at e in
       let is : text ≡ from = cc in
       rw begun (subst (λ (t : List ℕ). IsFirst B text [] t) is (here text (matches.found text begun))))
-  | inr other ↦ rw other (first_behind m B matches text from other (next_found m B matches text from (rw other at e)))
+  | inr other ↦ rw other (first_after m B matches text from other (next_found m B matches text from (rw other at e)))
 ]
 
 -- a line that ends stands before what follows it
@@ -237,8 +237,8 @@ first_only m B matches text above from (further line rest higher last none other
 abbrev NoneBehind : (List ℕ → Type 0) → List ℕ → Type 0
 NoneBehind B text = HasNo 10 text ⊎ ((line rest : List ℕ) × HasNo 10 line × NoneBegins B rest × (text ≡ line ++ 10 ∷ rest))
 
-none_behind : (m : Mark) (B : List ℕ → Type 0) → Matches m B → (text : List ℕ) → begins m text ≡ false → NoneBehind B text → NoneBegins B text
-none_behind m B matches text other behind = elim behind [
+none_after : (m : Mark) (B : List ℕ → Type 0) → Matches m B → (text : List ℕ) → begins m text ≡ false → NoneBehind B text → NoneBegins B text
+none_after m B matches text other following = elim following [
   | inl last ↦ shape.NoneBegins.last text last (starts_not m B matches text other)
   | inr b ↦ subst (λ (t : List ℕ). NoneBegins B t) (sym b.4) (shape.NoneBegins.more b.0 b.1 b.2 (starts_not m B matches (b.0 ++ 10 ∷ b.1) (rw b.4 at other)) b.3)
 ]
@@ -248,7 +248,7 @@ next_nowhere m B matches [] e = inl tt
 next_nowhere m B matches (c ∷ text) e = elim (cases_Bool (c == 10)) [
   | inl ends ↦ elim (cases_Bool (begins m text)) [
     | inl begun ↦ (let never = rw (ends, begun) at e in absurd cc)
-    | inr other ↦ inr ([], text, tt, none_behind m B matches text other (next_nowhere m B matches text (rw (ends, other) at e)), ap (λ (b : ℕ). b ∷ text) (eqb-true c 10 ends))
+    | inr other ↦ inr ([], text, tt, none_after m B matches text other (next_nowhere m B matches text (rw (ends, other) at e)), ap (λ (b : ℕ). b ∷ text) (eqb-true c 10 ends))
   ]
   | inr goes_on ↦ elim (next_nowhere m B matches text (rw goes_on at e)) [
     | inl last ↦ inl (goes_on, last)
@@ -258,7 +258,7 @@ next_nowhere m B matches (c ∷ text) e = elim (cases_Bool (c == 10)) [
 
 pub nowhere_found : (m : Mark) (B : List ℕ → Type 0) → Matches m B → (text : List ℕ) → from_line m text ≡ None → NoneBegins B text
 unfolding from_line
-nowhere_found m B matches text e = grind (arith, cases_Bool, none_behind, next_nowhere)
+nowhere_found m B matches text e = grind (arith, cases_Bool, none_after, next_nowhere)
 
 pub nowhere_only : (m : Mark) (B : List ℕ → Type 0) → Matches m B → (text : List ℕ) → NoneBegins B text → (before_line m text ≡ text) × (from_line m text ≡ None)
 unfolding before_line from_line

@@ -5,7 +5,7 @@ use Rattle.std.proofs.lemmas.List.{map-append, length-map}
 use Rattle.std.proofs.lemmas.List.Elements.{All-append, All-cons, All-nil}
 use Rattle.std.specs.declared.vec.Vec.{Vec}
 use Rattle.std.specs.declared.alloc.Global.{Global}
-use Rattle.texts.specs.Results.{◌>>=◌, Gives}
+use Rattle.texts.specs.Results.{◌>>=◌, GivesUpToMemory}
 use Rattle.rv_decode.specs.Meaning.{meaning}
 use Rattle.assembler.specs.declared.faults.AsmFault.{AsmFault}
 use Rattle.assembler.specs.Faults.{Refusal}
@@ -25,15 +25,15 @@ going None codes others = onto codes others
 going (Some row) codes others = Err BadInstr
 
 -- a column's instructions join those before it
-onto_more : (front : List Code) (code : Code) (others : Result (List Code) LitmusFault) → onto front (onto (code ∷ []) others) ≡ onto (front ++ code ∷ []) others
-onto_more front code others = grind (arith, append_assoc)
+onto-more : (front : List Code) (code : Code) (others : Result (List Code) LitmusFault) → onto front (onto (code ∷ []) others) ≡ onto (front ++ code ∷ []) others
+onto-more front code others = grind (arith, append_assoc)
 
 codes_more : (code : Code) (column : Column) (columns : List Column) → finished column ≡ Ok code → codes_of (column ∷ columns) ≡ onto (code ∷ []) (codes_of columns)
 codes_more code column columns done = rw done refl
 
 pub turn_going : (faulty : Option ℕ) (words : List (Vec ℕ Global)) (more : Vec ℕ Global) (column : Column) (columns : List Column) (whole : Result (List Code) LitmusFault) → finished column ≡ Ok (map meaning more.items) → going faulty (instructions_of words) (codes_of (column ∷ columns)) ≡ whole → going faulty (instructions_of (words ++ more ∷ [])) (codes_of columns) ≡ whole
 turn_going None words more column columns whole done so_far =
-    rw (map-append (λ (v : Vec ℕ Global). map meaning v.items) words (more ∷ [])) (sym (onto_more (instructions_of words) (map meaning more.items) (codes_of columns)) ∙ ap (λ (others : Result (List Code) LitmusFault). onto (instructions_of words) others) (sym (codes_more (map meaning more.items) column columns done)) ∙ so_far)
+    rw (map-append (λ (v : Vec ℕ Global). map meaning v.items) words (more ∷ [])) (sym (onto-more (instructions_of words) (map meaning more.items) (codes_of columns)) ∙ ap (λ (others : Result (List Code) LitmusFault). onto (instructions_of words) others) (sym (codes_more (map meaning more.items) column columns done)) ∙ so_far)
 turn_going (Some row) words more column columns whole done so_far = so_far
 
 pub plain_more : (words : List (Vec ℕ Global)) (more : Vec ℕ Global) → ArePlain words → IsPlainCode more.items → ArePlain (words ++ more ∷ [])
@@ -50,21 +50,21 @@ Sized n (Err e) = Unit {0}
 after_sized : {A X E : Type 0} (n : ℕ) (r : Result A E) (f : A → Result (List X) E) → ((a : A) → Sized n (f a)) → Sized n (r >>= f)
 after_sized n r f each = grind arith
 
-at_line_sized : {X : Type 0} (n line : ℕ) (r : Result (List X) AsmFault) → Sized n r → Sized n (at_line line r)
-at_line_sized n line r sized = grind arith
+at_line-sized : {X : Type 0} (n line : ℕ) (r : Result (List X) AsmFault) → Sized n r → Sized n (at_line line r)
+at_line-sized n line r sized = grind arith
 
-placed_sized : (found : List ℕ → Option ℕ) (at : ℕ) (made : Option Made) → Sized (size_of made) (placed found at made)
-placed_sized found at made = grind (arith, after_sized)
+placed-sized : (found : List ℕ → Option ℕ) (at : ℕ) (made : Option Made) → Sized (size_of made) (placed found at made)
+placed-sized found at made = grind (arith, after_sized)
 
-onto_sized : {X E : Type 0} (m n : ℕ) (front : List X) (r : Result (List X) E) → length front ≡ m → Sized n r → Sized (m + n) (onto front r)
-onto_sized m n front r here sized = grind (arith, length-append)
+onto-sized : {X E : Type 0} (m n : ℕ) (front : List X) (r : Result (List X) E) → length front ≡ m → Sized n r → Sized (m + n) (onto front r)
+onto-sized m n front r here sized = grind (arith, length-append)
 
 joined_sized : {X E : Type 0} (m n : ℕ) (r : Result (List X) E) (others : Result (List X) E) → Sized m r → Sized n others → Sized (m + n) (r >>= λ front. onto front others)
-joined_sized m n r others here rest = grind (arith, onto_sized)
+joined_sized m n r others here rest = grind (arith, onto-sized)
 
-all_placed_sized : (found : List ℕ → Option ℕ) (at line : ℕ) (lines : List Line) → Sized (words_of lines) (all_placed found at line lines)
-all_placed_sized found at line [] = refl
-all_placed_sized found at line (first ∷ rest) = joined_sized (size_of first.made) (words_of rest) (at_line line (placed found at first.made)) _ (at_line_sized (size_of first.made) line (placed found at first.made) (placed_sized found at first.made)) (all_placed_sized found (at + size_of first.made) (line + 1) rest)
+all_placed-sized : (found : List ℕ → Option ℕ) (at line : ℕ) (lines : List Line) → Sized (words_of lines) (all_placed found at line lines)
+all_placed-sized found at line [] = refl
+all_placed-sized found at line (first ∷ rest) = joined_sized (size_of first.made) (words_of rest) (at_line line (placed found at first.made)) _ (at_line-sized (size_of first.made) line (placed found at first.made) (placed-sized found at first.made)) (all_placed-sized found (at + size_of first.made) (line + 1) rest)
 
 abbrev Short : {X E : Type 0} → Result (List X) E → Type 0
 Short (Ok list) = length list ≤ 4096
@@ -76,9 +76,9 @@ short_of n r few sized = grind arith
 checked_short : {X : Type 0} {E : Type 0} (n : ℕ) (b : Bool) (e : E) (r : Result (List X) E) → nat_lt 4096 n ≡ b → Sized n r → Short (if b then Err e else r)
 checked_short n b e r over sized = grind (arith, short_of, ltb-false)
 
-finished_short : (column : Column) → Short (finished column)
+finished-short : (column : Column) → Short (finished column)
 unfolding finished
-finished_short column = checked_short (words_of column) (nat_lt 4096 (words_of column)) _ _ refl (all_placed_sized (place_of column) 0 1 column)
+finished-short column = checked_short (words_of column) (nat_lt 4096 (words_of column)) _ _ refl (all_placed-sized (place_of column) 0 1 column)
 
 instr_short : {X : Type 0} (r : Result (List X) Refusal) → Short r → Short (as_instr r)
 instr_short r short = grind arith
@@ -92,15 +92,15 @@ joined_short n r others here rest = grind arith
 
 codes_short : (columns : List Column) → AllShort (length columns) (codes_of columns)
 codes_short [] = (refl, tt)
-codes_short (column ∷ columns) = joined_short (length columns) (as_instr (finished column)) (codes_of columns) (instr_short (finished column) (finished_short column)) (codes_short columns)
+codes_short (column ∷ columns) = joined_short (length columns) (as_instr (finished column)) (codes_of columns) (instr_short (finished column) (finished-short column)) (codes_short columns)
 
 answer_short : (columns : List Column) (codes : List Code) → codes_of columns ≡ Ok codes → (length codes ≡ length columns) × AreShort codes
 answer_short columns codes shown = let P : Result (List Code) LitmusFault → Type 0 = λ r. AllShort (length columns) r in subst P shown (codes_short columns)
 
 -- what is answered of the harts' words
-pub answered_count : (columns : List Column) (result : Result (Vec (Vec ℕ Global) Global) (TextError AtLeft)) → Gives fault_in instructions result (codes_of columns) → IfOk result (λ words. length words.items ≡ length columns)
+pub answered_count : (columns : List Column) (result : Result (Vec (Vec ℕ Global) Global) (TextError AtLeft)) → GivesUpToMemory fault_in instructions result (codes_of columns) → IfOk result (λ words. length words.items ≡ length columns)
 answered_count columns result shown = grind (arith, answer_short, length-map)
 
-pub answered_short : (columns : List Column) (result : Result (Vec (Vec ℕ Global) Global) (TextError AtLeft)) → Gives fault_in instructions result (codes_of columns) → IfOk result (λ words. AreShort (instructions words))
+pub answered_short : (columns : List Column) (result : Result (Vec (Vec ℕ Global) Global) (TextError AtLeft)) → GivesUpToMemory fault_in instructions result (codes_of columns) → IfOk result (λ words. AreShort (instructions words))
 answered_short columns (Ok words) shown = (answer_short columns (instructions words) shown).1
 answered_short columns (Err e) shown = tt

@@ -3,7 +3,7 @@ use Rattle.std.proofs.Common.{◌≡◌, ℕ, ◌+◌, ◌<◌, ◌≤◌, Bool,
 use Rattle.std.specs.Prelude.{nat_lt, if◌then◌else◌, IfOk}
 use Rattle.std.specs.Str.{bytes_eq}
 use Rattle.std.proofs.lemmas.List.Elements.{All-append, All-cons, All-nil}
-use Rattle.texts.specs.Results.{◌>>=◌, Gives}
+use Rattle.texts.specs.Results.{◌>>=◌, GivesUpToMemory}
 use Rattle.rv_decode.specs.declared.instruction.Reg.{Reg}
 use Rattle.litmus.specs.declared.symbols.Place.{Place}
 use Rattle.litmus.specs.declared.symbols.Place.TheVariants as place
@@ -14,7 +14,7 @@ use Rattle.litmus.specs.Grammar.{Level, operand, conjunction, disjunction, Stand
 use Rattle.litmus.specs.Grammar.Stands.{atom, negated, enclosed, one_operand, joined, one_conjunction, parted}
 use Rattle.litmus.specs.Drafting.{Stage, stage_after, with_symbol, or_misplaced, symbol_added, finished}
 use Rattle.litmus.specs.LitmusTests.{IsThere}
-use Rattle.litmus.proofs.FrontLaws.{finished_found}
+use Rattle.litmus.proofs.FrontLaws.{finished-found}
 use Rattle.litmus_tokens.specs.Settings as setting
 use Rattle.litmus_tokens.specs.Tokens as token
 use Rattle.litmus_tokens.specs.Tokens.{Tokens, tokens_of}
@@ -27,7 +27,7 @@ use Rattle.litmus_reader.specs.Faults.{fault_in}
 use Rattle.litmus_reader.specs.Marks.{before_line, from_line}
 use Rattle.litmus_reader.specs.Locations.{Names, index_from, resolved, value_resolved}
 use Rattle.litmus_reader.specs.Locations as locations
-use Rattle.litmus_reader.specs.Condition.{Quantified, ConditionSoFar, Condition, quantifier_in, place_resolved, atom_resolved, token_resolved, as_condition, tokens_added, none_unread, behind_quantifier, condition_in, condition_of}
+use Rattle.litmus_reader.specs.Condition.{Quantified, ConditionSoFar, Condition, quantifier_in, place_resolved, atom_resolved, token_resolved, as_condition, tokens_added, none_unread, after_quantifier, condition_in, condition_of}
 
 -- ---- symbols whose places are there
 
@@ -99,12 +99,12 @@ Resolved names found = (found.0 < length found.1) × (length names ≤ length fo
 new_resolved : (names : Names) (name : List ℕ) (b : Bool) (e : LitmusFault) → IfOk (if b then Ok (length names, names ++ name ∷ []) else Err e) (Resolved names)
 new_resolved names name b e = grind (arith, length-append)
 
-joined_resolved : (names : Names) (name : List ℕ) (o : Option ℕ) → Within (length names) o → IfOk (locations.joined names name o) (Resolved names)
-joined_resolved names name o within = grind (arith, new_resolved)
+joined-resolved : (names : Names) (name : List ℕ) (o : Option ℕ) → Within (length names) o → IfOk (locations.joined names name o) (Resolved names)
+joined-resolved names name o within = grind (arith, new_resolved)
 
-resolved_there : (names : Names) (name : List ℕ) → IfOk (resolved names name) (Resolved names)
+resolved-there : (names : Names) (name : List ℕ) → IfOk (resolved names name) (Resolved names)
 unfolding resolved
-resolved_there names name = joined_resolved names name (index_from 0 names name) (index_within (length names) 0 names name (omega arith))
+resolved-there names name = joined-resolved names name (index_from 0 names name) (index_within (length names) 0 names name (omega arith))
 
 abbrev Kept : Names → (ℕ × Names) → Type 0
 Kept names found = length names ≤ length found.1
@@ -112,7 +112,7 @@ Kept names found = length names ≤ length found.1
 value_kept : (names : Names) (v : setting.Value) → IfOk (value_resolved names v) (Kept names)
 unfolding value_resolved
 value_kept names (setting.Value.number n) = omega arith
-value_kept names (setting.Value.address_of name) = after_ok (Resolved names) (Kept names) (resolved names name) _ (resolved_there names name) (λ found there. there.1)
+value_kept names (setting.Value.address_of name) = after_ok (Resolved names) (Kept names) (resolved names name) _ (resolved-there names name) (λ found there. there.1)
 
 abbrev PlaceResolved : ℕ → Names → (Place × Names) → Type 0
 PlaceResolved harts names found = IsThere harts (length found.1) found.0 × (length names ≤ length found.1)
@@ -123,7 +123,7 @@ register_resolved harts hart names register b e within = grind (arith, ltb-true)
 place_there : (harts : ℕ) (names : Names) (p : setting.NamedPlace) → IfOk (place_resolved harts names p) (PlaceResolved harts names)
 unfolding place_resolved
 place_there harts names (setting.NamedPlace.in_register hart register) = register_resolved harts hart names register (nat_lt hart harts) _ refl
-place_there harts names (setting.NamedPlace.at_location name) = after_ok (Resolved names) (PlaceResolved harts names) (resolved names name) _ (resolved_there names name) (λ found there. ((omega arith, omega (arith, there.0)), there.1))
+place_there harts names (setting.NamedPlace.at_location name) = after_ok (Resolved names) (PlaceResolved harts names) (resolved names name) _ (resolved-there names name) (λ found there. ((omega arith, omega (arith, there.0)), there.1))
 
 abbrev TokenResolved : ℕ → Names → (Symbol × Names) → Type 0
 TokenResolved harts names found = TokenThere harts (length found.1) found.0 × (length names ≤ length found.1)
@@ -160,16 +160,16 @@ tokens_there harts names so_far (token.Tokens.goes_on first others) fine =
 abbrev pub AsksThere : (harts : ℕ) → Names → Condition → Type 0
 AsksThere harts names condition = All (IsThere harts (length condition.names)) (places condition.formula) × (length names ≤ length condition.names)
 
-finished_there : (harts n : ℕ) (words : List Symbol) (r : Result Formula (Unit {0})) → finished words ≡ r → AllThere harts n words → IfOk (as_condition r) (λ f. All (IsThere harts n) (places f))
-finished_there harts n words (Ok f) done there = formula_there harts n disjunction words f (finished_found words f done) there
-finished_there harts n words (Err misplaced) done there = tt
+finished-there : (harts n : ℕ) (words : List Symbol) (r : Result Formula (Unit {0})) → finished words ≡ r → AllThere harts n words → IfOk (as_condition r) (λ f. All (IsThere harts n) (places f))
+finished-there harts n words (Ok f) done there = formula_there harts n disjunction words f (finished-found words f done) there
+finished-there harts n words (Err misplaced) done there = tt
 
-behind_there : (harts : ℕ) (names : Names) (text : List ℕ) (o : Option Quantified) → IfOk (behind_quantifier harts names text o) (AsksThere harts names)
-behind_there harts names text None = tt
-behind_there harts names text (Some quantified) =
+after_there : (harts : ℕ) (names : Names) (text : List ℕ) (o : Option Quantified) → IfOk (after_quantifier harts names text o) (AsksThere harts names)
+after_there harts names text None = tt
+after_there harts names text (Some quantified) =
     after_ok (Fine harts names) (AsksThere harts names) (tokens_added harts ([], names) (tokens_of quantified.1)) _ (tokens_there harts names ([], names) (tokens_of quantified.1) (tt, omega arith)) (λ gathered fine.
     after_ok (λ _. Unit {0}) (AsksThere harts names) (none_unread (from_line Unread text)) _ (none_fine (from_line Unread text)) (λ end _.
-    after_ok (λ f. All (IsThere harts (length gathered.1)) (places f)) (AsksThere harts names) (as_condition (finished gathered.0)) _ (finished_there harts (length gathered.1) gathered.0 (finished gathered.0) refl fine.0) (λ f there. (there, fine.1))))
+    after_ok (λ f. All (IsThere harts (length gathered.1)) (places f)) (AsksThere harts names) (as_condition (finished gathered.0)) _ (finished-there harts (length gathered.1) gathered.0 (finished gathered.0) refl fine.0) (λ f there. (there, fine.1))))
   where
     none_fine : (o : Option (List ℕ)) → IfOk (none_unread o) (λ _. Unit {0})
     none_fine None = tt
@@ -177,15 +177,15 @@ behind_there harts names text (Some quantified) =
 
 condition_there : (harts : ℕ) (names : Names) (text : List ℕ) → IfOk (condition_in harts names text) (AsksThere harts names)
 unfolding condition_in
-condition_there harts names text = behind_there harts names text (quantifier_in (before_line Unread text))
+condition_there harts names text = after_there harts names text (quantifier_in (before_line Unread text))
 
 there_of : (harts : ℕ) (names : Names) (text : List ℕ) (condition : Condition) → condition_in harts names text ≡ Ok condition → AsksThere harts names condition
 there_of harts names text condition read = let P : Result Condition LitmusFault → Type 0 = λ r. IfOk r (AsksThere harts names) in subst P read (condition_there harts names text)
 
-pub answered_there : (harts : ℕ) (old new : Names) (text : List ℕ) (result : Result FinalCondition (TextError AtLeft)) → Gives fault_in (condition_of new) result (condition_in harts old text) → IfOk result (λ condition. All (IsThere harts (length new)) (places condition.condition))
+pub answered_there : (harts : ℕ) (old new : Names) (text : List ℕ) (result : Result FinalCondition (TextError AtLeft)) → GivesUpToMemory fault_in (condition_of new) result (condition_in harts old text) → IfOk result (λ condition. All (IsThere harts (length new)) (places condition.condition))
 answered_there harts old new text (Ok condition) read = (there_of harts old text (condition_of new condition) read).0
 answered_there harts old new text (Err e) read = tt
 
-pub answered_more : (harts : ℕ) (old new : Names) (text : List ℕ) (result : Result FinalCondition (TextError AtLeft)) → Gives fault_in (condition_of new) result (condition_in harts old text) → IfOk result (λ condition. length old ≤ length new)
+pub answered_more : (harts : ℕ) (old new : Names) (text : List ℕ) (result : Result FinalCondition (TextError AtLeft)) → GivesUpToMemory fault_in (condition_of new) result (condition_in harts old text) → IfOk result (λ condition. length old ≤ length new)
 answered_more harts old new text (Ok condition) read = (there_of harts old text (condition_of new condition) read).1
 answered_more harts old new text (Err e) read = tt

@@ -85,9 +85,9 @@ pub record Condition : Type 0 where
   pub formula : Formula
   pub names : Names
 
-abbrev pub behind_quantifier : (harts : ℕ) → Names → List ℕ → Option Quantified → Result Condition LitmusFault
-behind_quantifier harts names text None = Err BadCondition
-behind_quantifier harts names text (Some quantified) = do
+abbrev pub after_quantifier : (harts : ℕ) → Names → List ℕ → Option Quantified → Result Condition LitmusFault
+after_quantifier harts names text None = Err BadCondition
+after_quantifier harts names text (Some quantified) = do
   gathered ← tokens_added harts ([], names) (tokens_of quantified.1)
   end ← none_unread (from_line Unread text)
   formula ← as_condition (finished gathered.0)
@@ -96,7 +96,7 @@ behind_quantifier harts names text (Some quantified) = do
 -- the condition in a text, where the init part has these names; no line of it may be one of a part that
 -- isn't read
 unfoldable pub condition_in : (harts : ℕ) → Names → List ℕ → Result Condition LitmusFault
-condition_in harts names text = behind_quantifier harts names text (quantifier_in (before_line Unread text))
+condition_in harts names text = after_quantifier harts names text (quantifier_in (before_line Unread text))
 
 -- the condition from its first line on, which may be missing
 abbrev pub condition_at : (harts : ℕ) → Names → Option (List ℕ) → Result Condition LitmusFault

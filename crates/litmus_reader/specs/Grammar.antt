@@ -1,6 +1,6 @@
 -- Which text stands for which test.
 use Rattle.std.specs.Prelude.{◌≡◌, ℕ, ◌+◌, ◌≤◌, List, [], ◌∷◌, ◌++◌, length, All}
-use Rattle.step_machine.specs.History.{HartStart}
+use Rattle.step_machine.specs.History.{HartOpeningValue}
 use Rattle.litmus.specs.declared.symbols.Symbol as known
 use Rattle.litmus.specs.Grammar.{IsConditionOf}
 use Rattle.litmus.specs.LitmusTests.{LitmusTest}
@@ -48,7 +48,7 @@ pub record IsContent (text : List ℕ) (content : Content) : Type 0 where
   pub condition : IsConditionOf known content.condition
 
 -- each instruction has the one plain word that means it
-abbrev pub HasPlainCode : HartStart → Type 0
+abbrev pub HasPlainCode : HartOpeningValue → Type 0
 HasPlainCode hart = IsPlainCode hart.code
 
 -- the text's test

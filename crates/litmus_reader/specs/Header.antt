@@ -16,18 +16,18 @@ has_name (c ∷ rest) = is_blank c && not (length (without_front rest) == 0)
 unfoldable pub is_header : List ℕ → Bool
 is_header line = has_token (codes "RISCV") (without_front line) && has_name (drop 5 (without_front line))
 
-abbrev pub behind_line : Option (List ℕ) → Result (List ℕ) LitmusFault
-behind_line None = Err NoHeader
-behind_line (Some text) = if is_header (before (is_byte 10) text) then Ok (unwrap_or (after (is_byte 10) text) []) else Err NoHeader
+abbrev pub after_line : Option (List ℕ) → Result (List ℕ) LitmusFault
+after_line None = Err NoHeader
+after_line (Some text) = if is_header (before (is_byte 10) text) then Ok (unwrap_or (after (is_byte 10) text) []) else Err NoHeader
 
 -- what follows the header, which is the first line that isn't blank
-unfoldable pub behind_header : List ℕ → Result (List ℕ) LitmusFault
-behind_header text = behind_line (from_line Visible text)
+unfoldable pub after_header : List ℕ → Result (List ℕ) LitmusFault
+after_header text = after_line (from_line Visible text)
 
-abbrev pub behind_front : Option (List ℕ) → Result (List ℕ) LitmusFault
-behind_front None = Err BadInit
-behind_front (Some text) = Ok (drop 1 (without_front text))
+abbrev pub after_front : Option (List ℕ) → Result (List ℕ) LitmusFault
+after_front None = Err BadInit
+after_front (Some text) = Ok (drop 1 (without_front text))
 
 -- what follows the `{` with which a line begins
-unfoldable pub behind_brace : List ℕ → Result (List ℕ) LitmusFault
-behind_brace text = behind_front (from_line Brace text)
+unfoldable pub after_brace : List ℕ → Result (List ℕ) LitmusFault
+after_brace text = after_front (from_line Brace text)

@@ -11,8 +11,8 @@ use Rattle.litmus_reader.specs.declared.faults.LitmusFault.TheVariants.{BadCondi
 use Rattle.litmus_reader.specs.declared.headings.Heading as code
 use Rattle.litmus_reader.specs.declared.marks.Mark.TheVariants.{Visible, Condition}
 use Rattle.litmus_reader.specs.Marks.{from_line}
-use Rattle.litmus_reader.specs.Header.{behind_header, behind_brace}
-use Rattle.litmus_reader.specs.Init.{behind_init}
+use Rattle.litmus_reader.specs.Header.{after_header, after_brace}
+use Rattle.litmus_reader.specs.Init.{after_init}
 use Rattle.litmus_reader.specs.Layout.{IsLaidOut}
 
 -- a name and a condition
@@ -62,9 +62,9 @@ condition_of (Some text) = Ok (in_one_line text)
 -- the heading in a text without comments
 unfoldable pub heading_in : List ℕ → Result HeadingOf LitmusFault
 heading_in text = do
-  below ← behind_header text
-  inner ← behind_brace below
-  rest ← behind_init (after (is_byte 125) inner)
+  below ← after_header text
+  inner ← after_brace below
+  rest ← after_init (after (is_byte 125) inner)
   condition ← condition_of (from_line Condition rest)
   Ok (record { name = name_in text; condition = condition })
 

@@ -65,6 +65,6 @@ unfoldable pub items_at : List ℕ → Result InitItems LitmusFault
 items_at text = pieces_added no_items (pieces (Byte 59) text)
 
 -- what follows the init part; its `}` may be missing
-abbrev pub behind_init : Option (List ℕ) → Result (List ℕ) LitmusFault
-behind_init None = Err BadInit
-behind_init (Some rest) = Ok rest
+abbrev pub after_init : Option (List ℕ) → Result (List ℕ) LitmusFault
+after_init None = Err BadInit
+after_init (Some rest) = Ok rest

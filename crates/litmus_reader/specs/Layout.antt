@@ -38,12 +38,12 @@ pub record IsLaidOut (text init table condition_text : List ℕ) : Type 0 where
   pub unread_lines : List ℕ
   pub braced : List ℕ
   pub blanks : List ℕ
-  pub behind : List ℕ
+  pub following : List ℕ
   pub begins : IsFirst IsVisible text blank_lines headed
   pub first : IsCut headed header below
   pub named : IsHeader header
   pub opens : IsFirst (BeginsWith (codes "{")) below unread_lines braced
   pub indented : AreBlanks blanks
   pub closed : HasNo 125 init
-  pub between : braced ≡ blanks ++ 123 ∷ (init ++ 125 ∷ behind)
-  pub asks : IsFirst BeginsCondition behind table condition_text
+  pub between : braced ≡ blanks ++ 123 ∷ (init ++ 125 ∷ following)
+  pub asks : IsFirst BeginsCondition following table condition_text

@@ -43,13 +43,13 @@ error_at text (Refused refusal) = Refused (record { fault = refusal.fault; line 
 abbrev pub is_visible : ℕ → Bool
 is_visible byte = not (is_gap byte)
 
-abbrev pub left_behind : List ℕ → Option ℕ → ℕ
-left_behind text None = length text
-left_behind text (Some at) = length text - at
+abbrev pub left_after_it : List ℕ → Option ℕ → ℕ
+left_after_it text None = length text
+left_after_it text (Some at) = length text - at
 
 -- how many bytes are left from the first one on that is no blank and no line end, if there is one
 abbrev pub left_of : List ℕ → ℕ
-left_of text = left_behind text (position is_visible text)
+left_of text = left_after_it text (position is_visible text)
 
 -- how many bytes these lines have, from the row on that has `row` others above; blank lines are none
 abbrev pub left_from : (row : ℕ) → List (List ℕ) → ℕ

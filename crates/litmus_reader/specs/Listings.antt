@@ -12,8 +12,8 @@ use Rattle.litmus_tokens.specs.Cleaning.{cleaned_text}
 use Rattle.litmus_reader.specs.declared.faults.LitmusFault.{LitmusFault}
 use Rattle.litmus_reader.specs.declared.marks.Mark.TheVariants.{Condition}
 use Rattle.litmus_reader.specs.Marks.{before_line}
-use Rattle.litmus_reader.specs.Header.{behind_header, behind_brace}
-use Rattle.litmus_reader.specs.Init.{behind_init}
+use Rattle.litmus_reader.specs.Header.{after_header, after_brace}
+use Rattle.litmus_reader.specs.Init.{after_init}
 use Rattle.litmus_reader.specs.Rows.{row_in, cells_of}
 
 -- ---- a row
@@ -62,11 +62,11 @@ rows_from above text (row ∷ below) =
 -- ---- the text
 
 -- what stands after the init part
-unfoldable pub behind_items : List ℕ → Result (List ℕ) LitmusFault
-behind_items text = do
-  below ← behind_header text
-  inner ← behind_brace below
-  behind_init (after (is_byte 125) inner)
+unfoldable pub after_items : List ℕ → Result (List ℕ) LitmusFault
+after_items text = do
+  below ← after_header text
+  inner ← after_brace below
+  after_init (after (is_byte 125) inner)
 
 -- the rows of the table that begins after this number of bytes of the text
 abbrev pub rows_at : (text : List ℕ) → (bytes : ℕ) → (table : List ℕ) → List RowOf
@@ -74,7 +74,7 @@ rows_at text bytes table = rows_from (ends_in bytes text) (drop bytes text) (pie
 
 unfoldable pub listing_in : (text clean : List ℕ) → Result (List RowOf) LitmusFault
 listing_in text clean = do
-  rest ← behind_items clean
+  rest ← after_items clean
   Ok (rows_at text (length clean - length rest) (before_line Condition rest))
 
 -- the rows of a text's table, the row that names the harts first, or the first fault that is met on the way to them

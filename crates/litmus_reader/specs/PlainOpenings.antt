@@ -1,7 +1,7 @@
 -- What each test of a text opens with: harts of words of 32 bits, whose x0 is 0 and whose inbox is empty.
 use Rattle.std.specs.Prelude.{ℕ, ◌≡◌, ◌^◌, ◌<◌, ◌≤◌, [], length}
 use Rattle.std.specs.List.{AllByRecursion, slice_index_or}
-use Rattle.step_machine.specs.History.{HartStart, Start}
+use Rattle.step_machine.specs.History.{HartOpeningValue, OpeningValue}
 use Rattle.step_machine.specs.declared.opening.TheConstants.{MAX_HARTS}
 use Rattle.rv_decode.specs.declared.instruction.TheConstants.{MAX_CODE}
 use Rattle.litmus.specs.declared.litmus_test.TheConstants.{MAX_LOCATIONS}
@@ -9,7 +9,7 @@ use Rattle.litmus.specs.declared.litmus_test.TheConstants.{MAX_LOCATIONS}
 abbrev pub IsWord : ℕ → Type 0
 IsWord n = n < 2 ^ 32
 
-pub record IsPlainHart (hart : HartStart) : Type 0 where
+pub record IsPlainHart (hart : HartOpeningValue) : Type 0 where
   pub short : length hart.code ≤ MAX_CODE
   pub code : AllByRecursion IsWord hart.code
   pub count : length hart.registers ≡ 32
@@ -18,7 +18,7 @@ pub record IsPlainHart (hart : HartStart) : Type 0 where
   pub inbox : hart.inbox ≡ []
 
 -- a hart at least, and the limits of a test
-pub record IsPlainOpening (opening : Start) : Type 0 where
+pub record IsPlainOpening (opening : OpeningValue) : Type 0 where
   pub some_hart : 1 ≤ length opening.harts
   pub few : length opening.harts ≤ MAX_HARTS
   pub harts : AllByRecursion IsPlainHart opening.harts

@@ -4,7 +4,7 @@ use Rattle.std.specs.Prelude.{ℕ, List, [], ◌∷◌, length, map, Option, Res
 use Rattle.texts.specs.Results.{◌>>=◌}
 use Rattle.texts.specs.Cutting.{before, after, is_byte}
 use Rattle.rv_decode.specs.Meaning.{meaning}
-use Rattle.step_machine.specs.History.{HartStart}
+use Rattle.step_machine.specs.History.{HartOpeningValue}
 use Rattle.litmus.specs.declared.verdict.Quantifier.{Quantifier}
 use Rattle.litmus.specs.Formulas.{Formula}
 use Rattle.litmus.specs.LitmusTests.{LitmusTest}
@@ -12,9 +12,9 @@ use Rattle.litmus_tokens.specs.Cleaning.{cleaned_text}
 use Rattle.litmus_reader.specs.declared.faults.LitmusFault.{LitmusFault}
 use Rattle.litmus_reader.specs.declared.marks.Mark.TheVariants as mark
 use Rattle.litmus_reader.specs.Marks.{before_line, from_line}
-use Rattle.litmus_reader.specs.Header.{behind_header, behind_brace}
+use Rattle.litmus_reader.specs.Header.{after_header, after_brace}
 use Rattle.litmus_reader.specs.Locations.{Names}
-use Rattle.litmus_reader.specs.Init.{InitItems, items_at, behind_init}
+use Rattle.litmus_reader.specs.Init.{InitItems, items_at, after_init}
 use Rattle.litmus_reader.specs.Table.{Code, table_at, codes_of}
 use Rattle.litmus_reader.specs.Values.{Values, values_at, padded}
 use Rattle.litmus_reader.specs.Condition.{Condition, condition_at}
@@ -33,7 +33,7 @@ pub record Content : Type 0 where
   pub quantifier : Quantifier
   pub condition : Formula
 
-abbrev pub hart_content : HartStart → HartContent
+abbrev pub hart_content : HartOpeningValue → HartContent
 hart_content hart = record { code = map meaning hart.code; registers = hart.registers; inbox = hart.inbox }
 
 abbrev pub content_of : LitmusTest → Content
@@ -56,8 +56,8 @@ content_below settings codes condition = do
   Ok (content codes values condition_text)
 
 -- the test with this init part, with what stands after it: the table and the condition
-unfoldable pub content_behind : InitItems → List ℕ → Result Content LitmusFault
-content_behind settings text = do
+unfoldable pub content_after : InitItems → List ℕ → Result Content LitmusFault
+content_after settings text = do
   columns ← table_at (before_line mark.Condition text)
   codes ← codes_of columns
   content_below settings codes (from_line mark.Condition text)
@@ -65,11 +65,11 @@ content_behind settings text = do
 -- the test in a text without comments
 unfoldable pub content_at : List ℕ → Result Content LitmusFault
 content_at text = do
-  below ← behind_header text
-  inner ← behind_brace below
+  below ← after_header text
+  inner ← after_brace below
   settings ← items_at (before (is_byte 125) inner)
-  rest ← behind_init (after (is_byte 125) inner)
-  content_behind settings rest
+  rest ← after_init (after (is_byte 125) inner)
+  content_after settings rest
 
 -- the test in a text
 unfoldable pub test_at : List ℕ → Result Content LitmusFault

@@ -4,7 +4,7 @@ use Rattle.std.specs.List.{slice_index_or}
 use Rattle.std.specs.declared.vec.Vec.{Vec}
 use Rattle.std.specs.declared.alloc.Global.{Global}
 use Rattle.texts.specs.Results.{◌>>=◌}
-use Rattle.step_machine.specs.History.{HartStart}
+use Rattle.step_machine.specs.History.{HartOpeningValue}
 use Rattle.litmus_reader.specs.declared.faults.LitmusFault.{LitmusFault}
 use Rattle.litmus_reader.specs.declared.faults.LitmusFault.TheVariants.{BadInit}
 use Rattle.litmus_reader.specs.declared.opening.Values as code
@@ -53,7 +53,7 @@ abbrev pub values_in : code.Values → Values
 values_in values = record { registers = values.registers.items; words = values.words.items }
 
 -- the harts with this code and these registers, and with empty inboxes
-abbrev pub starts_of : List (Vec ℕ Global) → List (List ℕ) → List HartStart
+abbrev pub starts_of : List (Vec ℕ Global) → List (List ℕ) → List HartOpeningValue
 starts_of [] registers = []
 starts_of (code ∷ codes) [] = []
 starts_of (code ∷ codes) (first ∷ registers) = (record { code = code.items; registers = first; inbox = [] }) ∷ starts_of codes registers

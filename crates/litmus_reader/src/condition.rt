@@ -2,7 +2,7 @@
 
 ghost use Rattle.std.specs.Prelude.{◌≡◌, ◌≤◌, List, [], length, All, IfOk};
 ghost use Rattle.std.specs.Result.{IfErr};
-ghost use Rattle.texts.specs.Results.{Gives};
+ghost use Rattle.texts.specs.Results.{GivesUpToMemory};
 ghost use Rattle.litmus.specs.Formulas.{Formula, places};
 ghost use Rattle.litmus.specs.LitmusTests.{IsThere};
 ghost use Rattle.litmus.specs.Drafting.{symbol_added, finished};
@@ -66,7 +66,7 @@ fn place_of(
 ) -> Result<Place, Refusal>
     requires named { HasLocation (named_place_of spot) }
     requires few { harts ≤ MAX_HARTS }
-    ensures { Gives fault_in (λ place. (place, locations.new)) result (place_resolved harts locations.old (named_place_of spot.entry)) }
+    ensures { GivesUpToMemory fault_in (λ place. (place, locations.new)) result (place_resolved harts locations.old (named_place_of spot.entry)) }
 {
     match spot {
         Spot::Register { hart, register } if hart < harts as u64 => Ok(Place::Register {
@@ -93,7 +93,7 @@ fn atom_of(
 ) -> Result<Symbol, Refusal>
     requires named { HasNames (equation_of setting) }
     requires few { harts ≤ MAX_HARTS }
-    ensures { Gives fault_in (λ token. (token, locations.new)) result (atom_resolved harts locations.old (equation_of setting.entry)) }
+    ensures { GivesUpToMemory fault_in (λ token. (token, locations.new)) result (atom_resolved harts locations.old (equation_of setting.entry)) }
 {
     let place = place_of(locations, setting.spot, harts, left)?;
     let value = value_of(locations, setting.worth, left)?;
@@ -110,7 +110,7 @@ fn token_of(
 ) -> Result<Symbol, Refusal>
     requires named { TokenHasNames (named_token_of token) }
     requires few { harts ≤ MAX_HARTS }
-    ensures { Gives fault_in (λ symbol. (symbol, locations.new)) result (token_resolved harts locations.old (named_token_of token.entry)) }
+    ensures { GivesUpToMemory fault_in (λ symbol. (symbol, locations.new)) result (token_resolved harts locations.old (named_token_of token.entry)) }
 {
     match token {
         Token::Is(setting) => atom_of(locations, setting, harts, left),
@@ -124,7 +124,7 @@ fn token_of(
 
 /// Adds a symbol to the condition.
 fn push(draft: &mut ConditionDraft, token: Symbol, left: usize) -> Result<(), Refusal>
-    ensures { Gives fault_in (λ _. draft.new) result (as_condition (symbol_added draft.old token)) }
+    ensures { GivesUpToMemory fault_in (λ _. draft.new) result (as_condition (symbol_added draft.old token)) }
 {
     match draft.push(token) {
         Ok(()) => Ok(()),
@@ -133,22 +133,22 @@ fn push(draft: &mut ConditionDraft, token: Symbol, left: usize) -> Result<(), Re
     }
 }
 
-/// The tokens of a text, which `behind` bytes follow.
+/// The tokens of a text, which `following` bytes follow.
 #[tactic(auto, using(crate::proofs::NameLaws::token_named))]
 fn read_tokens(
     alloc: Global,
     text: &[u8],
     harts: usize,
     locations: &mut Locations,
-    behind: usize,
+    following: usize,
 ) -> Result<ConditionDraft, Refusal>
     requires { harts ≤ MAX_HARTS }
-    ensures { Gives fault_in (λ (symbols : List Symbol). (symbols, locations.new)) result (tokens_added harts ([], locations.old) (tokens_of text.now)) }
+    ensures { GivesUpToMemory fault_in (λ (symbols : List Symbol). (symbols, locations.new)) result (tokens_added harts ([], locations.old) (tokens_of text.now)) }
 {
     let mut draft = ConditionDraft::new(alloc);
     let mut rest = text;
     loop {
-        let left = left_of(rest).saturating_add(behind);
+        let left = left_of(rest).saturating_add(following);
         match first_token(rest) {
             Front::End => return Ok(draft),
             Front::NoToken => return Err(LitmusFault::BadCondition.at(left)),
@@ -164,7 +164,7 @@ fn read_tokens(
 /// The condition of the symbols.
 fn finish(draft: ConditionDraft) -> Result<Condition, Refusal>
     ensures place { IfErr result (λ refusal. refusal ≡ Refused (record { fault = BadCondition; left = 0 })) }
-    ensures exact { Gives fault_in (λ (f : Formula). f) result (as_condition (finished draft)) }
+    ensures exact { GivesUpToMemory fault_in (λ (f : Formula). f) result (as_condition (finished draft)) }
 {
     match draft.finish() {
         Ok(condition) => Ok(condition),
@@ -189,14 +189,14 @@ fn final_condition_in(
     locations: &mut Locations,
 ) -> Result<FinalCondition, Refusal>
     requires { harts ≤ MAX_HARTS }
-    ensures { Gives fault_in (condition_of locations.new) result (condition_in harts locations.old text.now) }
+    ensures { GivesUpToMemory fault_in (condition_of locations.new) result (condition_in harts locations.old text.now) }
 {
     let (read, unread) = cut_at_line(Mark::Unread, text);
     let Some(Quantified { quantifier, tokens }) = quantifier_in(read) else {
         return Err(LitmusFault::BadCondition.at(text.len()));
     };
-    let behind = text.len().saturating_sub(read.len());
-    let draft = read_tokens(alloc, tokens, harts, locations, behind)?;
+    let following = text.len().saturating_sub(read.len());
+    let draft = read_tokens(alloc, tokens, harts, locations, following)?;
     if let Some(rest) = unread {
         return Err(LitmusFault::BadCondition.at(rest.len()));
     }
@@ -217,7 +217,7 @@ pub fn read_condition(
     locations: &mut Locations,
 ) -> Result<FinalCondition, Refusal>
     requires { harts ≤ MAX_HARTS }
-    ensures exact { Gives fault_in (condition_of locations.new) result (condition_in harts locations.old text.now) }
+    ensures exact { GivesUpToMemory fault_in (condition_of locations.new) result (condition_in harts locations.old text.now) }
     ensures there { IfOk result (λ final_condition. All (IsThere harts (length locations.new)) (places final_condition.condition)) }
     ensures more { IfOk result (λ final_condition. length locations.old ≤ length locations.new) }
 {

@@ -2,11 +2,11 @@
 
 ghost use Rattle.std.specs.Prelude.{◌≡◌, ◌≢◌, drop};
 ghost use Rattle.std.specs.Result.{IfErr};
-ghost use Rattle.texts.specs.Results.{Gives};
+ghost use Rattle.texts.specs.Results.{GivesUpToMemory};
 ghost use Rattle.litmus_reader.specs.declared.faults.LitmusFault.TheVariants.{BadInit};
 ghost use Rattle.texts.specs.declared.errors.TextError.TheVariants.{NoMemory, Refused};
 ghost use Rattle.litmus_reader.specs.Faults.{fault_in};
-ghost use Rattle.litmus_reader.specs.Header.{has_name, is_header, behind_header as header_at, behind_brace as brace_at};
+ghost use Rattle.litmus_reader.specs.Header.{has_name, is_header, after_header as header_at, after_brace as brace_at};
 
 use crate::faults::LitmusFault;
 use crate::marks::{Mark, cut_at_line};
@@ -36,9 +36,9 @@ fn is_header(line: &[u8]) -> bool
 }
 
 /// What follows the header line.
-#[tactic(auto, unfolding(crate::specs::Header::behind_header))]
-pub fn behind_header(text: &[u8]) -> Result<&[u8], Refusal>
-    ensures exact { Gives fault_in (λ rest. rest.now) result (header_at text.now) }
+#[tactic(auto, unfolding(crate::specs::Header::after_header))]
+pub fn after_header(text: &[u8]) -> Result<&[u8], Refusal>
+    ensures exact { GivesUpToMemory fault_in (λ rest. rest.now) result (header_at text.now) }
     ensures free { IfErr result (λ refusal. refusal ≢ NoMemory) }
 {
     let Some(text) = cut_at_line(Mark::Visible, text).1 else {
@@ -52,7 +52,7 @@ pub fn behind_header(text: &[u8]) -> Result<&[u8], Refusal>
 }
 
 /// The bytes after the first one.
-fn behind_first(text: &[u8]) -> &[u8]
+fn after_first(text: &[u8]) -> &[u8]
     ensures { result.now ≡ drop 1 text.now }
 {
     match text {
@@ -62,13 +62,13 @@ fn behind_first(text: &[u8]) -> &[u8]
 }
 
 /// What follows the `{` with which a line begins; the lines before it aren't read.
-#[tactic(auto, unfolding(crate::specs::Header::behind_brace))]
-pub fn behind_brace(text: &[u8]) -> Result<&[u8], Refusal>
-    ensures exact { Gives fault_in (λ rest. rest.now) result (brace_at text.now) }
+#[tactic(auto, unfolding(crate::specs::Header::after_brace))]
+pub fn after_brace(text: &[u8]) -> Result<&[u8], Refusal>
+    ensures exact { GivesUpToMemory fault_in (λ rest. rest.now) result (brace_at text.now) }
     ensures place { IfErr result (λ refusal. refusal ≡ Refused (record { fault = BadInit; left = 0 })) }
 {
     match cut_at_line(Mark::Brace, text).1 {
-        Some(text) => Ok(behind_first(without_front(text))),
+        Some(text) => Ok(after_first(without_front(text))),
         None => Err(LitmusFault::BadInit.at_end()),
     }
 }

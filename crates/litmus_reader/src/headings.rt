@@ -2,7 +2,7 @@
 
 ghost use Rattle.std.specs.Prelude.{◌≡◌, IfOk, OnOk, Ok, [], List};
 ghost use Rattle.std.specs.List.{slice_index_or};
-ghost use Rattle.texts.specs.Results.{Gives};
+ghost use Rattle.texts.specs.Results.{GivesUpToMemory};
 ghost use Rattle.texts.specs.Cutting.{tokens};
 ghost use Rattle.litmus_reader.specs.Faults.{fault_of, fault_in};
 ghost use Rattle.litmus_reader.specs.declared.marks.Mark.TheVariants.{Visible};
@@ -10,7 +10,7 @@ ghost use Rattle.litmus_reader.specs.Marks.{from_line};
 ghost use Rattle.litmus_reader.specs.Headings.{HeadingOf, IsHeading, in_one_line, with_word, first_line, name_in, heading_in, heading_at, heading_of};
 
 use crate::faults::{LitmusError, LitmusFault};
-use crate::header::{behind_brace, behind_header};
+use crate::header::{after_brace, after_header};
 use crate::marks::{Mark, cut_at_line};
 use crate::refusals::{Refusal, error_of};
 use litmus_tokens::cleaned;
@@ -87,9 +87,9 @@ fn in_one_line(alloc: Global, text: &[u8]) -> Result<Vec<u8>, AllocError>
 /// The heading in a text without comments.
 #[tactic(auto, unfolding(crate::specs::Headings::heading_in))]
 fn heading_in(alloc: Global, text: &[u8]) -> Result<Heading, Refusal>
-    ensures { Gives fault_in heading_of result (heading_in text.now) }
+    ensures { GivesUpToMemory fault_in heading_of result (heading_in text.now) }
 {
-    let inner = behind_brace(behind_header(text)?)?;
+    let inner = after_brace(after_header(text)?)?;
     let Some(rest) = cut_at(inner, b'}').1 else {
         return Err(LitmusFault::BadInit.at_end());
     };
@@ -105,7 +105,7 @@ fn heading_in(alloc: Global, text: &[u8]) -> Result<Heading, Refusal>
 /// The heading in a text, as [`read_heading`] says.
 #[tactic(auto, unfolding(crate::specs::Headings::heading_at))]
 fn cleaned_heading(alloc: Global, text: &[u8]) -> Result<Heading, LitmusError>
-    ensures { Gives fault_of heading_of result (heading_at text.now) }
+    ensures { GivesUpToMemory fault_of heading_of result (heading_at text.now) }
 {
     let clean = cleaned(alloc, text)?;
     match heading_in(alloc, &clean) {
@@ -122,8 +122,8 @@ fn cleaned_heading(alloc: Global, text: &[u8]) -> Result<Heading, LitmusError>
 #[tactic(auto, using(crate::proofs::HeadingLaws::found_heading, crate::proofs::HeadingLaws::only_heading))]
 pub fn read_heading(alloc: Global, text: &str) -> Result<Heading, LitmusError>
     ensures found { IfOk result (λ heading. IsHeading text.now (heading_of heading)) }
-    ensures only { (heading : HeadingOf) → IsHeading text.now heading → Gives fault_of heading_of result (Ok heading) }
-    ensures exact { Gives fault_of heading_of result (heading_at text.now) }
+    ensures only { (heading : HeadingOf) → IsHeading text.now heading → GivesUpToMemory fault_of heading_of result (Ok heading) }
+    ensures exact { GivesUpToMemory fault_of heading_of result (heading_at text.now) }
 {
     cleaned_heading(alloc, text.as_bytes())
 }

@@ -1,7 +1,7 @@
 //! The init part.
 
 ghost use Rattle.std.specs.Prelude.{◌≡◌};
-ghost use Rattle.texts.specs.Results.{Gives};
+ghost use Rattle.texts.specs.Results.{GivesUpToMemory};
 ghost use Rattle.litmus_tokens.specs.Settings.{place_of};
 ghost use Rattle.litmus_reader.specs.Faults.{fault_in};
 ghost use Rattle.litmus_reader.specs.Locations.{HasLocation};
@@ -46,7 +46,7 @@ pub struct Init {
 #[tactic(auto, unfolding(crate::specs::Init::target_resolved))]
 fn target_of(locations: &mut Locations, spot: Spot<'_>, left: usize) -> Result<Target, Refusal>
     requires { HasLocation (place_of spot) }
-    ensures { Gives fault_in (λ target. (target, locations.new)) result (target_resolved locations.old (place_of spot.entry)) }
+    ensures { GivesUpToMemory fault_in (λ target. (target, locations.new)) result (target_resolved locations.old (place_of spot.entry)) }
 {
     match spot {
         Spot::Register { hart, register } => Ok(Target::Register { hart, register }),
@@ -71,7 +71,7 @@ impl Init {
     /// Reads what stands between two semicolons, which is an item or nothing.
     #[tactic(auto, using(crate::proofs::NameLaws::item_location, crate::proofs::NameLaws::item_value), unfolding(crate::specs::Init::piece_added, crate::specs::Init::item_added))]
     fn read(&mut self, piece: &[u8], left: usize) -> Result<(), Refusal>
-        ensures { Gives fault_in (λ _. items_of self.new) result (piece_added (items_of self.old) piece.now) }
+        ensures { GivesUpToMemory fault_in (λ _. items_of self.new) result (piece_added (items_of self.old) piece.now) }
     {
         if is_all(Separators::Gaps, piece) {
             return Ok(());
@@ -90,16 +90,16 @@ impl Init {
     }
 }
 
-/// The items that stand in this text, which `behind` bytes follow.
+/// The items that stand in this text, which `following` bytes follow.
 #[tactic(auto, unfolding(crate::specs::Init::items_at))]
-pub fn read_items(alloc: Global, text: &[u8], behind: usize) -> Result<Init, Refusal>
-    ensures { Gives fault_in items_of result (items_at text.now) }
+pub fn read_items(alloc: Global, text: &[u8], following: usize) -> Result<Init, Refusal>
+    ensures { GivesUpToMemory fault_in items_of result (items_at text.now) }
 {
     let mut init = Init::new(alloc);
     let mut rest = Some(text);
     while let Some(bytes) = rest {
         let (piece, after) = first_piece(Separators::Byte(b';'), bytes);
-        init.read(piece, left_of(bytes).saturating_add(behind))?;
+        init.read(piece, left_of(bytes).saturating_add(following))?;
         rest = after;
     }
     Ok(init)

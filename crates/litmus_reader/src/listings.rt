@@ -3,7 +3,7 @@
 ghost use Rattle.std.specs.Prelude.{◌≡◌, ◌≢◌, ◌≤◌, ◌<◌, ◌+◌, ◌-◌, ◌^◌, ◌++◌, [], length, take, drop, map, IfOk, OnOk};
 ghost use Rattle.std.specs.Option.{option_copied};
 ghost use Rattle.std.specs.Result.{IfErr};
-ghost use Rattle.texts.specs.Results.{Gives};
+ghost use Rattle.texts.specs.Results.{GivesUpToMemory};
 ghost use Rattle.texts.specs.Pieces.{pieces};
 ghost use Rattle.texts.specs.declared.errors.TextError.TheVariants.{NoMemory};
 ghost use Rattle.texts.specs.declared.pieces.Separators.TheVariants.{Byte};
@@ -12,10 +12,10 @@ ghost use Rattle.litmus.specs.LitmusTests.{LitmusTest};
 ghost use Rattle.litmus_reader.specs.Faults.{fault_of, fault_in};
 ghost use Rattle.litmus_reader.specs.Grammar.{IsTestOf};
 ghost use Rattle.litmus_reader.specs.Rows.{cells_of, row_in};
-ghost use Rattle.litmus_reader.specs.Listings.{behind_items as items_end, cell_of, ends_in as line_ends, indent, listing_at, listing_in as rows_in, row_on, rows_at, rows_from, words_made};
+ghost use Rattle.litmus_reader.specs.Listings.{after_items as items_end, cell_of, ends_in as line_ends, indent, listing_at, listing_in as rows_in, row_on, rows_at, rows_from, words_made};
 
 use crate::faults::{LitmusError, LitmusFault};
-use crate::header::{behind_brace, behind_header};
+use crate::header::{after_brace, after_header};
 use crate::marks::{Mark, cut_at_line};
 use crate::refusals::{Refusal, error_of, lines_in};
 use crate::rows::row_in;
@@ -75,7 +75,7 @@ fn front(text: &[u8], bytes: usize) -> &[u8]
 }
 
 /// What follows these bytes of a text.
-fn behind(text: &[u8], bytes: usize) -> &[u8]
+fn following(text: &[u8], bytes: usize) -> &[u8]
     ensures { result.now ≡ drop bytes text.now }
 {
     if bytes < text.len() {
@@ -175,7 +175,7 @@ fn rows_from(
         let line = ended + ends_in(original, indent(row)) + 1;
         add_row(alloc, &mut rows, line, row)?;
         ended += ends_in(original, row.len()) + 1;
-        original = behind(original, row.len() + 1);
+        original = following(original, row.len() + 1);
         rest = after;
     }
     Ok(rows)
@@ -190,15 +190,15 @@ fn rows_at(
 ) -> Result<Vec<ListedRow>, AllocError>
     ensures { IfOk result (λ rows. rows.items ≡ rows_at text.now bytes table.now) }
 {
-    rows_from(alloc, ends_in(text, bytes), behind(text, bytes), table)
+    rows_from(alloc, ends_in(text, bytes), following(text, bytes), table)
 }
 
 /// What stands after the init part.
-#[tactic(auto, unfolding(crate::specs::Listings::behind_items))]
-fn behind_items(text: &[u8]) -> Result<&[u8], Refusal>
-    ensures { Gives fault_in (λ rest. rest.now) result (items_end text.now) }
+#[tactic(auto, unfolding(crate::specs::Listings::after_items))]
+fn after_items(text: &[u8]) -> Result<&[u8], Refusal>
+    ensures { GivesUpToMemory fault_in (λ rest. rest.now) result (items_end text.now) }
 {
-    let inner = behind_brace(behind_header(text)?)?;
+    let inner = after_brace(after_header(text)?)?;
     match cut_at(inner, b'}').1 {
         Some(rest) => Ok(rest),
         None => Err(LitmusFault::BadInit.at_end()),
@@ -208,9 +208,9 @@ fn behind_items(text: &[u8]) -> Result<&[u8], Refusal>
 /// The rows in a text, of which this is the text without comments.
 #[tactic(auto, unfolding(crate::specs::Listings::listing_in))]
 fn listing_in(alloc: Global, text: &[u8], clean: &[u8]) -> Result<Vec<ListedRow>, Refusal>
-    ensures { Gives fault_in (λ rows. rows.items) result (rows_in text.now clean.now) }
+    ensures { GivesUpToMemory fault_in (λ rows. rows.items) result (rows_in text.now clean.now) }
 {
-    let rest = behind_items(clean)?;
+    let rest = after_items(clean)?;
     let table = cut_at_line(Mark::Condition, rest).0;
     let bytes = clean.len().saturating_sub(rest.len());
     Ok(rows_at(alloc, text, bytes, table)?)
@@ -218,7 +218,7 @@ fn listing_in(alloc: Global, text: &[u8], clean: &[u8]) -> Result<Vec<ListedRow>
 
 #[tactic(auto, unfolding(crate::specs::Listings::listing_at))]
 fn cleaned_listing(alloc: Global, text: &[u8]) -> Result<Vec<ListedRow>, LitmusError>
-    ensures { Gives fault_of (λ rows. rows.items) result (listing_at text.now) }
+    ensures { GivesUpToMemory fault_of (λ rows. rows.items) result (listing_at text.now) }
 {
     let clean = cleaned(alloc, text)?;
     match listing_in(alloc, text, &clean) {
@@ -233,7 +233,7 @@ fn cleaned_listing(alloc: Global, text: &[u8]) -> Result<Vec<ListedRow>, LitmusE
 /// The fault is `NoHeader` where there is no header line, and `BadInit` where a brace is missing. A text that
 /// stands for a test has no such fault.
 pub fn read_listing(alloc: Global, text: &str) -> Result<Vec<ListedRow>, LitmusError>
-    ensures exact { Gives fault_of (λ rows. rows.items) result (listing_at text.now) }
+    ensures exact { GivesUpToMemory fault_of (λ rows. rows.items) result (listing_at text.now) }
     ensures tests { (test : LitmusTest) → IsTestOf text.now test → IfErr result (λ error. error ≡ NoMemory) }
 {
     cleaned_listing(alloc, text.as_bytes())

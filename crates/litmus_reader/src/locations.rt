@@ -3,7 +3,7 @@
 ghost use Rattle.std.specs.Prelude.{◌≡◌, true, ◌<◌, ◌≤◌, ℕ, List, [], length, map, vec_len, IfOk, IfSome, IsTrue};
 ghost use Rattle.std.specs.List.{list_all};
 ghost use Rattle.std.specs.String.{string_bytes};
-ghost use Rattle.texts.specs.Results.{Gives};
+ghost use Rattle.texts.specs.Results.{GivesUpToMemory};
 ghost use Rattle.litmus_reader.specs.Faults.{fault_in};
 ghost use Rattle.litmus_tokens.specs.Names.{is_name, goes_on_name};
 ghost use Rattle.litmus_reader.specs.Locations.{index_from, resolved};
@@ -78,7 +78,7 @@ impl Locations {
     #[tactic(auto, unfolding(crate::specs::Locations::resolved))]
     pub fn index_of(&mut self, name: &[u8], left: usize) -> Result<usize, Refusal>
         requires { IsTrue (is_name name.now) }
-        ensures exact { Gives fault_in (λ index. (index, self.new)) result (resolved self.old name.now) }
+        ensures exact { GivesUpToMemory fault_in (λ index. (index, self.new)) result (resolved self.old name.now) }
         ensures small { IfOk result (λ index. index < MAX_LOCATIONS) }
     {
         if let Some(index) = self.find(name) {

@@ -1,7 +1,7 @@
 //! Where the test's machine begins.
 
 ghost use Rattle.std.specs.Prelude.{◌≡◌, ◌≤◌, ◌+◌, ◌++◌, length, map, replicate, vec_len, IfOk, OnOk};
-ghost use Rattle.texts.specs.Results.{Gives};
+ghost use Rattle.texts.specs.Results.{GivesUpToMemory};
 ghost use Rattle.litmus_reader.specs.Faults.{fault_in};
 ghost use Rattle.litmus_reader.specs.Init.{item_of};
 ghost use Rattle.litmus_reader.specs.Values.{values_in, zeros, item_put, items_put, starts_of};
@@ -39,7 +39,7 @@ impl Values {
         requires { vec_len self.old.registers ≤ MAX_HARTS }
         ensures same_harts { vec_len self.new.registers ≡ vec_len self.old.registers }
         ensures same_words { vec_len self.new.words ≡ vec_len self.old.words }
-        ensures exact { Gives fault_in (λ _. values_in self.new) result (item_put (values_in self.old) (item_of item)) }
+        ensures exact { GivesUpToMemory fault_in (λ _. values_in self.new) result (item_put (values_in self.old) (item_of item)) }
     {
         match item.target {
             Target::Register { hart, register } => {
@@ -68,7 +68,7 @@ pub fn values_of(
     items: &[Item],
 ) -> Result<Values, Refusal>
     requires { harts ≤ MAX_HARTS }
-    ensures exact { Gives fault_in values_in result (items_put (zeros harts locations) (map item_of items.now)) }
+    ensures exact { GivesUpToMemory fault_in values_in result (items_put (zeros harts locations) (map item_of items.now)) }
     ensures harts { IfOk result (λ values. vec_len values.registers ≡ harts) }
     ensures words { IfOk result (λ values. vec_len values.words ≡ locations) }
 {

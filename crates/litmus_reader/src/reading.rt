@@ -2,7 +2,7 @@
 
 ghost use Rattle.std.specs.Prelude.{◌≡◌, ◌≤◌, length, vec_len, Ok, IfOk, All};
 ghost use Rattle.std.specs.Option.{option_copied};
-ghost use Rattle.texts.specs.Results.{Gives};
+ghost use Rattle.texts.specs.Results.{GivesUpToMemory};
 ghost use Rattle.litmus.specs.LitmusTests.{LitmusTest, IsThere, IsTest};
 ghost use Rattle.litmus.specs.Formulas.{places};
 ghost use Rattle.litmus_reader.specs.Faults.{fault_of, fault_in};
@@ -10,13 +10,13 @@ ghost use Rattle.litmus_reader.specs.Init.{items_of};
 ghost use Rattle.litmus_reader.specs.Table.{instructions, ArePlain, AreShort};
 ghost use Rattle.litmus_reader.specs.Values.{values_in};
 ghost use Rattle.litmus_reader.specs.Condition.{condition_of};
-ghost use Rattle.litmus_reader.specs.Reading.{content_of, content, content_below, content_behind, content_at, test_at};
+ghost use Rattle.litmus_reader.specs.Reading.{content_of, content, content_below, content_after, content_at, test_at};
 ghost use Rattle.litmus_reader.specs.Grammar.{HasPlainCode, IsTestOf};
 ghost use Rattle.step_machine.specs.declared.opening.TheConstants.{MAX_HARTS};
 
 use crate::condition::{FinalCondition, read_condition};
 use crate::faults::{LitmusError, LitmusFault};
-use crate::header::{behind_brace, behind_header};
+use crate::header::{after_brace, after_header};
 use crate::init::{Init, read_items};
 use crate::locations::Locations;
 use crate::marks::{Mark, cut_at_line};
@@ -73,7 +73,7 @@ fn test_below(
     requires few { vec_len codes ≤ MAX_HARTS }
     requires short { AreShort (instructions codes) }
     requires plain { ArePlain codes.items }
-    ensures exact { Gives fault_in content_of result (content_below (items_of init) (instructions codes) (option_copied condition.entry)) }
+    ensures exact { GivesUpToMemory fault_in content_of result (content_below (items_of init) (instructions codes) (option_copied condition.entry)) }
     ensures plain { IfOk result (λ test. All HasPlainCode test.opening.harts) }
 {
     let Init {
@@ -90,29 +90,29 @@ fn test_below(
 }
 
 /// The test with this init part, with what stands after it.
-#[tactic(auto, unfolding(crate::specs::Reading::content_behind))]
-fn test_behind(alloc: Global, init: Init, text: &[u8]) -> Result<Test, Refusal>
-    ensures exact { Gives fault_in content_of result (content_behind (items_of init) text.now) }
+#[tactic(auto, unfolding(crate::specs::Reading::content_after))]
+fn test_after(alloc: Global, init: Init, text: &[u8]) -> Result<Test, Refusal>
+    ensures exact { GivesUpToMemory fault_in content_of result (content_after (items_of init) text.now) }
     ensures plain { IfOk result (λ test. All HasPlainCode test.opening.harts) }
 {
     let (rows, condition) = cut_at_line(Mark::Condition, text);
-    let behind = text.len().saturating_sub(rows.len());
-    let codes = read_table(alloc, rows, behind)?.finish(alloc, rows, behind)?;
+    let following = text.len().saturating_sub(rows.len());
+    let codes = read_table(alloc, rows, following)?.finish(alloc, rows, following)?;
     test_below(alloc, init, codes, condition)
 }
 
 /// The test in a text without comments.
 #[tactic(auto, unfolding(crate::specs::Reading::content_at))]
 fn test_in(alloc: Global, text: &[u8]) -> Result<Test, Refusal>
-    ensures exact { Gives fault_in content_of result (content_at text.now) }
+    ensures exact { GivesUpToMemory fault_in content_of result (content_at text.now) }
     ensures plain { IfOk result (λ test. All HasPlainCode test.opening.harts) }
 {
-    let inner = behind_brace(behind_header(text)?)?;
+    let inner = after_brace(after_header(text)?)?;
     let (items, rest) = cut_at(inner, b'}');
-    let behind = inner.len().saturating_sub(items.len());
-    let init = read_items(alloc, items, behind)?;
+    let following = inner.len().saturating_sub(items.len());
+    let init = read_items(alloc, items, following)?;
     match rest {
-        Some(rest) => test_behind(alloc, init, rest),
+        Some(rest) => test_after(alloc, init, rest),
         None => Err(LitmusFault::BadInit.at_end()),
     }
 }
@@ -120,7 +120,7 @@ fn test_in(alloc: Global, text: &[u8]) -> Result<Test, Refusal>
 /// The test in a text, as [`read`] says.
 #[tactic(auto, unfolding(crate::specs::Reading::test_at))]
 fn cleaned_test(alloc: Global, text: &[u8]) -> Result<Test, LitmusError>
-    ensures exact { Gives fault_of content_of result (test_at text.now) }
+    ensures exact { GivesUpToMemory fault_of content_of result (test_at text.now) }
     ensures plain { IfOk result (λ test. All HasPlainCode test.opening.harts) }
 {
     let clean = cleaned(alloc, text)?;
@@ -140,8 +140,8 @@ fn cleaned_test(alloc: Global, text: &[u8]) -> Result<Test, LitmusError>
 #[tactic(auto, using(crate::proofs::TestGrammar::found_test, crate::proofs::TestGrammar::only_test))]
 pub fn read(alloc: Global, text: &str) -> Result<Test, LitmusError>
     ensures found { IfOk result (IsTestOf text.now) }
-    ensures only { (test : LitmusTest) → IsTestOf text.now test → Gives fault_of (λ (test : LitmusTest). test) result (Ok test) }
-    ensures exact { Gives fault_of content_of result (test_at text.now) }
+    ensures only { (test : LitmusTest) → IsTestOf text.now test → GivesUpToMemory fault_of (λ (test : LitmusTest). test) result (Ok test) }
+    ensures exact { GivesUpToMemory fault_of content_of result (test_at text.now) }
     ensures fits { IfOk result IsTest }
 {
     cleaned_test(alloc, text.as_bytes())

@@ -4,7 +4,7 @@ ghost use Rattle.std.specs.Prelude.{◌≡◌, ◌≤◌, length, IfOk};
 ghost use Rattle.std.specs.Option.{option_copied};
 ghost use Rattle.std.specs.List.{count_by};
 ghost use Rattle.texts.specs.Cutting.{is_byte};
-ghost use Rattle.texts.specs.Results.{Gives};
+ghost use Rattle.texts.specs.Results.{GivesUpToMemory};
 ghost use Rattle.litmus_reader.specs.Faults.{fault_in};
 ghost use Rattle.litmus_reader.specs.Rows.{is_blank_line, row_in, cells_of, names_hart, name_harts, harts_in};
 ghost use Rattle.step_machine.specs.declared.opening.TheConstants.{MAX_HARTS};
@@ -82,7 +82,7 @@ fn name_harts(alloc: Global, row: &[u8]) -> Result<bool, AllocError>
 /// are met where `left` bytes are left.
 #[tactic(auto, unfolding(crate::specs::Rows::harts_in))]
 pub fn harts_in(alloc: Global, line: &[u8], left: usize) -> Result<usize, Refusal>
-    ensures exact { Gives fault_in (λ harts. harts) result (harts_in line.now) }
+    ensures exact { GivesUpToMemory fault_in (λ harts. harts) result (harts_in line.now) }
     ensures some { IfOk result (λ harts. 1 ≤ harts) }
     ensures few { IfOk result (λ harts. harts ≤ MAX_HARTS) }
 {

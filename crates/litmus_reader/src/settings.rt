@@ -1,7 +1,7 @@
 //! What a setting puts, with the addresses of its locations.
 
 ghost use Rattle.std.specs.Prelude.{◌≡◌, ◌*◌, ◌<◌};
-ghost use Rattle.texts.specs.Results.{Gives};
+ghost use Rattle.texts.specs.Results.{GivesUpToMemory};
 ghost use Rattle.litmus_tokens.specs.Settings.{value_of as named_value_of};
 ghost use Rattle.litmus_reader.specs.Faults.{fault_in};
 ghost use Rattle.litmus_reader.specs.Locations.{HasName, value_resolved};
@@ -24,7 +24,7 @@ pub fn address_of(index: usize) -> u32
 #[tactic(auto, unfolding(crate::specs::Locations::value_resolved))]
 pub fn value_of(locations: &mut Locations, worth: Worth<'_>, left: usize) -> Result<u32, Refusal>
     requires { HasName (named_value_of worth) }
-    ensures { Gives fault_in (λ value. (value, locations.new)) result (value_resolved locations.old (named_value_of worth.entry)) }
+    ensures { GivesUpToMemory fault_in (λ value. (value, locations.new)) result (value_resolved locations.old (named_value_of worth.entry)) }
 {
     match worth {
         Worth::Number(number) => Ok(number),

@@ -2,7 +2,7 @@
 
 ghost use Rattle.std.specs.Prelude.{◌≡◌, ◌^◌, ◌<◌, ◌≤◌, List, [], length, map, replicate, All, IfOk};
 ghost use Rattle.std.specs.Option.{option_copied};
-ghost use Rattle.texts.specs.Results.{Gives};
+ghost use Rattle.texts.specs.Results.{GivesUpToMemory};
 ghost use Rattle.litmus_reader.specs.Faults.{fault_in};
 ghost use Rattle.texts.specs.Pieces.{pieces_after};
 ghost use Rattle.litmus_reader.specs.Rows.{cells_of};
@@ -22,7 +22,8 @@ use std::marker::Model;
 use texts::cutting::cut_at;
 use texts::{Separators, first_piece};
 
-/// The harts' columns so far, each a text of one line for a row.
+/// The harts' columns so far, each a text of one line for a row. Where its functions take `left`, that is how many
+/// bytes of the litmus text are left from the row on: a fault is named with it.
 #[derive(Drop)]
 pub struct Table {
     columns: Vec<Draft>,
@@ -34,10 +35,10 @@ impl Model for Table {
     ghost view = { λ table. table.columns.items };
 }
 
-/// Gives a hart the statement in its cell, which may be none.
+/// Adds a cell to a hart's column. It may have no statement.
 #[tactic(auto, unfolding(crate::specs::Table::cell_added))]
 fn tell(column: &mut Draft, cell: &[u8], left: usize) -> Result<(), Refusal>
-    ensures { Gives fault_in (λ _. column.new) result (cell_added column.old cell.now) }
+    ensures { GivesUpToMemory fault_in (λ _. column.new) result (cell_added column.old cell.now) }
 {
     match column.read(cell) {
         Ok(()) => {}
@@ -67,10 +68,10 @@ impl Table {
         Ok(Table { columns })
     }
 
-    /// Gives the harts the statements in the row's cells, from the left.
+    /// Adds the row's cells to the harts' columns, from the left.
     fn tell_cells(&mut self, row: &[u8], left: usize) -> Result<(), Refusal>
         requires { length (cells_of row.now) ≡ length self.old }
-        ensures exact { Gives fault_in (λ _. self.new) result (cells_added self.old (cells_of row.now)) }
+        ensures exact { GivesUpToMemory fault_in (λ _. self.new) result (cells_added self.old (cells_of row.now)) }
         ensures same { length self.new ≡ length self.old }
     {
         let mut hart = 0;
@@ -87,7 +88,7 @@ impl Table {
     /// Reads a row, or nothing in a blank line. Its shape is judged before its cells.
     #[tactic(auto, unfolding(crate::specs::Table::line_added))]
     fn read(&mut self, line: &[u8], left: usize) -> Result<(), Refusal>
-        ensures exact { Gives fault_in (λ _. self.new) result (line_added self.old line.now) }
+        ensures exact { GivesUpToMemory fault_in (λ _. self.new) result (line_added self.old line.now) }
         ensures same { length self.new ≡ length self.old }
     {
         if is_blank_line(line) {
@@ -99,23 +100,23 @@ impl Table {
         }
     }
 
-    /// Reads the rows after the first one, which `behind` bytes follow.
-    fn read_rows(&mut self, rows: Option<&[u8]>, behind: usize) -> Result<(), Refusal>
-        ensures exact { Gives fault_in (λ _. self.new) result (lines_added self.old (pieces_after (Byte 10) (option_copied rows.entry))) }
+    /// Reads the rows after the first one, which `following` bytes follow.
+    fn read_rows(&mut self, rows: Option<&[u8]>, following: usize) -> Result<(), Refusal>
+        ensures exact { GivesUpToMemory fault_in (λ _. self.new) result (lines_added self.old (pieces_after (Byte 10) (option_copied rows.entry))) }
         ensures same { length self.new ≡ length self.old }
     {
         let mut rest = rows;
         while let Some(bytes) = rest {
             let (line, after) = first_piece(Separators::Byte(b'\n'), bytes);
-            self.read(line, bytes.len().saturating_add(behind))?;
+            self.read(line, bytes.len().saturating_add(following))?;
             rest = after;
         }
         Ok(())
     }
 
     /// Each hart's words, as [`Table::finish`] says.
-    fn codes(self, alloc: Global, text: &[u8], behind: usize) -> Result<Vec<Vec<u32>>, Refusal>
-        ensures exact { Gives fault_in instructions result (codes_of self) }
+    fn codes(self, alloc: Global, text: &[u8], following: usize) -> Result<Vec<Vec<u32>>, Refusal>
+        ensures exact { GivesUpToMemory fault_in instructions result (codes_of self) }
         ensures plain { IfOk result (λ codes. ArePlain codes.items) }
     {
         let mut codes = Vec::new(alloc);
@@ -133,21 +134,26 @@ impl Table {
         match faulty {
             None => Ok(codes),
             Some(row) => {
-                Err(LitmusFault::BadInstr.at(left_at_row(text, row).saturating_add(behind)))
+                Err(LitmusFault::BadInstr.at(left_at_row(text, row).saturating_add(following)))
             }
         }
     }
 
     /// Each hart's words. `BadInstr` comes where a label has no place, at the first row of them, in the
-    /// table's text, which `behind` bytes follow.
+    /// table's text, which `following` bytes follow.
     #[tactic(auto, using(crate::proofs::TableLaws::answered_count, crate::proofs::TableLaws::answered_short))]
-    pub fn finish(self, alloc: Global, text: &[u8], behind: usize) -> Result<Vec<Vec<u32>>, Refusal>
-        ensures exact { Gives fault_in instructions result (codes_of self) }
+    pub fn finish(
+        self,
+        alloc: Global,
+        text: &[u8],
+        following: usize,
+    ) -> Result<Vec<Vec<u32>>, Refusal>
+        ensures exact { GivesUpToMemory fault_in instructions result (codes_of self) }
         ensures plain { IfOk result (λ codes. ArePlain codes.items) }
         ensures count { IfOk result (λ codes. length codes.items ≡ length self) }
         ensures short { IfOk result (λ codes. AreShort (instructions codes)) }
     {
-        self.codes(alloc, text, behind)
+        self.codes(alloc, text, following)
     }
 }
 
@@ -182,10 +188,10 @@ fn left_at_row(text: &[u8], row: usize) -> usize
     0
 }
 
-/// Parses the table; `behind` is how many bytes follow it, used for fault positions.
+/// Parses the table; `following` is how many bytes follow it, used for fault positions.
 #[tactic(auto, unfolding(crate::specs::Table::table_at))]
-pub fn read_table(alloc: Global, text: &[u8], behind: usize) -> Result<Table, Refusal>
-    ensures exact { Gives fault_in (λ (table : List Column). table) result (table_at text.now) }
+pub fn read_table(alloc: Global, text: &[u8], following: usize) -> Result<Table, Refusal>
+    ensures exact { GivesUpToMemory fault_in (λ (table : List Column). table) result (table_at text.now) }
     ensures some { IfOk result (λ table. 1 ≤ length table) }
     ensures few { IfOk result (λ table. length table ≤ MAX_HARTS) }
 {
@@ -193,8 +199,8 @@ pub fn read_table(alloc: Global, text: &[u8], behind: usize) -> Result<Table, Re
         return Err(LitmusFault::BadTable.at_end());
     };
     let (first, rest) = cut_at(rows, b'\n');
-    let harts = harts_in(alloc, first, rows.len().saturating_add(behind))?;
+    let harts = harts_in(alloc, first, rows.len().saturating_add(following))?;
     let mut table = Table::new(alloc, harts)?;
-    table.read_rows(rest, behind)?;
+    table.read_rows(rest, following)?;
     Ok(table)
 }

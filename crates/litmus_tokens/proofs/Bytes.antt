@@ -25,9 +25,9 @@ none_name b none (x ∷ text) all = grind (arith, and_parts, other_byte, none_na
 
 -- ---- what gaps round a text leave out
 
-none_behind : (p : ℕ → Bool) → ((x : ℕ) → is_gap x ≡ true → p x ≡ false) → (text : List ℕ) → NonePass p (without_leading is_gap text) → NonePass p text
-none_behind p gaps [] h = tt
-none_behind p gaps (x ∷ text) h = grind (arith, cases_Bool, none_behind p gaps text)
+none_after : (p : ℕ → Bool) → ((x : ℕ) → is_gap x ≡ true → p x ≡ false) → (text : List ℕ) → NonePass p (without_leading is_gap text) → NonePass p text
+none_after p gaps [] h = tt
+none_after p gaps (x ∷ text) h = grind (arith, cases_Bool, none_after p gaps text)
 
 none_before : (p : ℕ → Bool) → ((x : ℕ) → is_gap x ≡ true → p x ≡ false) → (text : List ℕ) → NonePass p (without_trailing is_gap text) → NonePass p text
 none_before p gaps [] h = tt
@@ -35,7 +35,7 @@ none_before p gaps (x ∷ text) h = grind (arith, none_before p gaps text)
 
 pub none_round : (b : ℕ) → is_gap b ≡ false → (text : List ℕ) → NonePass (is_byte b) (core text) → NonePass (is_byte b) text
 unfolding stripped
-none_round b none text h = grind (arith, other_byte, none_behind, none_before)
+none_round b none text h = grind (arith, other_byte, none_after, none_before)
 
 -- a text of a name's bytes, with gaps round it
 pub none_round_name : (b : ℕ) → goes_on_name b ≡ false → is_gap b ≡ false → (text name : List ℕ) → core text ≡ name → list_all goes_on_name name ≡ true → NonePass (is_byte b) text
@@ -60,9 +60,9 @@ digit_bytes [] h = refl
 digit_bytes (d ∷ digits) h = rw (digit_goes_on d h.0, digit_bytes digits h.1) refl
 
 -- what holds of each row's name holds of a text that is one
-row_passes : {R V : Type 0} (p : List ℕ → Bool) (name : R → List ℕ) (value : R → V) (rows : List R) (text : List ℕ) (v : V) → list_all (λ row. p (name row)) rows ≡ true → row_of name value rows text ≡ Some v → p text ≡ true
-row_passes p name value [] text v all e = absurd cc
-row_passes p name value (row ∷ rows) text v all e = grind (arith, and_parts, cases_Bool, bytes_eq-Decides, row_passes p name value rows text v)
+row-passes : {R V : Type 0} (p : List ℕ → Bool) (name : R → List ℕ) (value : R → V) (rows : List R) (text : List ℕ) (v : V) → list_all (λ row. p (name row)) rows ≡ true → row_of name value rows text ≡ Some v → p text ≡ true
+row-passes p name value [] text v all e = absurd cc
+row-passes p name value (row ∷ rows) text v all e = grind (arith, and_parts, cases_Bool, bytes_eq-Decides, row-passes p name value rows text v)
 
 pub register_bytes : (name : List ℕ) (register : Reg) → register_named name ≡ Some register → list_all goes_on_name name ≡ true
 unfolding register_named
@@ -70,4 +70,4 @@ register_bytes name register e = go (row_of (λ row. row.0) (λ row. row.1) regi
   where
     go : (o : Option ℕ) → row_of (λ row. row.0) (λ row. row.1) register_names name ≡ o → list_all goes_on_name name ≡ true
     go None is = (let never : option_map reg_of None ≡ Some register = rw is at e in absurd cc)
-    go (Some n) is = row_passes (list_all goes_on_name) (λ (row : List ℕ × ℕ). row.0) (λ (row : List ℕ × ℕ). row.1) register_names name n refl is
+    go (Some n) is = row-passes (list_all goes_on_name) (λ (row : List ℕ × ℕ). row.0) (λ (row : List ℕ × ℕ). row.1) register_names name n refl is

@@ -26,10 +26,10 @@ one_turn part (c ∷ rest) (suc i) lt = let e : suc i + 1 ≡ suc (i + 1) = omeg
 
 -- ---- the next byte
 
-first_found : (text : List ℕ) (i : ℕ) → i < length text → next_byte (drop i text) ≡ Some (get_or text i 0)
-first_found [] i lt = absurd (omega arith)
-first_found (c ∷ rest) zero lt = refl
-first_found (c ∷ rest) (suc i) lt = first_found rest i (omega arith)
+first-found : (text : List ℕ) (i : ℕ) → i < length text → next_byte (drop i text) ≡ Some (get_or text i 0)
+first-found [] i lt = absurd (omega arith)
+first-found (c ∷ rest) zero lt = refl
+first-found (c ∷ rest) (suc i) lt = first-found rest i (omega arith)
 
 first_missing : (text : List ℕ) (i : ℕ) → length text ≤ i → next_byte (drop i text) ≡ None
 first_missing [] zero le = refl
@@ -38,4 +38,4 @@ first_missing (c ∷ rest) zero le = absurd (omega arith)
 first_missing (c ∷ rest) (suc i) le = first_missing rest i (omega arith)
 
 pub is_first : (text : List ℕ) (i : ℕ) (got : Option (Bor ℕ)) → MatchOption got (length text ≤ i) (λ x. (i < length text) × HoldsAt (λ y. x.now ≡ y) text i) → option_copied got ≡ next_byte (drop i text)
-is_first text i got h = grind (arith, first_missing, first_found)
+is_first text i got h = grind (arith, first_missing, first-found)

@@ -8,7 +8,7 @@ use Rattle.litmus_tokens.specs.Cleaning.IsCleaned.{ended, commented, unclosed, l
 
 -- ---- bytes that are known by the tests
 
-is_second : (byte : ℕ) (rest : List ℕ) → is_next byte (next_byte rest) ≡ true → (behind : List ℕ) × (rest ≡ byte ∷ behind)
+is_second : (byte : ℕ) (rest : List ℕ) → is_next byte (next_byte rest) ≡ true → (following : List ℕ) × (rest ≡ byte ∷ following)
 is_second byte rest e = grind (arith, eqb-true)
 
 -- ---- the inside of a comment
@@ -81,14 +81,14 @@ text_other : (c : ℕ) (rest : List ℕ) → opens c (next_byte rest) ≡ false 
 unfolding cleaned_from
 text_other c rest no_comment no_end = rw (no_comment, no_end) refl
 
-opened : (n : ℕ) (behind : List ℕ) → length behind < n → ((text : List ℕ) → length text < n → IsCleaned text (cleaned_from Text text)) → Closed behind ⊎ NoneCloses behind → IsCleaned (40 ∷ 42 ∷ behind) (cleaned_from Text (40 ∷ 42 ∷ behind))
-opened n behind lt smaller (inl closed) =
+opened : (n : ℕ) (following : List ℕ) → length following < n → ((text : List ℕ) → length text < n → IsCleaned text (cleaned_from Text text)) → Closed following ⊎ NoneCloses following → IsCleaned (40 ∷ 42 ∷ following) (cleaned_from Text (40 ∷ 42 ∷ following))
+opened n following lt smaller (inl closed) =
     let short : length closed.rest < n = omega (arith, ap length closed.whole, length-append closed.inner (42 ∷ 41 ∷ closed.rest)) in
     let is = commented closed.inner closed.rest (cleaned_from Text closed.rest) closed.first (smaller closed.rest short) in
     subst (λ (ys : List ℕ). IsCleaned (40 ∷ 42 ∷ ys) (cleaned_from Text (40 ∷ 42 ∷ ys))) (sym closed.whole)
     (subst (IsCleaned (40 ∷ 42 ∷ (closed.inner ++ 42 ∷ 41 ∷ closed.rest))) (sym (text_opened (closed.inner ++ 42 ∷ 41 ∷ closed.rest) ∙ ap (λ (ys : List ℕ). 32 ∷ 32 ∷ ys) (comment_closed closed.inner closed.rest closed.first))) is)
-opened n behind lt smaller (inr none) =
-    subst (IsCleaned (40 ∷ 42 ∷ behind)) (sym (text_opened behind ∙ ap (λ (ys : List ℕ). 32 ∷ 32 ∷ ys) (comment_unclosed behind none))) (unclosed behind none)
+opened n following lt smaller (inr none) =
+    subst (IsCleaned (40 ∷ 42 ∷ following)) (sym (text_opened following ∙ ap (λ (ys : List ℕ). 32 ∷ 32 ∷ ys) (comment_unclosed following none))) (unclosed following none)
 
 short_cleaned : (n : ℕ) (text : List ℕ) → length text < n → IsCleaned text (cleaned_from Text text)
 unfolding cleaned_from

@@ -5,15 +5,15 @@ use Rattle.std.proofs.lemmas.Bool.{eqb-true, and_parts}
 use Rattle.std.proofs.lemmas.Bool.Decides.{Decides-eqb}
 use Rattle.std.proofs.lemmas.Slice.Eq.{starts_is}
 use Rattle.texts.specs.Cutting.{NonePass, before, after, is_byte, stripped}
-use Rattle.texts.proofs.CuttingLaws.{before_none, after_none, before_stop, after_stop, cut_byte, uncut}
+use Rattle.texts.proofs.CuttingLaws.{before-none, after-none, before-stop, after-stop, cut_byte, uncut}
 use Rattle.texts.specs.Pieces.{is_gap}
 use Rattle.litmus_tokens.specs.Names.{core, goes_on_name}
 use Rattle.litmus_tokens.specs.Settings.{NamedPlace, Equation, IsNamedPlace, IsDeclared, IsItem}
 use Rattle.litmus_tokens.specs.Settings.NamedPlace.{in_register, at_location}
 use Rattle.litmus_tokens.specs.Settings.Value.{number}
-use Rattle.litmus_tokens.specs.Reading.{value_in, inside, place_in, begins_with_gap, behind_int, declared_in, place_or, item_place_in, item_round, item_at}
+use Rattle.litmus_tokens.specs.Reading.{value_in, inside, place_in, begins_with_gap, after_int, declared_in, place_or, item_place_in, item_round, item_at}
 use Rattle.litmus_tokens.proofs.Bytes.{other_byte, name_bytes, none_round, none_round_name}
-use Rattle.litmus_tokens.proofs.SettingLaws.{value_found, value_read, named_found, place_found, place_read, place_free, equation_from_found}
+use Rattle.litmus_tokens.proofs.SettingLaws.{value_found, value_read, named-found, place_found, place_read, place_free, equation_from-found}
 
 -- ---- declarations
 
@@ -26,29 +26,29 @@ gap_no_name x gap = go (x == 32) refl (x == 9) refl (x == 10) refl
     go false e false f true g = rw (eqb-true x 10 g) refl
     go false e false f false g = (let never : false ≡ true = rw (e, f, g) at gap in absurd cc)
 
-core_behind : (gap : ℕ) (rest : List ℕ) → is_gap gap ≡ true → core (gap ∷ rest) ≡ core rest
+core_after : (gap : ℕ) (rest : List ℕ) → is_gap gap ≡ true → core (gap ∷ rest) ≡ core rest
 unfolding stripped
-core_behind gap rest is = rw is refl
+core_after gap rest is = rw is refl
 
-int_front : (text rest : List ℕ) → behind_int text ≡ Some rest → (text ≡ codes "int" ++ rest) × (begins_with_gap rest ≡ true)
-unfolding behind_int
+int_front : (text rest : List ℕ) → after_int text ≡ Some rest → (text ≡ codes "int" ++ rest) × (begins_with_gap rest ≡ true)
+unfolding after_int
 int_front text rest e = grind (arith, and_parts, starts_is, Decides-eqb)
 
-declared_behind : (text : List ℕ) (place : NamedPlace) (behind : Option (List ℕ)) → behind_int (core text) ≡ behind → inside behind ≡ Some place → IsDeclared text place
-declared_behind text place None is e = absurd cc
-declared_behind text place (Some []) is e = (let front = int_front (core text) [] is in absurd cc)
-declared_behind text place (Some (gap ∷ rest)) is e =
+declared_after : (text : List ℕ) (place : NamedPlace) (following : Option (List ℕ)) → after_int (core text) ≡ following → inside following ≡ Some place → IsDeclared text place
+declared_after text place None is e = absurd cc
+declared_after text place (Some []) is e = (let front = int_front (core text) [] is in absurd cc)
+declared_after text place (Some (gap ∷ rest)) is e =
     let front = int_front (core text) (gap ∷ rest) is in
-    let found = named_found (core (gap ∷ rest)) place e in
-    subst (IsDeclared text) found.1 (gap, rest, front.0, front.1, found.0, sym (core_behind gap rest front.1))
+    let found = named-found (core (gap ∷ rest)) place e in
+    subst (IsDeclared text) found.1 (gap, rest, front.0, front.1, found.0, sym (core_after gap rest front.1))
 
 declared_found : (text : List ℕ) (place : NamedPlace) → declared_in text ≡ Some place → IsDeclared text place
 unfolding declared_in
-declared_found text place e = declared_behind text place (behind_int (core text)) refl e
+declared_found text place e = declared_after text place (after_int (core text)) refl e
 
 declared_read : (text : List ℕ) (place : NamedPlace) → IsDeclared text place → declared_in text ≡ Some place
-unfolding declared_in behind_int
-declared_read text place is = grind (arith, core_behind)
+unfolding declared_in after_int
+declared_read text place is = grind (arith, core_after)
 
 -- a byte that stands in no name and no gap stands in no declaration
 declared_free : (b : ℕ) → goes_on_name b ≡ false → is_gap b ≡ false → (text : List ℕ) (place : NamedPlace) → IsDeclared text place → NonePass (is_byte b) text
@@ -68,7 +68,7 @@ declared_free b no_name no_gap text (at_location name) (gap, rest, whole, gap_is
 -- no place is a declaration
 declared_no_place : (text : List ℕ) (place : NamedPlace) → IsDeclared text place → place_in text ≡ None
 unfolding place_in
-declared_no_place text place is = grind (arith, declared_free, before_none, after_none, gap_no_name)
+declared_no_place text place is = grind (arith, declared_free, before-none, after-none, gap_no_name)
 
 -- ---- items
 
@@ -80,14 +80,14 @@ pub item_found : (text : List ℕ) (equation : Equation) → item_at text ≡ So
 unfolding item_at item_place_in
 item_found text equation e = go (after (is_byte 61) text) refl e
   where
-    go : (behind : Option (List ℕ)) → after (is_byte 61) text ≡ behind → item_round (before (is_byte 61) text) behind ≡ Some equation → IsItem text equation
+    go : (following : Option (List ℕ)) → after (is_byte 61) text ≡ following → item_round (before (is_byte 61) text) following ≡ Some equation → IsItem text equation
     go None none h =
-        let shown = equation_from_found (declared_in (before (is_byte 61) text)) (Some (number 0)) equation h in
+        let shown = equation_from-found (declared_in (before (is_byte 61) text)) (Some (number 0)) equation h in
         let whole = uncut (is_byte 61) text none in
         inr (inr (declared_found text equation.0 (rw whole at shown.0), cc))
     go (Some right) some h =
         let left = before (is_byte 61) text in
-        let shown = equation_from_found (item_place_in left) (value_in right) equation h in
+        let shown = equation_from-found (item_place_in left) (value_in right) equation h in
         let whole = cut_byte 61 text right some in
         let value = value_found right equation.1 shown.1 in
         elim (item_place_found left equation.0 (declared_in left) refl shown.0) [
@@ -104,7 +104,7 @@ undeclared left place (Some other) is at =
 
 pub item_read : (text : List ℕ) (equation : Equation) → IsItem text equation → item_at text ≡ Some equation
 unfolding item_at item_place_in
-item_read text equation h2 = grind (arith, place_free, before_stop, after_stop, undeclared, value_read, declared_free, declared_read, before_none, after_none)
+item_read text equation h2 = grind (arith, place_free, before-stop, after-stop, undeclared, value_read, declared_free, declared_read, before-none, after-none)
 
 -- ---- what the reader answers
 

@@ -46,9 +46,9 @@ negated_found digits w (Some n) is e =
     let same = some_is ((2 ^ 32 - n) % 2 ^ 32) w (sym (below_zero n le) ∙ e) in
     subst (λ (v : ℕ). IsNumber (45 ∷ digits) v) same (negated digits n (magnitude_found digits n is (omega arith)) le)
 
-pub word_found : (text : List ℕ) (w : ℕ) → word_in text ≡ Some w → IsNumber text w
+pub word-found : (text : List ℕ) (w : ℕ) → word_in text ≡ Some w → IsNumber text w
 unfolding word_in integer_of
-word_found text w e = grind (arith, negative_text, negated_found, plain_found)
+word-found text w e = grind (arith, negative_text, negated_found, plain_found)
 
 pub number_word : (text : List ℕ) (w : ℕ) → IsNumber text w → word_in text ≡ Some w
 unfolding word_in integer_of

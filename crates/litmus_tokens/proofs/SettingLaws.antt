@@ -8,7 +8,7 @@ use Rattle.std.proofs.lemmas.List.{nil_from_length}
 use Rattle.rv_decode.specs.declared.instruction.Reg.{Reg}
 use Rattle.rv_decode.specs.Registers.{register_named}
 use Rattle.texts.specs.Cutting.{NonePass, before, after, is_byte}
-use Rattle.texts.proofs.CuttingLaws.{none-append, before_none, after_none, before_stop, after_stop, cut_byte, uncut}
+use Rattle.texts.proofs.CuttingLaws.{none-append, before-none, after-none, before-stop, after-stop, cut_byte, uncut}
 use Rattle.texts.specs.Numbers.{number_of}
 use Rattle.texts.proofs.NumberLaws.{capped_value-said, says_number}
 use Rattle.texts.specs.Pieces.{is_gap}
@@ -18,7 +18,7 @@ use Rattle.litmus_tokens.specs.Settings.NamedPlace.{in_register, at_location}
 use Rattle.litmus_tokens.specs.Settings.Value.{number, address_of}
 use Rattle.litmus_tokens.specs.Reading.{value_from, value_in, register_from, named, closed, location_in, place_round, place_in, equation_from, setting_round, setting_at}
 use Rattle.litmus_tokens.proofs.Bytes.{other_byte, name_bytes, digit_bytes, register_bytes, none_round, none_round_name}
-use Rattle.litmus_tokens.proofs.NumberTexts.{word_found, number_word, number_no_name}
+use Rattle.litmus_tokens.proofs.NumberTexts.{word-found, number_word, number_no_name}
 
 -- ---- values
 
@@ -26,7 +26,7 @@ number_shown : (text : List ℕ) (m : Option ℕ) (v : Value) → word_in (core 
 number_shown text None v is e = absurd cc
 number_shown text (Some n) v is e =
     let same : number n ≡ v = cc in
-    subst (IsValue text) same (word_found (core text) n is)
+    subst (IsValue text) same (word-found (core text) n is)
 
 pub value_found : (text : List ℕ) (v : Value) → value_in text ≡ Some v → IsValue text v
 unfolding value_in
@@ -45,8 +45,8 @@ value_read text v is = grind (arith, number_no_name, number_word)
 
 -- ---- places
 
-pub named_found : (name : List ℕ) (place : NamedPlace) → named name ≡ Some place → (is_name name ≡ true) × (at_location name ≡ place)
-named_found name place e = go (is_name name) refl
+pub named-found : (name : List ℕ) (place : NamedPlace) → named name ≡ Some place → (is_name name ≡ true) × (at_location name ≡ place)
+named-found name place e = go (is_name name) refl
   where
     go : (t : Bool) → is_name name ≡ t → (is_name name ≡ true) × (at_location name ≡ place)
     go true is = (let shown = rw is at e in (is, cc))
@@ -56,14 +56,14 @@ location_found : (text solid : List ℕ) (place : NamedPlace) → core text ≡ 
 location_found text [] place is e = absurd cc
 location_found text (c ∷ rest) place is e = go (c == 91) refl
   where
-    inside : (inner : List ℕ) (behind : Option (List ℕ)) → before (is_byte 93) rest ≡ inner → after (is_byte 93) rest ≡ behind → c ≡ 91 → closed inner behind ≡ Some place → IsNamedPlace text place
+    inside : (inner : List ℕ) (following : Option (List ℕ)) → before (is_byte 93) rest ≡ inner → after (is_byte 93) rest ≡ following → c ≡ 91 → closed inner following ≡ Some place → IsNamedPlace text place
     inside inner None front back first h = absurd cc
     inside inner (Some more) front back first h = one (length more == 0) refl
       where
         one : (t : Bool) → (length more == 0) ≡ t → IsNamedPlace text place
         one true ends =
             let none = nil_from_length more (eqb-true (length more) 0 ends) in
-            let found = named_found (core inner) place (rw ends at h) in
+            let found = named-found (core inner) place (rw ends at h) in
             let whole = cut_byte 93 rest more back in
             let same : core text ≡ 91 ∷ (inner ++ 93 ∷ []) = is ∙ cc in
             subst (IsNamedPlace text) found.1 (found.0, inr (inner, same, refl))
@@ -72,7 +72,7 @@ location_found text (c ∷ rest) place is e = go (c == 91) refl
     go : (t : Bool) → (c == 91) ≡ t → IsNamedPlace text place
     go true bracket = inside (before (is_byte 93) rest) (after (is_byte 93) rest) refl refl (eqb-true c 91 bracket) (rw bracket at e)
     go false other =
-        let found = named_found (c ∷ rest) place (rw other at e) in
+        let found = named-found (c ∷ rest) place (rw other at e) in
         subst (IsNamedPlace text) found.1 (found.0, inl is)
 
 register_found : (text front name : List ℕ) (place : NamedPlace) (hart : Option ℕ) (register : Option Reg) → text ≡ front ++ 58 ∷ name → number_of (core front) ≡ hart → register_named (core name) ≡ register → register_from hart register ≡ Some place → IsNamedPlace text place
@@ -86,7 +86,7 @@ pub place_found : (text : List ℕ) (place : NamedPlace) → place_in text ≡ S
 unfolding place_in
 place_found text place e = go (after (is_byte 58) text) refl e
   where
-    go : (behind : Option (List ℕ)) → after (is_byte 58) text ≡ behind → place_round (before (is_byte 58) text) behind ≡ Some place → IsNamedPlace text place
+    go : (following : Option (List ℕ)) → after (is_byte 58) text ≡ following → place_round (before (is_byte 58) text) following ≡ Some place → IsNamedPlace text place
     go None none h = location_found text (core text) place refl (rw (uncut (is_byte 58) text none) at h)
     go (Some name) some h = register_found text (before (is_byte 58) text) name place (number_of (core (before (is_byte 58) text))) (register_named (core name)) (cut_byte 58 text name some) refl refl h
 
@@ -111,42 +111,42 @@ location_named (c ∷ rest) is =
 bracketed : (inner name : List ℕ) → is_name name ≡ true → core inner ≡ name → location_in (91 ∷ (inner ++ 93 ∷ [])) ≡ Some (at_location name)
 bracketed inner name is same =
     let free = none_round_name 93 refl refl inner name same (name_bytes name is) in
-    rw (before_stop (is_byte 93) inner 93 [] free refl, after_stop (is_byte 93) inner 93 [] free refl, same, is) refl
+    rw (before-stop (is_byte 93) inner 93 [] free refl, after-stop (is_byte 93) inner 93 [] free refl, same, is) refl
 
 pub place_read : (text : List ℕ) (place : NamedPlace) → IsNamedPlace text place → place_in text ≡ Some place
 unfolding place_in
 place_read text (in_register hart register) (digits, name, n, is, says, shown, known) =
     let free = none_round_name 58 refl refl digits (core digits) refl (digit_bytes (core digits) says.0.1) in
-    rw is (rw (before_stop (is_byte 58) digits 58 name free refl, after_stop (is_byte 58) digits 58 name free refl, says_number (core digits) n says, known, shown) refl)
-place_read text (at_location name) (is, inl same) = grind (arith, none_round_name, name_bytes, before_none, after_none, location_named)
+    rw is (rw (before-stop (is_byte 58) digits 58 name free refl, after-stop (is_byte 58) digits 58 name free refl, says_number (core digits) n says, known, shown) refl)
+place_read text (at_location name) (is, inl same) = grind (arith, none_round_name, name_bytes, before-none, after-none, location_named)
 place_read text (at_location name) (is, inr (inner, whole, same)) =
     let free = none_round 58 refl text (rw whole (refl, none-append (is_byte 58) inner (93 ∷ []) (none_round_name 58 refl refl inner name same (name_bytes name is)) (refl, tt))) in
-    rw (before_none (is_byte 58) text free, after_none (is_byte 58) text free, whole) (bracketed inner name is same)
+    rw (before-none (is_byte 58) text free, after-none (is_byte 58) text free, whole) (bracketed inner name is same)
 
 -- ---- settings
 
 pub equation_is : (a b : Equation) → Some a ≡ Some b → a ≡ b
 equation_is a b e = cc
 
-pub equation_from_found : (place : Option NamedPlace) (value : Option Value) (equation : Equation) → equation_from place value ≡ Some equation → (place ≡ Some equation.0) × (value ≡ Some equation.1)
-equation_from_found (Some place) (Some value) equation e =
+pub equation_from-found : (place : Option NamedPlace) (value : Option Value) (equation : Equation) → equation_from place value ≡ Some equation → (place ≡ Some equation.0) × (value ≡ Some equation.1)
+equation_from-found (Some place) (Some value) equation e =
     let same : (place, value) ≡ equation = equation_is (place, value) equation e in
     (ap (λ (p : Equation). Some p.0) same, ap (λ (p : Equation). Some p.1) same)
-equation_from_found x y equation e = absurd cc
+equation_from-found x y equation e = absurd cc
 
 pub setting_found : (text : List ℕ) (equation : Equation) → setting_at text ≡ Some equation → IsSetting text equation
 unfolding setting_at
 setting_found text equation e = go (after (is_byte 61) text) refl e
   where
-    go : (behind : Option (List ℕ)) → after (is_byte 61) text ≡ behind → setting_round (before (is_byte 61) text) behind ≡ Some equation → IsSetting text equation
+    go : (following : Option (List ℕ)) → after (is_byte 61) text ≡ following → setting_round (before (is_byte 61) text) following ≡ Some equation → IsSetting text equation
     go None none h = absurd cc
     go (Some right) some h =
-        let shown = equation_from_found (place_in (before (is_byte 61) text)) (value_in right) equation h in
+        let shown = equation_from-found (place_in (before (is_byte 61) text)) (value_in right) equation h in
         (before (is_byte 61) text, right, cut_byte 61 text right some, place_found (before (is_byte 61) text) equation.0 shown.0, value_found right equation.1 shown.1)
 
 pub setting_read : (text : List ℕ) (equation : Equation) → IsSetting text equation → setting_at text ≡ Some equation
 unfolding setting_at
-setting_read text equation h2 = grind (arith, place_free, before_stop, after_stop, place_read, value_read)
+setting_read text equation h2 = grind (arith, place_free, before-stop, after-stop, place_read, value_read)
 
 -- ---- what the reader answers
 

@@ -3,7 +3,7 @@ use Rattle.std.proofs.Common.{◌≡◌, ℕ, suc, ◌<◌, ◌≤◌, false, Li
 use Rattle.texts.specs.Cutting.{before, fails, from_first, without_leading}
 use Rattle.litmus_tokens.specs.Settings.{Equation}
 use Rattle.litmus_tokens.specs.Reading.{setting_at}
-use Rattle.litmus_tokens.specs.Tokens.{Token, Beginning, Tokens, is_mark, behind_not, paired, atom_from, negation_or, unmarked, begun, beginning_of, tokens_from, tokens_within, tokens_of, LeavesLess}
+use Rattle.litmus_tokens.specs.Tokens.{Token, Beginning, Tokens, is_mark, after_not, paired, atom_from, negation_or, unmarked, begun, beginning_of, tokens_from, tokens_within, tokens_of, LeavesLess}
 use Rattle.litmus_tokens.specs.Tokens.Beginning.{nothing, begins, no_token}
 use Rattle.litmus_tokens.specs.Tokens.Tokens.{goes_on}
 use Rattle.texts.proofs.CuttingLaws.{length-from_first}
@@ -11,30 +11,30 @@ use Rattle.texts.specs.Pieces.{is_gap}
 
 -- ---- what follows a token is shorter than the text
 
-not_or_less : (c : ℕ) (rest : List ℕ) (other : Beginning) → LeavesLess (c ∷ rest) other → LeavesLess (c ∷ rest) (negation_or (behind_not (c ∷ rest)) other)
-unfolding behind_not
+not_or_less : (c : ℕ) (rest : List ℕ) (other : Beginning) → LeavesLess (c ∷ rest) other → LeavesLess (c ∷ rest) (negation_or (after_not (c ∷ rest)) other)
+unfolding after_not
 not_or_less c rest other less = grind (arith, length-drop)
 
 atom_less : (c : ℕ) (rest : List ℕ) (equation : Option Equation) → is_mark c ≡ false → LeavesLess (c ∷ rest) (atom_from equation (from_first is_mark (c ∷ rest)))
 atom_less c rest equation other = grind (arith, length-from_first)
 
-unmarked_less : (c : ℕ) (rest : List ℕ) → is_mark c ≡ false → LeavesLess (c ∷ rest) (unmarked (c ∷ rest))
+unmarked-less : (c : ℕ) (rest : List ℕ) → is_mark c ≡ false → LeavesLess (c ∷ rest) (unmarked (c ∷ rest))
 unfolding unmarked
-unmarked_less c rest other = not_or_less c rest (atom_from (setting_at (before is_mark (c ∷ rest))) (from_first is_mark (c ∷ rest))) (atom_less c rest (setting_at (before is_mark (c ∷ rest))) other)
+unmarked-less c rest other = not_or_less c rest (atom_from (setting_at (before is_mark (c ∷ rest))) (from_first is_mark (c ∷ rest))) (atom_less c rest (setting_at (before is_mark (c ∷ rest))) other)
 
-paired_less : (c : ℕ) (rest : List ℕ) (token : Token) (second : ℕ) → LeavesLess (c ∷ rest) (paired token second rest)
-paired_less c rest token second = grind arith
+paired-less : (c : ℕ) (rest : List ℕ) (token : Token) (second : ℕ) → LeavesLess (c ∷ rest) (paired token second rest)
+paired-less c rest token second = grind arith
 
-begun_less : (text : List ℕ) → LeavesLess text (begun text)
+begun-less : (text : List ℕ) → LeavesLess text (begun text)
 unfolding begun
-begun_less text = grind (arith, paired_less, unmarked_less)
+begun-less text = grind (arith, paired-less, unmarked-less)
 
 less_more : (short long : List ℕ) (b : Beginning) → length short ≤ length long → LeavesLess short b → LeavesLess long b
 less_more short long b le less = grind arith
 
 pub leaves_less : (text : List ℕ) → LeavesLess text (beginning_of text)
 unfolding beginning_of
-leaves_less text = less_more (without_leading is_gap text) text (begun (without_leading is_gap text)) (length-from_first (fails is_gap) text) (begun_less (without_leading is_gap text))
+leaves_less text = less_more (without_leading is_gap text) text (begun (without_leading is_gap text)) (length-from_first (fails is_gap) text) (begun-less (without_leading is_gap text))
 
 -- ---- this number of tokens is enough
 
@@ -48,6 +48,6 @@ same_tokens (suc n) text (suc m) lt lt' = go (same_tokens n) (beginning_of text)
     go same no_token less = refl
 same_tokens x text y lt lt' = absurd (omega arith)
 
-pub tokens_cut : (text : List ℕ) → tokens_of text ≡ tokens_from tokens_of (beginning_of text)
+pub tokens-cut : (text : List ℕ) → tokens_of text ≡ tokens_from tokens_of (beginning_of text)
 unfolding tokens_of tokens_within
-tokens_cut text = grind (arith, leaves_less, same_tokens)
+tokens-cut text = grind (arith, leaves_less, same_tokens)

@@ -72,11 +72,11 @@ begins_with_gap [] = false
 begins_with_gap (c ∷ rest) = is_gap c
 
 -- what follows `int` and a gap
-unfoldable pub behind_int : List ℕ → Option (List ℕ)
-behind_int text = if starts_with nat_eq text (codes "int") && begins_with_gap (drop 3 text) then Some (drop 3 text) else None
+unfoldable pub after_int : List ℕ → Option (List ℕ)
+after_int text = if starts_with nat_eq text (codes "int") && begins_with_gap (drop 3 text) then Some (drop 3 text) else None
 
 unfoldable pub declared_in : List ℕ → Option NamedPlace
-declared_in text = inside (behind_int (core text))
+declared_in text = inside (after_int (core text))
 
 abbrev pub place_or : Option NamedPlace → Option NamedPlace → Option NamedPlace
 place_or None other = other

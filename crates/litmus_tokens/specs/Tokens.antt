@@ -41,8 +41,8 @@ ends_name [] = true
 ends_name (c ∷ rest) = not (goes_on_name c)
 
 -- what follows the name at the front, where that is `not`
-unfoldable pub behind_not : List ℕ → Option (List ℕ)
-behind_not text = if starts_with nat_eq text (codes "not") && ends_name (drop 3 text) then Some (drop 3 text) else None
+unfoldable pub after_not : List ℕ → Option (List ℕ)
+after_not text = if starts_with nat_eq text (codes "not") && ends_name (drop 3 text) then Some (drop 3 text) else None
 
 -- a token of two bytes, where this one follows
 abbrev pub paired : Token → ℕ → List ℕ → Beginning
@@ -59,7 +59,7 @@ negation_or (Some rest) other = begins negation rest
 
 -- a token that no mark begins: `not`, or the atom that goes on to the next mark
 unfoldable pub unmarked : List ℕ → Beginning
-unmarked text = negation_or (behind_not text) (atom_from (setting_at (before is_mark text)) (from_first is_mark text))
+unmarked text = negation_or (after_not text) (atom_from (setting_at (before is_mark text)) (from_first is_mark text))
 
 unfoldable pub begun : List ℕ → Beginning
 begun [] = nothing
@@ -125,7 +125,7 @@ pub data Spells : Token → (bytes rest : List ℕ) → Type 0 where
   named_not : (rest : List ℕ) → ends_name rest ≡ true → Spells negation (codes "not") rest
   both : (rest : List ℕ) → Spells conjunction (47 ∷ 92 ∷ []) rest
   either : (rest : List ℕ) → Spells disjunction (92 ∷ 47 ∷ []) rest
-  says : (first : ℕ) (others rest : List ℕ) (equation : Equation) → is_gap first ≡ false → NonePass is_mark (first ∷ others) → EndsAtom rest → behind_not (first ∷ (others ++ rest)) ≡ None → IsSetting (first ∷ others) equation → Spells (atom equation) (first ∷ others) rest
+  says : (first : ℕ) (others rest : List ℕ) (equation : Equation) → is_gap first ≡ false → NonePass is_mark (first ∷ others) → EndsAtom rest → after_not (first ∷ (others ++ rest)) ≡ None → IsSetting (first ∷ others) equation → Spells (atom equation) (first ∷ others) rest
 
 -- The text is these tokens, with gaps before, between and after them.
 pub data AreTokens : List ℕ → List Token → Type 0 where

@@ -4,7 +4,7 @@ ghost use Rattle.std.specs.Prelude.{◌≡◌, Some, IfSome, option_map};
 ghost use Rattle.std.specs.Option.{option_copied};
 ghost use Rattle.litmus_tokens.specs.Names.{core};
 ghost use Rattle.litmus_tokens.specs.Settings.{Equation, IsSetting, IsItem, place_of, value_of, equations};
-ghost use Rattle.litmus_tokens.specs.Reading.{value_in, named, location_in, register_from, place_in, equation_from, setting_at, begins_with_gap, behind_int, declared_in, item_place_in, item_at};
+ghost use Rattle.litmus_tokens.specs.Reading.{value_in, named, location_in, register_from, place_in, equation_from, setting_at, begins_with_gap, after_int, declared_in, item_place_in, item_at};
 
 use crate::names::{is_name, word_in};
 use rv_decode::{Reg, register_named};
@@ -145,9 +145,9 @@ fn begins_with_gap(text: &[u8]) -> bool
 }
 
 /// What follows `int`, where that begins with a gap.
-#[tactic(auto, unfolding(crate::specs::Reading::behind_int))]
-fn behind_int(text: &[u8]) -> Option<&[u8]>
-    ensures { option_copied result ≡ behind_int text.now }
+#[tactic(auto, unfolding(crate::specs::Reading::after_int))]
+fn after_int(text: &[u8]) -> Option<&[u8]>
+    ensures { option_copied result ≡ after_int text.now }
 {
     if text.starts_with(b"int") && begins_with_gap(&text[3..]) {
         Some(&text[3..])
@@ -161,7 +161,7 @@ fn behind_int(text: &[u8]) -> Option<&[u8]>
 fn declared_in(text: &[u8]) -> Option<Spot<'_>>
     ensures { option_map place_of result ≡ declared_in text.now }
 {
-    match behind_int(core(text)) {
+    match after_int(core(text)) {
         Some(name) => location_named(core(name)),
         None => None,
     }

@@ -3,7 +3,7 @@
 ghost use Rattle.std.specs.Prelude.{◌≡◌, position};
 ghost use Rattle.std.specs.Option.{option_copied};
 ghost use Rattle.texts.specs.Cutting.{before, from_first};
-ghost use Rattle.litmus_tokens.specs.Tokens.{is_mark, ends_name, behind_not, paired, unmarked, begun, token_of, seen, beginning_of, tokens_of, tokens_from, LeavesLess};
+ghost use Rattle.litmus_tokens.specs.Tokens.{is_mark, ends_name, after_not, paired, unmarked, begun, token_of, seen, beginning_of, tokens_of, tokens_from, LeavesLess};
 
 use crate::names::goes_on_name;
 use crate::settings::{Setting, setting_in};
@@ -62,19 +62,19 @@ fn cut_at_mark(text: &[u8]) -> (&[u8], &[u8])
     }
 }
 
-fn ends_name(behind: &[u8]) -> bool
-    ensures { result ≡ ends_name behind.now }
+fn ends_name(following: &[u8]) -> bool
+    ensures { result ≡ ends_name following.now }
 {
-    match behind.first() {
+    match following.first() {
         Some(byte) => !goes_on_name(*byte),
         None => true,
     }
 }
 
 /// What follows the name at the front, where that is `not`.
-#[tactic(auto, unfolding(crate::specs::Tokens::behind_not))]
-fn behind_not(text: &[u8]) -> Option<&[u8]>
-    ensures { option_copied result ≡ behind_not text.now }
+#[tactic(auto, unfolding(crate::specs::Tokens::after_not))]
+fn after_not(text: &[u8]) -> Option<&[u8]>
+    ensures { option_copied result ≡ after_not text.now }
 {
     if text.starts_with(b"not") && ends_name(&text[3..]) {
         Some(&text[3..])
@@ -84,10 +84,10 @@ fn behind_not(text: &[u8]) -> Option<&[u8]>
 }
 
 /// A token of two bytes, where this one follows the first.
-fn paired<'a>(token: Token<'a>, second: u8, behind: &'a [u8]) -> Front<'a>
-    ensures { seen result ≡ paired (token_of token.entry) second behind.now }
+fn paired<'a>(token: Token<'a>, second: u8, following: &'a [u8]) -> Front<'a>
+    ensures { seen result ≡ paired (token_of token.entry) second following.now }
 {
-    match behind {
+    match following {
         [byte, rest @ ..] if *byte == second => Front::Token(token, rest),
         _ => Front::NoToken,
     }
@@ -98,7 +98,7 @@ fn paired<'a>(token: Token<'a>, second: u8, behind: &'a [u8]) -> Front<'a>
 fn unmarked(text: &[u8]) -> Front<'_>
     ensures { seen result ≡ unmarked text.now }
 {
-    if let Some(rest) = behind_not(text) {
+    if let Some(rest) = after_not(text) {
         return Front::Token(Token::Not, rest);
     }
     let (atom, rest) = cut_at_mark(text);

@@ -32,30 +32,30 @@ byte_of_joined f small i lt = at i lt (small 0) (small 1) (small 2) (small 3)
     at (suc (suc (suc (suc i)))) lt a b c d = absurd (omega arith)
 
 -- a write covers the bytes from its address on
-pub covers_yes : (w : Write) (a : ℕ) → w.addr ≤ a → a < w.addr + w.width → covers w a ≡ true
-covers_yes w a from below = rw (le-leb w.addr a from) (lt-ltb a (w.addr + w.width) below)
+pub covers-yes : (w : Write) (a : ℕ) → w.addr ≤ a → a < w.addr + w.width → covers w a ≡ true
+covers-yes w a from below = rw (le-leb w.addr a from) (lt-ltb a (w.addr + w.width) below)
 
-pub covers_from : (w : Write) (a : ℕ) → covers w a ≡ true → (w.addr ≤ a) × (a < w.addr + w.width)
-covers_from w a held = grind (arith, leb-true, ltb-true)
+pub covers-from : (w : Write) (a : ℕ) → covers w a ≡ true → (w.addr ≤ a) × (a < w.addr + w.width)
+covers-from w a held = grind (arith, leb-true, ltb-true)
 
 -- a write of a whole word leaves its own value
 over_whole_byte : (w : Write) (i b : ℕ) → w.width ≡ 4 → WritesInWord w → i < 4 → byte_after w (w.addr / 4 * 4 + i) b ≡ byte_at i w.value
-over_whole_byte w i b whole small lt = grind (arith, covers_yes)
+over_whole_byte w i b whole small lt = grind (arith, covers-yes)
 
 pub over_whole : (w : Write) (word : ℕ) → w.width ≡ 4 → WritesInWord w → w.value < 2 ^ 32 → over w word ≡ w.value
 over_whole w word whole small fits = grind (arith, joined-same, over_whole_byte, word_of_bytes)
 
-byte_after_below : (w : Write) (a b : ℕ) → b < 256 → byte_after w a b < 256
-byte_after_below w a b small = grind (arith, byte_below)
+byte_after-below : (w : Write) (a b : ℕ) → b < 256 → byte_after w a b < 256
+byte_after-below w a b small = grind (arith, byte_below)
 
 -- each byte of the word in which a write is, after it
-pub over_byte : (w : Write) (word i : ℕ) → i < 4 → byte_at i (over w word) ≡ byte_after w (w.addr / 4 * 4 + i) (byte_at i word)
-over_byte w word i lt =
-    byte_of_joined (λ j. byte_after w (w.addr / 4 * 4 + j) (byte_at j word)) (λ j. byte_after_below w (w.addr / 4 * 4 + j) (byte_at j word) (byte_below j word)) i lt
+pub over-byte : (w : Write) (word i : ℕ) → i < 4 → byte_at i (over w word) ≡ byte_after w (w.addr / 4 * 4 + i) (byte_at i word)
+over-byte w word i lt =
+    byte_of_joined (λ j. byte_after w (w.addr / 4 * 4 + j) (byte_at j word)) (λ j. byte_after-below w (w.addr / 4 * 4 + j) (byte_at j word) (byte_below j word)) i lt
 
 -- a write covers no byte of another word
-pub covers_other : (w : Write) (a : ℕ) → WritesInWord w → (a / 4 ≡ w.addr / 4 → ⊥) → covers w a ≡ false
-covers_other w a small other = grind (arith, covers_from)
+pub covers-other : (w : Write) (a : ℕ) → WritesInWord w → (a / 4 ≡ w.addr / 4 → ⊥) → covers w a ≡ false
+covers-other w a small other = grind (arith, covers-from)
 
 -- byte by byte, the word around an address after writes is what the last of them to cover it put there
 overlaid_byte-found : (a word : ℕ) (ws : List Write) (i b : ℕ) (found : Option ℕ) → All WritesInWord ws → i < 4 → byte_at i word ≡ unwrap_or found b → byte_at i (overlaid a word ws) ≡ unwrap_or (newest_of (a / 4 * 4 + i) found ws) b
@@ -74,15 +74,15 @@ overlaid_byte-found a word (w ∷ ws) i b found small lt is =
     at : (c : Bool) → (w.addr / 4 == a / 4) ≡ c → byte_at i (if c then over w word else word) ≡ unwrap_or (if covers w (a / 4 * 4 + i) then Some (byte_at (a / 4 * 4 + i - w.addr) w.value) else found) b
     at true same =
         let base : w.addr / 4 ≡ a / 4 = eqb-true (w.addr / 4) (a / 4) same in
-        over_byte w word i lt ∙ ap (λ q. byte_after w (q * 4 + i) (byte_at i word)) base ∙ chosen (covers w (a / 4 * 4 + i))
+        over-byte w word i lt ∙ ap (λ q. byte_after w (q * 4 + i) (byte_at i word)) base ∙ chosen (covers w (a / 4 * 4 + i))
     at false apart =
         let base : w.addr / 4 ≡ a / 4 → ⊥ = eqb-false (w.addr / 4) (a / 4) apart in
-        let none : covers w (a / 4 * 4 + i) ≡ false = covers_other w (a / 4 * 4 + i) in_word (λ q. base (omega arith)) in
+        let none : covers w (a / 4 * 4 + i) ≡ false = covers-other w (a / 4 * 4 + i) in_word (λ q. base (omega arith)) in
         is ∙ ap (λ c. unwrap_or (if c then Some (byte_at (a / 4 * 4 + i - w.addr) w.value) else found) b) (sym none)
 
-pub overlaid_byte : (a word : ℕ) (ws : List Write) (i : ℕ) → All WritesInWord ws → i < 4 → byte_at i (overlaid a word ws) ≡ unwrap_or (newest_of (a / 4 * 4 + i) None ws) (byte_at i word)
-overlaid_byte a word ws i small lt = overlaid_byte-found a word ws i (byte_at i word) None small lt refl
+pub overlaid-byte : (a word : ℕ) (ws : List Write) (i : ℕ) → All WritesInWord ws → i < 4 → byte_at i (overlaid a word ws) ≡ unwrap_or (newest_of (a / 4 * 4 + i) None ws) (byte_at i word)
+overlaid-byte a word ws i small lt = overlaid_byte-found a word ws i (byte_at i word) None small lt refl
 
 -- an access of n bytes to the word around its address, after writes to it
-pub overlaid_part : (a n : ℕ) (words : List ℕ) (ws : List Write) → All WritesInWord ws → IsInWord n a → joined (λ i. byte_at (a % 4 + i) (overlaid a (slice_index words (a / 4)) ws)) n ≡ joined (λ i. unwrap_or (newest_of (a + i) None ws) (byte_of words (a + i))) n
-overlaid_part a n words ws small within = grind (arith, joined-same, overlaid_byte)
+pub overlaid-part : (a n : ℕ) (words : List ℕ) (ws : List Write) → All WritesInWord ws → IsInWord n a → joined (λ i. byte_at (a % 4 + i) (overlaid a (slice_index words (a / 4)) ws)) n ≡ joined (λ i. unwrap_or (newest_of (a + i) None ws) (byte_of words (a + i))) n
+overlaid-part a n words ws small within = grind (arith, joined-same, overlaid-byte)

@@ -62,9 +62,9 @@ byte_of_joined-any f small (suc n) i lt = at (i == n) refl (λ below. byte_of_jo
         byte_low (joined f n) (f n) i n (omega arith) ∙ lower (omega arith)
 
 -- a number of n bytes is that of its bytes
-pub joined_bytes : (v n : ℕ) → joined (λ i. byte_at i v) n ≡ v % 256 ^ n
-joined_bytes v zero = omega arith
-joined_bytes v (suc n) = grind (arith, mod-mul, some_bytes, pow-suc, byte_at-is, joined_bytes v n)
+pub joined-bytes : (v n : ℕ) → joined (λ i. byte_at i v) n ≡ v % 256 ^ n
+joined-bytes v zero = omega arith
+joined-bytes v (suc n) = grind (arith, mod-mul, some_bytes, pow-suc, byte_at-is, joined-bytes v n)
 
 pub number_of_bytes : (f : ℕ → ℕ) (v n : ℕ) → v < 256 ^ n → ((i : ℕ) → i < n → byte_at i v ≡ f i) → v ≡ joined f n
-number_of_bytes f v n below same = sym (mod-eq_of_lt below) ∙ sym (joined_bytes v n) ∙ joined-same (λ i. byte_at i v) f n same
+number_of_bytes f v n below same = sym (mod-eq_of_lt below) ∙ sym (joined-bytes v n) ∙ joined-same (λ i. byte_at i v) f n same

@@ -8,7 +8,7 @@ use Rattle.std.proofs.lemmas.Bool.{eqb-true, eqb-false}
 use Rattle.std.proofs.lemmas.List.Elements.{All-head, All-tail}
 use Rattle.memory.specs.declared.writes.Write.{Write}
 use Rattle.memory.specs.Writes.{covers, newest_of, newest_word, joined, IsWholeWord}
-use Rattle.memory.proofs.Bytes.{covers_yes, covers_other, joined-same, word_of_bytes}
+use Rattle.memory.proofs.Bytes.{covers-yes, covers-other, joined-same, word_of_bytes}
 
 -- byte i of the word found is the byte found
 newest_byte-found : (a i : ℕ) (found : Option ℕ) (ws : List Write) → a % 4 ≡ 0 → i < 4 → All IsWholeWord ws → newest_of (a + i) (option_map (byte_at i) found) ws ≡ option_map (byte_at i) (newest_word a found ws)
@@ -24,14 +24,14 @@ newest_byte-found a i found (w ∷ ws) aligned lt all =
     at true same =
         let here : w.addr ≡ a = eqb-true w.addr a same in
         let width : w.width ≡ 4 = is.whole in
-        let held : covers w (a + i) ≡ true = covers_yes w (a + i) (omega arith) (omega arith) in
+        let held : covers w (a + i) ≡ true = covers-yes w (a + i) (omega arith) (omega arith) in
         let offset : a + i - w.addr ≡ i = omega arith in
         ap (λ c. if c then Some (byte_at (a + i - w.addr) w.value) else option_map (byte_at i) found) held ∙ ap (λ j. Some (byte_at j w.value)) offset
     at false apart =
         let elsewhere : w.addr ≡ a → ⊥ = eqb-false w.addr a apart in
         let width : w.width ≡ 4 = is.whole in
         let base : w.addr % 4 ≡ 0 = is.aligned in
-        let none : covers w (a + i) ≡ false = covers_other w (a + i) (omega arith) (λ q. elsewhere (omega arith)) in
+        let none : covers w (a + i) ≡ false = covers-other w (a + i) (omega arith) (λ q. elsewhere (omega arith)) in
         ap (λ c. if c then Some (byte_at (a + i - w.addr) w.value) else option_map (byte_at i) found) none
 
 -- so does a read: of bytes over the bytes of a word, and of words

@@ -26,10 +26,10 @@ use Rattle.poll_close.specs.Layout.{Layout}
 use Rattle.poll_close.specs.Going.{GoesOn}
 use Rattle.poll_close.specs.Touching.{Touches}
 use Rattle.poll_close.specs.Invariant.Blocks.{Block, block_of, is_within, as_write, as_writes, to_block, window, AreNext}
-use Rattle.poll_close.specs.Invariant.BlockMeaning.{BlockMeaning, Count, unsent_of, unread_of}
+use Rattle.poll_close.specs.Invariant.BlockInvariant.{BlockInvariant, Count, unsent_of, unread_of}
 use Rattle.poll_close.specs.Invariant.Channels.{BlockPart}
 use Rattle.poll_close.proofs.Acts.{Acted, Landed, acted, landed, Plain, going, stored_by}
-use Rattle.poll_close.proofs.Windows.{window_made, window_head}
+use Rattle.poll_close.proofs.Windows.{window-made, window-head}
 use Rattle.poll_close.proofs.Writes.{IsWrite}
 use Rattle.poll_close.proofs.Blocks.{IsBlock, Within, IsWordOf, word_end, IsStore-whole, apart, outside_differs, newest-as_writes, first-as_writes, choose}
 use Rattle.poll_close.proofs.BlockLaws.{BlockLaws, found_in, Sends, Lands}
@@ -47,10 +47,10 @@ would_read seen need.Exit = 0
 would_read seen (need.Stop why) = 0
 
 -- a hart finds what its pending stores and memory hold, by words
-pub read_is : (t : History) (h a : ℕ) → OpensWithWords t.opening → AllWriteWords t.entries → a % 4 ≡ 0
+pub read-is : (t : History) (h a : ℕ) → OpensWithWords t.opening → AllWriteWords t.entries → a % 4 ≡ 0
     → read t.opening t.entries h a 4
     ≡ unwrap_or (newest_word a None (pending h t.entries)) (word_in_memory t.opening t.entries a)
-read_is t h a opens written aligned = read-word t.opening t.entries h a opens written aligned
+read-is t h a opens written aligned = read-word t.opening t.entries h a opens written aligned
 
 -- all that a block's statement sees is as it was
 pub record Untouched (M : ℕ) (k : Block) (i : ℕ) (t new : History) : Type 0 where
@@ -60,10 +60,10 @@ pub record Untouched (M : ℕ) (k : Block) (i : ℕ) (t new : History) : Type 0 
   pub memory : (a : ℕ) → Within k a → word_in_memory new.opening new.entries a ≡ word_in_memory t.opening t.entries a
 
 -- a block's statement after an event that is not the receiver's act: the receiver's own numbers are as they were
-abbrev pub Grown : (m : BlockMeaning) → ℕ → Block → ℕ → History → Count m → Type 0
+abbrev pub Grown : (m : BlockInvariant) → ℕ → Block → ℕ → History → Count m → Type 0
 Grown m M k i new n = (after : Count m) × BlockPart m k M i new after × (after.receiver ≡ n.receiver)
 
-module _ (m : BlockMeaning) (laws : BlockLaws m) (M : ℕ) (k : Block) (i : ℕ) (t new : History) (n : Count m)
+module _ (m : BlockInvariant) (laws : BlockLaws m) (M : ℕ) (k : Block) (i : ℕ) (t new : History) (n : Count m)
     (is : IsBlock k) (part : BlockPart m k M i t n) where
   pub untouched : Untouched M k i t new → BlockPart m k M i new n
   untouched u = record {
@@ -118,7 +118,7 @@ module _ (m : BlockMeaning) (laws : BlockLaws m) (M : ℕ) (k : Block) (i : ℕ)
             holds = sent.stands;
             buffer = a.buffer ∙ ap (λ ws. ws ++ as_writes (stored_by (need_of s))) part.sender.buffer
                 ∙ sym (map-append as_write (unsent_of m k n) (stored_by (need_of s)))
-                ∙ ap as_writes (window_made (m.sender_stores k) (m.gone n.landed) (m.sent n.sender)
+                ∙ ap as_writes (window-made (m.sender_stores k) (m.gone n.landed) (m.sent n.sender)
                 (m.sent sent.after) (stored_by (need_of s)) (laws.gone_sent k n part.order) sent.stores);
           };
           theirs = ap (to_block k) (a.buffers 0 (omega arith)) ∙ part.theirs;
@@ -130,7 +130,7 @@ module _ (m : BlockMeaning) (laws : BlockLaws m) (M : ℕ) (k : Block) (i : ℕ)
     where
       found : (b : ℕ) → b % 4 ≡ 0 → read t.opening t.entries (i + 1) b 4 ≡ found_in (unsent_of m k n) (word_in_memory t.opening t.entries) b
       found b aligned =
-          read_is t (i + 1) b opens written aligned
+          read-is t (i + 1) b opens written aligned
           ∙ ap (λ ws. unwrap_or (newest_word b None ws) (word_in_memory t.opening t.entries b)) part.sender.buffer
           ∙ ap (λ o. unwrap_or o (word_in_memory t.opening t.entries b)) (newest-as_writes b None (unsent_of m k n))
 
@@ -139,12 +139,12 @@ writes : (word new : ℕ → ℕ) (w : Write) (x : ℕ × ℕ) → w ≡ as_writ
 writes word new w x same write = subst (λ (u : Write). (a : ℕ) → new a ≡ (if u.addr == a then u.value else word a)) same write
 
 -- and all blocks' statements after it
-pub record BlocksAfter (m : BlockMeaning) (M : ℕ) (S : Layout) (lists : List (List ℕ)) (new : History) (f : ℕ → Count m) : Type 0 where
+pub record BlocksAfter (m : BlockInvariant) (M : ℕ) (S : Layout) (lists : List (List ℕ)) (new : History) (f : ℕ → Count m) : Type 0 where
   pub numbers : ℕ → Count m
   pub parts : (i : ℕ) → i < length lists → BlockPart m (block_of M S lists i) M i new (numbers i)
   pub same : (i : ℕ) → i < length lists → (numbers i).receiver ≡ (f i).receiver
 
-module _ (m : BlockMeaning) (laws : BlockLaws m) (B M : ℕ) (S : Layout) (lists : List (List ℕ))
+module _ (m : BlockInvariant) (laws : BlockLaws m) (B M : ℕ) (S : Layout) (lists : List (List ℕ))
     (are : (i : ℕ) → i < length lists → IsBlock (block_of M S lists i)) (t : History) (f : ℕ → Count m)
     (legal : Legal B t) (opens : OpensWithWords t.opening) (written : AllWriteWords t.entries)
     (parts : (i : ℕ) → i < length lists → BlockPart m (block_of M S lists i) M i t (f i)) where
@@ -209,7 +209,7 @@ module _ (m : BlockMeaning) (laws : BlockLaws m) (B M : ℕ) (S : Layout) (lists
           × (w ≡ as_write x) × (rest ≡ as_writes more) → BlocksAfter m M S lists (with_entry t (entry.Land (j + 1))) f
       at w rest l oldest =
           let x : ℕ × ℕ = oldest.0 in
-          let head = window_head (m.sender_stores (block_of M S lists j)) (m.gone (f j).landed) (m.sent (f j).sender) x oldest.1 oldest.2 in
+          let head = window-head (m.sender_stores (block_of M S lists j)) (m.gone (f j).landed) (m.sent (f j).sender) x oldest.1 oldest.2 in
           let inside : Within (block_of M S lists j) x.0 =
           (laws.sender_stores_are (block_of M S lists j) (are j within) (m.gone (f j).landed) x head.1).place.within in
           one_changed (with_entry t (entry.Land (j + 1))) j
@@ -245,7 +245,7 @@ module _ (m : BlockMeaning) (laws : BlockLaws m) (B M : ℕ) (S : Layout) (lists
           × (w ≡ as_write x) × (to_block (block_of M S lists i) rest ≡ as_writes more)
           → Now (with_entry t (entry.Land 0)) i
       visited i less w rest l oldest =
-          let head = window_head (m.receiver_stores (block_of M S lists i)) (m.freed (f i).landed) (m.taken (f i).receiver) oldest.0 oldest.1 oldest.2 in
+          let head = window-head (m.receiver_stores (block_of M S lists i)) (m.freed (f i).landed) (m.taken (f i).receiver) oldest.0 oldest.1 oldest.2 in
           lands_part m laws M (block_of M S lists i) i t (with_entry t (entry.Land 0)) (f i) (are i less)
           (parts i less) (m.gone (f i).landed) (suc (m.freed (f i).landed))
           (laws.receiver_lands (block_of M S lists i) (f i) (word_in_memory t.opening t.entries)

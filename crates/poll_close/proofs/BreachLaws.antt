@@ -21,9 +21,9 @@ use Rattle.poll_close.specs.Touching.{StaysWithin, Touches}
 use Rattle.poll_close.specs.Breaches.{word_breach, took_breach, closed_breach, report_breach, is_within, stays_within, breach_of}
 use Rattle.poll_close.specs.Breaches.{or_later, breach_after, first_breach, IsKept}
 use Rattle.poll_close.specs.declared.clean.Breach.{Breach}
-use Rattle.poll_close.proofs.CleanReports.{get_front, taken-append, taken-took, taken-closed, clean_more, taken_other, nothing_left}
+use Rattle.poll_close.proofs.CleanReports.{get_front, taken-append, taken-took, taken-closed, clean_more, taken-other, nothing_left, clean-none}
 use Rattle.poll_close.proofs.Planning.{closed_at}
-use Rattle.poll_close.proofs.Windows.{get_end}
+use Rattle.poll_close.proofs.Windows.{get_end, each_more}
 
 -- ---- blocks
 
@@ -162,7 +162,7 @@ clean_next lists rs (report.Took i w) clean none =
             (slice_index_or lists i []) w (clean.in_order i) next))
         at false other =
             let differ : i ≢ j = grind (arith, nat_tests) in
-            subst (λ (ys : List ℕ). IsPrefixOf ys (slice_index_or lists j [])) (sym (taken_other rs j (report.Took i w) differ)) (clean.in_order j)
+            subst (λ (ys : List ℕ). IsPrefixOf ys (slice_index_or lists j [])) (sym (taken-other rs j (report.Took i w) differ)) (clean.in_order j)
 clean_next lists rs (report.Closed i) clean none =
     let known = known_closed lists rs i none in
     let ended = closed-none (slice_index_or lists i []) (taken rs i) (is_closed rs i) i known.1 in
@@ -214,23 +214,7 @@ clean_front lists rs r clean = record {
     shorter : (xs ys list : List ℕ) → IsPrefixOf (xs ++ ys) list → IsPrefixOf xs list
     shorter xs ys list prefix = (ys ++ prefix.0, sym (append_assoc xs ys prefix.0) ∙ prefix.1)
 
-pub clean_none : (lists : List (List ℕ)) → Clean [] lists
-clean_none lists = record {
-  in_order = λ i. (slice_index_or lists i [], refl);
-  whole = λ i k is. cc;
-  no_more = λ i j k r less first second. cc;
-  known = λ k r is. cc;
-}
-
 -- ---- entries
-
-each_more : (P : Entry → Type 0) (es : List Entry) (e : Entry)
-    → ((j : ℕ) (d : Entry) → slice_get es j ≡ Some d → P d) → P e → (j : ℕ) (d : Entry)
-    → slice_get (es ++ e ∷ []) j ≡ Some d → P d
-each_more P [] e all one zero d is = subst P (let same : e ≡ d = cc in same) one
-each_more P [] e all one (suc j) d is = cc
-each_more P (x ∷ es) e all one zero d is = all 0 d is
-each_more P (x ∷ es) e all one (suc j) d is = each_more P es e (λ i c at. all (suc i) c at) one j d is
 
 get_before : (es : List Entry) (e : Entry) (k : ℕ) (d : Entry) → slice_get es k ≡ Some d → slice_get (es ++ e ∷ []) k ≡ Some d
 get_before [] e k d is = cc
@@ -371,7 +355,7 @@ last_kept l lists es (entry.Ended h) kept = refl
 last_kept l lists es (entry.Land h) kept = refl
 
 pub kept_none : (l : Layout) (lists : List (List ℕ)) → IsKept l lists []
-kept_none l lists = record { clean = clean_none lists; goes = λ j d is. cc; touches = λ j d is. cc }
+kept_none l lists = record { clean = clean-none lists; goes = λ j d is. cc; touches = λ j d is. cc }
 
 -- ---- lists of entries
 

@@ -10,7 +10,7 @@ use Rattle.std.proofs.lemmas.Option.{slice_get_past}
 use Rattle.std.proofs.Math.Nat.{mul_assoc}
 use Rattle.step_machine.specs.declared.events.Entry.{Entry}
 use Rattle.step_machine.specs.declared.events.Entry.TheVariants as entry
-use Rattle.step_machine.specs.History.{History, unrun, with_entry}
+use Rattle.step_machine.specs.History.{History, at_opening, with_entry}
 use Rattle.step_machine.specs.Entries.{hart_of, is_land, reported}
 use Rattle.step_machine.specs.Access.{access_of}
 use Rattle.step_machine.specs.WordReads.{WritesWord, AllWriteWords, OpensWithWords}
@@ -27,9 +27,11 @@ use Rattle.poll_close.specs.Going.{GoesOn, AllGoOn}
 use Rattle.poll_close.specs.Touching.{Touches, AllTouch}
 use Rattle.poll_close.specs.Invariant.Blocks.{block_of, as_writes}
 use Rattle.poll_close.specs.Invariant.ReceiverState.{receiver_of}
-use Rattle.poll_close.specs.Invariant.BlockMeaning.{BlockMeaning}
+use Rattle.poll_close.specs.Invariant.BlockInvariant.{BlockInvariant}
 use Rattle.poll_close.specs.Invariant.Channels.{BlockPart, all_closings, Channel, means_by}
 use Rattle.poll_close.proofs.Blocks.{IsBlock, Within}
+use Rattle.poll_close.proofs.CleanReports.{clean-none}
+use Rattle.poll_close.proofs.Windows.{each_more}
 use Rattle.poll_close.proofs.Dense.{rows_before}
 use Rattle.poll_close.proofs.BlockLaws.{BlockLaws, Begins, opens_with}
 use Rattle.poll_close.proofs.AllBlocks.{BlocksAfter, sender_goes_on, sender_acts, sender_store_lands, receiver_store_lands}
@@ -67,11 +69,8 @@ sender_start code S j zero (ws ∷ lists) within = let same : j + 0 ≡ j = omeg
 sender_start code S j (suc i) (ws ∷ lists) within = grind (arith, sender_start code S (j + 1) i lists)
 
 start_state : (code receiver : List ℕ) (M : ℕ) (S : Layout) (lists : List (List ℕ)) (i : ℕ) → i < length lists
-    → state_of M (unrun (opening_at code receiver lists S)) (i + 1) ≡ Some (opens_with code (block_of M S lists i))
+    → state_of M (at_opening (opening_at code receiver lists S)) (i + 1) ≡ Some (opens_with code (block_of M S lists i))
 start_state code receiver M S lists i within = grind (arith, sender_start, add-one)
-
-clean-none : (lists : List (List ℕ)) → Clean [] lists
-clean-none lists = record { in_order = λ i. (slice_index_or lists i [], refl); whole = λ i k h. cc; no_more = λ i j k r l h g. cc; known = λ k r h. cc }
 
 act_or_land : (e : Entry) → (is_land e ≡ false) ⊎ ((h : ℕ) × (e ≡ entry.Land h))
 act_or_land e = grind arith
@@ -83,20 +82,12 @@ is_hart : (code receiver : List ℕ) (B M : ℕ) (S : Layout) (lists : List (Lis
     → t.opening ≡ opening_at code receiver lists S → CanFollow B M t e → hart_of e < suc (length lists)
 is_hart code receiver B M S lists t e is can = grind (arith, senders-length, Path-hart, slice_get_past)
 
-all_more : (P : Entry → Type 0) (es : List Entry) (e : Entry)
-    → ((j : ℕ) (d : Entry) → slice_get es j ≡ Some d → P d) → P e → (j : ℕ) (d : Entry)
-    → slice_get (es ++ e ∷ []) j ≡ Some d → P d
-all_more P [] e all one zero d is = subst P (let same : e ≡ d = cc in same) one
-all_more P [] e all one (suc j) d is = cc
-all_more P (x ∷ es) e all one zero d is = all 0 d is
-all_more P (x ∷ es) e all one (suc j) d is = all_more P es e (λ i c at. all (suc i) c at) one j d is
-
 one_more : (es : List Entry) (e : Entry) → AllWriteWords es → WritesWord (access_of e) → AllWriteWords (es ++ e ∷ [])
 one_more es e all one = AllWriteWords-append es (e ∷ []) all (one, tt)
 
-module _ (m : BlockMeaning) (laws : BlockLaws m) (least : ℕ) (some : 1 ≤ least) where
+module _ (m : BlockInvariant) (laws : BlockLaws m) (least : ℕ) (some : 1 ≤ least) where
   abbrev pub ring_by : Ring
-  ring_by = record { sender = m.sender.code; receiver = receiver_of m.middle; least = least }
+  ring_by = record { sender = m.sender.code; receiver = receiver_of m.ring_lines; least = least }
 
   module _ (M : ℕ) (S : Layout) (lists : List (List ℕ)) (accepted : AcceptedAt ring_by M lists S) where
     begun : (i : ℕ) → i < length lists → Begins m laws.none (block_of M S lists i) (opens_with m.sender.code (block_of M S lists i))
@@ -111,14 +102,15 @@ module _ (m : BlockMeaning) (laws : BlockLaws m) (least : ℕ) (some : 1 ≤ lea
         let is : IsBlock (block_of M S lists i) = blocks ring_by M S lists some accepted i within in
         accepted.empty.empty (a / 4) (record { block = i; known = within; from = omega (arith, is.even, here.from); below = omega (arith, here.below) })
 
-    part : (i : ℕ) → i < length lists → BlockPart m (block_of M S lists i) M i (unrun (opening_at m.sender.code (receiver_of m.middle) lists S)) laws.none
+    part : (i : ℕ) → i < length lists → BlockPart m (block_of M S lists i) M i
+        (at_opening (opening_at m.sender.code (receiver_of m.ring_lines) lists S)) laws.none
     part i within =
         let b = begun i within in
         record {
           order = b.order;
           sender = record {
             stands = opens_with m.sender.code (block_of M S lists i);
-            state = start_state m.sender.code (receiver_of m.middle) M S lists i within;
+            state = start_state m.sender.code (receiver_of m.ring_lines) M S lists i within;
             holds = b.stands;
             buffer = ap as_writes (sym b.unsent);
           };
@@ -127,7 +119,7 @@ module _ (m : BlockMeaning) (laws : BlockLaws m) (least : ℕ) (some : 1 ≤ lea
               (blocks ring_by M S lists some accepted i within) (λ a here. zero_there i within a here) b.words;
         }
 
-    opened : Channel m M S lists (unrun (opening_at m.sender.code (receiver_of m.middle) lists S))
+    opened : Channel m M S lists (at_opening (opening_at m.sender.code (receiver_of m.ring_lines) lists S))
     opened = record {
       numbers = λ i. laws.none;
       parts = part;
@@ -169,7 +161,7 @@ module _ (m : BlockMeaning) (laws : BlockLaws m) (least : ℕ) (some : 1 ≤ lea
       are : (i : ℕ) → i < length lists → IsBlock (block_of M S lists i)
       are = blocks ring_by M S lists some accepted
 
-      opens_words : (u : History) → u.opening ≡ opening_at m.sender.code (receiver_of m.middle) lists S → OpensWithWords u.opening
+      opens_words : (u : History) → u.opening ≡ opening_at m.sender.code (receiver_of m.ring_lines) lists S → OpensWithWords u.opening
       opens_words u same = subst OpensWithWords (sym same) accepted.empty.small
 
       go_on : (new : History) → state_of M new 0 ≡ state_of M t 0 → reported 0 new.entries ≡ reported 0 t.entries
@@ -198,12 +190,12 @@ module _ (m : BlockMeaning) (laws : BlockLaws m) (least : ℕ) (some : 1 ≤ lea
             parts = r.parts;
             receiver = r.receiver;
             reports = r.reports;
-            unstopped = all_more GoesOn t.entries e ch.unstopped plain.0;
-            touched = all_more (Touches S (length lists)) t.entries e ch.touched plain.2;
+            unstopped = each_more GoesOn t.entries e ch.unstopped plain.0;
+            touched = each_more (Touches S (length lists)) t.entries e ch.touched plain.2;
             written = one_more t.entries e ch.written plain.1;
           }
       acts (suc j) mine act =
-          let within : j < length lists = omega (arith, is_hart m.sender.code (receiver_of m.middle) B M S lists t e is can, mine) in
+          let within : j < length lists = omega (arith, is_hart m.sender.code (receiver_of m.ring_lines) B M S lists t e is can, mine) in
           let other : (hart_of e == 0) ≡ false = not_zero (hart_of e) j mine in
           let plain : GoesOn e × WritesWord (access_of e) × Touches S (length lists) e =
           sender_goes_on m laws B M S lists (blocks ring_by M S lists some accepted) t ch.numbers kept.legal
@@ -213,8 +205,8 @@ module _ (m : BlockMeaning) (laws : BlockLaws m) (least : ℕ) (some : 1 ≤ lea
           ∙ append-nil (reported 0 t.entries))
           (sender_acts m laws B M S lists (blocks ring_by M S lists some accepted) t ch.numbers kept.legal
           (opens_words t is) ch.written ch.parts j within e can (mine ∙ sym (add-one j)) act)
-          (all_more GoesOn t.entries e ch.unstopped plain.0)
-          (all_more (Touches S (length lists)) t.entries e ch.touched plain.2)
+          (each_more GoesOn t.entries e ch.unstopped plain.0)
+          (each_more (Touches S (length lists)) t.entries e ch.touched plain.2)
           (one_more t.entries e ch.written plain.1)
 
       lands : (h : ℕ) → e ≡ entry.Land h → (g : ℕ) → h ≡ g → Channel m M S lists (with_entry t e)
@@ -224,19 +216,19 @@ module _ (m : BlockMeaning) (laws : BlockLaws m) (least : ℕ) (some : 1 ≤ lea
           (go_on (with_entry t (entry.Land 0)) (states_land M t 0 0) (reported-last 0 t.entries (entry.Land 0) ∙ append-nil (reported 0 t.entries))
           (receiver_store_lands m laws B M S lists (blocks ring_by M S lists some accepted) t ch.numbers kept.legal
           (opens_words t is) ch.written ch.parts
-          (subst (CanFollow B M t) is_0 can)) (all_more GoesOn t.entries (entry.Land 0) ch.unstopped tt)
-          (all_more (Touches S (length lists)) t.entries (entry.Land 0) ch.touched tt)
+          (subst (CanFollow B M t) is_0 can)) (each_more GoesOn t.entries (entry.Land 0) ch.unstopped tt)
+          (each_more (Touches S (length lists)) t.entries (entry.Land 0) ch.touched tt)
           (one_more t.entries (entry.Land 0) ch.written tt))
       lands h land (suc j) same =
           let is_j : e ≡ entry.Land (j + 1) = land ∙ ap entry.Land (same ∙ sym (add-one j)) in
-          let within : j < length lists = omega (arith, is_hart m.sender.code (receiver_of m.middle) B M S lists t e is can, ap hart_of is_j) in
+          let within : j < length lists = omega (arith, is_hart m.sender.code (receiver_of m.ring_lines) B M S lists t e is can, ap hart_of is_j) in
           subst (λ (d : Entry). Channel m M S lists (with_entry t d)) (sym is_j)
           (go_on (with_entry t (entry.Land (j + 1))) (states_land M t (j + 1) 0)
           (reported-last 0 t.entries (entry.Land (j + 1)) ∙ append-nil (reported 0 t.entries))
           (sender_store_lands m laws B M S lists (blocks ring_by M S lists some accepted) t ch.numbers kept.legal
           (opens_words t is) ch.written ch.parts j within
-          (subst (CanFollow B M t) is_j can)) (all_more GoesOn t.entries (entry.Land (j + 1)) ch.unstopped tt)
-          (all_more (Touches S (length lists)) t.entries (entry.Land (j + 1)) ch.touched tt)
+          (subst (CanFollow B M t) is_j can)) (each_more GoesOn t.entries (entry.Land (j + 1)) ch.unstopped tt)
+          (each_more (Touches S (length lists)) t.entries (entry.Land (j + 1)) ch.touched tt)
           (one_more t.entries (entry.Land (j + 1)) ch.written tt))
 
   pub cleans : Cleans ring_by (means_by m)

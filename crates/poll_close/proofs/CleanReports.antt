@@ -43,12 +43,12 @@ pub clean_more : (rs : List Report) (lists : List (List ℕ)) (x : Report) → C
 clean_more rs lists x clean known unclosed prefix all = grind (arith, get_last, take-append-le, take-append_seam)
 
 -- another sender's report
-pub taken_other : (rs : List Report) (i : ℕ) (y : Report) → sender_of y ≢ i → taken (rs ++ y ∷ []) i ≡ taken rs i
-taken_other rs i y differ = grind (arith, taken-took, nat_tests, append-nil, taken-closed)
+pub taken-other : (rs : List Report) (i : ℕ) (y : Report) → sender_of y ≢ i → taken (rs ++ y ∷ []) i ≡ taken rs i
+taken-other rs i y differ = grind (arith, taken-took, nat_tests, append-nil, taken-closed)
 
 pub reports_other : (rs : List Report) (i : ℕ) (list : List ℕ) (took closings : ℕ) (x : Report) → sender_of x ≢ i
     → ReportsOf rs i list took closings → ReportsOf (rs ++ x ∷ []) i list took closings
-reports_other rs i list took closings x other reports = grind (arith, taken_other, get_front, get_last)
+reports_other rs i list took closings x other reports = grind (arith, taken-other, get_front, get_last)
 
 -- a word of the sender's own
 pub reports_took : (rs : List Report) (i : ℕ) (list : List ℕ) (took closings : ℕ) → took < length list
@@ -81,3 +81,11 @@ closed_whole rs lists i k clean is =
     let all : length (taken rs i) + length rest ≡ length (slice_index_or lists i []) = sym (length-append (taken rs i) rest) ∙ ap length (clean.in_order i).1 in
     let none : rest ≡ [] = nothing_left rest (omega (arith, first, whole, all)) in
     sym (append-nil (taken rs i)) ∙ ap (λ ys. taken rs i ++ ys) (sym none) ∙ (clean.in_order i).1
+
+pub clean-none : (lists : List (List ℕ)) → Clean [] lists
+clean-none lists = record {
+  in_order = λ i. (slice_index_or lists i [], refl);
+  whole = λ i k is. cc;
+  no_more = λ i j k r less first second. cc;
+  known = λ k r is. cc;
+}

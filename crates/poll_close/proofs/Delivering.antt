@@ -5,11 +5,11 @@ use Rattle.std.proofs.lemmas.List.Elements.{All-nil, All-cons}
 use Rattle.hart.specs.declared.need.Report.{Report}
 use Rattle.step_machine.specs.declared.events.Event.{Event}
 use Rattle.step_machine.specs.declared.events.Outcome.{Outcome}
-use Rattle.step_machine.specs.History.{Start, History, FitsIn, IsShort, unrun}
+use Rattle.step_machine.specs.History.{OpeningValue, History, FitsIn, IsShort, at_opening}
 use Rattle.step_machine.specs.Entries.{reported}
 use Rattle.step_machine.specs.Legal.{WellFormed}
 use Rattle.step_machine.specs.Runs.{Happens, Run, RunFrom}
-use Rattle.step_machine.proofs.Running.{shape_of, kept-happens, kept-unrun}
+use Rattle.step_machine.proofs.Running.{shape_of, kept-happens, kept-at_opening}
 use Rattle.poll_close.specs.Layout.{Layout, senders_from}
 use Rattle.poll_close.specs.Laws.{Ring, opening_over, Meaning, AcceptedAt, AreShort, Opens, Keeps, Cleans}
 use Rattle.poll_close.specs.Delivery.{Delivers}
@@ -44,21 +44,22 @@ pub run-known : (ring : Ring) (means : Meaning) (B M : ℕ) (lists : List (List 
     → Run B M (opening_over ring lists S) evs t → Known ring means B M lists S t
 unfolding Opens
 run-known ring means B M lists S evs t opens keeps accepted run =
-    let o : Start = opening_over ring lists S in
-    known-run ring means keeps B M lists S accepted (unrun o) evs t (record { opening = refl; kept = kept-unrun B M o; meant = opens B M lists S accepted }) run
+    let o : OpeningValue = opening_over ring lists S in
+    known-run ring means keeps B M lists S accepted (at_opening o) evs t
+    (record { opening = refl; kept = kept-at_opening B M o; meant = opens B M lists S accepted }) run
 
 pub delivers : (ring : Ring) (means : Meaning) (B M : ℕ) (lists : List (List ℕ)) (S : Layout) (evs : List Event)
-    (t : History) (o : Start) (reports : List Report) → Opens ring means → Keeps ring means → Cleans ring means
+    (t : History) (o : OpeningValue) (reports : List Report) → Opens ring means → Keeps ring means → Cleans ring means
     → AcceptedAt ring M lists S → o ≡ opening_over ring lists S → Run B M o evs t → reports ≡ reported 0 t.entries
     → Delivers B M o lists evs reports
 unfolding Opens
 delivers ring means B M lists S evs t o reports opens keeps cleans accepted is run answer =
-    let first : Known ring means B M lists S (unrun o) = record {
+    let first : Known ring means B M lists S (at_opening o) = record {
       opening = is;
-      kept = kept-unrun B M o;
-      meant = subst (λ (p : Start). means B M lists S (unrun p)) (sym is) (opens B M lists S accepted);
+      kept = kept-at_opening B M o;
+      meant = subst (λ (p : OpeningValue). means B M lists S (at_opening p)) (sym is) (opens B M lists S accepted);
     } in
-    let last : Known ring means B M lists S t = known-run ring means keeps B M lists S accepted (unrun o) evs t first run in
+    let last : Known ring means B M lists S t = known-run ring means keeps B M lists S accepted (at_opening o) evs t first run in
     record { history = t; run = run; answer = answer; clean = rw answer (cleans B M lists S t accepted last.opening last.kept last.meant) }
 
 senders-short : (code : List ℕ) (S : Layout) (i : ℕ) (lists : List (List ℕ)) → length code ≤ 4096 → All IsShort (senders_from code S i lists)
@@ -69,7 +70,7 @@ pub senders-length : (code : List ℕ) (S : Layout) (i : ℕ) (lists : List (Lis
 senders-length code S i [] = refl
 senders-length code S i (ws ∷ lists) = ap (λ n. suc n) (senders-length code S (i + 1) lists)
 
-pub channel-fits : (ring : Ring) (M : ℕ) (lists : List (List ℕ)) (S : Layout) (o : Start) → AreShort ring
+pub channel-fits : (ring : Ring) (M : ℕ) (lists : List (List ℕ)) (S : Layout) (o : OpeningValue) → AreShort ring
     → AcceptedAt ring M lists S → o ≡ opening_over ring lists S → FitsIn M o
 channel-fits ring M lists S o short accepted is = grind (arith, senders-length, All-cons, senders-short)
 
@@ -77,6 +78,6 @@ channel-fits ring M lists S o short accepted is = grind (arith, senders-length, 
 pub if_ok : {A E : Type 0} (P Q : A → Type 0) → ((a : A) → P a → Q a) → (r : Result A E) → IfOk r P → IfOk r Q
 if_ok P Q more h3 h = grind arith
 
-pub delivers-as : (B M : ℕ) (o p : Start) (lists : List (List ℕ)) (evs : List Event) (reports : List Report) → o ≡ p
+pub delivers-as : (B M : ℕ) (o p : OpeningValue) (lists : List (List ℕ)) (evs : List Event) (reports : List Report) → o ≡ p
     → Delivers B M o lists evs reports → Delivers B M p lists evs reports
-delivers-as B M o p lists evs reports is d = subst (λ (q : Start). Delivers B M q lists evs reports) is d
+delivers-as B M o p lists evs reports is d = subst (λ (q : OpeningValue). Delivers B M q lists evs reports) is d

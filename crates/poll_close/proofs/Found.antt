@@ -4,7 +4,7 @@ use Rattle.std.proofs.Common.{ℕ, suc, ◌<◌, ◌≤◌, ◌≡◌, ◌≢◌
 use Rattle.std.specs.Prelude.{unwrap_or}
 use Rattle.std.specs.List.{slice_get}
 use Rattle.poll_close.specs.Invariant.Blocks.{window}
-use Rattle.poll_close.proofs.Windows.{Each-range, window_empty, newest_none, newest_made, newest_at}
+use Rattle.poll_close.proofs.Windows.{Each-range, window-empty, newest_none, newest_made, newest_at}
 use Rattle.poll_close.proofs.BlockLaws.{found_in}
 
 module _ (xs : List (ℕ × ℕ)) (i j : ℕ) (word : ℕ → ℕ) (a : ℕ) where
@@ -13,7 +13,7 @@ module _ (xs : List (ℕ × ℕ)) (i j : ℕ) (word : ℕ → ℕ) (a : ℕ) whe
   in_memory none = ap (λ o. unwrap_or o (word a)) (newest_none a None (window xs i j) (Each-range (λ x. x.0 ≢ a) xs i j none))
 
   pub none_pending : j ≤ i → found_in (window xs i j) word a ≡ word a
-  none_pending all = ap (λ ps. found_in ps word a) (window_empty xs i j all)
+  none_pending all = ap (λ ps. found_in ps word a) (window-empty xs i j all)
 
   -- where store s goes there, and none after it
   pub newest_found : (v s : ℕ) → i ≤ s → s < j → slice_get xs s ≡ Some (a, v)

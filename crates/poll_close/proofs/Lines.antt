@@ -37,11 +37,11 @@ loads a = need.Load a 4
 abbrev pub stores : ℕ → ℕ → Need
 stores a w = need.Store a 4 w
 
-pub word_plus : (a k : ℕ) → a + k < 2 ^ 32 → word (pos a +ℤ pos k) ≡ a + k
-word_plus a k h = omega (arith, ints)
+pub word-plus : (a k : ℕ) → a + k < 2 ^ 32 → word (pos a +ℤ pos k) ≡ a + k
+word-plus a k h = omega (arith, ints)
 
-pub word_minus : (a y : ℕ) → a ≡ y + 1 → y + 1 < 2 ^ 32 → word (pos a +ℤ negsuc 0) ≡ y
-word_minus a y is small = grind (arith, pos, negsuc, ints, word_plus, add-zero)
+pub word-minus : (a y : ℕ) → a ≡ y + 1 → y + 1 < 2 ^ 32 → word (pos a +ℤ negsuc 0) ≡ y
+word-minus a y is small = grind (arith, pos, negsuc, ints, word-plus, add-zero)
 
 -- a table means a listing where the decoder finds its lines
 pub all_mean : (ws : List ℕ) (is : List Instr) → map meaning ws ≡ map Some is → AllMean ws is
@@ -79,12 +79,12 @@ sum_line {s} {rd} {a} {b} at small = grind (arith, register_need at, register_af
 pub load_line : {s : HartState} {rd rs : Reg} {k : ℕ} → IsAt s (Load load.Word rd rs (pos k))
     → read s.registers rs % 4 ≡ 0 → k % 4 ≡ 0 → read s.registers rs + k < 4 * s.words → 4 * s.words ≤ 2 ^ 32
     → Line s (loads (read s.registers rs + k)) (λ v. leaves_in s rd v)
-load_line {s} {rd} {rs} {k} at even whole below small = grind (arith, word_plus (read s.registers rs) k, load_need at, load_after at)
+load_line {s} {rd} {rs} {k} at even whole below small = grind (arith, word-plus (read s.registers rs) k, load_need at, load_after at)
 
 pub store_line : {s : HartState} {rs from : Reg} {k : ℕ} → IsAt s (Store store.Word rs from (pos k))
     → read s.registers rs % 4 ≡ 0 → k % 4 ≡ 0 → read s.registers rs + k < 4 * s.words → 4 * s.words ≤ 2 ^ 32
     → Line s (stores (read s.registers rs + k) (read s.registers from)) (λ v. goes_to s (next_pc s.pc))
-store_line {s} {rs} {from} {k} at even whole below small = grind (arith, word_plus (read s.registers rs) k, store_need at, store_after at)
+store_line {s} {rs} {from} {k} at even whole below small = grind (arith, word-plus (read s.registers rs) k, store_need at, store_after at)
 
 pub jump_line : {s : HartState} {k : ℤ} → IsAt s (Jal (reg_of 0) k) → address s.pc k % 4 ≡ 0 → Line s need.Inner (λ v. goes_to s (address s.pc k))
 jump_line at aligned = record { wants = jal_need at aligned; leaves = λ v. jal_after at aligned v }

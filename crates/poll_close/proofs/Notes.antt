@@ -20,8 +20,8 @@ use Rattle.poll_close.specs.Plans.{is_closed}
 use Rattle.poll_close.specs.Breaches.{AreNotes, IsNoted, report_breach, is_within}
 use Rattle.poll_close.specs.declared.clean.Breach.{Breach}
 use Rattle.poll_close.specs.declared.clean.Share.{Share}
-use Rattle.poll_close.proofs.CleanReports.{taken-took, taken-closed}
-use Rattle.poll_close.proofs.BreachLaws.{clean_front, next_clean, clean_next, clean_none}
+use Rattle.poll_close.proofs.CleanReports.{taken-took, taken-closed, clean-none}
+use Rattle.poll_close.proofs.BreachLaws.{clean_front, next_clean, clean_next}
 
 is_closed-took : (rs : List Report) (j w i : ℕ) → is_closed (rs ++ report.Took j w ∷ []) i ≡ is_closed rs i
 is_closed-took [] j w i = refl
@@ -119,7 +119,7 @@ unclean lists rs n r breach is breaks clean =
     cc
 
 pub noted_none : (lists : List (List ℕ)) (shares : List Share) → AreNotes [] shares → length shares ≡ length lists → IsNoted lists [] shares
-noted_none lists shares notes count = record { clean = clean_none lists; notes = notes; count = count }
+noted_none lists shares notes count = record { clean = clean-none lists; notes = notes; count = count }
 
 pub noted_more : (lists : List (List ℕ)) (rs : List Report) (r : Report) (old new : List Share) → IsNoted lists rs old
     → report_breach lists rs r ≡ None → AreNotes (rs ++ r ∷ []) new → length new ≡ length old → IsNoted lists (rs ++ r ∷ []) new

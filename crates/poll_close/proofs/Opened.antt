@@ -2,7 +2,7 @@
 use Rattle.std.proofs.Common.{◌≡◌, ℕ, ◌+◌, ◌<◌, List, [], ◌∷◌, ◌++◌, length, take, get_or, map, Vec, Global, refl, sym}
 use Rattle.std.proofs.Common.{◌∙◌, ap, arith, ◌≢◌, ◌^◌, ◌≤◌, All, subst}
 use Rattle.std.proofs.lemmas.List.{take_more, map-append, length-map, length-take-le, take_all, get_or-map, take-map}
-use Rattle.step_machine.specs.History.{HartStart}
+use Rattle.step_machine.specs.History.{HartOpeningValue}
 use Rattle.poll_close.specs.Layout.{Layout, sender_registers, senders_from}
 use Rattle.std.specs.Prelude.{slice_index}
 use Rattle.std.proofs.lemmas.List.Elements.{All-push}
@@ -19,12 +19,12 @@ senders-last code S j (xs ∷ lists) ws i at = grind (arith, senders-last code S
 abbrev pub items_of : Vec ℕ Global → List ℕ
 items_of v = v.items
 
-abbrev hart_with : List ℕ → List ℕ → List ℕ → HartStart
+abbrev hart_with : List ℕ → List ℕ → List ℕ → HartOpeningValue
 hart_with code registers inbox = record { code = code; registers = registers; inbox = inbox }
 
 -- the loop has made one sender more
-pub senders-more : (lists : List (Vec ℕ Global)) (code : List ℕ) (S : Layout) (i : ℕ) (harts new : List HartStart)
-    (list : Vec ℕ Global) (h : HartStart) → i < length lists → list ≡ get_or lists i list
+pub senders-more : (lists : List (Vec ℕ Global)) (code : List ℕ) (S : Layout) (i : ℕ) (harts new : List HartOpeningValue)
+    (list : Vec ℕ Global) (h : HartOpeningValue) → i < length lists → list ≡ get_or lists i list
     → harts ≡ senders_from code S 0 (map items_of (take i lists)) → new ≡ harts ++ h ∷ [] → h.code ≡ code
     → h.registers ≡ sender_registers S i → h.inbox ≡ list.items
     → new ≡ senders_from code S 0 (map items_of (take (i + 1) lists))

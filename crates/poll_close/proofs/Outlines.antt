@@ -16,7 +16,7 @@ use Rattle.hart.proofs.Instructions.{IsAt}
 use Rattle.poll_close.specs.Rankings.{runs}
 use Rattle.poll_close.specs.Invariant.Blocks.{Block, AreNext}
 use Rattle.poll_close.specs.Invariant.SenderState.{SenderRegisters, fixed, running, ended}
-use Rattle.poll_close.specs.Invariant.BlockMeaning.{BlockMeaning, Count, unsent_of}
+use Rattle.poll_close.specs.Invariant.BlockInvariant.{BlockInvariant, Count, unsent_of}
 use Rattle.poll_close.specs.Invariant.Outlines.{Row, SenderRow, Reasons, Outline, either, stands, HoldsIn, Holds, Standing, left_of}
 use Rattle.poll_close.proofs.Acts.{stored_by, IsNoAmo}
 use Rattle.poll_close.proofs.Lines.{Line, loads, at_line}
@@ -24,8 +24,8 @@ use Rattle.poll_close.proofs.Blocks.{IsBlock, IsWordOf}
 use Rattle.poll_close.proofs.BlockLaws.{found_in, Sends}
 
 -- one reason before others
-abbrev pub also : {A B : Type 0} → A → B → A × B
-also a b = (a, b)
+abbrev pub and_intro : {A B : Type 0} → A → B → A × B
+and_intro a b = (a, b)
 
 -- where each row is right, what is wanted follows at any offset from what holds there
 pub found : {Rank : Type 0} {Held : Type 1} (holds : Held → Type 0) (Goal : ℕ → Type 0)
@@ -80,11 +80,11 @@ module _ (o : Outline) (k : Block) (n : o.Own) (s : HartState) (st : Standing o 
       at false on h = let bad : false ≡ true = sym off ∙ ap (λ (z : HartState). runs (Some z)) (st.is ∙ at_run o k st.place n st.written on) in cc
 
 -- what its code's listing is
-pub record Sender (m : BlockMeaning) : Type 0 where
+pub record Sender (m : BlockInvariant) : Type 0 where
   pub lines : List Instr
   pub decoded : map meaning m.sender.code ≡ map Some lines
 
-module _ (m : BlockMeaning) (g : Sender m) (k : Block) (n : Count m) (word : ℕ → ℕ) (v : ℕ) (r : SenderRegisters) where
+module _ (m : BlockInvariant) (g : Sender m) (k : Block) (n : Count m) (word : ℕ → ℕ) (v : ℕ) (r : SenderRegisters) where
   abbrev now : ℕ → HartState
   now here = stands m.sender k here n.sender r
 
@@ -108,7 +108,7 @@ module _ (m : BlockMeaning) (g : Sender m) (k : Block) (n : Count m) (word : ℕ
     pub plain : IsNoAmo (IsWordOf k) wanted
     pub wants : need_of (now here) ≡ wanted
     pub leaves : advanced (now here) v ≡ stands m.sender k there made written
-    pub order : m.Ordered k (record n { sender = made })
+    pub order : m.CounterInvariant k (record n { sender = made })
     pub stores : AreNext (m.sender_stores k) (m.sent n.sender) (m.sent made) (stored_by wanted)
     pub holds : Holds m.sender there k made written
     pub nearer : Free here → Nearer here there made written
@@ -124,7 +124,7 @@ module _ (m : BlockMeaning) (g : Sender m) (k : Block) (n : Count m) (word : ℕ
   abbrev pub GoesBy : ℕ → Type 0
   GoesBy here = (there : ℕ) (wanted : Need) (made : m.sender.Own) (written : ℕ → SenderRegisters)
       → IsNoAmo (IsWordOf k) wanted → Line (now here) wanted (λ w. stands m.sender k there made (written w))
-      → m.Ordered k (record n { sender = made }) → AreNext (m.sender_stores k) (m.sent n.sender) (m.sent made) (stored_by wanted)
+      → m.CounterInvariant k (record n { sender = made }) → AreNext (m.sender_stores k) (m.sent n.sender) (m.sent made) (stored_by wanted)
       → Holds m.sender there k made (written v) → (Free here → Nearer here there made (written v)) → Finds here
       → Goes here
 
@@ -148,7 +148,7 @@ module _ (m : BlockMeaning) (g : Sender m) (k : Block) (n : Count m) (word : ℕ
     nearer = nearer;
   }
 
-  pub still : m.Ordered k n → (here : ℕ) → Still here
+  pub still : m.CounterInvariant k n → (here : ℕ) → Still here
   still order here there written line holds nearer = grind (arith, goes)
 
   -- where the line at this offset is that instruction
@@ -174,10 +174,10 @@ module _ (m : BlockMeaning) (g : Sender m) (k : Block) (n : Count m) (word : ℕ
           (λ j. Finds j → Goes j) m.sender.rows reasons here h find
 
 -- so its acts keep the block's meaning, and bring it nearer to its end, as the laws of a block ask
-module _ (m : BlockMeaning) (g : Sender m)
-    (reasons : (k : Block) (n : Count m) (word : ℕ → ℕ) (v : ℕ) (r : SenderRegisters) → IsBlock k → m.Ordered k n
+module _ (m : BlockInvariant) (g : Sender m)
+    (reasons : (k : Block) (n : Count m) (word : ℕ → ℕ) (v : ℕ) (r : SenderRegisters) → IsBlock k → m.CounterInvariant k n
     → m.Words k n.landed word → Reasons (Right m g k n word v r) m.sender.rows) (k : Block) (n : Count m)
-    (s : HartState) (word : ℕ → ℕ) (v : ℕ) (is : IsBlock k) (order : m.Ordered k n) (words : m.Words k n.landed word)
+    (s : HartState) (word : ℕ → ℕ) (v : ℕ) (is : IsBlock k) (order : m.CounterInvariant k n) (words : m.Words k n.landed word)
     (st : Standing m.sender k n.sender s) (running : s.status ≡ status.Running) where
   act : ((a : ℕ) → IsWordOf k a → need_of s ≡ loads a → v ≡ found_in (unsent_of m k n) word a) → Goes m g k n word v st.written st.place
   act find = right m g k n word v st.written (reasons k n word v st.written is order words) st.place

@@ -10,7 +10,7 @@ use Rattle.step_machine.specs.declared.events.Entry.{Entry}
 use Rattle.step_machine.specs.declared.events.Entry.TheVariants as entry
 use Rattle.step_machine.specs.declared.events.Outcome.{Outcome}
 use Rattle.std.proofs.lemmas.List.{length-map, length-drop}
-use Rattle.step_machine.specs.History.{HartStart, Start, History, unrun, with_entry}
+use Rattle.step_machine.specs.History.{HartOpeningValue, OpeningValue, History, at_opening, with_entry}
 use Rattle.step_machine.specs.Entries.{hart_of, is_land, pending, reported, store_of, land_of}
 use Rattle.step_machine.specs.Legal.{WellFormed}
 use Rattle.step_machine.specs.Runs.{Happens, Run, RunFrom, IsOwnRun, event_of}
@@ -177,8 +177,8 @@ pub turn_quiet : {ring : Ring} {means : Meaning} {B M : ℕ} {left : History →
 turn_quiet {t = t} {mid} {h} all turn none = grind (arith, all_again, no_length)
 
 -- what ran the events of a history's own entries is that history
-pub same_run : (B M : ℕ) (t new : History) (o : Start) (evs : List Event) → IsOwnRun B M t → o ≡ t.opening
-    → evs ≡ map event_of t.entries → RunFrom B M (unrun o) evs new → new ≡ t
+pub same_run : (B M : ℕ) (t new : History) (o : OpeningValue) (evs : List Event) → IsOwnRun B M t → o ≡ t.opening
+    → evs ≡ map event_of t.entries → RunFrom B M (at_opening o) evs new → new ≡ t
 same_run B M t new o evs own opening events run = grind (arith, run-one)
 
 -- the last report, if there is one, tells whether the reports end in a word
@@ -220,7 +220,7 @@ get_below (r ∷ rs) zero x is = omega arith
 get_below (r ∷ rs) (suc k) x is = let less : k < length rs = get_below rs k x is in omega arith
 
 senders-count : (t : History) → length (lists_of t.opening) ≡ senders_of t
-senders-count t = length-map (drop 1 t.opening.harts) (λ (h : HartStart). h.inbox) ∙ length-drop 1 t.opening.harts
+senders-count t = length-map (drop 1 t.opening.harts) (λ (h : HartOpeningValue). h.inbox) ∙ length-drop 1 t.opening.harts
 
 pub open_where_word : (ring : Ring) (means : Meaning) (B M : ℕ) (t : History) → Cleans ring means
     → Stands ring means B M t → ends_in_word (reported 0 t.entries) ≡ true → is_done t ≡ false
@@ -244,7 +244,7 @@ open_where_word ring means B M t cleans s word = at (is_done t) refl
         ]
 
 -- the reports after the events and the plan
-pub whole_delivered : (B M : ℕ) (o : Start) (events plan : List Event) (mid new : History) (reports : List Report)
+pub whole_delivered : (B M : ℕ) (o : OpeningValue) (events plan : List Event) (mid new : History) (reports : List Report)
     → Run B M o events mid → RunFrom B M mid plan new → Finishes B M mid plan → (is_done mid ≡ true → plan ≡ [])
     → new.opening ≡ o → reports ≡ reported 0 new.entries → Clean reports (lists_of new.opening) → DeliversWhole B M o (lists_of o) events reports
 whole_delivered B M o events plan mid new reports first second finishes none same answer clean = grind (arith, senders-count, run-one)
@@ -255,14 +255,14 @@ pub whole_over : (ring : Ring) (means : Meaning) (B M : ℕ) (lists : List (List
     → Finishes B M mid plan → (is_done mid ≡ true → plan ≡ []) → Stands ring means B M new → reports ≡ reported 0 new.entries
     → DeliversWholeOver ring B M lists l events reports
 whole_over ring means B M lists l events plan mid new reports cleans run ran finishes none stands answer =
-    let o : Start = opening_over ring lists l in
+    let o : OpeningValue = opening_over ring lists l in
     let whole : DeliversWhole B M o (lists_of o) events reports = whole_delivered B M o events plan mid new reports run ran finishes none
     (opening-run B M mid plan new ran ∙ opening_kept B M o events mid run) answer (rw answer (stands-clean ring means B M new cleans stands)) in
     subst (λ (given : List (List ℕ)). DeliversWhole B M o given events reports) (inboxes ring.sender l 0 lists) whole
 
-pub whole-as : (B M : ℕ) (o p : Start) (lists : List (List ℕ)) (events : List Event) (reports : List Report) → o ≡ p
+pub whole-as : (B M : ℕ) (o p : OpeningValue) (lists : List (List ℕ)) (events : List Event) (reports : List Report) → o ≡ p
     → DeliversWhole B M o lists events reports → DeliversWhole B M p lists events reports
-whole-as B M o p lists events reports is whole = subst (λ (q : Start). DeliversWhole B M q lists events reports) is whole
+whole-as B M o p lists events reports is whole = subst (λ (q : OpeningValue). DeliversWhole B M q lists events reports) is whole
 
 -- a list that isn't empty, or is, as its length's test says
 pub some_left : {A : Type 0} {seen xs : List A} {b : Bool} → seen ≡ xs → b ≡ (length seen == 0) → b ≡ false → 0 < length xs
@@ -353,5 +353,5 @@ pub run_can_finish : (ring : Ring) (means : Meaning) (left next : ℕ → Histor
     → AcceptedAt ring M lists S → Run B M (opening_over ring lists S) evs t → CanFinish B M t
 run_can_finish ring means left next opens keeps cleans falls B M lists S evs t some accepted run =
     can_finish ring means left next keeps cleans falls B M some t
-    (stands-run ring means B M (unrun (opening_over ring lists S)) evs t keeps
-    (stands-opens ring means B M lists S (unrun (opening_over ring lists S)) opens accepted refl) run)
+    (stands-run ring means B M (at_opening (opening_over ring lists S)) evs t keeps
+    (stands-opens ring means B M lists S (at_opening (opening_over ring lists S)) opens accepted refl) run)

@@ -17,7 +17,7 @@ use Rattle.memory.specs.declared.writes.Write.{Write}
 use Rattle.step_machine.specs.declared.events.Event.TheVariants as event
 use Rattle.step_machine.specs.declared.events.Entry.{Entry}
 use Rattle.step_machine.specs.declared.events.Entry.TheVariants as entry
-use Rattle.step_machine.specs.History.{Start, History, with_entry}
+use Rattle.step_machine.specs.History.{OpeningValue, History, with_entry}
 use Rattle.step_machine.specs.Entries.{pending, read, reported}
 use Rattle.step_machine.specs.WordReads.{OpensWithWords, word_in_memory}
 use Rattle.step_machine.specs.Paths.{entry_of, value_of, state_of}
@@ -36,13 +36,13 @@ use Rattle.poll_close.specs.Rankings.{ready_if, is_ready, next_of, next_by}
 use Rattle.poll_close.specs.Plans.{AllLanded, is_closed, is_done, senders_of}
 use Rattle.poll_close.specs.Invariant.Blocks.{Block, block_of, as_writes}
 use Rattle.poll_close.specs.Invariant.ReceiverState.{ReceiverRegisters, whole_of, receiver_of, receives, closings_due}
-use Rattle.poll_close.specs.Invariant.BlockMeaning.{BlockMeaning, unsent_of, unread_of, rows_of, ranking_of}
+use Rattle.poll_close.specs.Invariant.BlockInvariant.{BlockInvariant, unsent_of, unread_of, rows_of, ranking_of}
 use Rattle.poll_close.specs.Invariant.Channels.{Channel, means_by}
 use Rattle.poll_close.proofs.Acts.{Acted, acted, said_by}
 use Rattle.poll_close.proofs.Blocks.{IsBlock}
 use Rattle.poll_close.proofs.BlockLaws.{BlockLaws, Receives, Says, Finds, Idle}
-use Rattle.poll_close.proofs.CleanReports.{taken_other}
-use Rattle.poll_close.proofs.AllBlocks.{read_is, sender_plain}
+use Rattle.poll_close.proofs.CleanReports.{taken-other}
+use Rattle.poll_close.proofs.AllBlocks.{read-is, sender_plain}
 use Rattle.poll_close.proofs.ReceiverActs.{moves_by, plain_by, found}
 use Rattle.poll_close.proofs.Delivering.{senders-length}
 use Rattle.poll_close.proofs.Standing.{inboxes}
@@ -85,10 +85,10 @@ not_ready a b off on = grind (arith, not-false)
 is_equal : (a b : ℕ) → (a == b) ≡ true → a ≡ b
 is_equal a b same = grind (arith, nat_tests)
 
-module _ (m : BlockMeaning) (laws : BlockLaws m) (least : ℕ) (some_least : 1 ≤ least) (prog : BlockProgress m least)
+module _ (m : BlockInvariant) (laws : BlockLaws m) (least : ℕ) (some_least : 1 ≤ least) (prog : BlockProgress m least)
     (B M : ℕ) (S : Layout) (lists : List (List ℕ)) (t : History) (some : 1 ≤ B)
     (accepted : AcceptedAt (ring_by m laws least some_least) M lists S)
-    (opening : t.opening ≡ opening_at m.sender.code (receiver_of m.middle) lists S) (kept : WellFormed B M t)
+    (opening : t.opening ≡ opening_at m.sender.code (receiver_of m.ring_lines) lists S) (kept : WellFormed B M t)
     (ch : Channel m M S lists t) (landed : AllLanded t) (open_yet : is_done t ≡ false) where
   abbrev p : Ranking
   p = ranking_of m
@@ -100,7 +100,7 @@ module _ (m : BlockMeaning) (laws : BlockLaws m) (least : ℕ) (some_least : 1 �
   opens_words = subst OpensWithWords (sym opening) accepted.empty.small
 
   harts : length t.opening.harts ≡ suc (length lists)
-  harts = ap (λ (o : Start). length o.harts) opening ∙ ap (λ n. suc n) (senders-length m.sender.code S 0 lists)
+  harts = ap (λ (o : OpeningValue). length o.harts) opening ∙ ap (λ n. suc n) (senders-length m.sender.code S 0 lists)
 
   senders : senders_of t ≡ length lists
   senders = omega (arith, harts)
@@ -127,7 +127,7 @@ module _ (m : BlockMeaning) (laws : BlockLaws m) (least : ℕ) (some_least : 1 �
   rank_is : (new : History) → new.opening ≡ t.opening
       → rank_of p M new ≡ rank_by_states p (length lists) S.size lists (reported 0 new.entries) (λ h. state_of M new h)
   rank_is new same =
-      let n : senders_of new ≡ length lists = ap (λ (o : Start). length o.harts - 1) same ∙ senders in
+      let n : senders_of new ≡ length lists = ap (λ (o : OpeningValue). length o.harts - 1) same ∙ senders in
       let s : ring_size new.opening ≡ S.size = ap ring_size same ∙ size_is in
       let l : lists_of new.opening ≡ lists = ap lists_of same ∙ lists_is in
       rw (n, s, l) refl
@@ -162,7 +162,7 @@ module _ (m : BlockMeaning) (laws : BlockLaws m) (least : ℕ) (some_least : 1 �
     running = running_is s.status is_on.0
 
     act_found : (a : ℕ) → a % 4 ≡ 0 → read t.opening t.entries (j + 1) a 4 ≡ word_in_memory t.opening t.entries a
-    act_found a aligned = grind (arith, read_is, opens_words, quiet_buffer)
+    act_found a aligned = grind (arith, read-is, opens_words, quiet_buffer)
 
     sender_falls : (e : Entry) → IsFor (event.Act (j + 1)) e → CanFollow B M t e → rank_of p M (with_entry t e) < rank_of p M t
     sender_falls e for_event can =
@@ -185,7 +185,7 @@ module _ (m : BlockMeaning) (laws : BlockLaws m) (least : ℕ) (some_least : 1 �
         a.state less)
         (receiver_rank_small p (length lists) S.size lists near (reported 0 (with_entry t e).entries)
         (λ h. state_of M (with_entry t e) h)
-        (receives m.middle (whole_of receiver_block (length lists)) ch.receiver.place
+        (receives m.ring_lines (whole_of receiver_block (length lists)) ch.receiver.place
         ch.receiver.noted) (a.states 0 (omega arith) ∙ ch.receiver.state)))
 
     pub sender_decreases : Nearer B M (rank_of p M) t (j + 1)
@@ -235,7 +235,7 @@ module _ (m : BlockMeaning) (laws : BlockLaws m) (least : ℕ) (some_least : 1 �
     r = ch.receiver.noted
 
     abbrev st : HartState
-    st = receives m.middle (whole_of receiver_block (length lists)) ch.receiver.place r
+    st = receives m.ring_lines (whole_of receiver_block (length lists)) ch.receiver.place r
 
     abbrev sender : HartState
     sender = (ch.parts b ch.receiver.known).sender.stands
@@ -321,14 +321,14 @@ module _ (m : BlockMeaning) (laws : BlockLaws m) (least : ℕ) (some_least : 1 �
             < rank_by_states p (length lists) S.size lists rs (λ h. state_of M t h)) (sym said)
             (sum_falls p (length lists) S.size lists rs (rs ++ x ∷ []) (λ h. state_of M t h) (λ h. state_of M (with_entry t e) h) b ch.receiver.known
             (λ i below other. share_same p (length lists) S.size lists rs (rs ++ x ∷ []) (λ h. state_of M t h)
-            (λ h. state_of M (with_entry t e) h) i (taken_other rs i x (λ same. other (sym same ∙ from)))
+            (λ h. state_of M (with_entry t e) h) i (taken-other rs i x (λ same. other (sym same ∙ from)))
             (closed_other rs x i (λ same. other (sym same ∙ from))) (a.states (i + 1) (omega arith)))
             (report_falls p lists rs (λ h. state_of M t h) (λ h. state_of M (with_entry t e) h) b
             (a.states (b + 1) (omega arith)) x from
             (subst (λ (ys : List Report). Clean ys lists) said after.reports.clean))
             (receiver_rank_small p (length lists) S.size lists near (rs ++ x ∷ [])
             (λ h. state_of M (with_entry t e) h)
-            (receives m.middle (whole_of
+            (receives m.ring_lines (whole_of
             (block_of M S lists after.receiver.block)
             (length lists)) after.receiver.place
             after.receiver.noted) after.receiver.state)))
@@ -356,7 +356,7 @@ module _ (m : BlockMeaning) (laws : BlockLaws m) (least : ℕ) (some_least : 1 �
         | inr ready ↦ subst (Nearer B M (rank_of p M) t) (sym ready.2) (sender_decreases ready.0 (omega (arith, senders, ready.1)) ready.3)
       ]
 
-pub falls : (m : BlockMeaning) (laws : BlockLaws m) (least : ℕ) (some_least : 1 ≤ least) → BlockProgress m least
+pub falls : (m : BlockInvariant) (laws : BlockLaws m) (least : ℕ) (some_least : 1 ≤ least) → BlockProgress m least
     → Decreases (ring_by m laws least some_least) (means_by m) (rank_of (ranking_of m)) (next_by (ranking_of m))
 unfolding Decreases
 falls m laws least some_least prog B M t some stands landed open_yet =

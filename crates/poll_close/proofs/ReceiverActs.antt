@@ -28,24 +28,24 @@ use Rattle.poll_close.specs.Going.{GoesOn}
 use Rattle.poll_close.specs.Touching.{Touches}
 use Rattle.poll_close.specs.Invariant.Blocks.{block_of, as_write, as_writes, to_block, AreNext}
 use Rattle.poll_close.specs.Invariant.ReceiverState.{ReceiverRegisters, whole_of, receives, closings_due}
-use Rattle.poll_close.specs.Invariant.BlockMeaning.{BlockMeaning, Count, unread_of, AllReported, ReceiverIs}
+use Rattle.poll_close.specs.Invariant.BlockInvariant.{BlockInvariant, Count, unread_of, AllReported, ReceiverIs}
 use Rattle.poll_close.specs.Invariant.Channels.{BlockPart, ReceiverPart, ReportsOf, ReportPart, all_closings}
 use Rattle.poll_close.proofs.Acts.{Acted, Plain, acted, going, stored_by, said_by}
-use Rattle.poll_close.proofs.Windows.{window_made}
+use Rattle.poll_close.proofs.Windows.{window-made}
 use Rattle.poll_close.proofs.Blocks.{IsBlock, Within, IsWordOf, word_end, IsStore, IsStore-whole, newest-as_writes}
 use Rattle.poll_close.proofs.Blocks.{apart, to_block-stored, to_block-elsewhere, newest-to_block, put, put_same}
 use Rattle.poll_close.proofs.Blocks.{put_other}
 use Rattle.poll_close.proofs.BlockLaws.{BlockLaws, seen_at, Says, Comes, Receives, Finds}
 use Rattle.poll_close.proofs.ReceiverMoves.{receives_on}
 use Rattle.poll_close.proofs.ReceiverStays.{shuts_same}
-use Rattle.poll_close.proofs.CleanReports.{taken_other, clean_more, reports_other, reports_took, reports_closed, prefix_take}
-use Rattle.poll_close.proofs.AllBlocks.{would_read, read_is, untouched}
+use Rattle.poll_close.proofs.CleanReports.{taken-other, clean_more, reports_other, reports_took, reports_closed, prefix_take}
+use Rattle.poll_close.proofs.AllBlocks.{would_read, read-is, untouched}
 
 -- a need stores nothing or one pair
 stored_cases : (w : Need) → (stored_by w ≡ []) ⊎ ((x : ℕ × ℕ) × (stored_by w ≡ x ∷ []))
 stored_cases w = grind arith
 
-pub shuts_put : (m : BlockMeaning) (f : ℕ → Count m) (j : ℕ) (n : Count m) (count : ℕ) → j < count
+pub shuts_put : (m : BlockInvariant) (f : ℕ → Count m) (j : ℕ) (n : Count m) (count : ℕ) → j < count
     → all_closings m (put f j n) count + (f j).receiver.closings ≡ all_closings m f count + n.receiver.closings
 shuts_put m f j n zero less = absurd (omega arith)
 shuts_put m f j n (suc i) less =
@@ -64,19 +64,19 @@ shuts_put m f j n (suc i) less =
           omega (arith, last, shuts_put m f j n i (omega (arith, other, less)))
     ]
 
-pub shuts_most : (m : BlockMeaning) (f : ℕ → Count m) (count : ℕ) → ((j : ℕ) → j < count → (f j).receiver.closings ≤ 1) → all_closings m f count ≤ count
+pub shuts_most : (m : BlockInvariant) (f : ℕ → Count m) (count : ℕ) → ((j : ℕ) → j < count → (f j).receiver.closings ≤ 1) → all_closings m f count ≤ count
 shuts_most m f zero each = omega arith
 shuts_most m f (suc i) each = omega (arith, each i (omega arith), shuts_most m f i (λ j less. each j (omega arith)))
 
 -- the channel after the receiver's act
-pub record Received (m : BlockMeaning) (M : ℕ) (S : Layout) (lists : List (List ℕ)) (new : History) : Type 0 where
+pub record Received (m : BlockInvariant) (M : ℕ) (S : Layout) (lists : List (List ℕ)) (new : History) : Type 0 where
   pub numbers : ℕ → Count m
   pub parts : (i : ℕ) → i < length lists → BlockPart m (block_of M S lists i) M i new (numbers i)
   pub receiver : ReceiverPart m M S lists new numbers
   pub reports : ReportPart m lists (reported 0 new.entries) numbers
 
 -- what is reported, where the receiver visits a block
-module _ (m : BlockMeaning) (M : ℕ) (S : Layout) (lists : List (List ℕ)) (f : ℕ → Count m) (b : ℕ)
+module _ (m : BlockInvariant) (M : ℕ) (S : Layout) (lists : List (List ℕ)) (f : ℕ → Count m) (b : ℕ)
     (known : b < length lists) (rs : List Report) (reports : ReportPart m lists rs f) where
   reports_put : (now : List Report) (n : Count m)
       → ReportsOf now b (slice_index_or lists b []) n.receiver.took n.receiver.closings
@@ -119,7 +119,7 @@ module _ (m : BlockMeaning) (M : ℕ) (S : Layout) (lists : List (List ℕ)) (f 
                 subst (λ (j : ℕ). IsPrefixOf (taken (rs ++ x ∷ []) j) (slice_index_or lists j [])) (sym same)
                 (prefix_take (slice_index_or lists b []) (taken (rs ++ x ∷ []) b) n.receiver.took new.words)
             | inr other ↦ subst (λ (ys : List ℕ). IsPrefixOf ys (slice_index_or lists i []))
-                (sym (taken_other rs i x (λ same. other (sym same ∙ from)))) (reports.clean.in_order i)
+                (sym (taken-other rs i x (λ same. other (sym same ∙ from)))) (reports.clean.in_order i)
           ]
 
   pub said_reports : (said : List Report) (n : Count m)
@@ -136,7 +136,7 @@ module _ (m : BlockMeaning) (M : ℕ) (S : Layout) (lists : List (List ℕ)) (f 
       ((reports.senders b known).words ∙ ap (λ c. take c (slice_index_or lists b [])) closing.3
       ∙ take-length (slice_index_or lists b []))))
 
-module _ (m : BlockMeaning) (laws : BlockLaws m) (B M : ℕ) (S : Layout) (lists : List (List ℕ))
+module _ (m : BlockInvariant) (laws : BlockLaws m) (B M : ℕ) (S : Layout) (lists : List (List ℕ))
     (are : (i : ℕ) → i < length lists → IsBlock (block_of M S lists i)) (few : length lists ≤ 63) (t : History)
     (f : ℕ → Count m) (legal : Legal B t) (opens : OpensWithWords t.opening) (written : AllWriteWords t.entries)
     (parts : (i : ℕ) → i < length lists → BlockPart m (block_of M S lists i) M i t (f i))
@@ -157,7 +157,7 @@ module _ (m : BlockMeaning) (laws : BlockLaws m) (B M : ℕ) (S : Layout) (lists
   count_after n noted there counts = omega (arith, part.count, shuts_put m f part.block n (length lists) part.known)
 
   pub moves_by : (v : ℕ)
-      → (receives m.middle (whole_of (block_of M S lists part.block) (length lists)) part.place part.noted).status
+      → (receives m.ring_lines (whole_of (block_of M S lists part.block) (length lists)) part.place part.noted).status
       ≡ status.Running
       → Finds m (block_of M S lists part.block) (length lists) part.place (f part.block)
       (word_in_memory t.opening t.entries) part.noted v
@@ -177,13 +177,13 @@ module _ (m : BlockMeaning) (laws : BlockLaws m) (B M : ℕ) (S : Layout) (lists
       (subst (AreNext (m.receiver_stores (block_of M S lists part.block)) (m.taken (f part.block).receiver) (m.taken r.after)) one r.changes.stores).1
 
   pub plain_by :
-      (receives m.middle (whole_of (block_of M S lists part.block) (length lists)) part.place part.noted).status
+      (receives m.ring_lines (whole_of (block_of M S lists part.block) (length lists)) part.place part.noted).status
       ≡ status.Running
       → Plain (IsWordOf (block_of M S lists part.block))
-      (need_of (receives m.middle (whole_of (block_of M S lists part.block) (length lists)) part.place part.noted))
+      (need_of (receives m.ring_lines (whole_of (block_of M S lists part.block) (length lists)) part.place part.noted))
   plain_by runs =
       let seen : ℕ → ℕ = seen_at m (block_of M S lists part.block) (f part.block) (word_in_memory t.opening t.entries) in
-      let v : ℕ = would_read seen (need_of (receives m.middle (whole_of (block_of M S lists part.block) (length lists)) part.place part.noted)) in
+      let v : ℕ = would_read seen (need_of (receives m.ring_lines (whole_of (block_of M S lists part.block) (length lists)) part.place part.noted)) in
       let r : Receives m (block_of M S lists part.block) part.block (length lists) part.place (f part.block)
       part.noted v =
       moves_by v runs (λ a inside wants. ap (would_read seen) wants) in
@@ -196,7 +196,7 @@ module _ (m : BlockMeaning) (laws : BlockLaws m) (B M : ℕ) (S : Layout) (lists
   pub receiver_goes_on : (e : Entry) → CanFollow B M t e → hart_of e ≡ 0 → is_land e ≡ false → GoesOn e × WritesWord (access_of e) × Touches S (length lists) e
   receiver_goes_on e can mine alone =
       going _ S (length lists) B M t 0
-      (receives m.middle (whole_of (block_of M S lists part.block) (length lists)) part.place part.noted) e
+      (receives m.ring_lines (whole_of (block_of M S lists part.block) (length lists)) part.place part.noted) e
       part.state can mine alone plain_by
       (λ a word. record {
         block = part.block;
@@ -218,14 +218,14 @@ module _ (m : BlockMeaning) (laws : BlockLaws m) (B M : ℕ) (S : Layout) (lists
   pub found : (b : ℕ) → IsWordOf (block_of M S lists part.block) b → read t.opening t.entries 0 b 4
       ≡ seen_at m (block_of M S lists part.block) (f part.block) (word_in_memory t.opening t.entries) b
   found b word =
-      read_is t 0 b opens written word.aligned
+      read-is t 0 b opens written word.aligned
       ∙ ap (λ o. unwrap_or o (word_in_memory t.opening t.entries b))
       (sym (newest-to_block (block_of M S lists part.block) b None (pending 0 t.entries) word.within))
       ∙ ap (λ ws. unwrap_or (newest_word b None ws) (word_in_memory t.opening t.entries b)) (parts part.block part.known).theirs
       ∙ ap (λ o. unwrap_or o (word_in_memory t.opening t.entries b)) (newest-as_writes b None (unread_of m (block_of M S lists part.block) (f part.block)))
 
   module _ (new : History) (v : ℕ) (a : Acted M t new 0
-      (receives m.middle (whole_of (block_of M S lists part.block) (length lists)) part.place part.noted) v)
+      (receives m.ring_lines (whole_of (block_of M S lists part.block) (length lists)) part.place part.noted) v)
       (r : Receives m (block_of M S lists part.block) part.block (length lists) part.place (f part.block) part.noted v)
     where
       abbrev n : Count m
@@ -251,7 +251,7 @@ module _ (m : BlockMeaning) (laws : BlockLaws m) (B M : ℕ) (S : Layout) (lists
                 (stored_cases r.wanted) inside ∙ ap (λ ws. ws ++ as_writes (stored_by r.wanted)) old.theirs
                 ∙ sym
                 (map-append as_write (unread_of m (block_of M S lists part.block) (f part.block)) (stored_by r.wanted))
-                ∙ ap as_writes (window_made (m.receiver_stores (block_of M S lists part.block)) (m.freed (f part.block).landed)
+                ∙ ap as_writes (window-made (m.receiver_stores (block_of M S lists part.block)) (m.freed (f part.block).landed)
                 (m.taken (f part.block).receiver) (m.taken r.after) (stored_by r.wanted)
                 (laws.freed_taken (block_of M S lists part.block) (f part.block) old.order) r.changes.stores);
             words =
@@ -318,6 +318,6 @@ module _ (m : BlockMeaning) (laws : BlockLaws m) (B M : ℕ) (S : Layout) (lists
 
   pub receiver_acts : (e : Entry) → CanFollow B M t e → hart_of e ≡ 0 → is_land e ≡ false → Received m M S lists (with_entry t e)
   receiver_acts e can mine alone =
-      let s : HartState = receives m.middle (whole_of (block_of M S lists part.block) (length lists)) part.place part.noted in
+      let s : HartState = receives m.ring_lines (whole_of (block_of M S lists part.block) (length lists)) part.place part.noted in
       let a : Acted M t (with_entry t e) 0 s (value_of e) = acted _ B M t 0 s e legal part.state can mine alone plain_by in
       received (with_entry t e) (value_of e) a (moves_by (value_of e) a.running (λ b inside wants. a.loaded b wants ∙ found b inside))

@@ -10,12 +10,12 @@ use Rattle.hart.specs.State.{HartState}
 use Rattle.hart.specs.declared.need.Need.{Need}
 use Rattle.hart.specs.declared.need.Need.TheVariants as need
 use Rattle.hart.proofs.Instructions.{IsAt, took_need, took_after, closed_need, closed_after, exit_need, exit_after}
-use Rattle.poll_close.specs.Listing.{Middle, lines_of, receiver_with}
+use Rattle.poll_close.specs.Listing.{RingLines, lines_of, receiver_with}
 use Rattle.poll_close.specs.Invariant.Blocks.{Block, offset}
 use Rattle.poll_close.specs.Invariant.ReceiverState.{ReceiverRegisters, ReceiverConstants, whole_of, receiving, receives, closings_due}
-use Rattle.poll_close.specs.Invariant.BlockMeaning.{BlockMeaning, Taken, Count, ReceiverIs, Flag, rows_of}
+use Rattle.poll_close.specs.Invariant.BlockInvariant.{BlockInvariant, Taken, Count, ReceiverIs, Flag, rows_of}
 use Rattle.poll_close.proofs.Acts.{stored_by, said_by, IsNoAmo}
-use Rattle.poll_close.proofs.Lines.{Line, loads, at_line, stores, word_plus, word_minus, add_line, sum_line, load_line}
+use Rattle.poll_close.proofs.Lines.{Line, loads, at_line, stores, word-plus, word-minus, add_line, sum_line, load_line}
 use Rattle.poll_close.proofs.Lines.{store_line, jump_line, same_jumps, other_goes_on, other_jumps, same_goes_on}
 use Rattle.poll_close.proofs.BlockLaws.{Changes, Comes, Says, Nearer, Receives, Decodes, BlockLaws, Runs, Right_at}
 use Rattle.std.proofs.lemmas.Bool.{cases_eq, cases_lt}
@@ -27,17 +27,17 @@ use Rattle.poll_close.specs.Rankings.{rest_from, runs}
 use Rattle.poll_close.specs.Plans.{is_closed}
 use Rattle.poll_close.proofs.Modulo.{offset_step, offset_wrap}
 use Rattle.poll_close.proofs.Blocks.{IsBlock, IsWordOf, offset_low, word_of, word_from}
-use Rattle.poll_close.proofs.Outlines.{also, found}
+use Rattle.poll_close.proofs.Outlines.{and_intro, found}
 use Rattle.poll_close.proofs.Distance.{flags, not_stale, far_off, arrives, wraps}
 
 -- where a line is that instruction, whatever the ring's own lines
-pub at_of : (m : Middle) → Decodes m → (c : ReceiverConstants) (r : ReceiverRegisters) (j : ℕ) {instr : Instr}
+pub at_of : (m : RingLines) → Decodes m → (c : ReceiverConstants) (r : ReceiverRegisters) (j : ℕ) {instr : Instr}
     → slice_get (map Some (lines_of (receiver_with m))) j ≡ Some (Some instr) → IsAt (receiving m c (4 * j) r) instr
 at_of m decodes c r j is = at_line (receiving m c (4 * j) r) j refl (ap (λ xs. slice_get xs j) decodes ∙ is)
 
-module _ (m : BlockMeaning) (k : Block) (i count : ℕ) (n : Count m) (order : m.Ordered k n) (r : ReceiverRegisters) (v : ℕ) where
+module _ (m : BlockInvariant) (k : Block) (i count : ℕ) (n : Count m) (order : m.CounterInvariant k n) (r : ReceiverRegisters) (v : ℕ) where
   abbrev pub now : ℕ → ReceiverRegisters → HartState
-  now here noted = receives m.middle (whole_of k count) here noted
+  now here noted = receives m.ring_lines (whole_of k count) here noted
 
   abbrev pub Counts : ℕ → ℕ → ReceiverRegisters → Taken m.Own → Type 0
   Counts here there noted after = noted.x20 + after.closings + closings_due here ≡ r.x20 + n.receiver.closings + closings_due there
@@ -90,32 +90,32 @@ module _ (m : BlockMeaning) (k : Block) (i count : ℕ) (n : Count m) (order : m
     abbrev o : Taken m.Own
     o = n.receiver
 
-    at : (j : ℕ) {instr : Instr} → slice_get (map Some (lines_of (receiver_with m.middle))) j ≡ Some (Some instr)
-        → IsAt (receiving m.middle (whole_of k count) (4 * j) r) instr
-    at j is = at_of m.middle laws.decodes (whole_of k count) r j is
+    at : (j : ℕ) {instr : Instr} → slice_get (map Some (lines_of (receiver_with m.ring_lines))) j ≡ Some (Some instr)
+        → IsAt (receiving m.ring_lines (whole_of k count) (4 * j) r) instr
+    at j is = at_of m.ring_lines laws.decodes (whole_of k count) r j is
 
-    right_00 : Right_here 0x00  -- round: addi x8,x21,0
-    right_00 h z = still 0x00 0x04 (record r { x8 = k.first }) refl
-        (add_line (at 0 refl) (word_plus k.first 0 (omega (arith, is.first, is.next)) ∙ add-zero k.first)) (h, refl)
+    keeps_at_00 : Right_here 0x00  -- round: addi x8,x21,0
+    keeps_at_00 h z = still 0x00 0x04 (record r { x8 = k.first }) refl
+        (add_line (at 0 refl) (word-plus k.first 0 (omega (arith, is.first, is.next)) ∙ add-zero k.first)) (h, refl)
         (λ rs states idle. omega arith)
 
-    right_04 : Right_here 0x04  -- addi x22,x0,0
-    right_04 h z =
-        acts 0x04 0x08 need.Inner (λ w. record r { x22 = 0 }) o tt (add_line (at 1 refl) (word_plus 0 0 (lit< tt))) unchanged
+    keeps_at_04 : Right_here 0x04  -- addi x22,x0,0
+    keeps_at_04 h z =
+        acts 0x04 0x08 need.Inner (λ w. record r { x22 = 0 }) o tt (add_line (at 1 refl) (word-plus 0 0 (lit< tt))) unchanged
         (inr (record { block = 0; known = omega arith; quiet = h.0; here = refl; index = refl; base = omega (arith, h.1) }))
         (inl (refl, refl, refl)) refl
         (λ none rs states idle. arrives rs count 0 (omega arith))
 
-    right_08 : Right_here 0x08  -- visit: lw x5,12(x8)
-    right_08 h z =
+    keeps_at_08 : Right_here 0x08  -- visit: lw x5,12(x8)
+    keeps_at_08 h z =
         let line = load_line (at 2 refl) (omega (arith, is.even, h.1.base)) refl (omega (arith, is.inside, is.some_slot, h.1.base)) is.small in
         let found = z.find (k.base + 12) (word_of k is 12 (omega arith) refl) (line.wants ∙ ap (λ b. loads (b + 12)) h.1.base) in
         reads 0x08 0x0C (r.x8 + 12) (λ w. record r { x5 = w }) refl (word_from k is r.x8 12 h.1.base (omega arith) refl) line
         (h.0, h.1, found ∙ laws.sees_done k n word_at order words)
         (λ rs states idle. flags 16 17 21 22 (is_closed rs r.x22) (is_closed rs r.x22) (omega arith) (far_off rs count (r.x22 + 1)) (λ on. on))
 
-    right_0C : Right_here 0x0C  -- bne x5,x0,step
-    right_0C h z =
+    keeps_at_0C : Right_here 0x0C  -- bne x5,x0,step
+    keeps_at_0C h z =
         elim (cases_eq r.x5 0) [
           | inl none ↦ still 0x0C 0x10 r refl (same_goes_on (at 3 refl) none) (record { visits = h.1; quiet = h.0; open_yet = sym h.2 ∙ none })
               (λ rs states idle. flags 0 16 20 21 false (is_closed rs r.x22) (omega arith) (far_off rs count (r.x22 + 1)) (λ on. cc))
@@ -126,8 +126,8 @@ module _ (m : BlockMeaning) (k : Block) (i count : ℕ) (n : Count m) (order : m
         ]
 
     -- it notes the mark that it reads
-    right_10 : Right_here 0x10  -- lw x30,4(x8)
-    right_10 h z =
+    keeps_at_10 : Right_here 0x10  -- lw x30,4(x8)
+    keeps_at_10 h z =
         let line = load_line (at 4 refl) (omega (arith, is.even, h.visits.base)) refl (omega (arith, is.inside, is.some_slot, h.visits.base)) is.small in
         let read : v ≡ m.marks n.landed = z.find (k.base + 4) (word_of k is 4 (omega arith) refl)
         (line.wants ∙ ap (λ b. loads (b + 4)) h.visits.base) ∙ laws.sees_mark k n word_at order words in
@@ -150,15 +150,15 @@ module _ (m : BlockMeaning) (k : Block) (i count : ℕ) (n : Count m) (order : m
         flag read (inl none) = inl (read ∙ none)
         flag read (inr some) = let one : m.marks n.landed ≡ 1 = omega (arith, laws.marks_one k n order) in inr (read ∙ one, one)
 
-    right_28 : Right_here 0x28  -- addi x7,x7,4
-    right_28 h z =
+    keeps_at_28 : Right_here 0x28  -- addi x7,x7,4
+    keeps_at_28 h z =
         still 0x28 0x2C (record r { x7 = r.x7 + 4 }) refl (add_line (at 10 refl)
-        (word_plus r.x7 4 (omega (arith, is.inside, is.small, h.1, offset_low k is o.tails))))
+        (word-plus r.x7 4 (omega (arith, is.inside, is.small, h.1, offset_low k is o.tails))))
         (h.0, (let same : r.x7 + 4 ≡ offset k o.tails + 4 = omega (arith, h.1) in same))
         (λ rs states idle. omega arith)
 
-    right_2C : Right_here 0x2C  -- bne x7,x9,keep
-    right_2C h z =
+    keeps_at_2C : Right_here 0x2C  -- bne x7,x9,keep
+    keeps_at_2C h z =
         elim (cases_eq r.x7 (4 * k.size)) [
           | inl same ↦ still 0x2C 0x30 r refl (same_goes_on (at 11 refl) same) (h.0, sym h.1 ∙ same) (λ rs states idle. omega arith)
           | inr other ↦ still 0x2C 0x34 r refl (other_jumps (at 11 refl) other refl)
@@ -166,12 +166,12 @@ module _ (m : BlockMeaning) (k : Block) (i count : ℕ) (n : Count m) (order : m
               (λ rs states idle. omega arith)
         ]
 
-    right_30 : Right_here 0x30  -- addi x7,x0,0
-    right_30 h z = still 0x30 0x34 (record r { x7 = 0 }) refl (add_line (at 12 refl) (word_plus 0 0 (lit< tt)))
+    keeps_at_30 : Right_here 0x30  -- addi x7,x0,0
+    keeps_at_30 h z = still 0x30 0x34 (record r { x7 = 0 }) refl (add_line (at 12 refl) (word-plus 0 0 (lit< tt)))
         (h.0, sym (offset_wrap k.size o.tails (omega (arith, is.some_slot)) h.1)) (λ rs states idle. omega arith)
 
-    right_34 : Right_here 0x34  -- keep: sw x7,8(x8)
-    right_34 h z =
+    keeps_at_34 : Right_here 0x34  -- keep: sw x7,8(x8)
+    keeps_at_34 h z =
         let line = store_line (at 13 refl) (omega (arith, is.even, h.0.visits.base)) refl (omega (arith, is.inside, is.some_slot, h.0.visits.base)) is.small in
         let made = laws.stores_tail k n order h.0.filled h.0.open_yet in
         let after : Taken m.Own = record o { tails = o.tails + 1; mark = m.marks n.landed } in
@@ -189,17 +189,17 @@ module _ (m : BlockMeaning) (k : Block) (i count : ℕ) (n : Count m) (order : m
         }))
         (inl (refl, refl, refl)) refl (λ none rs states idle. omega arith)
 
-    right_38 : Right_here 0x38  -- addi x10,x22,0
-    right_38 h z = still 0x38 0x3C (record r { x10 = r.x22 }) refl
-        (add_line (at 14 refl) (word_plus r.x22 0 (omega (arith, h.visits.index, known, few)) ∙ add-zero r.x22))
+    keeps_at_38 : Right_here 0x38  -- addi x10,x22,0
+    keeps_at_38 h z = still 0x38 0x3C (record r { x10 = r.x22 }) refl
+        (add_line (at 14 refl) (word-plus r.x22 0 (omega (arith, h.visits.index, known, few)) ∙ add-zero r.x22))
         (h, h.visits.index) (λ rs states idle. omega arith)
 
-    right_3C : Right_here 0x3C  -- addi x17,x0,2
-    right_3C h z = still 0x3C 0x40 (record r { x17 = 2 }) refl (add_line (at 15 refl) (word_plus 0 2 (lit< tt)))
+    keeps_at_3C : Right_here 0x3C  -- addi x17,x0,2
+    keeps_at_3C h z = still 0x3C 0x40 (record r { x17 = 2 }) refl (add_line (at 15 refl) (word-plus 0 2 (lit< tt)))
         (h.0, h.1, refl) (λ rs states idle. omega arith)
 
-    right_40 : Right_here 0x40  -- ecall
-    right_40 h z =
+    keeps_at_40 : Right_here 0x40  -- ecall
+    keeps_at_40 h z =
         let made = laws.reports k n (o.took + 1) o.closings order h.0.level (laws.shut_done k n order) in
         acts 0x40 0x44 (need.Report (report.Took r.x10 r.x11)) (λ w. r) (record o { took = o.took + 1; mark = m.marks n.landed }) tt
         (record { wants = took_need (at 16 refl) h.2; leaves = λ w. took_after (at 16 refl) h.2 w }) made.changes
@@ -207,11 +207,11 @@ module _ (m : BlockMeaning) (k : Block) (i count : ℕ) (n : Count m) (order : m
         (inr (inl (rw (h.1, h.0.word) refl, refl, refl, omega (arith, h.0.ahead, laws.tails_all k n order), h.0.closed ∙ h.0.open_yet)))
         refl (λ none rs states idle. cc)
 
-    right_44 : Right_here 0x44  -- jal x0,step
-    right_44 h z = still 0x44 0x68 r refl (jump_line (at 17 refl) refl) h (λ rs states idle. omega arith)
+    keeps_at_44 : Right_here 0x44  -- jal x0,step
+    keeps_at_44 h z = still 0x44 0x68 r refl (jump_line (at 17 refl) refl) h (λ rs states idle. omega arith)
 
-    right_48 : Right_here 0x48  -- empty: beq x30,x0,step
-    right_48 h z =
+    keeps_at_48 : Right_here 0x48  -- empty: beq x30,x0,step
+    keeps_at_48 h z =
         elim (cases_eq r.x30 0) [
           | inl none ↦ still 0x48 0x68 r refl (same_jumps (at 18 refl) none refl) (h.0.quiet, h.0.visits)
               (λ rs states idle. flags 10 11 13 14 true (r.x30 == 0) (omega arith) (far_off rs count (r.x22 + 1)) (λ on. grind (arith, nat_tests)))
@@ -223,11 +223,12 @@ module _ (m : BlockMeaning) (k : Block) (i count : ℕ) (n : Count m) (order : m
         all some (inl none) = absurd (some none)
         all some (inr whole) = whole
 
-    right_4C : Right_here 0x4C  -- addi x5,x0,1
-    right_4C h z = still 0x4C 0x50 (record r { x5 = 1 }) refl (add_line (at 19 refl) (word_plus 0 1 (lit< tt))) (h.0, h.1, refl) (λ rs states idle. omega arith)
+    keeps_at_4C : Right_here 0x4C  -- addi x5,x0,1
+    keeps_at_4C h z = still 0x4C 0x50 (record r { x5 = 1 }) refl (add_line (at 19 refl) (word-plus 0 1 (lit< tt)))
+        (h.0, h.1, refl) (λ rs states idle. omega arith)
 
-    right_50 : Right_here 0x50  -- sw x5,12(x8)
-    right_50 h z =
+    keeps_at_50 : Right_here 0x50  -- sw x5,12(x8)
+    keeps_at_50 h z =
         let line = store_line (at 20 refl) (omega (arith, is.even, h.0.visits.base)) refl (omega (arith, is.inside, is.some_slot, h.0.visits.base)) is.small in
         let made = laws.stores_done k n order h.0.quiet.level h.1 h.0.open_yet in
         let after : Taken m.Own = record o { done = 1; mark = m.marks n.landed } in
@@ -244,17 +245,17 @@ module _ (m : BlockMeaning) (k : Block) (i count : ℕ) (n : Count m) (order : m
         }))
         (inl (refl, refl, refl)) refl (λ none rs states idle. omega arith)
 
-    right_54 : Right_here 0x54  -- addi x10,x22,0
-    right_54 h z = still 0x54 0x58 (record r { x10 = r.x22 }) refl
-        (add_line (at 21 refl) (word_plus r.x22 0 (omega (arith, h.visits.index, known, few)) ∙ add-zero r.x22))
+    keeps_at_54 : Right_here 0x54  -- addi x10,x22,0
+    keeps_at_54 h z = still 0x54 0x58 (record r { x10 = r.x22 }) refl
+        (add_line (at 21 refl) (word-plus r.x22 0 (omega (arith, h.visits.index, known, few)) ∙ add-zero r.x22))
         (h, h.visits.index) (λ rs states idle. omega arith)
 
-    right_58 : Right_here 0x58  -- addi x17,x0,3
-    right_58 h z = still 0x58 0x5C (record r { x17 = 3 }) refl (add_line (at 22 refl) (word_plus 0 3 (lit< tt)))
+    keeps_at_58 : Right_here 0x58  -- addi x17,x0,3
+    keeps_at_58 h z = still 0x58 0x5C (record r { x17 = 3 }) refl (add_line (at 22 refl) (word-plus 0 3 (lit< tt)))
         (h.0, h.1, refl) (λ rs states idle. omega arith)
 
-    right_5C : Right_here 0x5C  -- ecall
-    right_5C h z =
+    keeps_at_5C : Right_here 0x5C  -- ecall
+    keeps_at_5C h z =
         let made = laws.reports k n o.took 1 order h.0.level (omega (arith, h.0.done)) in
         acts 0x5C 0x60 (need.Report (report.Closed r.x10)) (λ w. r) (record o { closings = 1; mark = m.marks n.landed }) tt
         (record { wants = closed_need (at 23 refl) h.2; leaves = λ w. closed_after (at 23 refl) h.2 w }) made.changes
@@ -262,36 +263,36 @@ module _ (m : BlockMeaning) (k : Block) (i count : ℕ) (n : Count m) (order : m
         (inr (inr (rw h.1 refl, refl, refl, h.0.words ∙ h.0.all, h.0.unsaid)))
         (omega (arith, h.0.unsaid)) (λ none rs states idle. cc)
 
-    right_60 : Right_here 0x60  -- addi x20,x20,-1
-    right_60 h z =
+    keeps_at_60 : Right_here 0x60  -- addi x20,x20,-1
+    keeps_at_60 h z =
         let one : r.x20 ≡ r.x20 - 1 + 1 = omega (arith, z.owed) in
         still 0x60 0x64 (record r { x20 = r.x20 - 1 }) (omega (arith, one))
-        (add_line (at 24 refl) (word_minus r.x20 (r.x20 - 1) one (omega (arith, one, z.small)))) (h.0, h.1)
+        (add_line (at 24 refl) (word-minus r.x20 (r.x20 - 1) one (omega (arith, one, z.small)))) (h.0, h.1)
         (λ rs states idle. omega arith)
 
-    right_64 : Right_here 0x64  -- beq x20,x0,quit
-    right_64 h z =
+    keeps_at_64 : Right_here 0x64  -- beq x20,x0,quit
+    keeps_at_64 h z =
         elim (cases_eq r.x20 0) [
           | inl none ↦ still 0x64 0x78 r refl (same_jumps (at 25 refl) none refl) (h.0, none) (λ rs states idle. omega arith)
           | inr some ↦ still 0x64 0x68 r refl (other_goes_on (at 25 refl) some) h (λ rs states idle. omega arith)
         ]
 
-    right_68 : Right_here 0x68  -- step: add x8,x8,x18
-    right_68 h z =
+    keeps_at_68 : Right_here 0x68  -- step: add x8,x8,x18
+    keeps_at_68 h z =
         still 0x68 0x6C (record r { x8 = r.x8 + k.stride }) refl (sum_line (at 26 refl) (omega (arith, h.1.base, is.next)))
         (h.0, h.1.index, (let same : r.x8 + k.stride ≡ k.base + k.stride = omega (arith, h.1.base) in same))
         (λ rs states idle. omega arith)
 
-    right_6C : Right_here 0x6C  -- addi x22,x22,1
-    right_6C h z =
-        still 0x6C 0x70 (record r { x22 = r.x22 + 1 }) refl (add_line (at 27 refl) (word_plus r.x22 1 (omega (arith, h.1, known, few))))
+    keeps_at_6C : Right_here 0x6C  -- addi x22,x22,1
+    keeps_at_6C h z =
+        still 0x6C 0x70 (record r { x22 = r.x22 + 1 }) refl (add_line (at 27 refl) (word-plus r.x22 1 (omega (arith, h.1, known, few))))
         (h.0, (let same : r.x22 + 1 ≡ i + 1 = omega (arith, h.1) in same), h.2)
         (λ rs states idle. (let rest : rest_from rs count (r.x22 + 1 - 1 + 1) ≡ rest_from rs count (r.x22 + 1) =
         ap (λ j. rest_from rs count (j + 1)) {x = r.x22 + 1 - 1} (omega arith) in
         omega (arith, rest)))
 
-    right_70 : Right_here 0x70  -- bne x8,x19,visit
-    right_70 h z =
+    keeps_at_70 : Right_here 0x70  -- bne x8,x19,visit
+    keeps_at_70 h z =
         elim (cases_eq r.x8 (k.first + count * k.stride)) [
           | inl same ↦ still 0x70 0x74 r refl (same_goes_on (at 28 refl) same) h.0
               (λ rs states idle. (let over : rest_from rs count (r.x22 - 1 + 1) ≡ rest_from rs count count =
@@ -321,29 +322,31 @@ module _ (m : BlockMeaning) (k : Block) (i count : ℕ) (n : Count m) (order : m
         more other (inl last) = absurd (other (h.2 ∙ next ∙ ap (λ j. k.first + j * k.stride) last))
         more other (inr less) = omega (arith, known)
 
-    right_74 : Right_here 0x74  -- jal x0,round
-    right_74 h z = still 0x74 0x00 r refl (jump_line (at 29 refl) refl) h (λ rs states idle. omega arith)
+    keeps_at_74 : Right_here 0x74  -- jal x0,round
+    keeps_at_74 h z = still 0x74 0x00 r refl (jump_line (at 29 refl) refl) h (λ rs states idle. omega arith)
 
-    right_78 : Right_here 0x78  -- quit: addi x17,x0,93
-    right_78 h z = still 0x78 0x7C (record r { x17 = 93 }) refl (add_line (at 30 refl) (word_plus 0 93 (lit< tt)))
+    keeps_at_78 : Right_here 0x78  -- quit: addi x17,x0,93
+    keeps_at_78 h z = still 0x78 0x7C (record r { x17 = 93 }) refl (add_line (at 30 refl) (word-plus 0 93 (lit< tt)))
         (h.0, refl, h.1) (λ rs states idle. omega arith)
 
-    right_7C : Right_here 0x7C  -- ecall
-    right_7C h z =
+    keeps_at_7C : Right_here 0x7C  -- ecall
+    keeps_at_7C h z =
         acts 0x7C 0x80 need.Exit (λ w. r) o tt (record { wants = exit_need (at 31 refl) h.1; leaves = λ w. exit_after (at 31 refl) h.1 w }) unchanged
         (inl (h.0, h.2)) (inl (refl, refl, refl)) refl (λ none rs states idle. omega arith)
 
-    right_80 : Right_here 0x80
-    right_80 h z = let bad : status.Ended ≡ status.Running = z.runs in cc
+    keeps_at_80 : Right_here 0x80
+    keeps_at_80 h z = let bad : status.Ended ≡ status.Running = z.runs in cc
 
     -- wherever it runs, it moves, by what it finds in the block that it visits
     pub receives_on : (here : ℕ) → Right_here here
     receives_on here h =
-        let last = also right_68 (also right_6C (also right_70 (also right_74
-        (also right_78 (also right_7C (also right_80 (laws.moves k i count n word_at r v is order words))))))) in
-        let close = also right_48 (also right_4C (also right_50 (also right_54 (also right_58 (also right_5C (also right_60 (also right_64 last))))))) in
-        let take = also right_28 (also right_2C (also right_30 (also right_34 (also right_38 (also right_3C (also right_40 (also right_44 close))))))) in
+        let last = and_intro keeps_at_68 (and_intro keeps_at_6C (and_intro keeps_at_70 (and_intro keeps_at_74
+        (and_intro keeps_at_78 (and_intro keeps_at_7C (and_intro keeps_at_80 (laws.moves k i count n word_at r v is order words))))))) in
+        let close = and_intro keeps_at_48 (and_intro keeps_at_4C (and_intro keeps_at_50 (and_intro keeps_at_54
+        (and_intro keeps_at_58 (and_intro keeps_at_5C (and_intro keeps_at_60 (and_intro keeps_at_64 last))))))) in
+        let take = and_intro keeps_at_28 (and_intro keeps_at_2C (and_intro keeps_at_30 (and_intro keeps_at_34
+        (and_intro keeps_at_38 (and_intro keeps_at_3C (and_intro keeps_at_40 (and_intro keeps_at_44 close))))))) in
         found (λ (H : Block → ℕ → Taken m.Own → ReceiverRegisters → Type 0). H k i o r)
         (λ at. Runs m k count at n word_at r v → Receives m k i count at n r v) (rows_of m)
-        (also right_00 (also right_04 (also right_08
-        (also right_0C (also right_10 (also (laws.moves_14 k i count n word_at r v is order words) take)))))) here h
+        (and_intro keeps_at_00 (and_intro keeps_at_04 (and_intro keeps_at_08
+        (and_intro keeps_at_0C (and_intro keeps_at_10 (and_intro (laws.moves_14 k i count n word_at r v is order words) take)))))) here h

@@ -5,19 +5,19 @@ use Rattle.step_machine.specs.History.{History}
 use Rattle.step_machine.specs.Paths.{state_of}
 use Rattle.poll_close.specs.Layout.{Layout}
 use Rattle.poll_close.specs.Invariant.Blocks.{block_of}
-use Rattle.poll_close.specs.Invariant.BlockMeaning.{BlockMeaning, Taken, Count, AllReported, ReceiverIs}
+use Rattle.poll_close.specs.Invariant.BlockInvariant.{BlockInvariant, Taken, Count, AllReported, ReceiverIs}
 use Rattle.poll_close.specs.Invariant.Channels.{ReceiverPart, ReportPart, all_closings}
 use Rattle.poll_close.proofs.AllBlocks.{BlocksAfter}
 
 -- sums over all senders
-pub shuts_same : (m : BlockMeaning) (f g : ℕ → Count m) (count : ℕ)
+pub shuts_same : (m : BlockInvariant) (f g : ℕ → Count m) (count : ℕ)
     → ((i : ℕ) → i < count → (g i).receiver.closings ≡ (f i).receiver.closings)
     → all_closings m g count ≡ all_closings m f count
 shuts_same m f g zero same = refl
 shuts_same m f g (suc i) same = grind (arith, shuts_same m f g i)
 
 -- an event that is not the receiver's act keeps its part, and what is reported
-module _ (m : BlockMeaning) (M : ℕ) (S : Layout) (lists : List (List ℕ)) (t new : History) (f : ℕ → Count m) (after : BlocksAfter m M S lists new f) where
+module _ (m : BlockInvariant) (M : ℕ) (S : Layout) (lists : List (List ℕ)) (t new : History) (f : ℕ → Count m) (after : BlocksAfter m M S lists new f) where
   pub part_stays : state_of M new 0 ≡ state_of M t 0 → ReceiverPart m M S lists t f → ReceiverPart m M S lists new after.numbers
   part_stays same part = record {
     place = part.place;

@@ -15,7 +15,7 @@ use Rattle.poll_close.specs.Reports.{taken, sender_of, Clean}
 use Rattle.poll_close.specs.Rankings.{Ranking, some_open, receiver_rank_if}
 use Rattle.poll_close.specs.Rankings.{sender_if, one_if, share, total, round, rank_by_states, Around}
 use Rattle.poll_close.specs.Plans.{is_closed, all_closed}
-use Rattle.poll_close.specs.Invariant.BlockMeaning.{BlockMeaning, Count}
+use Rattle.poll_close.specs.Invariant.BlockInvariant.{BlockInvariant, Count}
 use Rattle.poll_close.specs.Invariant.Channels.{all_closings}
 use Rattle.poll_close.proofs.Windows.{get_end}
 use Rattle.poll_close.proofs.CleanReports.{taken-took, taken-closed, get_front}
@@ -24,13 +24,13 @@ use Rattle.poll_close.proofs.Planning.{closed_at}
 use Rattle.poll_close.proofs.Distance.{not_far}
 
 -- sums over the senders
-pub total_same : (f g : ℕ → ℕ) (n : ℕ) → ((i : ℕ) → i < n → g i ≡ f i) → total g n ≡ total f n
-total_same f g zero same = refl
-total_same f g (suc i) same = omega (arith, same i (omega arith), total_same f g i (λ j less. same j (omega arith)))
+pub total-same : (f g : ℕ → ℕ) (n : ℕ) → ((i : ℕ) → i < n → g i ≡ f i) → total g n ≡ total f n
+total-same f g zero same = refl
+total-same f g (suc i) same = omega (arith, same i (omega arith), total-same f g i (λ j less. same j (omega arith)))
 
-pub total_less : (f g : ℕ → ℕ) (n j : ℕ) → j < n → ((i : ℕ) → i < n → i ≢ j → g i ≡ f i) → g j < f j → total g n < total f n
-total_less f g zero j less same fall = absurd (omega arith)
-total_less f g (suc i) j less same fall = grind (arith, cases_eq, total_same, total_less f g i j)
+pub total-less : (f g : ℕ → ℕ) (n j : ℕ) → j < n → ((i : ℕ) → i < n → i ≢ j → g i ≡ f i) → g j < f j → total g n < total f n
+total-less f g zero j less same fall = absurd (omega arith)
+total-less f g (suc i) j less same fall = grind (arith, cases_eq, total-same, total-less f g i j)
 
 -- what is left, by what an act changes of it
 module _ (p : Ranking) (n size : ℕ) (lists : List (List ℕ)) where
@@ -53,7 +53,7 @@ module _ (p : Ranking) (n size : ℕ) (lists : List (List ℕ)) where
       let a : ℕ = total (share p lists new after) n in
       let b : ℕ = total (share p lists rs states) n in
       let less : total (share p lists new after) n < total (share p lists rs states) n =
-      total_less (share p lists rs states) (share p lists new after) n j within same fall in
+      total-less (share p lists rs states) (share p lists new after) n j within same fall in
       added (total (share p lists new after) n) (total (share p lists rs states) n)
       (receiver_rank_if p n size new after (after 0)) (receiver_rank_if p n size rs states (states 0)) less near
     where
@@ -66,7 +66,7 @@ module _ (p : Ranking) (n size : ℕ) (lists : List (List ℕ)) where
       → ((i : ℕ) → i < n → after (i + 1) ≡ states (i + 1))
       → receiver_rank_if p n size rs after (after 0) < receiver_rank_if p n size rs states (states 0)
       → rank_by_states p n size lists new after < rank_by_states p n size lists rs states
-  receiver_rank_falls rs new states after said state fall = grind (arith, total_same, share_same)
+  receiver_rank_falls rs new states after said state fall = grind (arith, total-same, share_same)
 
   receiver_rank_same : (rs : List Report) (states after : ℕ → Option HartState) (o : Option HartState)
       → ((h : ℕ) → after h ≡ states h) → receiver_rank_if p n size rs after o ≡ receiver_rank_if p n size rs states o
@@ -75,7 +75,7 @@ module _ (p : Ranking) (n size : ℕ) (lists : List (List ℕ)) where
   pub rank_same : (rs new : List Report) (states after : ℕ → Option HartState) → new ≡ rs
       → ((h : ℕ) → after h ≡ states h)
       → rank_by_states p n size lists new after ≡ rank_by_states p n size lists rs states
-  rank_same rs new states after said same = grind (arith, total_same, share_same, receiver_rank_same)
+  rank_same rs new states after said same = grind (arith, total-same, share_same, receiver_rank_same)
 
   -- it is never further away than a round
   pub receiver_rank_small : ((a : Around) (s : HartState) → p.receiver a s ≤ 22 + a.rest + a.start)
@@ -157,7 +157,7 @@ some_from rs j zero i less is = absurd (omega arith)
 some_from rs j (suc n) zero less is = let here : is_closed rs j ≡ false = ap (is_closed rs) (let same : j ≡ j + 0 = omega arith in same) ∙ is in rw here refl
 some_from rs j (suc n) (suc i) less is = grind (arith, some_from rs (suc j) n i)
 
-pub shuts_less : (m : BlockMeaning) (f : ℕ → Count m) (count i : ℕ)
+pub shuts_less : (m : BlockInvariant) (f : ℕ → Count m) (count i : ℕ)
     → ((j : ℕ) → j < count → (f j).receiver.closings ≤ 1) → i < count → (f i).receiver.closings ≡ 0
     → all_closings m f count < count
 shuts_less m f zero i each less none = absurd (omega arith)

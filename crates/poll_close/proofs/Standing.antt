@@ -6,10 +6,10 @@ use Rattle.std.specs.Prelude.{IfOk, IfErr, OnOk, OnErr, option_map}
 use Rattle.hart.specs.declared.need.Report.{Report}
 use Rattle.step_machine.specs.declared.events.Event.{Event}
 use Rattle.step_machine.specs.declared.events.Outcome.{Outcome}
-use Rattle.step_machine.specs.History.{HartStart, Start, History, Progress, unrun}
+use Rattle.step_machine.specs.History.{HartOpeningValue, OpeningValue, History, HistoryWithRoom, at_opening}
 use Rattle.step_machine.specs.Entries.{reported, memory_word}
 use Rattle.step_machine.specs.Runs.{Happens, RunFrom}
-use Rattle.step_machine.proofs.Running.{kept-unrun}
+use Rattle.step_machine.proofs.Running.{kept-at_opening}
 use Rattle.poll_close.specs.Layout.{Layout, senders_from}
 use Rattle.poll_close.specs.Laws.{Ring, opening_over, Meaning, AcceptedAt, Opens, Keeps, Cleans, Goes}
 use Rattle.poll_close.specs.Going.{AllGoOn}
@@ -22,22 +22,22 @@ use Rattle.step_machine.specs.WordReads.{OpensWithWords, word_in_memory}
 use Rattle.step_machine.proofs.WordReads.{memory-word}
 use Rattle.poll_close.specs.Invariant.Outlines.{Standing}
 use Rattle.poll_close.specs.Invariant.Blocks.{Block, block_of}
-use Rattle.poll_close.specs.Invariant.BlockMeaning.{BlockMeaning, Count}
+use Rattle.poll_close.specs.Invariant.BlockInvariant.{BlockInvariant, Count}
 use Rattle.poll_close.specs.Invariant.Channels.{means_by}
 use Rattle.poll_close.proofs.Blocks.{IsBlock}
 use Rattle.poll_close.proofs.ChannelLaws.{blocks}
 
-pub inboxes : (code : List ℕ) (S : Layout) (i : ℕ) (lists : List (List ℕ)) → map (λ (h : HartStart). h.inbox) (senders_from code S i lists) ≡ lists
+pub inboxes : (code : List ℕ) (S : Layout) (i : ℕ) (lists : List (List ℕ)) → map (λ (h : HartOpeningValue). h.inbox) (senders_from code S i lists) ≡ lists
 inboxes code S i [] = refl
 inboxes code S i (ws ∷ lists) = ap (λ rest. ws ∷ rest) (inboxes code S (i + 1) lists)
 
 module _ (ring : Ring) (means : Meaning) (B M : ℕ) where
   pub stands-opens : (lists : List (List ℕ)) (S : Layout) (t : History) → Opens ring means
-      → AcceptedAt ring M lists S → t ≡ unrun (opening_over ring lists S) → Stands ring means B M t
+      → AcceptedAt ring M lists S → t ≡ at_opening (opening_over ring lists S) → Stands ring means B M t
   unfolding Opens
   stands-opens lists S t opens accepted is = subst (Stands ring means B M) (sym is) (record {
     opens = record { lists = lists; layout = S; accepted = accepted; opening = refl };
-    kept = kept-unrun B M (opening_over ring lists S);
+    kept = kept-at_opening B M (opening_over ring lists S);
     meant = opens B M lists S accepted;
   })
 
@@ -69,25 +69,25 @@ module _ (ring : Ring) (means : Meaning) (B M : ℕ) where
   stands-receiver t s = grind arith
 
   -- one event, and a list of events, as a machine answers them
-  pub stands-step : {E : Type 0} (old new : Progress) (ev : Event) (r : Result Outcome E) → Keeps ring means
+  pub stands-step : {E : Type 0} (old new : HistoryWithRoom) (ev : Event) (r : Result Outcome E) → Keeps ring means
       → Stands ring means B M old.history → IfOk r (λ o. Happens B M old.history ev o new.history) → OnErr r (new ≡ old)
       → Stands ring means B M new.history
   stands-step old new ev r keeps s happens same = grind (arith, stands-happens)
 
-  pub stands-ran : {A E : Type 0} (old new : Progress) (evs : List Event) (r : Result A (ℕ × E)) → Keeps ring means
+  pub stands-ran : {A E : Type 0} (old new : HistoryWithRoom) (evs : List Event) (r : Result A (ℕ × E)) → Keeps ring means
       → Stands ring means B M old.history → OnOk r (RunFrom B M old.history evs new.history)
       → IfErr r (λ e. RunFrom B M old.history (take e.0 evs) new.history) → Stands ring means B M new.history
   stands-ran old new evs (Ok o) keeps s ran failed = stands-run old.history evs new.history keeps s ran
   stands-ran old new evs (Err e) keeps s ran failed = stands-run old.history (take e.0 evs) new.history keeps s failed
 
   -- what its holder sees is clean
-  pub clean-seen : (p q : Progress) (rs : List Report) → p ≡ q → rs ≡ reported 0 p.history.entries
+  pub clean-seen : (p q : HistoryWithRoom) (rs : List Report) → p ≡ q → rs ≡ reported 0 p.history.entries
       → Cleans ring means → Stands ring means B M p.history → Clean rs (lists_of q.history.opening)
-  clean-seen p q rs view is cleans s = subst (λ (z : Progress). Clean rs (lists_of z.history.opening)) view (rw is (stands-clean p.history cleans s))
+  clean-seen p q rs view is cleans s = subst (λ (z : HistoryWithRoom). Clean rs (lists_of z.history.opening)) view (rw is (stands-clean p.history cleans s))
 
 -- ---- a sender's hart, where a plan asks whether it is ready
 
-pub record Sender (m : BlockMeaning) (M : ℕ) (t : History) (h : ℕ) : Type 0 where
+pub record Sender (m : BlockInvariant) (M : ℕ) (t : History) (h : ℕ) : Type 0 where
   pub block : Block
   pub numbers : Count m
   pub is : IsBlock block
@@ -97,10 +97,10 @@ pub record Sender (m : BlockMeaning) (M : ℕ) (t : History) (h : ℕ) : Type 0 
   pub stands : Standing m.sender block numbers.sender state
   pub memory : (a : ℕ) → a % 4 ≡ 0 → memory_word t.opening t.entries a ≡ word_in_memory t.opening t.entries a
 
-pub sender_at : (m : BlockMeaning) (ring : Ring) → 1 ≤ ring.least → (B M : ℕ) (t : History) (h : ℕ)
+pub sender_at : (m : BlockInvariant) (ring : Ring) → 1 ≤ ring.least → (B M : ℕ) (t : History) (h : ℕ)
     → Stands ring (means_by m) B M t → 1 ≤ h → h < length t.opening.harts → Sender m M t h
 sender_at m ring some_slot B M t h st some less =
-    let harts : length t.opening.harts ≡ suc (length st.opens.lists) = ap (λ (o : Start). length o.harts)
+    let harts : length t.opening.harts ≡ suc (length st.opens.lists) = ap (λ (o : OpeningValue). length o.harts)
     st.opens.opening ∙ ap (λ n. suc n) (senders-length ring.sender st.opens.layout 0 st.opens.lists) in
     let within : h - 1 < length st.opens.lists = omega (arith, harts, less, some) in
     let same : h - 1 + 1 ≡ h = omega (arith, some) in

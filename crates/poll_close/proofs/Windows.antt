@@ -2,7 +2,7 @@
 -- not landed.
 use Rattle.std.proofs.Common.{ℕ, zero, suc, ◌<◌, ◌≤◌, ◌≡◌, ◌≢◌, ◌==◌, false, if◌then◌else◌, List, [], ◌∷◌}
 use Rattle.std.proofs.Common.{◌++◌, length, take, length-drop, length-take, min, Option, Some, None, refl, sym, ◌∙◌, ap}
-use Rattle.std.proofs.Common.{arith, append-nil, eq-eqb, ◌+◌, ◌*◌, ◌⊎◌, inl, inr}
+use Rattle.std.proofs.Common.{arith, subst, append-nil, eq-eqb, ◌+◌, ◌*◌, ◌⊎◌, inl, inr}
 use Rattle.std.specs.List.{slice_get}
 use Rattle.std.proofs.Math.ListN.{drop_of_length-le}
 use Rattle.std.proofs.lemmas.Bool.Decides.{nat_tests}
@@ -17,23 +17,23 @@ one_made (y ∷ ys) (suc k) zero x less is = absurd (omega arith)
 one_made (y ∷ ys) (suc k) (suc n) x less is = one_made ys k n x (omega arith) is
 
 -- the next store is made, or none
-pub window_made : (xs : List (ℕ × ℕ)) (k i j : ℕ) (made : List (ℕ × ℕ)) → k ≤ i → AreNext xs i j made → window xs k i ++ made ≡ window xs k j
-window_made xs k i j made less next = grind (arith, append-nil, one_made)
+pub window-made : (xs : List (ℕ × ℕ)) (k i j : ℕ) (made : List (ℕ × ℕ)) → k ≤ i → AreNext xs i j made → window xs k i ++ made ≡ window xs k j
+window-made xs k i j made less next = grind (arith, append-nil, one_made)
 
 -- the head of a window is the store of its number
-pub window_head : (xs : List (ℕ × ℕ)) (i j : ℕ) (x : ℕ × ℕ) (rest : List (ℕ × ℕ)) → window xs i j ≡ x ∷ rest
+pub window-head : (xs : List (ℕ × ℕ)) (i j : ℕ) (x : ℕ × ℕ) (rest : List (ℕ × ℕ)) → window xs i j ≡ x ∷ rest
     → (i < j) × (slice_get xs i ≡ Some x) × (window xs (suc i) j ≡ rest)
-window_head [] zero zero x rest is = cc
-window_head [] zero (suc j) x rest is = cc
-window_head [] (suc i) zero x rest is = cc
-window_head [] (suc i) (suc j) x rest is = cc
-window_head (y ∷ ys) zero zero x rest is = cc
-window_head (y ∷ ys) zero (suc j) x rest is = (omega arith, (let same : y ≡ x = cc in ap Some same), (let more : take j ys ≡ rest = cc in more))
-window_head (y ∷ ys) (suc i) zero x rest is = cc
-window_head (y ∷ ys) (suc i) (suc j) x rest is = let more = window_head ys i j x rest is in ((let less : i < j = more.0 in omega arith), more.1, more.2)
+window-head [] zero zero x rest is = cc
+window-head [] zero (suc j) x rest is = cc
+window-head [] (suc i) zero x rest is = cc
+window-head [] (suc i) (suc j) x rest is = cc
+window-head (y ∷ ys) zero zero x rest is = cc
+window-head (y ∷ ys) zero (suc j) x rest is = (omega arith, (let same : y ≡ x = cc in ap Some same), (let more : take j ys ≡ rest = cc in more))
+window-head (y ∷ ys) (suc i) zero x rest is = cc
+window-head (y ∷ ys) (suc i) (suc j) x rest is = let more = window-head ys i j x rest is in ((let less : i < j = more.0 in omega arith), more.1, more.2)
 
-pub window_empty : (xs : List (ℕ × ℕ)) (i j : ℕ) → j ≤ i → window xs i j ≡ []
-window_empty xs i j less = drop_of_length-le (take j xs) (let front : length (take j xs) ≡ min j (length xs) = length-take j xs in omega arith)
+pub window-empty : (xs : List (ℕ × ℕ)) (i j : ℕ) → j ≤ i → window xs i j ≡ []
+window-empty xs i j less = drop_of_length-le (take j xs) (let front : length (take j xs) ≡ min j (length xs) = length-take j xs in omega arith)
 
 -- where the window is empty, all that is made has landed
 pub none_left : (xs : List (ℕ × ℕ)) (i j : ℕ) → window xs i j ≡ [] → j ≤ length xs → j ≤ i
@@ -82,22 +82,22 @@ Each-range P (y ∷ ys) (suc i) zero each t x is = cc
 Each-range P (y ∷ ys) (suc i) (suc j) each t x is =
     Each-range P ys i j (λ s z from below at. each (suc s) z (omega (arith, from)) (omega (arith, below)) at) t x is
 
-window_split : (xs : List (ℕ × ℕ)) (i m j : ℕ) → i ≤ m → m ≤ j → window xs i j ≡ window xs i m ++ window xs m j
-window_split [] zero zero zero a b = refl
-window_split [] zero zero (suc j) a b = refl
-window_split [] zero (suc m) (suc j) a b = refl
-window_split [] (suc i) (suc m) (suc j) a b = refl
-window_split (y ∷ ys) zero zero j a b = refl
-window_split (y ∷ ys) zero (suc m) (suc j) a b = ap (λ zs. y ∷ zs) (window_split ys zero m j (omega arith) (omega arith))
-window_split (y ∷ ys) (suc i) (suc m) (suc j) a b = window_split ys i m j (omega arith) (omega arith)
-window_split x z other u a b = absurd (omega arith)
+window-split : (xs : List (ℕ × ℕ)) (i m j : ℕ) → i ≤ m → m ≤ j → window xs i j ≡ window xs i m ++ window xs m j
+window-split [] zero zero zero a b = refl
+window-split [] zero zero (suc j) a b = refl
+window-split [] zero (suc m) (suc j) a b = refl
+window-split [] (suc i) (suc m) (suc j) a b = refl
+window-split (y ∷ ys) zero zero j a b = refl
+window-split (y ∷ ys) zero (suc m) (suc j) a b = ap (λ zs. y ∷ zs) (window-split ys zero m j (omega arith) (omega arith))
+window-split (y ∷ ys) (suc i) (suc m) (suc j) a b = window-split ys i m j (omega arith) (omega arith)
+window-split x z other u a b = absurd (omega arith)
 
 -- the newest to an address is store s, where none after it goes there
 pub newest_at : (xs : List (ℕ × ℕ)) (i s j a v : ℕ) → i ≤ s → s < j → slice_get xs s ≡ Some (a, v)
     → ((t : ℕ) (x : ℕ × ℕ) → s < t → t < j → slice_get xs t ≡ Some x → x.0 ≢ a)
     → newest_to a None (window xs i j) ≡ Some v
 newest_at xs i s j a v from below is none =
-    ap (newest_to a None) (window_split xs i (suc s) j (omega arith) (omega arith))
+    ap (newest_to a None) (window-split xs i (suc s) j (omega arith) (omega arith))
     ∙ newest_to-append a None (window xs i (suc s)) (window xs (suc s) j)
     ∙ ap (λ o. newest_to a o (window xs (suc s) j)) (newest_made xs i s a v from is)
     ∙ newest_none a (Some v) (window xs (suc s) j) (Each-range (λ x. x.0 ≢ a) xs (suc s) j (λ t x more less at. none t x (omega (arith, more)) less at))
@@ -132,13 +132,13 @@ pair_last f g last [] zero at = refl
 pair_last f g last (w ∷ ws) (suc (suc n)) at = pair_last (λ j v. f (suc j) v) (λ j v. g (suc j) v) last ws n (omega arith)
 pair_last f g last ws n at = absurd (omega arith)
 
-pub singles_length : (each : ℕ → ℕ → ℕ × ℕ) (last : ℕ × ℕ) (ws : List ℕ) → length (singles each last ws) ≡ length ws + 1
-singles_length each last [] = refl
-singles_length each last (w ∷ ws) = omega (arith, singles_length (λ j v. each (suc j) v) last ws)
+pub singles-length : (each : ℕ → ℕ → ℕ × ℕ) (last : ℕ × ℕ) (ws : List ℕ) → length (singles each last ws) ≡ length ws + 1
+singles-length each last [] = refl
+singles-length each last (w ∷ ws) = omega (arith, singles-length (λ j v. each (suc j) v) last ws)
 
-pub pairs_length : (f g : ℕ → ℕ → ℕ × ℕ) (last : ℕ × ℕ) (ws : List ℕ) → length (pairs f g last ws) ≡ 2 * length ws + 1
-pairs_length f g last [] = refl
-pairs_length f g last (w ∷ ws) = omega (arith, pairs_length (λ j v. f (suc j) v) (λ j v. g (suc j) v) last ws)
+pub pairs-length : (f g : ℕ → ℕ → ℕ × ℕ) (last : ℕ × ℕ) (ws : List ℕ) → length (pairs f g last ws) ≡ 2 * length ws + 1
+pairs-length f g last [] = refl
+pairs-length f g last (w ∷ ws) = omega (arith, pairs-length (λ j v. f (suc j) v) (λ j v. g (suc j) v) last ws)
 
 -- the store of word k, which is at its place
 abbrev pub OfWord : (ℕ → ℕ → ℕ × ℕ) → (ℕ → ℕ) → List ℕ → ℕ → ℕ × ℕ → Type 0
@@ -170,11 +170,20 @@ pair_is f g last (w ∷ ws) (suc (suc n)) x is =
     ]
 
 -- what holds of each of them
-pub singles_each : (P : ℕ × ℕ → Type 0) (each : ℕ → ℕ → ℕ × ℕ) (last : ℕ × ℕ) (ws : List ℕ)
+pub singles-each : (P : ℕ × ℕ → Type 0) (each : ℕ → ℕ → ℕ × ℕ) (last : ℕ × ℕ) (ws : List ℕ)
     → ((k : ℕ) → k < length ws → P (each k (slice_index ws k))) → P last → Each P (singles each last ws)
-singles_each P each last ws all end n x is = grind (arith, single_is)
+singles-each P each last ws all end n x is = grind (arith, single_is)
 
-pub pairs_each : (P : ℕ × ℕ → Type 0) (f g : ℕ → ℕ → ℕ × ℕ) (last : ℕ × ℕ) (ws : List ℕ)
+pub pairs-each : (P : ℕ × ℕ → Type 0) (f g : ℕ → ℕ → ℕ × ℕ) (last : ℕ × ℕ) (ws : List ℕ)
     → ((k : ℕ) → k < length ws → P (f k (slice_index ws k)) × P (g k (slice_index ws k))) → P last
     → Each P (pairs f g last ws)
-pairs_each P f g last ws all end n x is = grind (arith, pair_is)
+pairs-each P f g last ws all end n x is = grind (arith, pair_is)
+
+-- what holds of each of a list, and of one more
+pub each_more : {A : Type 0} (P : A → Type 0) (es : List A) (e : A)
+    → ((j : ℕ) (d : A) → slice_get es j ≡ Some d → P d) → P e → (j : ℕ) (d : A)
+    → slice_get (es ++ e ∷ []) j ≡ Some d → P d
+each_more P [] e all one zero d is = subst P (let same : e ≡ d = cc in same) one
+each_more P [] e all one (suc j) d is = cc
+each_more P (x ∷ es) e all one zero d is = all 0 d is
+each_more P (x ∷ es) e all one (suc j) d is = each_more P es e (λ i c at. all (suc i) c at) one j d is

@@ -4,5 +4,5 @@ pub mod Blocks
 pub mod SenderState
 pub mod Outlines
 pub mod ReceiverState
-pub mod BlockMeaning
+pub mod BlockInvariant
 pub mod Channels

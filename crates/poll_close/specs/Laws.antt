@@ -1,7 +1,7 @@
 -- What a ring's meaning has to be: the opening has it, every event keeps it, it gives clean reports.
 use Rattle.std.specs.Prelude.{ℕ, ◌≡◌, ◌≢◌, ◌+◌, ◌*◌, ◌%◌, ◌^◌, ◌≤◌, ◌<◌, List, All, length, slice_index}
 use Rattle.step_machine.specs.declared.events.Entry.{Entry}
-use Rattle.step_machine.specs.History.{Start, History, unrun, with_entry}
+use Rattle.step_machine.specs.History.{OpeningValue, History, at_opening, with_entry}
 use Rattle.step_machine.specs.Entries.{reported}
 use Rattle.step_machine.specs.Legal.{WellFormed}
 use Rattle.step_machine.specs.Runs.{CanFollow}
@@ -18,11 +18,11 @@ pub record Ring : Type 0 where
   pub least : ℕ
 
 -- the opening of a channel of this kind over these lists, in a layout
-abbrev pub opening_over : Ring → List (List ℕ) → Layout → Start
+abbrev pub opening_over : Ring → List (List ℕ) → Layout → OpeningValue
 opening_over ring lists l = opening_at ring.sender ring.receiver lists l
 
 -- and in the dense one, with rings of S slots
-abbrev pub opening_of : Ring → List (List ℕ) → ℕ → Start
+abbrev pub opening_of : Ring → List (List ℕ) → ℕ → OpeningValue
 opening_of ring lists S = opening_over ring lists (dense S)
 
 abbrev pub AreWords : List ℕ → Type 0
@@ -72,7 +72,7 @@ Meaning = ℕ → ℕ → List (List ℕ) → Layout → History → Type 0
 
 unfoldable pub Opens : Ring → Meaning → Type 0
 Opens ring means = (B M : ℕ) (lists : List (List ℕ)) (l : Layout) → AcceptedAt ring M lists l
-    → means B M lists l (unrun (opening_over ring lists l))
+    → means B M lists l (at_opening (opening_over ring lists l))
 
 unfoldable pub Keeps : Ring → Meaning → Type 0
 Keeps ring means = (B M : ℕ) (lists : List (List ℕ)) (l : Layout) (t : History) (e : Entry)

@@ -31,14 +31,14 @@ lines_of [] = []
 lines_of (l ∷ ls) = l.means ∷ lines_of ls
 
 -- the ring's own lines
-pub record Middle : Type 0 where
+pub record RingLines : Type 0 where
   pub at_14 : Listed
   pub at_18 : Listed
   pub at_1C : Listed
   pub at_20 : Listed
   pub at_24 : Listed
 
-abbrev pub receiver_with : Middle → List Listed
+abbrev pub receiver_with : RingLines → List Listed
 receiver_with m =
     line 0x000A8413 (Immediate immediate.Add (reg_of 8) (reg_of 21) (pos 0)) ∷  -- 00 round: addi x8,x21,0
     line 0x00000B13 (Immediate immediate.Add (reg_of 22) (reg_of 0) (pos 0)) ∷  -- 04 addi x22,x0,0

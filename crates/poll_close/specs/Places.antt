@@ -9,4 +9,4 @@ stride_or_dense S None = block_size S
 stride_or_dense S (Some stride) = stride
 
 abbrev pub layout_of : Place → List ℕ → Layout
-layout_of p words = record { size = p.ring; base = p.base; stride = stride_or_dense p.ring p.stride; words = words }
+layout_of p words = record { size = p.slots; base = p.base; stride = stride_or_dense p.slots p.stride; words = words }

@@ -10,7 +10,7 @@ use Rattle.hart.specs.declared.need.Report.{Report}
 use Rattle.step_machine.specs.declared.events.Event.TheVariants as event
 use Rattle.step_machine.specs.declared.events.Entry.{Entry}
 use Rattle.step_machine.specs.declared.events.Entry.TheVariants as entry
-use Rattle.step_machine.specs.History.{HartStart, Start, History, with_entry}
+use Rattle.step_machine.specs.History.{HartOpeningValue, OpeningValue, History, with_entry}
 use Rattle.step_machine.specs.Entries.{reported}
 use Rattle.step_machine.specs.WordReads.{word_in_memory}
 use Rattle.step_machine.specs.Paths.{state_of}
@@ -102,11 +102,11 @@ round n = 200 * (n + 1)
 abbrev pub rank_by_states : Ranking → ℕ → ℕ → List (List ℕ) → List Report → (ℕ → Option HartState) → ℕ
 rank_by_states p n size lists rs states = total (share p lists rs states) n * round n + receiver_rank_if p n size rs states (states 0)
 
-abbrev pub ring_bytes : List HartStart → ℕ
+abbrev pub ring_bytes : List HartOpeningValue → ℕ
 ring_bytes [] = 0
 ring_bytes (h ∷ hs) = slice_index h.registers 9
 
-abbrev pub ring_size : Start → ℕ
+abbrev pub ring_size : OpeningValue → ℕ
 ring_size o = ring_bytes o.harts / 4
 
 -- how much is left, by states and reports alone

@@ -28,10 +28,10 @@ pub struct Channel<K: RingKind, const B: usize, const M: usize> {
 
 impl<K: RingKind, const B: usize, const M: usize> Model for Channel<K, B, M> {
     ghost use Rattle.std.specs.Prelude.{◌≤◌};
-    ghost use Rattle.step_machine.specs.History.{Progress};
+    ghost use Rattle.step_machine.specs.History.{HistoryWithRoom};
     ghost use Rattle.poll_close.specs.Standing.{Stands};
 
-    ghost Value = { Progress };
+    ghost Value = { HistoryWithRoom };
 
     ghost view = { λ c. c.machine };
 
@@ -39,7 +39,7 @@ impl<K: RingKind, const B: usize, const M: usize> Model for Channel<K, B, M> {
 }
 
 impl<K: RingKind, const B: usize, const M: usize> Channel<K, B, M> {
-    ghost use Rattle.step_machine.specs.History.{unrun};
+    ghost use Rattle.step_machine.specs.History.{at_opening};
     ghost use Rattle.step_machine.specs.Entries.{reported};
     ghost use Rattle.step_machine.specs.Runs.{Happens, RunFrom, IsOwnRun};
     ghost use Rattle.poll_close.specs.Going.{AllGoOn};
@@ -54,7 +54,7 @@ impl<K: RingKind, const B: usize, const M: usize> Channel<K, B, M> {
         requires capacity { B ≤ 64 }
         requires some_word { 1 ≤ M }
         requires memory { M ≤ 65536 }
-        ensures value { IfOk result (λ c. c.history ≡ unrun (opening_of K.ring (map (λ v. v.items) lists.now) ring)) }
+        ensures value { IfOk result (λ c. c.history ≡ at_opening (opening_of K.ring (map (λ v. v.items) lists.now) ring)) }
         ensures accepted { OnOk result (Accepted K.ring M (map (λ v. v.items) lists.now) ring) }
         ensures refused { IfErr result (λ e. Refuses K.ring M (map (λ v. v.items) lists.now) ring e) }
     {
@@ -76,7 +76,7 @@ impl<K: RingKind, const B: usize, const M: usize> Channel<K, B, M> {
         requires capacity { B ≤ 64 }
         requires some_word { 1 ≤ M }
         requires memory { M ≤ 65536 }
-        ensures value { IfOk result (λ c. c.history ≡ unrun (opening_over K.ring (map (λ v. v.items) lists.now) (layout_of place words.now))) }
+        ensures value { IfOk result (λ c. c.history ≡ at_opening (opening_over K.ring (map (λ v. v.items) lists.now) (layout_of place words.now))) }
         ensures accepted { OnOk result (AcceptedAt K.ring M (map (λ v. v.items) lists.now) (layout_of place words.now)) }
         ensures refused { IfErr result (λ e. RefusesAt K.ring M (map (λ v. v.items) lists.now) (layout_of place words.now) e) }
     {

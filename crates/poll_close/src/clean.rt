@@ -194,7 +194,7 @@ fn stays_within(place: Place, count: usize, hart: u32, addr: u32, width: u32) ->
     ensures { result ≡ stays_within (layout_of place []) count hart addr width }
 {
     let stride = place.stride_or_dense();
-    let size = 16 + 4 * place.ring as u64;
+    let size = 16 + 4 * place.slots as u64;
     let end = addr as u64 + width as u64;
     let mut begin = place.base as u64;
     for block in 0..count {

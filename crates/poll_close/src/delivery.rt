@@ -4,7 +4,7 @@ ghost use Rattle.std.specs.Prelude.{◌≡◌, ◌≤◌, ℕ, List, IfOk, IfErr
 ghost use Rattle.step_machine.specs.History.{History, FitsIn};
 ghost use Rattle.step_machine.specs.Entries.{reported};
 ghost use Rattle.step_machine.specs.Runs.{Run};
-ghost use Rattle.step_machine.specs.Standing.{StandsAt, OfEach};
+ghost use Rattle.step_machine.specs.Standing.{RepresentsHistory, ForEachHistory};
 ghost use Rattle.step_machine.specs.declared.events.Event.{Event};
 ghost use Rattle.poll_close.specs.Layout.{Layout, dense};
 ghost use Rattle.poll_close.specs.Laws.{Accepted, AcceptedAt, opening_of, opening_over};
@@ -13,7 +13,7 @@ ghost use Rattle.poll_close.specs.Refusals.{Refuses, RefusesAt};
 ghost use Rattle.poll_close.specs.Reports.{Clean};
 ghost use Rattle.poll_close.specs.Going.{AllGoOn};
 ghost use Rattle.poll_close.specs.Touching.{AllTouch};
-ghost use Rattle.poll_close.specs.Delivery.{Delivers, DeliversOver, DeliversWhole, DeliversWholeOver, OfEachRun};
+ghost use Rattle.poll_close.specs.Delivery.{Delivers, DeliversOver, DeliversWhole, DeliversWholeOver, ForEachRun};
 ghost use Rattle.poll_close.specs.Standing.{Stands};
 ghost use Rattle.poll_close.specs.Plans.{CanFinish};
 
@@ -31,8 +31,9 @@ pub fn reports_of<K: RingKind, const B: usize, const M: usize>(
     alloc: Global,
     machine: &MachineState<B, M>,
 ) -> Result<Vec<Report>, AllocError>
-    requires stands { (t : History) × StandsAt B M t machine.now × Stands K.ring K.meaning B M t }
-    ensures { IfOk result (λ r. OfEach B M machine.now (λ t. OfEachRun K.ring B M t (λ lists l events. DeliversOver K.ring B M lists l events r.items))) }
+    requires stands { (t : History) × RepresentsHistory B M t machine.now × Stands K.ring K.meaning B M t }
+    ensures { IfOk result (λ r. ForEachHistory B M machine.now (λ t. ForEachRun K.ring B M t
+        (λ lists l events. DeliversOver K.ring B M lists l events r.items))) }
 {
     K::laws();
     Vec::from_slice(alloc, machine.reports(0))

@@ -43,12 +43,12 @@ fn zero_word(lists: &[Vec<u32>]) -> Option<(usize, usize)>
 /// The registers with which sender `index` opens.
 fn sender_registers(place: Place, index: u32) -> [u32; 32]
     requires begins { base_of (layout_of place []) index < 2 ^ 32 }
-    requires slots { 4 * place.ring < 2 ^ 32 }
+    requires slots { 4 * place.slots < 2 ^ 32 }
     ensures { result ≡ sender_registers (layout_of place []) index }
 {
     let mut registers = [0; 32];
     registers[8] = (place.base as u64 + index as u64 * place.stride_or_dense()) as u32;
-    registers[9] = 4 * place.ring;
+    registers[9] = 4 * place.slots;
     registers
 }
 
@@ -61,7 +61,7 @@ fn sender_harts(
 ) -> Result<Vec<HartOpening>, AllocError>
     requires few { length lists.now < 2 ^ 32 }
     requires ends { base_of (layout_of place []) (length lists.now) < 2 ^ 32 }
-    requires slots { 4 * place.ring < 2 ^ 32 }
+    requires slots { 4 * place.slots < 2 ^ 32 }
     ensures { IfOk result (λ v. v.items ≡ senders_from code.now (layout_of place []) 0 (map (λ v. v.items) lists.now)) }
 {
     let mut harts = Vec::with_capacity(alloc, lists.len())?;
@@ -89,12 +89,12 @@ fn lay_out(
     requires some { 1 ≤ length lists.now }
     requires few { length lists.now < 2 ^ 32 }
     requires ends { base_of (layout_of place words.now) (length lists.now) < 2 ^ 32 }
-    requires slots { 4 * place.ring < 2 ^ 32 }
+    requires slots { 4 * place.slots < 2 ^ 32 }
     ensures { IfOk result (λ o. o ≡ opening_at sender.now receiver.now (map (λ v. v.items) lists.now) (layout_of place words.now)) }
 {
     let stride = place.stride_or_dense();
     let mut registers = [0; 32];
-    registers[9] = 4 * place.ring;
+    registers[9] = 4 * place.slots;
     registers[18] = stride as u32;
     registers[19] = (place.base as u64 + lists.len() as u64 * stride) as u32;
     registers[20] = lists.len() as u32;
@@ -115,7 +115,7 @@ fn lay_out(
 /// Whether this address is in one of the first `count` blocks.
 #[tactic(auto, using(crate::proofs::InBlocks::is_inside, crate::proofs::InBlocks::inside_is))]
 fn is_in_blocks(place: Place, count: usize, address: u64) -> bool
-    requires room { block_size place.ring ≤ stride_or_dense place.ring place.stride }
+    requires room { block_size place.slots ≤ stride_or_dense place.slots place.stride }
     ensures inside { result ≡ true → IsInBlocks (layout_of place []) count address }
     ensures outside { IsInBlocks (layout_of place []) count address → result ≡ true }
 {
@@ -124,12 +124,12 @@ fn is_in_blocks(place: Place, count: usize, address: u64) -> bool
     }
     let offset = address - place.base as u64;
     let stride = place.stride_or_dense();
-    offset / stride < count as u64 && offset % stride < 16 + 4 * place.ring as u64
+    offset / stride < count as u64 && offset % stride < 16 + 4 * place.slots as u64
 }
 
 /// The first word that is in a block and not 0, if there is one.
 fn filled_word(place: Place, count: usize, words: &[u32]) -> Option<usize>
-    requires room { block_size place.ring ≤ stride_or_dense place.ring place.stride }
+    requires room { block_size place.slots ≤ stride_or_dense place.slots place.stride }
     requires memory { length words.now ≤ 65536 }
     ensures { MatchOption result (OpensEmpty (layout_of place words.now) count) (λ j. FilledAt (layout_of place words.now) count j) }
 {
@@ -152,7 +152,7 @@ fn fits_at(place: Place, count: usize, words: &[u32], m: usize) -> bool
 {
     let stride = place.stride_or_dense();
     let last = place.base as u64 + (count as u64 - 1) * stride;
-    last + stride < 1 << 32 && last + 16 + 4 * place.ring as u64 <= 4 * m as u64 && words.len() <= m
+    last + stride < 1 << 32 && last + 16 + 4 * place.slots as u64 <= 4 * m as u64 && words.len() <= m
 }
 
 /// Whether a channel of these programs over these lists at a place, with rings of at least so many slots, fits a memory of `m`
@@ -180,7 +180,7 @@ fn judge_at(
     if lists.len() > MAX_SENDERS {
         return Err(RefusedAt::Lists(Refused::TooManySenders));
     }
-    if place.ring < least {
+    if place.slots < least {
         return Err(RefusedAt::Lists(Refused::RingTooSmall));
     }
     if place.base % 4 != 0 {
@@ -190,7 +190,7 @@ fn judge_at(
     if stride % 4 != 0 {
         return Err(RefusedAt::UnevenStride);
     }
-    if stride < 16 + 4 * place.ring as u64 {
+    if stride < 16 + 4 * place.slots as u64 {
         return Err(RefusedAt::BlocksMeet);
     }
     if !fits_at(place, lists.len(), words, m) {

@@ -7,8 +7,8 @@ ghost use Rattle.poll_close.specs.Places.{layout_of, stride_or_dense};
 /// Where the blocks of a channel lie in memory.
 #[derive(Clone, Copy, PartialEq, Eq)]
 pub struct Place {
-    /// The slots of each ring.
-    pub ring: u32,
+    /// How many slots each ring has.
+    pub slots: u32,
     /// The byte at which block 0 begins.
     pub base: u32,
     /// How many bytes after the beginning of a block the next one begins. If it is left out, that is where
@@ -17,12 +17,12 @@ pub struct Place {
 }
 
 impl Place {
-    /// Rings of `ring` slots, one block after the other from address 0 on.
-    pub fn dense(ring: u32) -> Place
-        ensures { layout_of result [] ≡ dense ring }
+    /// Rings of `slots` slots, one block after the other from address 0 on.
+    pub fn dense(slots: u32) -> Place
+        ensures { layout_of result [] ≡ dense slots }
     {
         Place {
-            ring,
+            slots,
             base: 0,
             stride: None,
         }
@@ -30,12 +30,12 @@ impl Place {
 
     /// How many bytes after the beginning of a block the next one begins.
     pub fn stride_or_dense(self) -> u64
-        ensures value { result ≡ stride_or_dense self.ring self.stride }
+        ensures value { result ≡ stride_or_dense self.slots self.stride }
         ensures small { result < 2 ^ 35 }
     {
         match self.stride {
             Some(stride) => stride as u64,
-            None => 16 + 4 * self.ring as u64,
+            None => 16 + 4 * self.slots as u64,
         }
     }
 }

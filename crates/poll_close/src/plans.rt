@@ -3,7 +3,7 @@
 ghost use Rattle.std.specs.Prelude.{◌≡◌, ◌≤◌, ◌<◌, ◌-◌, ℕ, Bool, List, [], true, length, IfOk, OnOk};
 ghost use Rattle.hart.specs.declared.need.Report.{Report};
 ghost use Rattle.step_machine.specs.Runs.{RunFrom};
-ghost use Rattle.poll_close.specs.Delivery.{DeliversWholeOver, OfEachRun};
+ghost use Rattle.poll_close.specs.Delivery.{DeliversWholeOver, ForEachRun};
 ghost use Rattle.poll_close.specs.Standing.{Stands};
 ghost use Rattle.poll_close.specs.Rankings.{next_by, is_ready};
 ghost use Rattle.poll_close.specs.Plans.{Finishes, is_closed, all_closed, ends_in_word, is_word, is_done};
@@ -171,7 +171,7 @@ pub fn whole_reports_of<K: Finish<B, M>, const B: usize, const M: usize>(
 ) -> Result<Vec<Report>, AllocError>
     requires some_capacity { 1 ≤ B }
     requires stands { Stands K.RingKind.ring K.RingKind.meaning B M machine.old.history }
-    ensures { IfOk result (λ r. OfEachRun K.RingKind.ring B M machine.old.history
+    ensures { IfOk result (λ r. ForEachRun K.RingKind.ring B M machine.old.history
         (λ lists l events. DeliversWholeOver K.RingKind.ring B M lists l events r.items)) }
 {
     K::laws();

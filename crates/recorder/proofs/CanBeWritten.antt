@@ -9,7 +9,7 @@ use Rattle.hart.specs.State.{HartState}
 use Rattle.hart.specs.Steps.{need_of}
 use Rattle.hart.specs.declared.need.Need.{Need}
 use Rattle.hart.proofs.Needs.{IsTrueOf, need_is_true}
-use Rattle.step_machine.specs.History.{Start, History, unrun}
+use Rattle.step_machine.specs.History.{OpeningValue, History, at_opening}
 use Rattle.step_machine.specs.Entries.{is_land, hart_of as hart_of_entry}
 use Rattle.step_machine.specs.Paths.{entry_of, value_of, CanMake}
 use Rattle.step_machine.specs.Runs.{IsFor, CanFollow, idle, Happens}
@@ -54,15 +54,15 @@ added_fits B M t (Act h) e is follows = (act_fits B M t h e is.0 is.1 follows, g
 added_fits B M t (Land h) e is follows = rw is (refl, refl)
 
 -- an event that adds nothing has an outcome that it can have: a landing never waits, an act is never without a store
-idle_fits : (M : ℕ) (t : History) (event : Event) (outcome : Outcome) → outcome ≡ idle M t event → IsOutcomeOf event outcome
-idle_fits M t event outcome is = grind arith
+idle-fits : (M : ℕ) (t : History) (event : Event) (outcome : Outcome) → outcome ≡ idle M t event → IsOutcomeOf event outcome
+idle-fits M t event outcome is = grind arith
 
 happens_fits : (B M : ℕ) (t : History) (event : Event) (outcome : Outcome) (new : History) → Happens B M t event outcome new → IsOutcomeOf event outcome
 happens_fits B M t event (Did e) new happens = added_fits B M t event e happens.for_event happens.follows
-happens_fits B M t event Waited new happens = idle_fits M t event Waited happens.why
-happens_fits B M t event NothingToLand new happens = idle_fits M t event NothingToLand happens.why
-happens_fits B M t event Over new happens = idle_fits M t event Over happens.why
-happens_fits B M t event NoHart new happens = idle_fits M t event NoHart happens.why
+happens_fits B M t event Waited new happens = idle-fits M t event Waited happens.why
+happens_fits B M t event NothingToLand new happens = idle-fits M t event NothingToLand happens.why
+happens_fits B M t event Over new happens = idle-fits M t event Over happens.why
+happens_fits B M t event NoHart new happens = idle-fits M t event NoHart happens.why
 
 run_fits : (B M : ℕ) (t : History) (steps : List Step) (new : History) → RecordFrom B M t steps new → OfHarts (events_in steps) → All CanBeWritten steps
 run_fits B M t [] new is harts = All-nil CanBeWritten
@@ -72,9 +72,9 @@ run_fits B M t (step ∷ steps) new is harts =
     (All-head OfHart step.0 (events_in steps) harts, happens_fits B M t step.0 step.1 is.0 is.1)
     (run_fits B M is.0 steps new is.2 (All-tail OfHart step.0 (events_in steps) harts))
 
-pub run_can_be_written : (B M : ℕ) (o : Start) (steps : List Step) (history : History)
+pub run_can_be_written : (B M : ℕ) (o : OpeningValue) (steps : List Step) (history : History)
     → IsRunRecord B M o steps history → OfHarts (events_in steps) → All CanBeWritten steps
-run_can_be_written B M o steps history is harts = run_fits B M (unrun o) steps history is harts
+run_can_be_written B M o steps history is harts = run_fits B M (at_opening o) steps history is harts
 
 -- ---- a text's outcomes
 
@@ -100,10 +100,10 @@ fill_fits (fixed name ∷ places) makes (word ∷ words) found fit is = fill_fit
 fill_fits (any ∷ places) makes [] found fit is = absurd is
 fill_fits (any ∷ places) makes (word ∷ words) found fit is = fill_fits places (makes is.0) words found (fit is.0) is.2
 
-rows_fit : (rows : List (Row HartOutcome)) (words : List (List ℕ)) (found : HartOutcome) → AllMakeFit rows → IsRowOf rows words found → IsFit found
-rows_fit [] words found fit is = absurd is
-rows_fit (row ∷ rows) words found fit (inl here) = fill_fits row.places row.makes words found fit.0 here
-rows_fit (row ∷ rows) words found fit (inr there) = rows_fit rows words found fit.1 there
+rows-fit : (rows : List (Row HartOutcome)) (words : List (List ℕ)) (found : HartOutcome) → AllMakeFit rows → IsRowOf rows words found → IsFit found
+rows-fit [] words found fit is = absurd is
+rows-fit (row ∷ rows) words found fit (inl here) = fill_fits row.places row.makes words found fit.0 here
+rows-fit (row ∷ rows) words found fit (inr there) = rows-fit rows words found fit.1 there
 
 fits_as : (made found : HartOutcome) → IsFit made → Some made ≡ Some found → IsFit found
 fits_as made found fit is = subst IsFit (some_is made found is) fit
@@ -116,10 +116,10 @@ all_fit : AllMakeFit outcome_rows
 all_fit = grind (arith, fits_as, stop_fits)
 
 row_fits : (words : List (List ℕ)) (h : ℕ) (outcome : Outcome) → IsRowOf outcome_rows words (h, outcome) → OutcomeFits h outcome
-row_fits words h outcome is = rows_fit outcome_rows words (h, outcome) all_fit is
+row_fits words h outcome is = rows-fit outcome_rows words (h, outcome) all_fit is
 
-line_fits : (line : Line) (part : List Step) → IsLineOf line part → All CanBeWritten part
-line_fits line part is = go (tokens line.0) is
+line-fits : (line : Line) (part : List Step) → IsLineOf line part → All CanBeWritten part
+line-fits line part is = go (tokens line.0) is
   where
     go : (words : List (List ℕ)) → IsStepsOf words part → All CanBeWritten part
     go [] same = rw same (All-nil CanBeWritten)
@@ -127,4 +127,4 @@ line_fits line part is = go (tokens line.0) is
         rw same (All-replicate CanBeWritten times (event, outcome) (hart, (row_fits words (hart_of event) outcome tells.0, tells.1)))
 
 pub text_can_be_written : (text : List ℕ) (steps : List Step) → IsRecordOf text steps → All CanBeWritten steps
-text_can_be_written text steps (body, is, ends, lines) = stand_all IsLineOf CanBeWritten line_fits (lines_of body) steps lines.0
+text_can_be_written text steps (body, is, ends, lines) = stand_all IsLineOf CanBeWritten line-fits (lines_of body) steps lines.0

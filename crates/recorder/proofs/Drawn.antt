@@ -1,5 +1,5 @@
 -- A generator's words, one more at a time.
-use Rattle.std.proofs.Common.{◌≡◌, ℕ, zero, suc, ◌+◌, ◌<◌, ◌≤◌, List, [], ◌∷◌, ◌++◌, refl, ap, add-one, map, arith}
+use Rattle.std.proofs.Common.{◌≡◌, ℕ, zero, suc, ◌+◌, ◌*◌, ◌<◌, ◌≤◌, List, [], ◌∷◌, ◌++◌, refl, ap, ◌∙◌, add-one, map, arith}
 use Rattle.std.proofs.lemmas.Bool.{lt-ltb, le-ltb}
 use Rattle.std.proofs.lemmas.List.Elements.{All-nil, All-cons}
 use Rattle.rand_core.specs.Stream.{Stream, next_u32}
@@ -25,19 +25,32 @@ drawn-more harts (c ∷ front) word = ap (λ (rest : List Event). drawn harts c 
 pub left_more : (i word : ℕ) (first before after : Stream) → before ≡ left_after i first → (word, after) ≡ next_u32 before → after ≡ left_after (i + 1) first
 left_more i word first before after was given = grind (arith, left_after-suc i first, add-one i)
 
-pub words_more : (harts i word : ℕ) (first before after : Stream) (old new : List Event) → old ≡ map (drawn harts) (words i first) → before ≡ left_after i first → (word, after) ≡ next_u32 before → new ≡ old ++ drawn harts word ∷ [] → new ≡ map (drawn harts) (words (i + 1) first)
-words_more harts i word first before after old new so_far was given pushed = grind (
+pub words-more : (harts i word : ℕ) (first before after : Stream) (old new : List Event) → old ≡ map (drawn harts) (words i first) → before ≡ left_after i first → (word, after) ≡ next_u32 before → new ≡ old ++ drawn harts word ∷ [] → new ≡ map (drawn harts) (words (i + 1) first)
+words-more harts i word first before after old new so_far was given pushed = grind (
   arith,
   drawn-more harts (words i first) (next_u32 (left_after i first)).0,
   words-suc i first,
   add-one i,
 )
 
+-- what is left after some words and then some more
+pub left_after-sum : (more before : ℕ) (stream : Stream) → left_after more (left_after before stream) ≡ left_after (before + more) stream
+unfolding left_after
+left_after-sum more zero stream = let same : more ≡ 0 + more = omega arith in ap (λ (n : ℕ). left_after n stream) same
+left_after-sum more (suc before) stream =
+    let next : suc (before + more) ≡ suc before + more = omega arith in
+    left_after-sum more before (next_u32 stream).1 ∙ ap (λ (n : ℕ). left_after n stream) next
+
+-- one more schedule was drawn
+pub left_after-more : (size number : ℕ) (first before after : Stream) → before ≡ left_after (number * size) first → after ≡ left_after size before
+    → after ≡ left_after ((number + 1) * size) first
+left_after-more size number first before after was drawn = grind (arith, left_after-sum)
+
 -- ---- what was drawn is of these harts
 
-drawn-hart : (harts word : ℕ) → 1 ≤ harts → hart_of (drawn harts word) < harts
+pub drawn-hart : (harts word : ℕ) → 1 ≤ harts → hart_of (drawn harts word) < harts
 drawn-hart harts word some = grind (arith, lt-ltb, le-ltb)
 
-pub drawn_harts : (harts : ℕ) (front : List ℕ) → 1 ≤ harts → harts ≤ 64 → OfHarts (map (drawn harts) front)
-drawn_harts harts [] some most = All-nil (λ (e : Event). hart_of e < 64)
-drawn_harts harts (word ∷ front) some most = All-cons (λ (e : Event). hart_of e < 64) (drawn harts word) (map (drawn harts) front) (omega (arith, drawn-hart harts word some)) (drawn_harts harts front some most)
+pub drawn-harts : (harts : ℕ) (front : List ℕ) → 1 ≤ harts → harts ≤ 64 → OfHarts (map (drawn harts) front)
+drawn-harts harts [] some most = All-nil (λ (e : Event). hart_of e < 64)
+drawn-harts harts (word ∷ front) some most = All-cons (λ (e : Event). hart_of e < 64) (drawn harts word) (map (drawn harts) front) (omega (arith, drawn-hart harts word some)) (drawn-harts harts front some most)

@@ -16,10 +16,10 @@ use Rattle.step_machine.specs.declared.events.Outcome.{Outcome}
 use Rattle.step_machine.specs.declared.events.Outcome.TheVariants.{Did, Waited, NothingToLand, Over, NoHart}
 use Rattle.texts.specs.Numbers.{SaysWord, word_of}
 use Rattle.texts.specs.Cutting.{tokens}
-use Rattle.texts.specs.Formats.{Settles, or_fault}
+use Rattle.texts.specs.Formats.{DecidesGrammar, or_fault}
 use Rattle.texts.specs.Rows.{IsRowOf, rows_at, of_length, chain_at, are_apart, Written, plain, number, word_text, row_text}
 use Rattle.texts.proofs.ResultLaws.{some, some_is}
-use Rattle.texts.proofs.RowLaws.{rows_settle, rows_of_length, rows_by_name, Solid, AreSolid, decimal_says, decimal_solid, solid_by_test, row_again}
+use Rattle.texts.proofs.RowLaws.{rows-settle, rows-of_length, rows-by_name, Solid, AreSolid, decimal_says, decimal_solid, solid_by_test, row-again}
 use Rattle.recorder.specs.declared.faults.AtByte.{AtByte}
 use Rattle.recorder.specs.declared.faults.ScheduleFault.TheVariants.{BadOutcome}
 use Rattle.recorder.specs.Schedule.{hart_of}
@@ -31,16 +31,16 @@ rows_apart : are_apart outcome_rows ≡ true
 rows_apart = refl
 
 pub no_words : (found : HartOutcome) → ¬ IsRowOf outcome_rows [] found
-no_words found = rows_settle (at_byte BadOutcome 0) outcome_rows [] rows_apart found
+no_words found = rows-settle (at_byte BadOutcome 0) outcome_rows [] rows_apart found
 
-pub outcome_settles : (fault : AtByte) (event : Event) (words : List (List ℕ)) → Settles (SaysOutcome event words) (or_fault fault (event_outcome event (rows_at outcome_rows words)))
-outcome_settles fault event words = of_read (rows_at outcome_rows words) (rows_settle fault outcome_rows words rows_apart)
+pub outcome_settles : (fault : AtByte) (event : Event) (words : List (List ℕ)) → DecidesGrammar (SaysOutcome event words) (or_fault fault (event_outcome event (rows_at outcome_rows words)))
+outcome_settles fault event words = of_read (rows_at outcome_rows words) (rows-settle fault outcome_rows words rows_apart)
   where
-    of_read : (read : Option HartOutcome) → Settles (IsRowOf outcome_rows words) (or_fault fault read) → Settles (SaysOutcome event words) (or_fault fault (event_outcome event read))
+    of_read : (read : Option HartOutcome) → DecidesGrammar (IsRowOf outcome_rows words) (or_fault fault read) → DecidesGrammar (SaysOutcome event words) (or_fault fault (event_outcome event read))
     of_read None settles = λ outcome tells. settles (hart_of event, outcome) tells.0
     of_read (Some found) settles = by_test ((found.0 == hart_of event) && may_have event found.1) refl
       where
-        by_test : (b : Bool) → ((found.0 == hart_of event) && may_have event found.1) ≡ b → Settles (SaysOutcome event words) (or_fault fault (cond b (Some found.1) None))
+        by_test : (b : Bool) → ((found.0 == hart_of event) && may_have event found.1) ≡ b → DecidesGrammar (SaysOutcome event words) (or_fault fault (cond b (Some found.1) None))
         by_test true fits =
             let both = and_parts (found.0 == hart_of event) (may_have event found.1) fits in
             ((subst (λ (h : ℕ). IsRowOf outcome_rows words (h, found.1)) (eqb-true found.0 (hart_of event) both.0) settles.0, both.1), λ outcome tells. ap (λ (t : HartOutcome). t.1) (settles.1 (hart_of event, outcome) tells.0))
@@ -100,16 +100,16 @@ outcome_says h NoHart hart fits words = (inr (inr (inr (inr (inr (inr (inr (inr 
 pub outcome_read : (event : Event) (words : List (List ℕ)) (outcome : Outcome) → SaysOutcome event words outcome ↔ (event_outcome event (rows_at outcome_rows words) ≡ Some outcome)
 outcome_read event words outcome = go (event_outcome event (rows_at outcome_rows words)) (outcome_settles (at_byte BadOutcome 0) event words)
   where
-    go : (found : Option Outcome) → Settles (SaysOutcome event words) (or_fault (at_byte BadOutcome 0) found) → SaysOutcome event words outcome ↔ (found ≡ Some outcome)
+    go : (found : Option Outcome) → DecidesGrammar (SaysOutcome event words) (or_fault (at_byte BadOutcome 0) found) → SaysOutcome event words outcome ↔ (found ≡ Some outcome)
     go None settles = (λ tells. absurd (settles outcome tells), λ e. absurd cc)
     go (Some x) settles = (λ tells. ap (λ (o : Outcome). some o) (sym (settles.1 outcome tells)), λ e. subst (SaysOutcome event words) (some_is x outcome e) settles.0)
 
 pub outcome_again : (event : Event) (outcome : Outcome) → hart_of event < 64 → IsOutcomeOf event outcome → OutcomeHasWords outcome → SaysOutcome event (tokens (outcome_text (hart_of event) outcome)) outcome
-outcome_again event outcome hart can words = grind (arith, outcome_says, row_again)
+outcome_again event outcome hart can words = grind (arith, outcome_says, row-again)
 
 -- words are read by how many they are, and by the first
 pub outcome_chain : (name : List ℕ) (words : List (List ℕ)) → rows_at outcome_rows (name ∷ words) ≡ chain_at (of_length (suc (length words)) outcome_rows) name words
-outcome_chain name words = rows_of_length outcome_rows (name ∷ words) ∙ rows_by_name (of_length (suc (length words)) outcome_rows) name words
+outcome_chain name words = rows-of_length outcome_rows (name ∷ words) ∙ rows-by_name (of_length (suc (length words)) outcome_rows) name words
 
 -- one word says nothing
 pub outcome_alone : (name : List ℕ) → rows_at outcome_rows (name ∷ []) ≡ None

@@ -43,8 +43,8 @@ parts byte = separates BlanksAndLineEnds byte
 parts_none : (c : ℕ) → 33 ≤ c → parts c ≡ false
 parts_none c high = grind (arith, ne_eqb)
 
-behind_letter : (event : Event) (rest : List ℕ) → NonePass is_low rest → Solid (letter event ∷ rest)
-behind_letter event rest none = grind arith
+after_letter : (event : Event) (rest : List ℕ) → NonePass is_low rest → Solid (letter event ∷ rest)
+after_letter event rest none = grind arith
 
 token-more : (run : Run Event) → 1 < run.1 → token_of run ≡ letter run.0 ∷ (decimal (hart_of run.0) ++ 42 ∷ decimal run.1)
 token-more run more = rw (lt-ltb 1 run.1 more) refl
@@ -67,12 +67,12 @@ token_fits run fit small = elim (cases_lt 1 run.1) [ inl more ↦ subst (IsToken
 
     repeats : 1 < run.1 → IsToken run (letter run.0 ∷ (decimal (hart_of run.0) ++ 42 ∷ decimal run.1))
     repeats more =
-        (repeated (decimal (hart_of run.0)) (decimal run.1) run.1 hart (decimal_is_IsNumeral run.1 small), behind_letter run.0 (decimal (hart_of run.0) ++ 42 ∷ decimal run.1) (none-append is_low (decimal (hart_of run.0)) (42 ∷ decimal run.1) printed (refl, (decimal_solid run.1 small).1)))
+        (repeated (decimal (hart_of run.0)) (decimal run.1) run.1 hart (decimal_is_IsNumeral run.1 small), after_letter run.0 (decimal (hart_of run.0) ++ 42 ∷ decimal run.1) (none-append is_low (decimal (hart_of run.0)) (42 ∷ decimal run.1) printed (refl, (decimal_solid run.1 small).1)))
 
     comes_once : run.1 ≤ 1 → IsToken run (letter run.0 ∷ decimal (hart_of run.0))
     comes_once one =
         let times : 1 ≡ run.1 = omega (arith, fit.1) in
-        (subst (λ (n : ℕ). Spells run.0 (letter run.0 ∷ decimal (hart_of run.0)) n) times (once (decimal (hart_of run.0)) hart), behind_letter run.0 (decimal (hart_of run.0)) printed)
+        (subst (λ (n : ℕ). Spells run.0 (letter run.0 ∷ decimal (hart_of run.0)) n) times (once (decimal (hart_of run.0)) hart), after_letter run.0 (decimal (hart_of run.0)) printed)
 
 -- ---- the tokens of runs stand for their events
 
@@ -118,22 +118,22 @@ tokens_alone events harts few =
 pub ends_by_lf : (rest : List ℕ) → EndsLine (10 ∷ rest)
 ends_by_lf rest = grind arith
 
-pub canon_again : (events : List Event) → OfHarts events → length events ≤ 1048576 → IsPlainOf (canon events) events
+pub canon-again : (events : List Event) → OfHarts events → length events ≤ 1048576 → IsPlainOf (canon events) events
 unfolding canon
-canon_again [] harts few = (10 ∷ [], refl, refl, (([], [], refl, refl, empty_stands), few))
-canon_again (event ∷ events) harts few =
+canon-again [] harts few = (10 ∷ [], refl, refl, (([], [], refl, refl, empty_stands), few))
+canon-again (event ∷ events) harts few =
     let tokens = tokens_again (event ∷ events) harts few in
     (10 ∷ (tokens_of (event ∷ events) ++ 10 ∷ []), refl, ends_by_lf (tokens_of (event ∷ events) ++ 10 ∷ []), (([], event ∷ events, refl, refl, tokens.0), few))
 
 -- ---- what the writer has written
 
-pub canon_none : (events : List Event) → length events ≡ 0 → canon events ≡ head ++ 10 ∷ []
+pub canon-none : (events : List Event) → length events ≡ 0 → canon events ≡ head ++ 10 ∷ []
 unfolding canon
-canon_none events none = grind arith
+canon-none events none = grind arith
 
-pub canon_some : (events : List Event) → (length events ≡ 0 → ⊥) → canon events ≡ head ++ 10 ∷ (tokens_of events ++ 10 ∷ [])
+pub canon-some : (events : List Event) → (length events ≡ 0 → ⊥) → canon events ≡ head ++ 10 ∷ (tokens_of events ++ 10 ∷ [])
 unfolding canon
-canon_some events some = grind arith
+canon-some events some = grind arith
 
 pub written_again : (text : List ℕ) (events : List Event) → OfHarts events → length events ≤ 1048576 → text ≡ canon events → IsScheduleOf text events
-written_again text events harts few is = (plain events, subst (λ (t : List ℕ). IsPlainOf t events) (sym is) (canon_again events harts few), refl)
+written_again text events harts few is = (plain events, subst (λ (t : List ℕ). IsPlainOf t events) (sym is) (canon-again events harts few), refl)

@@ -3,7 +3,7 @@ use Rattle.std.proofs.Common.{arith, ◌≡◌, ◌≢◌, ℕ, zero, suc, ◌+�
 use Rattle.std.specs.List.{slice_get}
 use Rattle.std.proofs.lemmas.List.{take_more}
 use Rattle.std.proofs.lemmas.Option.{slice_get-get_or}
-use Rattle.step_machine.specs.History.{Start, History, unrun}
+use Rattle.step_machine.specs.History.{OpeningValue, History, at_opening}
 use Rattle.step_machine.specs.Runs.{Happens, RunFrom, Run}
 use Rattle.step_machine.specs.declared.events.Event.{Event}
 use Rattle.step_machine.specs.declared.events.Outcome.{Outcome}
@@ -30,7 +30,7 @@ pub checked_more : (B M : ℕ) (t : History) (steps : List Step) (i : ℕ) (d : 
 checked_more B M t steps i d mid o new within is happens same = record_more B M t steps i d mid new within is (subst (λ (p : Outcome). Happens B M mid (get_or steps i d).0 p new) same happens)
 
 -- or the next has another outcome than it says
-pub differs_here : (B M : ℕ) (o : Start) (steps : List Step) (i : ℕ) (d : Step) (mid : History) (out : Outcome) (new : History) → i < length steps
+pub differs_here : (B M : ℕ) (o : OpeningValue) (steps : List Step) (i : ℕ) (d : Step) (mid : History) (out : Outcome) (new : History) → i < length steps
     → IsRunRecord B M o (take i steps) mid → Happens B M mid (get_or steps i d).0 out new → out ≢ (get_or steps i d).1 → DiffersAt B M o steps i
 differs_here B M o steps i d mid out new within is happens other = grind (arith, get_or, slice_get-get_or)
 
@@ -66,8 +66,8 @@ cut B M t (first ∷ steps) new zero step is stands = (t, is.0, refl, subst (λ 
 cut B M t (first ∷ steps) new (suc k) step is stands = grind (arith, cut B M is.0 steps new k step is.2 stands)
 
 -- where each outcome is the run's, none differs
-pub no_other : (B M : ℕ) (o : Start) (steps : List Step) (history : History) (k : ℕ) → IsRunRecord B M o steps history → ¬ DiffersAt B M o steps k
+pub no_other : (B M : ℕ) (o : OpeningValue) (steps : List Step) (history : History) (k : ℕ) → IsRunRecord B M o steps history → ¬ DiffersAt B M o steps k
 no_other B M o steps history k is differs = grind (arith, cut, alike, happens-one)
 
-pub record_runs : (B M : ℕ) (o : Start) (steps : List Step) (history : History) → IsRunRecord B M o steps history → Run B M o (events_in steps) history
-record_runs B M o steps history is = RecordFrom-RunFrom B M (unrun o) steps history is
+pub record_runs : (B M : ℕ) (o : OpeningValue) (steps : List Step) (history : History) → IsRunRecord B M o steps history → Run B M o (events_in steps) history
+record_runs B M o steps history is = RecordFrom-RunFrom B M (at_opening o) steps history is

@@ -52,14 +52,14 @@ unfoldable pub said_by : List ℕ → Option Token
 said_by [] = None
 said_by (c ∷ numbers) = if c == 97 then token_of kinds.Act (numbers_of numbers) else (if c == 108 then token_of kinds.Land (numbers_of numbers) else None)
 
-abbrev pub ends_behind : List ℕ → Option (List ℕ) → Bool
-ends_behind hart None = length hart == 0
-ends_behind hart (Some times) = (length times == 0) && is_some (number_of hart)
+abbrev pub ends_after : List ℕ → Option (List ℕ) → Bool
+ends_after hart None = length hart == 0
+ends_after hart (Some times) = (length times == 0) && is_some (number_of hart)
 
 -- a letter alone, or a letter, a hart and a star: what more bytes would have made a token
 unfoldable pub is_cut : List ℕ → Bool
 is_cut [] = false
-is_cut (c ∷ numbers) = ((c == 97) || (c == 108)) && ends_behind (before (is_byte 42) numbers) (after (is_byte 42) numbers)
+is_cut (c ∷ numbers) = ((c == 97) || (c == 108)) && ends_after (before (is_byte 42) numbers) (after (is_byte 42) numbers)
 
 abbrev pub event_of : Kind → ℕ → Event
 event_of kinds.Act hart = Act hart
@@ -70,13 +70,13 @@ event_of kinds.Land hart = Land hart
 abbrev pub shape_fault : (end place : ℕ) → List ℕ → AtByte
 shape_fault end place word = if is_cut word && ((place + length word) == end) then at_byte Truncated end else at_byte BadToken place
 
-abbrev pub judged : (place room : ℕ) → Token → Result (Event × ℕ) AtByte
-judged place room token = if nat_le MAX_HARTS token.hart then Err (at_byte BadHart place) else (if (token.times == 0) || nat_lt room token.times then Err (at_byte BadCount place) else Ok (event_of token.kind token.hart, token.times))
+abbrev pub decoded : (place room : ℕ) → Token → Result (Event × ℕ) AtByte
+decoded place room token = if nat_le MAX_HARTS token.hart then Err (at_byte BadHart place) else (if (token.times == 0) || nat_lt room token.times then Err (at_byte BadCount place) else Ok (event_of token.kind token.hart, token.times))
 
 unfoldable pub run_at : (end place room : ℕ) → List ℕ → Result (Event × ℕ) AtByte
 run_at end place room word = do
   token ← or_fault (shape_fault end place word) (said_by word)
-  judged place room token
+  decoded place room token
 
 -- ---- a text
 

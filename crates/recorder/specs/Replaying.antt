@@ -1,7 +1,7 @@
 -- Records of runs: the events of a run, each with its outcome.
-use Rattle.std.specs.Prelude.{◌≡◌, ◌≢◌, ℕ, List, [], ◌∷◌, take, Some, Result, Ok, Err}
+use Rattle.std.specs.Prelude.{◌≡◌, ◌≢◌, ℕ, List, [], ◌∷◌, take, Some}
 use Rattle.std.specs.List.{slice_get}
-use Rattle.step_machine.specs.History.{Start, History, unrun}
+use Rattle.step_machine.specs.History.{OpeningValue, History, at_opening}
 use Rattle.step_machine.specs.Runs.{Happens}
 use Rattle.step_machine.specs.declared.events.Outcome.{Outcome}
 use Rattle.recorder.specs.Records.{Step}
@@ -14,11 +14,11 @@ RecordFrom B M t [] new = new ≡ t
 RecordFrom B M t (step ∷ steps) new = (mid : History) × Happens B M t step.0 step.1 mid × RecordFrom B M mid steps new
 
 -- The steps are the record of a run of the opening that ends with this history.
-abbrev pub IsRunRecord : (B M : ℕ) → Start → List Step → History → Type 0
-IsRunRecord B M opening steps history = RecordFrom B M (unrun opening) steps history
+abbrev pub IsRunRecord : (B M : ℕ) → OpeningValue → List Step → History → Type 0
+IsRunRecord B M opening steps history = RecordFrom B M (at_opening opening) steps history
 
 -- This step of the list, counted from 0, is the first whose event has another outcome in the run.
-pub record DiffersAt (B M : ℕ) (opening : Start) (steps : List Step) (place : ℕ) : Type 0 where
+pub record DiffersAt (B M : ℕ) (opening : OpeningValue) (steps : List Step) (place : ℕ) : Type 0 where
   pub before : History
   pub is_record : IsRunRecord B M opening (take place steps) before
   pub step : Step
@@ -27,11 +27,6 @@ pub record DiffersAt (B M : ℕ) (opening : Start) (steps : List Step) (place : 
   pub after : History
   pub happens : Happens B M before step.0 outcome after
   pub other : outcome ≢ step.1
-
--- what a check of a record answers: the history of its run, or the place of the first other outcome
-abbrev pub Checks : (B M : ℕ) → Start → List Step → Result History ℕ → Type 0
-Checks B M opening steps (Ok history) = IsRunRecord B M opening steps history
-Checks B M opening steps (Err place) = DiffersAt B M opening steps place
 
 -- This holds of the place that the error names.
 abbrev pub Differs : (ℕ → Type 0) → CheckError → Type 0

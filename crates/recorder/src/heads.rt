@@ -11,10 +11,10 @@ pub const HEAD: &str = "ztso-schedule 1";
 pub const RECORD_HEAD: &str = "ztso-schedule 2";
 
 /// Whether a line ends where these bytes begin.
-fn line_ends(behind: &[u8]) -> bool
-    ensures { result ≡ ends_line behind.now }
+fn line_ends(following: &[u8]) -> bool
+    ensures { result ≡ ends_line following.now }
 {
-    matches!(behind, [] | [b'\n', ..] | [b'\r', b'\n', ..])
+    matches!(following, [] | [b'\n', ..] | [b'\r', b'\n', ..])
 }
 
 /// Whether the text's first line is this head.

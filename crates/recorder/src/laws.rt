@@ -8,13 +8,13 @@ ghost use Rattle.recorder.specs.Reading.{tokens_at, tokens_after};
 ghost use Rattle.texts.specs.Cutting.{tokens};
 ghost use Rattle.texts.specs.Rows.{rows_at};
 ghost use Rattle.texts.specs.Runs.{runs_of, expanded, AreLongest};
-ghost use Rattle.step_machine.specs.History.{Start, History};
+ghost use Rattle.step_machine.specs.History.{OpeningValue, History};
 ghost use Rattle.step_machine.specs.Runs.{Run};
 ghost use Rattle.recorder.specs.Replaying.{IsRunRecord, DiffersAt};
 ghost use Rattle.recorder.specs.Writing.{is_same, tokens_of};
 ghost use Rattle.recorder.specs.Outcomes.{outcome_rows, outcome_text, event_outcome, SaysOutcome, IsOutcomeOf, OutcomeHasWords};
 ghost use Rattle.recorder.specs.Records.{Step, events_in, IsRecordOf, record_at, is_same_step, CanBeWritten};
-ghost use Rattle.recorder.specs.Versions.{Said, Says, said_at};
+ghost use Rattle.recorder.specs.Versions.{ScheduleValue, Says, said_at};
 ghost use Rattle.recorder.specs.declared.reading.TheConstants.{MAX_EVENTS};
 ghost use Rattle.step_machine.specs.declared.opening.TheConstants.{MAX_HARTS};
 ghost use Rattle.step_machine.specs.declared.events.Outcome.{Outcome};
@@ -24,7 +24,7 @@ ghost use Rattle.step_machine.specs.declared.events.Outcome.{Outcome};
 #[tactic(auto, using(crate::proofs::TextLaws::one_list, crate::proofs::HeadLaws::one_said))]
 pub fn one_value()
     ensures tokens { (text : List ℕ) → (a b : List Event) → IsTokensOf text a → IsTokensOf text b → a ≡ b }
-    ensures schedules { (text : List ℕ) → (a b : Said) → Says text a → Says text b → a ≡ b }
+    ensures schedules { (text : List ℕ) → (a b : ScheduleValue) → Says text a → Says text b → a ≡ b }
 {}
 
 /// Reading a text from the left names a fault exactly where its tokens stand for no events, or where it
@@ -34,7 +34,7 @@ pub fn one_value()
 pub fn refused_without_value()
     ensures tokens { (text : List ℕ) → IsErr (tokens_at MAX_EVENTS text) ↔ ((events : List Event) → ¬ IsTokensOf text events) }
     ensures further { (before : ℕ) (text : List ℕ) → before ≤ MAX_EVENTS → IsErr (tokens_after before text) ↔ ((events : List Event) → IsTokensOf text events → ¬ (before + length events ≤ MAX_EVENTS)) }
-    ensures schedules { (text : List ℕ) → IsErr (said_at text) ↔ ((said : Said) → ¬ Says text said) }
+    ensures schedules { (text : List ℕ) → IsErr (said_at text) ↔ ((said : ScheduleValue) → ¬ Says text said) }
     ensures records { (text : List ℕ) → IsErr (record_at text) ↔ ((steps : List Step) → ¬ IsRecordOf text steps) }
 {}
 
@@ -66,8 +66,8 @@ pub fn outcomes_are_read_again()
 
 /// A record of a run is the run of its events, and no check of it finds another outcome. It does nothing.
 pub fn records_are_runs()
-    ensures runs { (B M : ℕ) (o : Start) (steps : List Step) (history : History) → IsRunRecord B M o steps history → Run B M o (events_in steps) history }
-    ensures no_other { (B M : ℕ) (o : Start) (steps : List Step) (history : History) (place : ℕ) → IsRunRecord B M o steps history → ¬ DiffersAt B M o steps place }
+    ensures runs { (B M : ℕ) (o : OpeningValue) (steps : List Step) (history : History) → IsRunRecord B M o steps history → Run B M o (events_in steps) history }
+    ensures no_other { (B M : ℕ) (o : OpeningValue) (steps : List Step) (history : History) (place : ℕ) → IsRunRecord B M o steps history → ¬ DiffersAt B M o steps place }
 {}
 
 /// The steps of a record's text can be written, and so can those of a run's record, where its events are of
@@ -75,5 +75,5 @@ pub fn records_are_runs()
 pub fn records_can_be_written()
     ensures texts { (text : List ℕ) (steps : List Step) → IsRecordOf text steps → All CanBeWritten steps }
     ensures few { (text : List ℕ) (steps : List Step) → IsRecordOf text steps → length steps ≤ MAX_EVENTS }
-    ensures runs { (B M : ℕ) (o : Start) (steps : List Step) (history : History) → IsRunRecord B M o steps history → OfHarts (events_in steps) → All CanBeWritten steps }
+    ensures runs { (B M : ℕ) (o : OpeningValue) (steps : List Step) (history : History) → IsRunRecord B M o steps history → OfHarts (events_in steps) → All CanBeWritten steps }
 {}

@@ -2,7 +2,7 @@
 
 ghost use Rattle.std.specs.Prelude.{◌≡◌, ◌+◌, ◌-◌, ◌≤◌, ◌<◌, ◌^◌, ◌++◌, List, length, replicate, false, Ok, Err, IfOk, IfErr, OnOk, OnErr, vec_len};
 ghost use Rattle.step_machine.specs.declared.events.Event.{Event};
-ghost use Rattle.texts.specs.Results.{Gives, refusal_of};
+ghost use Rattle.texts.specs.Results.{GivesUpToMemory, refusal_of};
 ghost use Rattle.texts.specs.declared.errors.TextError.TheVariants.{Refused};
 ghost use Rattle.recorder.specs.declared.faults.ScheduleFault.TheVariants.{BadHead};
 ghost use Rattle.recorder.specs.Schedule.{OfHarts, IsTokensOf, IsPlainOf};
@@ -62,7 +62,7 @@ pub(crate) fn tokens_within(
 ) -> Result<Vec<Event>, ScheduleError>
     requires start { start ≤ length text.now }
     requires room { room ≤ MAX_EVENTS }
-    ensures { Gives refusal_of (λ events. events.items) result (tokens_from start room text.now) }
+    ensures { GivesUpToMemory refusal_of (λ events. events.items) result (tokens_from start room text.now) }
 {
     let mut events = Vec::new(alloc);
     let mut place = start;
@@ -85,8 +85,8 @@ pub(crate) fn tokens_within(
 #[tactic(auto, using(crate::proofs::TextLaws::found_tokens, crate::proofs::TextLaws::only_tokens, crate::proofs::TextLaws::found_harts, crate::proofs::TextLaws::found_few))]
 pub fn read_tokens(alloc: Global, text: &str) -> Result<Vec<Event>, ScheduleError>
     ensures found { IfOk result (λ events. IsTokensOf text.now events.items) }
-    ensures only { (events : List Event) → IsTokensOf text.now events → Gives refusal_of (λ read. read.items) result (Ok events) }
-    ensures exact { Gives refusal_of (λ events. events.items) result (tokens_at MAX_EVENTS text.now) }
+    ensures only { (events : List Event) → IsTokensOf text.now events → GivesUpToMemory refusal_of (λ read. read.items) result (Ok events) }
+    ensures exact { GivesUpToMemory refusal_of (λ events. events.items) result (tokens_at MAX_EVENTS text.now) }
     ensures harts { IfOk result (λ events. OfHarts events.items) }
     ensures few { IfOk result (λ events. length events.items ≤ MAX_EVENTS) }
 {
@@ -96,7 +96,7 @@ pub fn read_tokens(alloc: Global, text: &str) -> Result<Vec<Event>, ScheduleErro
 /// The events of the schedule of events alone that stands in these bytes.
 #[tactic(auto, unfolding(crate::specs::Reading::plain_at))]
 fn plain_in(alloc: Global, text: &[u8]) -> Result<Vec<Event>, ScheduleError>
-    ensures exact { Gives refusal_of (λ events. events.items) result (plain_at text.now) }
+    ensures exact { GivesUpToMemory refusal_of (λ events. events.items) result (plain_at text.now) }
     ensures headless { has_head head text.now ≡ false → result ≡ Err (Refused (record { fault = BadHead; place = 0 })) }
 {
     if !has_head(HEAD, text) {
@@ -113,8 +113,8 @@ fn plain_in(alloc: Global, text: &[u8]) -> Result<Vec<Event>, ScheduleError>
 #[tactic(auto, using(crate::proofs::HeadLaws::found_plain, crate::proofs::HeadLaws::only_plain, crate::proofs::HeadLaws::plain_harts, crate::proofs::HeadLaws::plain_few))]
 pub fn read_plain(alloc: Global, text: &str) -> Result<Vec<Event>, ScheduleError>
     ensures found { IfOk result (λ events. IsPlainOf text.now events.items) }
-    ensures only { (events : List Event) → IsPlainOf text.now events → Gives refusal_of (λ read. read.items) result (Ok events) }
-    ensures exact { Gives refusal_of (λ events. events.items) result (plain_at text.now) }
+    ensures only { (events : List Event) → IsPlainOf text.now events → GivesUpToMemory refusal_of (λ read. read.items) result (Ok events) }
+    ensures exact { GivesUpToMemory refusal_of (λ events. events.items) result (plain_at text.now) }
     ensures headless { has_head head text.now ≡ false → result ≡ Err (Refused (record { fault = BadHead; place = 0 })) }
     ensures harts { IfOk result (λ events. OfHarts events.items) }
     ensures few { IfOk result (λ events. length events.items ≤ MAX_EVENTS) }
@@ -123,8 +123,8 @@ pub fn read_plain(alloc: Global, text: &str) -> Result<Vec<Event>, ScheduleError
 }
 
 /// The events of a further text's tokens, where `before` events stand already.
-fn tokens_behind(alloc: Global, text: &[u8], before: usize) -> Result<Vec<Event>, ScheduleError>
-    ensures { Gives refusal_of (λ events. events.items) result (tokens_after before text.now) }
+fn tokens_after(alloc: Global, text: &[u8], before: usize) -> Result<Vec<Event>, ScheduleError>
+    ensures { GivesUpToMemory refusal_of (λ events. events.items) result (tokens_after before text.now) }
 {
     let events = tokens_within(alloc, text, 0, MAX_EVENTS)?;
     let room = MAX_EVENTS.saturating_sub(before);
@@ -158,7 +158,7 @@ pub fn push_tokens_of(events: &mut Vec<Event>, text: &[u8]) -> Result<(), Schedu
     ensures only { (read : List Event) → IsTokensOf text.now read → vec_len events.old + length read ≤ MAX_EVENTS → Pushes events.old.items events.new.items result (Ok read) }
     ensures exact { Pushes events.old.items events.new.items result (tokens_after (vec_len events.old) text.now) }
 {
-    let read = tokens_behind(*events.allocator(), text, events.len())?;
+    let read = tokens_after(*events.allocator(), text, events.len())?;
     push_list(events, read)?;
     Ok(())
 }

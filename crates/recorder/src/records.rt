@@ -7,7 +7,7 @@ ghost use Rattle.std.specs.String.{string_bytes};
 ghost use Rattle.step_machine.specs.declared.events.Event.{Event};
 ghost use Rattle.texts.specs.Pieces.{is_blank};
 ghost use Rattle.texts.specs.Cutting.{after, without_front};
-ghost use Rattle.texts.specs.Results.{Gives, refusal_of};
+ghost use Rattle.texts.specs.Results.{GivesUpToMemory, refusal_of};
 ghost use Rattle.texts.specs.Runs.{runs_of};
 ghost use Rattle.texts.specs.declared.errors.TextError.TheVariants.{Refused};
 ghost use Rattle.recorder.specs.declared.faults.ScheduleFault.TheVariants.{BadHead};
@@ -92,7 +92,7 @@ fn lines_within(
     start: usize,
 ) -> Result<Vec<(Event, Outcome)>, ScheduleError>
     requires { start ≤ length text.now }
-    ensures { Gives refusal_of (λ steps. steps.items) result (records_from start text.now) }
+    ensures { GivesUpToMemory refusal_of (λ steps. steps.items) result (records_from start text.now) }
 {
     let mut steps = Vec::new(alloc);
     let mut place = start;
@@ -110,7 +110,7 @@ fn lines_within(
 /// The steps of the record that stands in these bytes.
 #[tactic(auto, unfolding(crate::specs::Records::record_at))]
 pub(crate) fn record_in(alloc: Global, text: &[u8]) -> Result<Vec<(Event, Outcome)>, ScheduleError>
-    ensures exact { Gives refusal_of (λ steps. steps.items) result (record_at text.now) }
+    ensures exact { GivesUpToMemory refusal_of (λ steps. steps.items) result (record_at text.now) }
     ensures headless { has_head record_head text.now ≡ false → result ≡ Err (Refused (record { fault = BadHead; place = 0 })) }
 {
     if !has_head(RECORD_HEAD, text) {
@@ -130,8 +130,8 @@ pub(crate) fn record_in(alloc: Global, text: &[u8]) -> Result<Vec<(Event, Outcom
 #[tactic(auto, using(crate::proofs::HeadLaws::found_record, crate::proofs::HeadLaws::only_record, crate::proofs::HeadLaws::record_harts, crate::proofs::HeadLaws::record_few))]
 pub fn read_record(alloc: Global, text: &str) -> Result<Vec<(Event, Outcome)>, ScheduleError>
     ensures found { IfOk result (λ steps. IsRecordOf text.now steps.items) }
-    ensures only { (steps : List Step) → IsRecordOf text.now steps → Gives refusal_of (λ read. read.items) result (Ok steps) }
-    ensures exact { Gives refusal_of (λ steps. steps.items) result (record_at text.now) }
+    ensures only { (steps : List Step) → IsRecordOf text.now steps → GivesUpToMemory refusal_of (λ read. read.items) result (Ok steps) }
+    ensures exact { GivesUpToMemory refusal_of (λ steps. steps.items) result (record_at text.now) }
     ensures headless { has_head record_head text.now ≡ false → result ≡ Err (Refused (record { fault = BadHead; place = 0 })) }
     ensures harts { IfOk result (λ steps. OfHarts (events_in steps.items)) }
     ensures few { IfOk result (λ steps. length steps.items ≤ MAX_EVENTS) }

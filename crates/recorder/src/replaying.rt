@@ -1,7 +1,7 @@
 //! Replaying schedules, and checking records as they are replayed.
 
 ghost use Rattle.std.specs.Prelude.{◌≡◌, ◌≤◌, ◌↔◌, IsTrue, IfOk, IfErr, OnOk};
-ghost use Rattle.step_machine.specs.History.{FitsIn, unrun};
+ghost use Rattle.step_machine.specs.History.{FitsIn, at_opening};
 ghost use Rattle.step_machine.specs.Runs.{Run};
 ghost use Rattle.recorder.specs.Outcomes.{is_same_outcome};
 ghost use Rattle.recorder.specs.Replaying.{IsRunRecord, DiffersAt, Differs as SaysDiffers};
@@ -80,7 +80,7 @@ fn do_steps<const B: usize, const M: usize>(
     machine: &mut Machine<B, M>,
     steps: &[(Event, Outcome)],
 ) -> Result<(), CheckError>
-    requires { machine.old.history ≡ unrun machine.old.history.opening }
+    requires { machine.old.history ≡ at_opening machine.old.history.opening }
     ensures checked { OnOk result (IsRunRecord B M machine.old.history.opening steps.now machine.new.history) }
     ensures differs { IfErr result (SaysDiffers (DiffersAt B M machine.old.history.opening steps.now)) }
 {

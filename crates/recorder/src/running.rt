@@ -3,7 +3,7 @@
 ghost use Rattle.std.specs.Prelude.{◌≡◌, ◌≤◌, IfOk, IfErr};
 ghost use Rattle.step_machine.specs.History.{History, FitsIn};
 ghost use Rattle.step_machine.specs.Runs.{Run};
-ghost use Rattle.step_machine.specs.Standing.{StandsAt};
+ghost use Rattle.step_machine.specs.Standing.{RepresentsHistory};
 ghost use Rattle.recorder.specs.Records.{events_in};
 ghost use Rattle.recorder.specs.Replaying.{IsRunRecord, DiffersAt, Differs as SaysDiffers};
 
@@ -21,7 +21,7 @@ pub fn replay_state<const B: usize, const M: usize>(
     requires capacity { B ≤ 64 }
     requires size { M ≤ 65536 }
     requires fits { FitsIn M opening.now }
-    ensures { IfOk result (λ machine. (history : History) × Run B M opening.now events.now history × StandsAt B M history machine) }
+    ensures { IfOk result (λ machine. (history : History) × Run B M opening.now events.now history × RepresentsHistory B M history machine) }
 {
     let mut machine = MachineState::open(alloc, opening)?;
     match machine.run(events) {
@@ -61,7 +61,7 @@ pub fn check_record<const B: usize, const M: usize>(
     requires capacity { B ≤ 64 }
     requires size { M ≤ 65536 }
     requires fits { FitsIn M opening.now }
-    ensures checked { IfOk result (λ machine. (history : History) × IsRunRecord B M opening.now steps.now history × StandsAt B M history machine) }
+    ensures checked { IfOk result (λ machine. (history : History) × IsRunRecord B M opening.now steps.now history × RepresentsHistory B M history machine) }
     ensures differs { IfErr result (SaysDiffers (DiffersAt B M opening.now steps.now)) }
 {
     let mut machine = MachineState::open(alloc, opening)?;

@@ -2,7 +2,7 @@
 
 ghost use Rattle.std.specs.Prelude.{◌≡◌, ◌+◌, ◌≤◌, ◌||◌, ℕ, is_some, length, Err, IfOk, IfErr};
 ghost use Rattle.step_machine.specs.declared.events.Event.{Event};
-ghost use Rattle.texts.specs.Results.{Gives, refusal_of};
+ghost use Rattle.texts.specs.Results.{GivesUpToMemory, refusal_of};
 ghost use Rattle.texts.specs.declared.errors.TextError.TheVariants.{Refused};
 ghost use Rattle.recorder.specs.Reading.{numbers_of, said_by, is_cut, event_of, run_at};
 
@@ -95,7 +95,7 @@ pub fn run_of(
     room: usize,
 ) -> Result<(Event, usize), ScheduleError>
     requires { place + length word.now ≤ end }
-    ensures exact { Gives refusal_of (λ (run : Event × ℕ). run) result (run_at end place room word.now) }
+    ensures exact { GivesUpToMemory refusal_of (λ (run : Event × ℕ). run) result (run_at end place room word.now) }
     ensures refused { IfErr (run_at end place room word.now) (λ refusal. result ≡ Err (Refused refusal)) }
     ensures few { IfOk result (λ run. run.1 ≤ room) }
 {

@@ -2,13 +2,13 @@
 
 ghost use Rattle.std.specs.Prelude.{◌≡◌, ◌≤◌, List, length, false, Ok, Err, IfOk};
 ghost use Rattle.step_machine.specs.declared.events.Event.{Event};
-ghost use Rattle.texts.specs.Results.{Gives, refusal_of};
+ghost use Rattle.texts.specs.Results.{GivesUpToMemory, refusal_of};
 ghost use Rattle.texts.specs.declared.errors.TextError.TheVariants.{Refused};
 ghost use Rattle.recorder.specs.declared.faults.ScheduleFault.TheVariants.{BadHead};
 ghost use Rattle.recorder.specs.Schedule.{OfHarts};
 ghost use Rattle.recorder.specs.Reading.{head, has_head};
 ghost use Rattle.recorder.specs.Records.{events_in, record_head};
-ghost use Rattle.recorder.specs.Versions.{Said, said_of, events_said, Says, said_at, schedule_at, IsScheduleOf};
+ghost use Rattle.recorder.specs.Versions.{ScheduleValue, said_of, events_said, Says, said_at, schedule_at, IsScheduleOf};
 
 use crate::faults::ScheduleError;
 use crate::heads::{HEAD, has_head};
@@ -53,7 +53,7 @@ impl Schedule {
 /// What the schedule says that stands in these bytes.
 #[tactic(auto, unfolding(crate::specs::Versions::said_at))]
 fn said_in(alloc: Global, text: &[u8]) -> Result<Schedule, ScheduleError>
-    ensures exact { Gives refusal_of said_of result (said_at text.now) }
+    ensures exact { GivesUpToMemory refusal_of said_of result (said_at text.now) }
     ensures headless { has_head head text.now ≡ false → has_head record_head text.now ≡ false → result ≡ Err (Refused (record { fault = BadHead; place = 0 })) }
 {
     if has_head(HEAD, text) {
@@ -73,8 +73,8 @@ fn said_in(alloc: Global, text: &[u8]) -> Result<Schedule, ScheduleError>
 #[tactic(auto, using(crate::proofs::HeadLaws::found_said, crate::proofs::HeadLaws::only_said, crate::proofs::HeadLaws::said_harts, crate::proofs::HeadLaws::said_few))]
 pub fn read_either(alloc: Global, text: &str) -> Result<Schedule, ScheduleError>
     ensures found { IfOk result (λ schedule. Says text.now (said_of schedule)) }
-    ensures only { (said : Said) → Says text.now said → Gives refusal_of said_of result (Ok said) }
-    ensures exact { Gives refusal_of said_of result (said_at text.now) }
+    ensures only { (said : ScheduleValue) → Says text.now said → GivesUpToMemory refusal_of said_of result (Ok said) }
+    ensures exact { GivesUpToMemory refusal_of said_of result (said_at text.now) }
     ensures headless { has_head head text.now ≡ false → has_head record_head text.now ≡ false → result ≡ Err (Refused (record { fault = BadHead; place = 0 })) }
     ensures harts { IfOk result (λ schedule. OfHarts (events_said (said_of schedule))) }
     ensures few { IfOk result (λ schedule. length (events_said (said_of schedule)) ≤ MAX_EVENTS) }
@@ -86,7 +86,7 @@ pub fn read_either(alloc: Global, text: &str) -> Result<Schedule, ScheduleError>
 /// record says of their outcomes is left out.
 #[tactic(auto, unfolding(crate::specs::Versions::schedule_at))]
 fn events_read(alloc: Global, text: &str) -> Result<Vec<Event>, ScheduleError>
-    ensures exact { Gives refusal_of (λ events. events.items) result (schedule_at text.now) }
+    ensures exact { GivesUpToMemory refusal_of (λ events. events.items) result (schedule_at text.now) }
     ensures headless { has_head head text.now ≡ false → has_head record_head text.now ≡ false → result ≡ Err (Refused (record { fault = BadHead; place = 0 })) }
     ensures harts { IfOk result (λ events. OfHarts events.items) }
     ensures few { IfOk result (λ events. length events.items ≤ MAX_EVENTS) }
@@ -102,8 +102,8 @@ fn events_read(alloc: Global, text: &str) -> Result<Vec<Event>, ScheduleError>
 #[tactic(auto, using(crate::proofs::HeadLaws::found_schedule, crate::proofs::HeadLaws::only_schedule))]
 pub fn read_schedule(alloc: Global, text: &str) -> Result<Vec<Event>, ScheduleError>
     ensures found { IfOk result (λ events. IsScheduleOf text.now events.items) }
-    ensures only { (events : List Event) → IsScheduleOf text.now events → Gives refusal_of (λ read. read.items) result (Ok events) }
-    ensures exact { Gives refusal_of (λ events. events.items) result (schedule_at text.now) }
+    ensures only { (events : List Event) → IsScheduleOf text.now events → GivesUpToMemory refusal_of (λ read. read.items) result (Ok events) }
+    ensures exact { GivesUpToMemory refusal_of (λ events. events.items) result (schedule_at text.now) }
     ensures headless { has_head head text.now ≡ false → has_head record_head text.now ≡ false → result ≡ Err (Refused (record { fault = BadHead; place = 0 })) }
     ensures harts { IfOk result (λ events. OfHarts events.items) }
     ensures few { IfOk result (λ events. length events.items ≤ MAX_EVENTS) }

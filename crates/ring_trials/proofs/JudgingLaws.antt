@@ -6,10 +6,10 @@ use Rattle.step_machine.specs.declared.events.Event.{Event}
 use Rattle.step_machine.specs.declared.events.Entry.{Entry}
 use Rattle.step_machine.specs.declared.events.Outcome.{Outcome}
 use Rattle.step_machine.specs.declared.events.Outcome.TheVariants as outcome
-use Rattle.step_machine.specs.History.{Start, History, unrun}
+use Rattle.step_machine.specs.History.{OpeningValue, History, at_opening}
 use Rattle.step_machine.specs.Entries.{reported}
 use Rattle.step_machine.specs.Runs.{Happens}
-use Rattle.step_machine.specs.Standing.{StandsAt, MovesBy, BeginsAnew}
+use Rattle.step_machine.specs.Standing.{RepresentsHistory, MovesBy, BeginsAnew, RepresentsRunFrom}
 use Rattle.step_machine.specs.inner.Config.{Config}
 use Rattle.step_machine.proofs.Running.{RunFrom-more}
 use Rattle.poll_close.specs.Layout.{Layout}
@@ -17,7 +17,7 @@ use Rattle.poll_close.specs.Breaches.{breach_of, or_later, breach_after, first_b
 use Rattle.poll_close.specs.declared.clean.Breach.{Breach}
 use Rattle.poll_close.specs.declared.clean.Share.{Share}
 use Rattle.ring_trials.specs.Own.{lists_of, layout_from, start_of}
-use Rattle.ring_trials.specs.Trials.{AreNoted, entries_with, IsJudged, IsJudgedAt, StandsFrom}
+use Rattle.ring_trials.specs.Trials.{AreNoted, entries_with, IsJudged, IsJudgedAt}
 use Rattle.ring_trials.specs.declared.own.Own.{Own}
 
 or_later-assoc : (a b c : Option Breach) → or_later (or_later a b) c ≡ or_later a (or_later b c)
@@ -84,7 +84,7 @@ pub judged_more : (B M : ℕ) (own : Own) (evs : List Event) (ev : Event) (o : O
 judged_more B M own evs ev o c d found new shares more judged moves noted =
     let moved = moves judged.history judged.stands in record {
       history = moved.0;
-      run = RunFrom-more B M (unrun (start_of own)) evs judged.history ev o moved.0 judged.run moved.1;
+      run = RunFrom-more B M (at_opening (start_of own)) evs judged.history ev o moved.0 judged.run moved.1;
       opening = happens_opening B M judged.history moved.0 ev o moved.1 ∙ judged.opening;
       stands = moved.2;
       noted = subst (λ (es : List Entry). AreNoted own es new more) (sym (happens_entries B M judged.history moved.0 ev o moved.1))
@@ -100,18 +100,18 @@ judged_next B M own events i none o c d found new shares more within judged move
     (judged_more B M own (take i events) (get_or events i none) o c d found new shares more judged moves noted)
 
 -- at the opening
-pub judged_none : (B M : ℕ) (own : Own) (c d : Config) (shares : List Share) → StandsFrom B M (start_of own) c → BeginsAnew B M c d → AreNotes [] shares
+pub judged_none : (B M : ℕ) (own : Own) (c d : Config) (shares : List Share) → RepresentsRunFrom B M (start_of own) c → BeginsAnew B M c d → AreNotes [] shares
     → length shares ≡ length (lists_of own) → IsJudgedAt B M own [] d None shares
 judged_none B M own c d shares stands anew notes count = record {
-  history = unrun (start_of own);
+  history = at_opening (start_of own);
   run = refl;
   opening = refl;
-  stands = subst (λ (o : Start). StandsAt B M (unrun o) d) stands.2 (anew stands.0 stands.1);
+  stands = subst (λ (o : OpeningValue). RepresentsHistory B M (at_opening o) d) stands.2 (anew stands.0 stands.1);
   noted = record { breach = refl; notes = λ none. notes; count = count };
 }
 
 pub judged_at : (B M : ℕ) (own : Own) (events : List Event) (c : Config) (found : Option Breach) (shares : List Share)
     → IsJudgedAt B M own events c found shares
-    → IsJudged B M own events found shares × StandsFrom B M (start_of own) c
+    → IsJudged B M own events found shares × RepresentsRunFrom B M (start_of own) c
 judged_at B M own events c found shares judged =
     (record { history = judged.history; run = judged.run; noted = judged.noted }, (judged.history, judged.stands, judged.opening))

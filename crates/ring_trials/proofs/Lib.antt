@@ -1,2 +1,5 @@
 pub mod JudgingLaws
 pub mod RunsLaws
+pub mod JoiningLaws
+pub mod TextLaws
+pub mod OpeningLaws

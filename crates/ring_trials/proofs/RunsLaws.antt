@@ -10,7 +10,7 @@ use Rattle.std.proofs.lemmas.Bool.Decides.{nat_tests}
 use Rattle.std.proofs.lemmas.List.Elements.{All-append, All-cons, All-nil}
 use Rattle.std.proofs.lemmas.Option.{slice_get_within}
 use Rattle.rand_core.specs.Stream.{Stream, next_u32}
-use Rattle.step_machine.specs.History.{History, Start}
+use Rattle.step_machine.specs.History.{History, OpeningValue}
 use Rattle.step_machine.specs.Entries.{reported}
 use Rattle.step_machine.specs.Runs.{Run}
 use Rattle.step_machine.proofs.Stays.{slice_get-set_same, slice_get-set_other}
@@ -65,45 +65,47 @@ closed_few : (i : ℕ) (ts : List History) → closed_in i ts ≤ length ts
 closed_few i [] = omega arith
 closed_few i (u ∷ ts) = at_most_one (is_closed (reported 0 u.entries) i) (closed_in i ts) (length ts) (closed_few i ts)
 
--- the first i shares were taken into these totals
+-- A list of totals was gone through up to place i: what stands there was taken in at each place before, by this relation of
+-- the total, of what is taken in and of the total after.
+pub record TakenIn (X : Type 0) (Adds : Total → X → Total → Type 0) (old : List Total) (more : List X) (i : ℕ) (new : List Total) : Type 0 where
+  pub later : (k : ℕ) (s : Total) → i ≤ k → slice_get new k ≡ Some s → slice_get old k ≡ Some s
+  pub before : (k : ℕ) (s : Total) → k < i → slice_get new k ≡ Some s
+      → (o : Total) × (e : X) × (slice_get old k ≡ Some o) × (slice_get more k ≡ Some e) × Adds o e s
+  pub count : length new ≡ length old
+
+module _ (X : Type 0) (Adds : Total → X → Total → Type 0) (old : List Total) (more : List X) where
+  pub taken_none : TakenIn X Adds old more 0 old
+  taken_none = record { later = λ k s some is. is; before = λ k s none is. absurd (omega arith); count = refl }
+
+  pub taken_more : (i : ℕ) (now : List Total) (total new : Total) (one : X) (next : List Total)
+      → TakenIn X Adds old more i now → slice_get now i ≡ Some total → slice_get more i ≡ Some one → Adds total one new
+      → next ≡ set now i new → length next ≡ length now → TakenIn X Adds old more (i + 1) next
+  taken_more i now total new one next taken here mine adds is count = record {
+    later = λ k s after at. taken.later k s (omega arith)
+        (sym (slice_get-set_other now i k new (λ same. absurd (omega arith))) ∙ ap (λ xs. slice_get xs k) (sym is) ∙ at);
+    before = λ k s below at. elim (eq-or-lt_of_le {n = k} {m = i} (omega arith)) [
+      | inl same ↦ (
+        total,
+        one,
+        taken.later k total (omega arith) (ap (slice_get now) same ∙ here),
+        ap (slice_get more) same ∙ mine,
+        (let that : new ≡ s = let both : Some new ≡ Some s = sym (slice_get-set_same now i new (slice_get_within now i total here))
+            ∙ ap (λ xs. slice_get xs i) (sym is) ∙ ap (slice_get next) (sym same) ∙ at in cc in
+            subst (Adds total one) that adds),
+      )
+      | inr less ↦ taken.before k s less
+          (sym (slice_get-set_other now i k new (λ same. absurd (omega arith))) ∙ ap (λ xs. slice_get xs k) (sym is) ∙ at)
+    ];
+    count = count ∙ taken.count;
+  }
+
+-- what is noted of one run more is taken into a sender's total
 pub record OneMore (old : Total) (share : Share) (new : Total) : Type 0 where
   pub most : new.most ≡ max old.most share.taken
   pub closed : new.closed ≡ (if share.closed then old.closed + 1 else old.closed)
 
-pub record TakenIn (old : List Total) (shares : List Share) (i : ℕ) (new : List Total) : Type 0 where
-  pub later : (k : ℕ) (s : Total) → i ≤ k → slice_get new k ≡ Some s → slice_get old k ≡ Some s
-  pub before : (k : ℕ) (s : Total) → k < i → slice_get new k ≡ Some s
-      → (o : Total) × (e : Share) × (slice_get old k ≡ Some o) × (slice_get shares k ≡ Some e) × OneMore o e s
-  pub count : length new ≡ length old
-
-pub taken_none : (old : List Total) (shares : List Share) → TakenIn old shares 0 old
-taken_none old shares = record { later = λ k s some is. is; before = λ k s none is. absurd (omega arith); count = refl }
-
-pub taken_more : (old : List Total) (shares : List Share) (i : ℕ) (now : List Total) (total new : Total) (share : Share) (next : List Total)
-    → TakenIn old shares i now → slice_get now i ≡ Some total → slice_get shares i ≡ Some share → new.most ≡ max total.most share.taken
-    → new.closed ≡ (if share.closed then total.closed + 1 else total.closed) → next ≡ set now i new → length next ≡ length now
-    → TakenIn old shares (i + 1) next
-taken_more old shares i now total new share next taken here mine most closed is count = record {
-  later = λ k s after at. taken.later k s (omega arith)
-      (sym (slice_get-set_other now i k new (λ same. absurd (omega arith))) ∙ ap (λ xs. slice_get xs k) (sym is) ∙ at);
-  before = λ k s below at. elim (eq-or-lt_of_le {n = k} {m = i} (omega arith)) [
-    | inl same ↦ (
-      total,
-      share,
-      taken.later k total (omega arith) (ap (slice_get now) same ∙ here),
-      ap (slice_get shares) same ∙ mine,
-      (let that : new ≡ s = let both : Some new ≡ Some s = sym (slice_get-set_same now i new (slice_get_within now i total here))
-          ∙ ap (λ xs. slice_get xs i) (sym is) ∙ ap (slice_get next) (sym same) ∙ at in cc in
-          record { most = ap (λ (x : Total). x.most) (sym that) ∙ most; closed = ap (λ (x : Total). x.closed) (sym that) ∙ closed }),
-    )
-    | inr less ↦ taken.before k s less
-        (sym (slice_get-set_other now i k new (λ same. absurd (omega arith))) ∙ ap (λ xs. slice_get xs k) (sym is) ∙ at)
-  ];
-  count = count ∙ taken.count;
-}
-
 pub totals_more : (ts : List History) (t : History) (old new : List Total) (shares : List Share) (i : ℕ) → i ≡ length new → AreTotals ts old
-    → AreNotes (reported 0 t.entries) shares → TakenIn old shares i new → AreTotals (ts ++ t ∷ []) new
+    → AreNotes (reported 0 t.entries) shares → TakenIn Share OneMore old shares i new → AreTotals (ts ++ t ∷ []) new
 totals_more ts t old new shares i all totals notes taken = record {
   most = λ k s at. let one = taken.before k s (omega (arith, slice_get_within new k s at)) at in
       one.4.most ∙ ap (λ m. max m one.1.taken) (totals.most k one.0 one.2) ∙ ap (max (most_of k ts)) (notes.taken k one.1 one.3)
@@ -149,17 +151,6 @@ one_unclean s n totals shares found breach all judged some = record {
 
 -- ---- what is drawn
 
-left_after-sum : (more before : ℕ) (stream : Stream) → left_after more (left_after before stream) ≡ left_after (before + more) stream
-unfolding left_after
-left_after-sum more zero stream = let same : more ≡ 0 + more = omega arith in ap (λ (n : ℕ). left_after n stream) same
-left_after-sum more (suc before) stream =
-    let next : suc (before + more) ≡ suc before + more = omega arith in
-    left_after-sum more before (next_u32 stream).1 ∙ ap (λ (n : ℕ). left_after n stream) next
-
-pub left_more : (size number : ℕ) (first before after : Stream) → before ≡ left_after (number * size) first → after ≡ left_after size before
-    → after ≡ left_after ((number + 1) * size) first
-left_more size number first before after was drawn = grind (arith, left_after-sum)
-
 pub left_none : (size : ℕ) (stream : Stream) → stream ≡ left_after (0 * size) stream
 unfolding left_after
 left_none size stream = let none : 0 ≡ 0 * size = omega arith in ap (λ (n : ℕ). left_after n stream) none
@@ -180,7 +171,7 @@ whole_again n new old same whole =
 -- ---- one run, and whether it breaks something
 
 one_found : (B M : ℕ) (own : Own) (events : List Event) (found : Option Breach) (shares : List Share) → IsJudged B M own events found shares
-    → ((o : Start) (evs : List Event) (t u : History) → Run B M o evs t → Run B M o evs u → t ≡ u) → (unclean : IsUnclean B M own events)
+    → ((o : OpeningValue) (evs : List Event) (t u : History) → Run B M o evs t → Run B M o evs u → t ≡ u) → (unclean : IsUnclean B M own events)
     → found ≡ Some unclean.breach
 one_found B M own events found shares judged one unclean =
     judged.noted.breach ∙ ap (λ (t : History). first_breach (layout_from own) (lists_of own) t.entries)
@@ -195,7 +186,7 @@ unclean_some B M own events found breach shares judged some = (
 
 pub unclean_none : (B M : ℕ) (own : Own) (events : List Event) (found : Option Breach) (shares : List Share)
     → IsJudged B M own events found shares → found ≡ None
-    → ((o : Start) (evs : List Event) (t u : History) → Run B M o evs t → Run B M o evs u → t ≡ u) → IsTrue false ↔ IsUnclean B M own events
+    → ((o : OpeningValue) (evs : List Event) (t u : History) → Run B M o evs t → Run B M o evs u → t ≡ u) → IsTrue false ↔ IsUnclean B M own events
 unclean_none B M own events found shares judged none one = (
   (λ pass. cc),
   (λ unclean. absurd (let some = one_found B M own events found shares judged one unclean in cc)),

@@ -1,2 +1,4 @@
 pub mod Own
 pub mod Trials
+pub mod Answers
+pub mod inner

@@ -1,4 +1,4 @@
--- Runs of a channel, by schedules that a generator draws, and what is told of them.
+-- Runs of a channel, by schedules that a generator draws, and their totals.
 use Rattle.std.specs.Prelude.{ℕ, ◌≡◌, ◌+◌, ◌*◌, ◌<◌, max, List, [], ◌∷◌, ◌++◌, length, map, if◌then◌else◌, All, Option, Some, None}
 use Rattle.std.specs.List.{slice_get}
 use Rattle.rand_core.specs.Stream.{Stream}
@@ -6,12 +6,12 @@ use Rattle.step_machine.specs.declared.events.Event.{Event}
 use Rattle.step_machine.specs.declared.events.Entry.{Entry}
 use Rattle.step_machine.specs.declared.events.Outcome.{Outcome}
 use Rattle.step_machine.specs.declared.events.Outcome.TheVariants as outcome
-use Rattle.step_machine.specs.History.{Start, History}
+use Rattle.step_machine.specs.History.{OpeningValue, History}
 use Rattle.step_machine.specs.Entries.{reported}
 use Rattle.step_machine.specs.Runs.{Run}
-use Rattle.step_machine.specs.Standing.{StandsAt}
+use Rattle.step_machine.specs.Standing.{RepresentsHistory}
 use Rattle.step_machine.specs.inner.Config.{Config}
-use Rattle.recorder.specs.Drawing.{drawn, words, left_after}
+use Rattle.recorder.specs.Drawing.{schedule_drawn}
 use Rattle.poll_close.specs.Reports.{taken}
 use Rattle.poll_close.specs.Plans.{is_closed}
 use Rattle.poll_close.specs.Breaches.{first_breach, AreNotes, IsKept}
@@ -23,15 +23,6 @@ use Rattle.ring_trials.specs.declared.own.Own.{Own}
 use Rattle.ring_trials.specs.declared.runs.Total.{Total}
 use Rattle.ring_trials.specs.declared.runs.Found.{Found}
 use Rattle.ring_trials.specs.declared.runs.Found.TheVariants as found
-
--- The schedule of this number, from 0. Each has `size` events and takes `size` words of the generator's stream,
--- after those of the schedules before it.
-abbrev pub schedule_drawn : (harts size : ℕ) → Stream → (number : ℕ) → List Event
-schedule_drawn harts size stream number = map (drawn harts) (words size (left_after (number * size) stream))
-
--- a machine that keeps no history stands at the end of one from this opening
-abbrev pub StandsFrom : ℕ → ℕ → Start → Config → Type 0
-StandsFrom B M o c = (t : History) × StandsAt B M t c × (t.opening ≡ o)
 
 -- what is noted of a run after these entries: the first breach, if there is one, and where there is none of each
 -- sender what it takes to find the next
@@ -60,7 +51,7 @@ pub record IsJudgedAt (B M : ℕ) (own : Own) (events : List Event) (c : Config)
   pub history : History
   pub run : Run B M (start_of own) events history
   pub opening : history.opening ≡ start_of own
-  pub stands : StandsAt B M history c
+  pub stands : RepresentsHistory B M history c
   pub noted : AreNoted own history.entries found shares
 
 -- Where runs come from: buffers of B stores and a memory of M words, the channel, the stream that draws the

@@ -1,10 +1,11 @@
 //! An unclean run made short: passes over its events, in which pieces are left out.
 
 ghost use Rattle.std.specs.Prelude.{◌≡◌, ◌≤◌, ◌<◌, ◌+◌, ◌*◌, ◌^◌, ◌↔◌, ℕ, IsTrue, true, false, IfOk, Ok, OnOk, OnErr, length};
+ghost use Rattle.step_machine.specs.Standing.{RepresentsRunFrom};
 ghost use Rattle.poll_close.specs.Layout.{base_of};
 ghost use Rattle.shrink.specs.Shrinking.{IsPartOf, without as events_without};
 ghost use Rattle.ring_trials.specs.Own.{lists_of, layout_from, start_of};
-ghost use Rattle.ring_trials.specs.Trials.{StandsFrom, IsUnclean, IsShortened};
+ghost use Rattle.ring_trials.specs.Trials.{IsUnclean, IsShortened};
 
 use crate::judging::judge;
 use crate::own::Own;
@@ -21,11 +22,11 @@ fn is_unclean<const B: usize, const M: usize>(
     shares: &mut [Share],
     events: &[Event],
 ) -> Result<bool, AllocError>
-    requires stands { StandsFrom B M (start_of own.now) machine.old }
+    requires stands { RepresentsRunFrom B M (start_of own.now) machine.old }
     requires ends { base_of (layout_from own.now) (length (lists_of own.now)) < 2 ^ 32 }
     requires count { length shares.old ≡ length (lists_of own.now) }
     ensures unclean { IfOk result (λ b. IsTrue b ↔ IsUnclean B M own.now events.now) }
-    ensures stands { OnOk result (StandsFrom B M (start_of own.now) machine.new) }
+    ensures stands { OnOk result (RepresentsRunFrom B M (start_of own.now) machine.new) }
     ensures count { length shares.new ≡ length (lists_of own.now) }
 {
     laws_of_runs();
@@ -62,12 +63,12 @@ fn leave_out_pieces<const B: usize, const M: usize>(
     events: &mut Vec<Event>,
     size: usize,
 ) -> Result<bool, AllocError>
-    requires stands { StandsFrom B M (start_of own.now) machine.old }
+    requires stands { RepresentsRunFrom B M (start_of own.now) machine.old }
     requires ends { base_of (layout_from own.now) (length (lists_of own.now)) < 2 ^ 32 }
     requires count { length shares.old ≡ length (lists_of own.now) }
     requires unclean { IsUnclean B M own.now events.old.items }
     requires some { 1 ≤ size }
-    ensures stands { OnOk result (StandsFrom B M (start_of own.now) machine.new) }
+    ensures stands { OnOk result (RepresentsRunFrom B M (start_of own.now) machine.new) }
     ensures count { length shares.new ≡ length (lists_of own.now) }
     ensures unclean { IsUnclean B M own.now events.new.items }
     ensures part { IsPartOf events.new.items events.old.items }
@@ -100,11 +101,11 @@ fn halve_pieces<const B: usize, const M: usize>(
     shares: &mut [Share],
     events: &mut Vec<Event>,
 ) -> Result<(), AllocError>
-    requires stands { StandsFrom B M (start_of own.now) machine.old }
+    requires stands { RepresentsRunFrom B M (start_of own.now) machine.old }
     requires ends { base_of (layout_from own.now) (length (lists_of own.now)) < 2 ^ 32 }
     requires count { length shares.old ≡ length (lists_of own.now) }
     requires unclean { IsUnclean B M own.now events.old.items }
-    ensures stands { OnOk result (StandsFrom B M (start_of own.now) machine.new) }
+    ensures stands { OnOk result (RepresentsRunFrom B M (start_of own.now) machine.new) }
     ensures count { length shares.new ≡ length (lists_of own.now) }
     ensures unclean { IsUnclean B M own.now events.new.items }
     ensures part { IsPartOf events.new.items events.old.items }
@@ -126,10 +127,12 @@ fn leave_out<const B: usize, const M: usize>(
     shares: &mut [Share],
     events: &mut Vec<Event>,
 ) -> Result<(), AllocError>
-    requires stands { StandsFrom B M (start_of own.now) machine.old }
+    requires stands { RepresentsRunFrom B M (start_of own.now) machine.old }
     requires ends { base_of (layout_from own.now) (length (lists_of own.now)) < 2 ^ 32 }
     requires count { length shares.old ≡ length (lists_of own.now) }
     requires unclean { IsUnclean B M own.now events.old.items }
+    ensures stands { OnOk result (RepresentsRunFrom B M (start_of own.now) machine.new) }
+    ensures count { length shares.new ≡ length (lists_of own.now) }
     ensures unclean { IsUnclean B M own.now events.new.items }
     ensures part { IsPartOf events.new.items events.old.items }
     ensures minimal { OnOk result ((i : ℕ) → i < length events.new.items → IsUnclean B M own.now (events_without i 1 events.new.items) → ⊥) }
@@ -151,11 +154,13 @@ pub fn shorten<const B: usize, const M: usize>(
     shares: &mut [Share],
     events: &[Event],
 ) -> Result<Vec<Event>, AllocError>
-    requires stands { StandsFrom B M (start_of own.now) machine.old }
+    requires stands { RepresentsRunFrom B M (start_of own.now) machine.old }
     requires ends { base_of (layout_from own.now) (length (lists_of own.now)) < 2 ^ 32 }
     requires count { length shares.old ≡ length (lists_of own.now) }
     requires unclean { IsUnclean B M own.now events.now }
-    ensures { IfOk result (λ answer. IsShortened B M own.now events.now answer.items) }
+    ensures shortened { IfOk result (λ answer. IsShortened B M own.now events.now answer.items) }
+    ensures stands { OnOk result (RepresentsRunFrom B M (start_of own.now) machine.new) }
+    ensures count { length shares.new ≡ length (lists_of own.now) }
 {
     let mut left = Vec::from_slice(alloc, events)?;
     leave_out(alloc, own, machine, shares, &mut left)?;

@@ -4,10 +4,11 @@ ghost use Rattle.std.specs.Prelude.{◌≡◌, ◌≤◌, ◌<◌, ◌++◌, ◌
 ghost use Rattle.std.specs.List.{slice_get};
 ghost use Rattle.step_machine.specs.History.{History};
 ghost use Rattle.step_machine.specs.Entries.{reported};
+ghost use Rattle.step_machine.specs.Standing.{RepresentsRunFrom};
 ghost use Rattle.poll_close.specs.Layout.{base_of};
 ghost use Rattle.poll_close.specs.Breaches.{AreNotes};
 ghost use Rattle.ring_trials.specs.Own.{lists_of, layout_from, start_of};
-ghost use Rattle.ring_trials.specs.Trials.{AreTotals, IsFound, StandsFrom};
+ghost use Rattle.ring_trials.specs.Trials.{AreTotals, IsFound};
 
 use crate::judging::judge;
 use crate::own::{Own, senders};
@@ -17,7 +18,7 @@ use recorder::draw;
 use std::alloc::{AllocError, Global};
 use step_machine::MachineState;
 
-/// What is told of a sender after many runs.
+/// A sender's totals over many runs.
 #[derive(Clone, Copy, Debug, PartialEq, Eq)]
 pub struct Total {
     /// How many of its words a run took at most.
@@ -36,7 +37,7 @@ pub enum Found {
 }
 
 /// The totals of no run.
-fn no_totals(alloc: Global, senders: usize) -> Result<Vec<Total>, AllocError>
+pub(crate) fn no_totals(alloc: Global, senders: usize) -> Result<Vec<Total>, AllocError>
     ensures totals { IfOk result (λ totals. AreTotals [] totals.items) }
     ensures count { IfOk result (λ totals. length totals.items ≡ senders) }
 {
@@ -77,7 +78,7 @@ pub fn find_on<const B: usize, const M: usize, G: Rng>(
     runs: u32,
     size: u32,
 ) -> Result<Found, AllocError>
-    requires stands { StandsFrom B M (start_of own.now) machine.old }
+    requires stands { RepresentsRunFrom B M (start_of own.now) machine.old }
     requires ends { base_of (layout_from own.now) (length (lists_of own.now)) < 2 ^ 32 }
     ensures { IfOk result (λ found. IsFound (record { B = B; M = M; own = own.now; stream = G.stream generator.old; size = size }) runs found) }
 {

@@ -7,7 +7,7 @@ use Rattle.step_machine.specs.declared.events.Event.TheVariants as event
 use Rattle.step_machine.specs.declared.events.Entry.{Entry}
 use Rattle.step_machine.specs.declared.events.Outcome.{Outcome}
 use Rattle.step_machine.specs.declared.events.Outcome.TheVariants as outcome
-use Rattle.step_machine.specs.History.{Start, History, unrun}
+use Rattle.step_machine.specs.History.{OpeningValue, History, at_opening}
 use Rattle.step_machine.specs.Runs.{IsFor, Happens, RunFrom, Run, event_of}
 use Rattle.shrink.specs.Shrinking.{IsPartOf, empty, with_first, without_first, without}
 
@@ -65,5 +65,5 @@ added_by B M t [] new run = record { es = []; after = ap (λ (u : History). u.en
 added_by B M t (ev ∷ evs) new run = added_first B M t run.1 new ev evs run.0 run.2 (added_by B M run.1 evs new run.3)
 
 -- a run's entries come about by a part of its events
-pub part_of_run : (B M : ℕ) (o : Start) (evs : List Event) (t : History) → Run B M o evs t → IsPartOf (map event_of t.entries) evs
+pub part_of_run : (B M : ℕ) (o : OpeningValue) (evs : List Event) (t : History) → Run B M o evs t → IsPartOf (map event_of t.entries) evs
 part_of_run B M o evs t run = grind (arith, added_by)

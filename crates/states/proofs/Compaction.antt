@@ -8,9 +8,9 @@ use Rattle.std.proofs.lemmas.List.Elements.{All-head, All-tail}
 use Rattle.states.specs.inner.Compact.{bytes_of, IsWord, joined, wide_bytes, word_bytes, words_from, words_in}
 
 -- seven bits more
-pub joined_is : (w v b : ℕ) → w < 33554432 → v < 128 → b % 128 ≡ v → joined w b ≡ w * 128 + v
+pub joined-is : (w v b : ℕ) → w < 33554432 → v < 128 → b % 128 ≡ v → joined w b ≡ w * 128 + v
 unfolding joined
-joined_is w v b small seven is = grind (arith)
+joined-is w v b small seven is = grind (arith)
 
 pub read_small : (w b : ℕ) (bs : List ℕ) → b < 128 → words_from w (b ∷ bs) ≡ joined w b ∷ words_from 0 bs
 unfolding words_from
@@ -24,11 +24,11 @@ read_large w b bs large = grind (arith)
 onward : (w v n : ℕ) (bs : List ℕ) → w < 33554432 → v < 128 → n ≡ w * 128 + v → words_from w ((128 + v) ∷ bs) ≡ words_from n bs
 onward w v n bs small seven n_is =
     read_large w (128 + v) bs (omega arith)
-    ∙ ap (λ (m : ℕ). words_from m bs) (joined_is w v (128 + v) small seven (omega (arith, seven)) ∙ sym n_is)
+    ∙ ap (λ (m : ℕ). words_from m bs) (joined-is w v (128 + v) small seven (omega (arith, seven)) ∙ sym n_is)
 
 last : (w v n : ℕ) (bs : List ℕ) → w < 33554432 → v < 128 → n ≡ w * 128 + v → words_from w (v ∷ bs) ≡ n ∷ words_from 0 bs
 last w v n bs small seven n_is =
-    read_small w v bs seven ∙ ap (λ (m : ℕ). m ∷ words_from 0 bs) (joined_is w v v small seven (omega (arith, seven)) ∙ sym n_is)
+    read_small w v bs seven ∙ ap (λ (m : ℕ). m ∷ words_from 0 bs) (joined-is w v v small seven (omega (arith, seven)) ∙ sym n_is)
 
 wide_back : (w : ℕ) (rest : List ℕ) → IsWord w → words_from 0 (wide_bytes w ++ rest) ≡ w ∷ words_from 0 rest
 wide_back w rest is =
@@ -49,21 +49,21 @@ wide_back w rest is =
 small_back : (w : ℕ) (rest : List ℕ) → w < 128 → words_from 0 (w ∷ rest) ≡ w ∷ words_from 0 rest
 small_back w rest small = last 0 w w rest (omega arith) small (omega arith)
 
-word_bytes_small : (w : ℕ) → w < 128 → word_bytes w ≡ w ∷ []
+word_bytes-small : (w : ℕ) → w < 128 → word_bytes w ≡ w ∷ []
 unfolding word_bytes
-word_bytes_small w small = grind (arith)
+word_bytes-small w small = grind (arith)
 
-word_bytes_wide : (w : ℕ) → 128 ≤ w → word_bytes w ≡ wide_bytes w
+word_bytes-wide : (w : ℕ) → 128 ≤ w → word_bytes w ≡ wide_bytes w
 unfolding word_bytes
-word_bytes_wide w wide = grind (arith)
+word_bytes-wide w wide = grind (arith)
 
 by_size : (w : ℕ) (rest : List ℕ) (t : Bool) → nat_lt w 128 ≡ t → IsWord w → words_from 0 (word_bytes w ++ rest) ≡ w ∷ words_from 0 rest
 by_size w rest true test is =
     let small : w < 128 = grind (arith, test) in
-    ap (λ (bs : List ℕ). words_from 0 (bs ++ rest)) (word_bytes_small w small) ∙ small_back w rest small
+    ap (λ (bs : List ℕ). words_from 0 (bs ++ rest)) (word_bytes-small w small) ∙ small_back w rest small
 by_size w rest false test is =
     let wide : 128 ≤ w = grind (arith, test) in
-    ap (λ (bs : List ℕ). words_from 0 (bs ++ rest)) (word_bytes_wide w wide) ∙ wide_back w rest is
+    ap (λ (bs : List ℕ). words_from 0 (bs ++ rest)) (word_bytes-wide w wide) ∙ wide_back w rest is
 
 pub word_back : (w : ℕ) (rest : List ℕ) → IsWord w → words_from 0 (word_bytes w ++ rest) ≡ w ∷ words_from 0 rest
 word_back w rest is = by_size w rest (nat_lt w 128) refl is
@@ -72,11 +72,11 @@ none_in : (w : ℕ) → words_from w [] ≡ []
 unfolding words_from
 none_in w = refl
 
-pub words_back : (ws : List ℕ) → All IsWord ws → words_in (bytes_of ws) ≡ ws
-words_back [] all = none_in 0
-words_back (w ∷ ws) all =
+pub words-back : (ws : List ℕ) → All IsWord ws → words_in (bytes_of ws) ≡ ws
+words-back [] all = none_in 0
+words-back (w ∷ ws) all =
     word_back w (bytes_of ws) (All-head IsWord w ws all)
-    ∙ ap (λ (vs : List ℕ). w ∷ vs) (words_back ws (All-tail IsWord w ws all))
+    ∙ ap (λ (vs : List ℕ). w ∷ vs) (words-back ws (All-tail IsWord w ws all))
 
 -- ---- a loop over bytes
 

@@ -1,3 +1,5 @@
 pub mod Compaction
 pub mod EndLaws
 pub mod NumberLaws
+pub mod FitAfter
+pub mod GoingOn

@@ -17,10 +17,10 @@ use Rattle.states.specs.Numbered.{words_of, GetsNextNumber}
 abbrev pub has_bytes : List ℕ → Vec ℕ → Bool
 has_bytes bytes key = bytes_eq bytes key.items
 
-pub words_there : (keys : List (Vec ℕ)) (bytes words : List ℕ) (i : ℕ) → Some i ≡ position (has_bytes bytes) keys → words_in bytes ≡ words
+pub words-there : (keys : List (Vec ℕ)) (bytes words : List ℕ) (i : ℕ) → Some i ≡ position (has_bytes bytes) keys → words_in bytes ≡ words
     → slice_get (map words_of keys) i ≡ Some words
-words_there [] bytes words i is back = cc
-words_there (k ∷ keys) bytes words i is back =
+words-there [] bytes words i is back = cc
+words-there (k ∷ keys) bytes words i is back =
     let found = position-Some (has_bytes bytes) (k ∷ keys) i k (sym is) in
     let same : bytes ≡ (get_or (k ∷ keys) i k).items = (bytes_eq-Decides bytes (get_or (k ∷ keys) i k).items).0 found.1 in
     slice_get-map words_of (k ∷ keys) i
@@ -31,18 +31,18 @@ neither : (b c : Bool) → false ≡ (b || c) → (b ≡ false) × (c ≡ false)
 neither true c none = cc
 neither false c none = (refl, sym none)
 
-pub words_absent : (keys : List (Vec ℕ)) (words : List ℕ) (i : ℕ) → All IsCompact keys → false ≡ list_any (has_bytes (bytes_of words)) keys
+pub words-absent : (keys : List (Vec ℕ)) (words : List ℕ) (i : ℕ) → All IsCompact keys → false ≡ list_any (has_bytes (bytes_of words)) keys
     → slice_get (map words_of keys) i ≡ Some words → ⊥
-words_absent [] words i all none is = cc
-words_absent (k ∷ keys) words zero all none is =
+words-absent [] words i all none is = cc
+words-absent (k ∷ keys) words zero all none is =
     let read : words_in k.items ≡ words = cc in
     let same : bytes_of words ≡ k.items = ap bytes_of (sym read) ∙ All-head IsCompact k keys all in
     let yes = (bytes_eq-Decides (bytes_of words) k.items).1 same in
     let no = (neither (has_bytes (bytes_of words) k) (list_any (has_bytes (bytes_of words)) keys) none).0 in
     let both : true ≡ false = sym yes ∙ no in
     cc
-words_absent (k ∷ keys) words (suc i) all none is =
-    words_absent keys words i (All-tail IsCompact k keys all)
+words-absent (k ∷ keys) words (suc i) all none is =
+    words-absent keys words i (All-tail IsCompact k keys all)
     (sym (neither (has_bytes (bytes_of words) k) (list_any (has_bytes (bytes_of words)) keys) none).1) is
 
 -- a key whose words are new gets the next number
@@ -53,7 +53,7 @@ next_is keys new key old words n view compact key_is back none inserted n_is =
     let added : new ≡ keys ++ key ∷ [] =
     inserted ∙ ap (λ (b : Bool). if b then keys else keys ++ key ∷ []) (ap (λ (bs : List ℕ). list_any (has_bytes bs) keys) key_is ∙ sym none) in
     record {
-      unknown = λ i is. words_absent keys words i compact none (subst (λ (ps : List (List ℕ)). slice_get ps i ≡ Some words) (sym view) is);
+      unknown = λ i is. words-absent keys words i compact none (subst (λ (ps : List (List ℕ)). slice_get ps i ≡ Some words) (sym view) is);
       is_next = n_is ∙ sym (length-map keys words_of) ∙ ap length view;
       appended = ap (map words_of) added ∙ map-append words_of keys (key ∷ []) ∙ (λ k. view k ++ (ap words_in key_is ∙ back) k ∷ []);
     }

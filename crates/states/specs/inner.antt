@@ -1,2 +1,2 @@
--- What serves the proofs alone, where a private contract names it.
+-- What serves the proofs alone, where a private contract or the view of `States` names it.
 pub mod Compact

@@ -21,13 +21,13 @@ use Rattle.step_machine.specs.declared.events.Entry.{Entry}
 use Rattle.step_machine.specs.declared.events.Entry.TheVariants as entry
 use Rattle.step_machine.specs.declared.events.Outcome.{Outcome}
 use Rattle.step_machine.specs.declared.events.Outcome.TheVariants as outcome
-use Rattle.step_machine.specs.History.{Start, History, unrun, with_entry}
+use Rattle.step_machine.specs.History.{OpeningValue, History, at_opening, with_entry}
 use Rattle.step_machine.specs.Entries.{hart_of, is_land, pending, read}
 use Rattle.step_machine.specs.Paths.{entry_of, value_of, CanMake, state_of}
 use Rattle.step_machine.specs.Legal.{Allowed, WellFormed}
 use Rattle.step_machine.specs.Runs.{CanFollow, Happens, RunFrom, Run, idle_of, idle_in}
 use Rattle.step_machine.proofs.Follows.{act_only, follows}
-use Rattle.step_machine.proofs.Running.{kept-happens, kept-unrun}
+use Rattle.step_machine.proofs.Running.{kept-happens, kept-at_opening}
 use Rattle.step_machine.specs.inner.Stored.{land_in}
 use Rattle.step_machine.specs.Banks.{is_over}
 use Rattle.step_machine.proofs.Happening.{history_after, none-no_hart, over_happens, state_of-hart, some_land}
@@ -46,7 +46,7 @@ HasToWait B ws (need.Fence full) = IsTrue full × (ws ≢ [])
 HasToWait B ws other = ⊥
 
 -- a need that has to wait can't be done, whatever is read
-pub waiting : (B : ℕ) (o : Start) (es : List Entry) (h : ℕ) (n : Need) → HasToWait B (pending h es) n → (v : ℕ) → Allowed B o es (entry_of h n v) → ⊥
+pub waiting : (B : ℕ) (o : OpeningValue) (es : List Entry) (h : ℕ) (n : Need) → HasToWait B (pending h es) n → (v : ℕ) → Allowed B o es (entry_of h n v) → ⊥
 waiting B o es h n full v few = grind arith
 
 nil_or : (ws : List Write) → (ws ≡ []) ⊎ (ws ≢ [])
@@ -54,7 +54,7 @@ nil_or [] = inl refl
 nil_or (w ∷ ws) = inr (λ e. cc)
 
 -- a need can be done, with some number read, or has to wait
-pub decide : (B : ℕ) (o : Start) (es : List Entry) (h : ℕ) (n : Need) → ((v : ℕ) × Allowed B o es (entry_of h n v)) ⊎ HasToWait B (pending h es) n
+pub decide : (B : ℕ) (o : OpeningValue) (es : List Entry) (h : ℕ) (n : Need) → ((v : ℕ) × Allowed B o es (entry_of h n v)) ⊎ HasToWait B (pending h es) n
 decide B o es h (need.Load a width) = inl (read o es h a width, refl)
 decide B o es h (need.Store a width w) = grind (arith, nat_tests)
 decide B o es h (need.Amo a op rs2) = grind (arith, nil_or (pending h es))
@@ -176,5 +176,5 @@ run_from_some B M t (ev ∷ evs) kept =
     (rest.0, (one.0, one.1, one.2, rest.1))
 
 -- every list of events makes something of an opening
-pub run_some : (B M : ℕ) (o : Start) (evs : List Event) → (t : History) × Run B M o evs t
-run_some B M o evs = run_from_some B M (unrun o) evs (kept-unrun B M o)
+pub run_some : (B M : ℕ) (o : OpeningValue) (evs : List Event) → (t : History) × Run B M o evs t
+run_some B M o evs = run_from_some B M (at_opening o) evs (kept-at_opening B M o)

@@ -1,14 +1,20 @@
 -- What one more entry at the end does to a hart's own entries, its stores and landings, its pending
 -- stores, what landed, and its path.
-use Rattle.std.proofs.Common.{◌≡◌, ℕ, ◌+◌, ◌≤◌, List, [], ◌∷◌, ◌++◌, length, drop, refl, sym, ◌∙◌, ap, append_assoc, add_assoc, zero-add, arith, append-nil}
+use Rattle.std.proofs.Common.{◌≡◌, ℕ, ◌+◌, ◌≤◌, List, [], ◌∷◌, ◌++◌, length, drop, Some, refl, sym, ◌∙◌, ap, append_assoc, add_assoc, zero-add, arith, append-nil}
+use Rattle.std.specs.List.{slice_get}
 use Rattle.std.proofs.lemmas.List.{drop-append-le, drop-drop}
 use Rattle.hart.specs.State.{HartState}
 use Rattle.hart.specs.Steps.{advanced}
 use Rattle.step_machine.specs.declared.events.Entry.{Entry}
-use Rattle.step_machine.specs.History.{Start}
+use Rattle.step_machine.specs.History.{OpeningValue}
 use Rattle.step_machine.specs.Entries.{own, store_of, stores, land_of, lands, pending, write_of, landed_after, landed, report_of, reported}
 use Rattle.step_machine.specs.Paths.{value_of, after_entries, Makes}
 use Rattle.step_machine.specs.Legal.{LegalAfter}
+
+-- the entry after others is at the place of their number
+pub entry_there : (before : List Entry) (e : Entry) (es : List Entry) → slice_get (before ++ e ∷ es) (length before) ≡ Some e
+entry_there [] e es = refl
+entry_there (b ∷ before) e es = entry_there before e es
 
 pub own-append : (h : ℕ) (es fs : List Entry) → own h (es ++ fs) ≡ own h es ++ own h fs
 own-append h [] fs = refl
@@ -53,15 +59,15 @@ pub Makes-back : (s : HartState) (es fs : List Entry) → Makes s (es ++ fs) →
 Makes-back s [] fs m = m
 Makes-back s (e ∷ es) fs m = Makes-back (advanced s (value_of e)) es fs m.1
 
-pub LegalAfter-append : (B : ℕ) (o : Start) (before es fs : List Entry) → LegalAfter B o before es → LegalAfter B o (before ++ es) fs → LegalAfter B o before (es ++ fs)
+pub LegalAfter-append : (B : ℕ) (o : OpeningValue) (before es fs : List Entry) → LegalAfter B o before es → LegalAfter B o (before ++ es) fs → LegalAfter B o before (es ++ fs)
 LegalAfter-append B o before [] fs l m = rw append-nil at m
 LegalAfter-append B o before (e ∷ es) fs l m = (l.0, LegalAfter-append B o (before ++ e ∷ []) es fs l.1 (rw append_assoc m))
 
-pub LegalAfter-front : (B : ℕ) (o : Start) (before es fs : List Entry) → LegalAfter B o before (es ++ fs) → LegalAfter B o before es
+pub LegalAfter-front : (B : ℕ) (o : OpeningValue) (before es fs : List Entry) → LegalAfter B o before (es ++ fs) → LegalAfter B o before es
 LegalAfter-front B o before [] fs l = tt
 LegalAfter-front B o before (e ∷ es) fs l = (l.0, LegalAfter-front B o (before ++ e ∷ []) es fs l.1)
 
-pub LegalAfter-back : (B : ℕ) (o : Start) (before es fs : List Entry) → LegalAfter B o before (es ++ fs) → LegalAfter B o (before ++ es) fs
+pub LegalAfter-back : (B : ℕ) (o : OpeningValue) (before es fs : List Entry) → LegalAfter B o before (es ++ fs) → LegalAfter B o (before ++ es) fs
 LegalAfter-back B o before [] fs l = rw append-nil l
 LegalAfter-back B o before (e ∷ es) fs l = rw (← append_assoc before (e ∷ []) es) (LegalAfter-back B o (before ++ e ∷ []) es fs l.1)
 

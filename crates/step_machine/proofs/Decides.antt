@@ -17,14 +17,14 @@ use Rattle.step_machine.specs.declared.events.Entry.{Entry}
 use Rattle.step_machine.specs.declared.events.Entry.TheVariants as entry
 use Rattle.step_machine.specs.declared.events.Outcome.{Outcome}
 use Rattle.step_machine.specs.declared.events.Outcome.TheVariants as outcome
-use Rattle.step_machine.specs.History.{Start, History}
+use Rattle.step_machine.specs.History.{OpeningValue, History}
 use Rattle.step_machine.specs.Entries.{hart_of, is_land, pending, memory_byte, memory_word, read_byte, read}
 use Rattle.step_machine.specs.Paths.{entry_of, value_of}
 use Rattle.step_machine.specs.Legal.{Allowed}
 use Rattle.step_machine.specs.Banks.{Does}
 use Rattle.step_machine.specs.Ranges.{IsPlace, IsInRange}
 use Rattle.step_machine.specs.inner.Stored.{Stored, buffer_of, word_at, found_byte, found, is_empty, if_waits, outcome_for}
-use Rattle.step_machine.specs.inner.Representation.{Holds}
+use Rattle.step_machine.specs.inner.Representation.{StoresRepresent}
 use Rattle.memory.specs.declared.writes.Write.{Write}
 
 in_range_true : (s : HartState) (n : Need) → IsTrueOf s n → IsInRange s.words n
@@ -46,11 +46,11 @@ pub record Sees (M : ℕ) (t : History) (c : Stored) (h : ℕ) : Type 0 where
   pub finds : (a width : ℕ) → IsPlace M width a → found c h a width ≡ read t.opening t.entries h a width
   pub words : (a : ℕ) → IsPlace M 4 a → word_at c a ≡ memory_word t.opening t.entries a
 
-found_byte-read : (M : ℕ) (t : History) (c : Stored) (h x : ℕ) → Holds M t c → x < 4 * M → found_byte c h x ≡ read_byte t.opening t.entries h x
+found_byte-read : (M : ℕ) (t : History) (c : Stored) (h x : ℕ) → StoresRepresent M t c → x < 4 * M → found_byte c h x ≡ read_byte t.opening t.entries h x
 found_byte-read M t c h x tied below = grind arith
 
-pub Holds-sees : (M : ℕ) (t : History) (c : Stored) (h : ℕ) → Holds M t c → Sees M t c h
-Holds-sees M t c h tied = grind (arith, joined-same, found_byte-read)
+pub StoresRepresent-sees : (M : ℕ) (t : History) (c : Stored) (h : ℕ) → StoresRepresent M t c → Sees M t c h
+StoresRepresent-sees M t c h tied = grind (arith, joined-same, found_byte-read)
 
 is_empty-nil : (ps : List Write) → is_empty ps ≡ true → ps ≡ []
 is_empty-nil [] e = refl
@@ -60,7 +60,7 @@ nil-is_empty : (ps : List Write) → ps ≡ [] → is_empty ps ≡ true
 nil-is_empty ps e = eq-eqb (length ps) 0 (ap length e)
 
 -- where nothing is pending, a hart reads memory itself
-pub read-empty : (o : Start) (es : List Entry) (h a : ℕ) → pending h es ≡ [] → read o es h a 4 ≡ memory_word o es a
+pub read-empty : (o : OpeningValue) (es : List Entry) (h a : ℕ) → pending h es ≡ [] → read o es h a 4 ≡ memory_word o es a
 read-empty o es h a e = ap (λ ws. joined (λ i. unwrap_or (newest_of (a + i) None ws) (memory_byte o es (a + i))) 4) e
 
 -- an entry that is the only one, whatever it read

@@ -6,7 +6,7 @@ use Rattle.hart.specs.State.{HartState}
 use Rattle.hart.specs.Steps.{advanced}
 use Rattle.step_machine.specs.declared.events.Entry.{Entry}
 use Rattle.step_machine.specs.declared.events.Entry.TheVariants as entry
-use Rattle.step_machine.specs.History.{HartStart, History, with_entry}
+use Rattle.step_machine.specs.History.{HartOpeningValue, History, with_entry}
 use Rattle.step_machine.specs.Entries.{hart_of, is_land, is_own, own}
 use Rattle.step_machine.specs.Paths.{value_of, CanMake, after_entries, opens_as, state_of, PathOf, Path}
 use Rattle.step_machine.specs.Legal.{Allowed, Legal}
@@ -21,13 +21,13 @@ pub own-other : (h : ℕ) (es : List Entry) (e : Entry) → is_own h e ≡ false
 own-other h es e other = own-append h es (e ∷ []) ∙ ap (λ b. own h es ++ (if b then e ∷ [] else [])) other ∙ append-nil (own h es)
 
 -- the state at the end of a path, with one entry more
-abbrev pub state_after : ℕ → List Entry → HartStart → HartState
+abbrev pub state_after : ℕ → List Entry → HartOpeningValue → HartState
 state_after M es o = after_entries (opens_as M o) es
 
 abbrev pub advance_by : Entry → HartState → HartState
 advance_by e s = advanced s (value_of e)
 
-state_after-last : (M : ℕ) (so : Option HartStart) (es : List Entry) (e : Entry) → option_map (state_after M (es ++ e ∷ [])) so ≡ option_map (advance_by e) (option_map (state_after M es) so)
+state_after-last : (M : ℕ) (so : Option HartOpeningValue) (es : List Entry) (e : Entry) → option_map (state_after M (es ++ e ∷ [])) so ≡ option_map (advance_by e) (option_map (state_after M es) so)
 state_after-last M so es e = grind (arith, after_entries-append)
 
 pub state_of-mine : (M : ℕ) (t : History) (h : ℕ) (e : Entry) → hart_of e ≡ h → is_land e ≡ false → state_of M (with_entry t e) h ≡ option_map (advance_by e) (state_of M t h)
@@ -36,14 +36,14 @@ state_of-mine M t h e mine act = grind (arith, own-mine h t.entries e mine act, 
 pub state_of-other : (M : ℕ) (t : History) (h : ℕ) (e : Entry) → is_own h e ≡ false → state_of M (with_entry t e) h ≡ state_of M t h
 state_of-other M t h e other = ap (λ es. option_map (state_after M es) (slice_get t.opening.harts h)) (own-other h t.entries e other)
 
-path_on : (M : ℕ) (so : Option HartStart) (es : List Entry) (e : Entry) (s : HartState) → PathOf M so es → option_map (state_after M es) so ≡ Some s → CanMake s e → PathOf M so (es ++ e ∷ [])
+path_on : (M : ℕ) (so : Option HartOpeningValue) (es : List Entry) (e : Entry) (s : HartState) → PathOf M so es → option_map (state_after M es) so ≡ Some s → CanMake s e → PathOf M so (es ++ e ∷ [])
 path_on M so es e s p is can = grind (arith, Makes-append)
 
-path_last : (M : ℕ) (so : Option HartStart) (es : List Entry) (e : Entry) (s : HartState) → PathOf M so (es ++ e ∷ []) → option_map (state_after M es) so ≡ Some s → CanMake s e
+path_last : (M : ℕ) (so : Option HartOpeningValue) (es : List Entry) (e : Entry) (s : HartState) → PathOf M so (es ++ e ∷ []) → option_map (state_after M es) so ≡ Some s → CanMake s e
 path_last M None es e s p is = absurd p
 path_last M (Some o) es e s p is = grind (arith, Makes-back (opens_as M o) es (e ∷ []) p)
 
-path_front : (M : ℕ) (so : Option HartStart) (es : List Entry) (e : Entry) → PathOf M so (es ++ e ∷ []) → PathOf M so es
+path_front : (M : ℕ) (so : Option HartOpeningValue) (es : List Entry) (e : Entry) → PathOf M so (es ++ e ∷ []) → PathOf M so es
 path_front M so es e p = grind (arith, Makes-front)
 
 -- the hart's path goes on by an entry that its state makes
@@ -60,7 +60,7 @@ Path-other M t h e other p = subst (PathOf M (slice_get t.opening.harts h)) (sym
 
 -- only a hart has a path
 pub Path-hart : (M : ℕ) (t : History) (h : ℕ) → Path M t h → slice_get t.opening.harts h ≡ None → ⊥
-Path-hart M t h p none = subst (λ (so : Option HartStart). PathOf M so (own h t.entries)) none p
+Path-hart M t h p none = subst (λ (so : Option HartOpeningValue). PathOf M so (own h t.entries)) none p
 
 pub Legal-last : (B : ℕ) (t : History) (e : Entry) → Legal B (with_entry t e) → Allowed B t.opening t.entries e
 Legal-last B t e l = (LegalAfter-back B t.opening [] t.entries (e ∷ []) l).0

@@ -23,7 +23,7 @@ use Rattle.step_machine.specs.inner.Stored.{outcome_for, land_in}
 use Rattle.step_machine.specs.inner.Config.{Config, entries_after, act_in, act_outcome, land_outcome, outcome_of}
 use Rattle.step_machine.specs.inner.Representation.{view_state, Represents}
 use Rattle.step_machine.proofs.Follows.{state_after, follows, act_only, land_follows, Path-hart, Legal-last}
-use Rattle.step_machine.proofs.Decides.{need_of-in_range, Decided, Holds-sees, outcome_for-decided}
+use Rattle.step_machine.proofs.Decides.{need_of-in_range, Decided, StoresRepresent-sees, outcome_for-decided}
 use Rattle.memory.specs.declared.writes.Write.{Write}
 
 -- the history after an outcome
@@ -62,7 +62,7 @@ act_happens B M t c h None stands words is = grind (arith, none-no_hart)
 act_happens B M t c h (Some v) stands words is =
     let range : IsInRange M (need_of v.state) = need_of-in_range M v.state (words v refl) in
     status_happens B M t h v.state v.state.status (outcome_for B c.stored h (need_of v.state)) stands.kept (sym is) refl
-    (outcome_for-decided B M t c.stored h (need_of v.state) (Holds-sees M t c.stored h stands.tied.holds) range)
+    (outcome_for-decided B M t c.stored h (need_of v.state) (StoresRepresent-sees M t c.stored h stands.tied.holds) range)
 
 land_none : (B M : ℕ) (t : History) (h : ℕ) → pending h t.entries ≡ [] → NoEntry B M t (event.Land h)
 land_none B M t h empty d is f = grind (arith, Legal-last)

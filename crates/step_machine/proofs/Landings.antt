@@ -3,7 +3,7 @@ use Rattle.std.proofs.Common.{◌≡◌, ℕ, zero, suc, ◌<◌, List, [], ◌�
 use Rattle.std.specs.Prelude.{option_to_list}
 use Rattle.std.specs.List.{slice_get}
 use Rattle.step_machine.specs.declared.events.Entry.{Entry}
-use Rattle.step_machine.specs.History.{Start, History}
+use Rattle.step_machine.specs.History.{OpeningValue, History}
 use Rattle.step_machine.specs.Entries.{write_of, landed_after, landed, write_by_count, landed_by_count_after, landed_by_count}
 use Rattle.step_machine.specs.Legal.{Allowed, LegalAfter, Legal}
 use Rattle.step_machine.proofs.Appended.{stores-append}
@@ -15,10 +15,10 @@ element [] ys k lt = absurd (omega arith)
 element (x ∷ xs) ys zero lt = refl
 element (x ∷ xs) ys (suc k) lt = element xs ys k (omega arith)
 
-write_counted : (B : ℕ) (o : Start) (before : List Entry) (e : Entry) (es : List Entry) → Allowed B o before e → write_of before e ≡ write_by_count (before ++ e ∷ es) before e
+write_counted : (B : ℕ) (o : OpeningValue) (before : List Entry) (e : Entry) (es : List Entry) → Allowed B o before e → write_of before e ≡ write_by_count (before ++ e ∷ es) before e
 write_counted B o before e es a = grind (arith, length-drop, element, stores-append)
 
-counted_after : (B : ℕ) (o : Start) (before es : List Entry) → LegalAfter B o before es → landed_after before es ≡ landed_by_count_after (before ++ es) before es
+counted_after : (B : ℕ) (o : OpeningValue) (before es : List Entry) → LegalAfter B o before es → landed_after before es ≡ landed_by_count_after (before ++ es) before es
 counted_after B o before [] l = refl
 counted_after B o before (e ∷ es) l =
     ap (λ (ps : List Write). ps ++ landed_after (before ++ e ∷ []) es) (write_counted B o before e es l.0)

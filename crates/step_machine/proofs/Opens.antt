@@ -6,12 +6,12 @@ use Rattle.std.proofs.lemmas.List.Elements.{All-map, All-nil, All-replicate}
 use Rattle.std.proofs.lemmas.Option.{slice_get-map}
 use Rattle.memory.specs.Words.{opened_words}
 use Rattle.hart.specs.State.{HartView}
-use Rattle.step_machine.specs.History.{HartStart, Start, unrun, FitsIn}
+use Rattle.step_machine.specs.History.{HartOpeningValue, OpeningValue, at_opening, FitsIn}
 use Rattle.step_machine.specs.Paths.{opens_as}
 use Rattle.step_machine.specs.inner.Opened.{opened_hart}
 use Rattle.step_machine.specs.inner.Stored.{HasAddress, FitStored, opened_stored}
 use Rattle.step_machine.specs.inner.Config.{Config, Fit, beginning, opened_config}
-use Rattle.step_machine.specs.inner.Representation.{view_state, Holds, Represents}
+use Rattle.step_machine.specs.inner.Representation.{view_state, StoresRepresent, Represents}
 use Rattle.memory.specs.declared.writes.Write.{Write}
 
 pub fit_stored : (M : ℕ) (first : List ℕ) (harts : ℕ) → length first ≤ M → FitStored M (opened_stored M first harts)
@@ -31,7 +31,7 @@ fit_stored M first harts few = record {
     count : length (opened_words M first) ≡ M
     count = length-append first (drop (length first) (replicate M 0)) ∙ rest (length first) few
 
-pub fit_opened : (M : ℕ) (o : Start) → FitsIn M o → Fit M (opened_config M o)
+pub fit_opened : (M : ℕ) (o : OpeningValue) → FitsIn M o → Fit M (opened_config M o)
 fit_opened M o fits = record {
   buffers = length-replicate (length o.harts) [] ∙ sym (length-map o.harts (opened_hart M));
   harts = All-map (λ (v : HartView). v.state.words ≡ M) (opened_hart M) o.harts (λ k d lt. refl);
@@ -39,16 +39,16 @@ fit_opened M o fits = record {
   stored = fit_stored M o.words (length o.harts) fits.words;
 }
 
-pub fit_held : (M : ℕ) (o : Start) (c : Config) → FitsIn M o → c ≡ opened_config M o → Fit M c
+pub fit_held : (M : ℕ) (o : OpeningValue) (c : Config) → FitsIn M o → c ≡ opened_config M o → Fit M c
 fit_held M o c fits is = subst (Fit M) (sym is) (fit_opened M o fits)
 
-view_opened : (M : ℕ) (so : Option HartStart) → option_map view_state (option_map (opened_hart M) so) ≡ option_map (opens_as M) so
+view_opened : (M : ℕ) (so : Option HartOpeningValue) → option_map view_state (option_map (opened_hart M) so) ≡ option_map (opens_as M) so
 view_opened M so = grind arith
 
-first_opened : (M : ℕ) (so : Option HartStart) → option_map beginning (option_map (opened_hart M) so) ≡ option_map (opens_as M) so
+first_opened : (M : ℕ) (so : Option HartOpeningValue) → option_map beginning (option_map (opened_hart M) so) ≡ option_map (opens_as M) so
 first_opened M so = grind arith
 
-reports_opened : (M : ℕ) (so : Option HartStart) (v : HartView) → option_map (opened_hart M) so ≡ Some v → v.reports ≡ []
+reports_opened : (M : ℕ) (so : Option HartOpeningValue) (v : HartView) → option_map (opened_hart M) so ≡ Some v → v.reports ≡ []
 reports_opened M so v is = grind arith
 
 none_everywhere : (n h : ℕ) → get_or {A = List Write} (replicate n []) h [] ≡ []
@@ -64,8 +64,8 @@ zeros_after [] m i = zeros_everywhere m i
 zeros_after (x ∷ xs) m zero = refl
 zeros_after (x ∷ xs) m (suc i) = zeros_after xs m i
 
-pub holds_opened : (M : ℕ) (o : Start) (harts : ℕ) → Holds M (unrun o) (opened_stored M o.words harts)
+pub holds_opened : (M : ℕ) (o : OpeningValue) (harts : ℕ) → StoresRepresent M (at_opening o) (opened_stored M o.words harts)
 holds_opened M o harts = grind (arith, none_everywhere, All-nil, drop-replicate, zeros_after)
 
-pub tied_opened : (M : ℕ) (o : Start) → Represents M (unrun o) (opened_config M o)
+pub tied_opened : (M : ℕ) (o : OpeningValue) → Represents M (at_opening o) (opened_config M o)
 tied_opened M o = grind (arith, slice_get-map (opened_hart M) o.harts, view_opened M, first_opened M, reports_opened M, holds_opened M o (length o.harts))

@@ -10,7 +10,7 @@ use Rattle.hart.specs.declared.need.Need.{Need}
 use Rattle.step_machine.specs.declared.events.Entry.{Entry}
 use Rattle.step_machine.specs.declared.events.Entry.TheVariants as entry
 use Rattle.step_machine.specs.declared.events.Outcome.TheVariants as outcome
-use Rattle.step_machine.specs.History.{HartStart, Start, History, history_of, Progress, with_entry}
+use Rattle.step_machine.specs.History.{HartOpeningValue, OpeningValue, History, history_of, HistoryWithRoom, with_entry}
 use Rattle.step_machine.specs.Entries.{hart_of, is_land, own}
 use Rattle.step_machine.specs.Paths.{entry_of, value_of, CanMake, after_entries, opens_as, state_of, PathOf}
 use Rattle.step_machine.specs.Legal.{Allowed, IsOfHarts, WellFormed}
@@ -21,30 +21,30 @@ use Rattle.step_machine.proofs.Appended.{own-append, Makes-front, LegalAfter-fro
 use Rattle.step_machine.proofs.Follows.{act_only}
 use Rattle.step_machine.proofs.Running.{hart_follows}
 
-path_front : (M : ℕ) (so : Option HartStart) (es fs : List Entry) → PathOf M so (es ++ fs) → PathOf M so es
+path_front : (M : ℕ) (so : Option HartOpeningValue) (es fs : List Entry) → PathOf M so (es ++ fs) → PathOf M so es
 path_front M so es fs p = grind (arith, Makes-front)
 
-of_harts_front : (o : Start) (es fs : List Entry) → All (IsOfHarts o) (es ++ fs) → All (IsOfHarts o) es
+of_harts_front : (o : OpeningValue) (es fs : List Entry) → All (IsOfHarts o) (es ++ fs) → All (IsOfHarts o) es
 of_harts_front o [] fs all = All-nil (IsOfHarts o)
 of_harts_front o (e ∷ es) fs all = All-cons (IsOfHarts o) e es (All-head (IsOfHarts o) e (es ++ fs) all) (of_harts_front o es fs (All-tail (IsOfHarts o) e (es ++ fs) all))
 
 -- the front of a kept history is kept
-pub kept-front : (B M : ℕ) (o : Start) (es fs : List Entry) → WellFormed B M (history_of o (es ++ fs)) → WellFormed B M (history_of o es)
+pub kept-front : (B M : ℕ) (o : OpeningValue) (es fs : List Entry) → WellFormed B M (history_of o (es ++ fs)) → WellFormed B M (history_of o es)
 kept-front B M o es fs kept = grind (arith, LegalAfter-front B o [] es fs kept.legal, path_front M, own-append, of_harts_front o es fs kept.of_harts)
 
 -- two entries by which one state does what it needs, after the same entries, are one entry
-same_done : (B : ℕ) (o : Start) (before : List Entry) (h : ℕ) (n : Need) (v w : ℕ) → Allowed B o before (entry_of h n v) → Allowed B o before (entry_of h n w) → entry_of h n v ≡ entry_of h n w
+same_done : (B : ℕ) (o : OpeningValue) (before : List Entry) (h : ℕ) (n : Need) (v w : ℕ) → Allowed B o before (entry_of h n v) → Allowed B o before (entry_of h n w) → entry_of h n v ≡ entry_of h n w
 same_done B o before h n v w one two = grind arith
 
 -- each of the opening's harts has a state
 pub state_there : (M : ℕ) (t : History) (h : ℕ) → h < length t.opening.harts → (s : HartState) × (state_of M t h ≡ Some s)
 state_there M t h within = at (slice_get t.opening.harts h) refl
   where
-    at : (so : Option HartStart) → slice_get t.opening.harts h ≡ so → (s : HartState) × (state_of M t h ≡ Some s)
+    at : (so : Option HartOpeningValue) → slice_get t.opening.harts h ≡ so → (s : HartState) × (state_of M t h ≡ Some s)
     at None none =
         let some : slice_get t.opening.harts h ≡ Some _ = slice_get-get_or t.opening.harts h (record { code = []; registers = []; inbox = [] }) within in
         cc
-    at (Some x) is = (after_entries (opens_as M x) (own h t.entries), ap (λ so. option_map (λ (y : HartStart). after_entries (opens_as M y) (own h t.entries)) so) is)
+    at (Some x) is = (after_entries (opens_as M x) (own h t.entries), ap (λ so. option_map (λ (y : HartOpeningValue). after_entries (opens_as M y) (own h t.entries)) so) is)
 
 -- of a hart's own entries only one can follow
 pub only_act : (B M : ℕ) (t : History) (h : ℕ) (e d : Entry) → h < length t.opening.harts → hart_of e ≡ h → is_land e ≡ false → CanFollow B M t e → hart_of d ≡ h → is_land d ≡ false → CanFollow B M t d → d ≡ e
@@ -65,7 +65,7 @@ landing e is = grind arith
 pub added : (B M : ℕ) (t : History) (e : Entry) → CanFollow B M t e → Adds B M t (event_of e) e (with_entry t e)
 added B M t e f = grind (arith, landing e, only_act B M t (hart_of e) e, hart_follows B M t e f)
 
-run_on : (B M : ℕ) (o : Start) (before es : List Entry) → WellFormed B M (history_of o (before ++ es)) → RunFrom B M (history_of o before) (map event_of es) (history_of o (before ++ es))
+run_on : (B M : ℕ) (o : OpeningValue) (before es : List Entry) → WellFormed B M (history_of o (before ++ es)) → RunFrom B M (history_of o before) (map event_of es) (history_of o (before ++ es))
 run_on B M o before [] kept = ap (history_of o) (append-nil before)
 run_on B M o before (e ∷ es) kept =
     let longer : WellFormed B M (history_of o ((before ++ e ∷ []) ++ es)) = subst (λ (xs : List Entry). WellFormed B M (history_of o xs)) (sym (append_assoc before (e ∷ []) es)) kept in
@@ -77,7 +77,7 @@ run_on B M o before (e ∷ es) kept =
       subst (λ (xs : List Entry). RunFrom B M (history_of o (before ++ e ∷ [])) (map event_of es) (history_of o xs)) (append_assoc before (e ∷ []) es) rest,
     )
   where
-    last_of_harts : (o : Start) (before : List Entry) (e : Entry) → All (IsOfHarts o) (before ++ e ∷ []) → hart_of e < length o.harts
+    last_of_harts : (o : OpeningValue) (before : List Entry) (e : Entry) → All (IsOfHarts o) (before ++ e ∷ []) → hart_of e < length o.harts
     last_of_harts o [] e all = All-head (IsOfHarts o) e [] all
     last_of_harts o (d ∷ before) e all = last_of_harts o before e (All-tail (IsOfHarts o) d (before ++ e ∷ []) all)
 
@@ -85,5 +85,5 @@ pub own_run : (B M : ℕ) (t : History) → WellFormed B M t → IsOwnRun B M t
 own_run B M t kept = run_on B M t.opening [] t.entries kept
 
 -- what a sound machine did, as it is seen, is the run of its own entries' events
-pub own_run_seen : (B M n : ℕ) (o : Start) (es : List Entry) (c : Config) (p : Progress) → IsMachineAt B M (history_of o es) c n → record { history = history_of o es; room = n } ≡ p → IsOwnRun B M p.history
-own_run_seen B M n o es c p sound is = subst (λ (q : Progress). IsOwnRun B M q.history) is (own_run B M (history_of o es) sound.kept)
+pub own_run_seen : (B M n : ℕ) (o : OpeningValue) (es : List Entry) (c : Config) (p : HistoryWithRoom) → IsMachineAt B M (history_of o es) c n → record { history = history_of o es; room = n } ≡ p → IsOwnRun B M p.history
+own_run_seen B M n o es c p sound is = subst (λ (q : HistoryWithRoom). IsOwnRun B M q.history) is (own_run B M (history_of o es) sound.kept)

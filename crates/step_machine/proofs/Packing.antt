@@ -13,6 +13,7 @@ use Rattle.memory.specs.Words.{written_since}
 use Rattle.memory.proofs.Written.{written_back, written_few}
 use Rattle.hart.specs.State.{HartState, HartView}
 use Rattle.hart.specs.Steps.{stop_number}
+use Rattle.hart.proofs.PutBack.{same_state}
 use Rattle.hart.specs.declared.status.Status.{Status}
 use Rattle.hart.specs.declared.status.Status.TheVariants as status
 use Rattle.hart.specs.declared.status.Stop.TheVariants as stop
@@ -60,20 +61,20 @@ one_back first now n within same = by (slice_index first n == slice_index now n)
         ∙ set_at (take n now) (get_or first n 0) (drop (suc n) first) (get_or now n 0) n (length-take-le n now (omega arith))
         ∙ sym (append_assoc (take n now) (get_or now n 0 ∷ []) (drop (suc n) first)) ∙ ap (λ xs. xs ++ drop (suc n) first) (sym front)
 
-changed_back : (first now : List ℕ) (n : ℕ) → n ≤ length first → length first ≡ length now
+changed-back : (first now : List ℕ) (n : ℕ) → n ≤ length first → length first ≡ length now
     → with_changes first (changed first now n) ≡ take n now ++ drop n first
 unfolding changed with_changes
-changed_back first now zero within same = refl
-changed_back first now (suc n) within same =
+changed-back first now zero within same = refl
+changed-back first now (suc n) within same =
     with_changes-append first (changed first now n) (unless_same n (slice_index first n) (slice_index now n))
-    ∙ ap (λ xs. with_changes xs (unless_same n (slice_index first n) (slice_index now n))) (changed_back first now n (omega arith) same)
+    ∙ ap (λ xs. with_changes xs (unless_same n (slice_index first n) (slice_index now n))) (changed-back first now n (omega arith) same)
     ∙ one_back first now n (omega arith) same
 
 registers_back : (first now rest : List ℕ) → length first ≡ 32 → length now ≡ 32
     → unpacked_changes (length (changed first now 32)) first (flat_map pair_words (changed first now 32) ++ rest) ≡ (now, rest)
 registers_back first now rest size now_size =
     changes_read (changed first now 32) first rest
-    ∙ ap (λ (xs : List ℕ). (xs, rest)) (changed_back first now 32 (omega arith) (size ∙ sym now_size)
+    ∙ ap (λ (xs : List ℕ). (xs, rest)) (changed-back first now 32 (omega arith) (size ∙ sym now_size)
     ∙ ap (λ xs. xs ++ drop 32 first) (take_all 32 now (omega arith)) ∙ ap (λ xs. now ++ xs) (drop_all 32 first (omega arith)) ∙ append-nil now)
 
 -- ---- harts
@@ -89,10 +90,6 @@ status_back (status.Stopped stop.MisalignedJump) = refl
 status_back (status.Stopped stop.NoCode) = refl
 status_back (status.Stopped stop.UnknownCall) = refl
 status_back (status.Stopped stop.Break) = refl
-
-same_state : (a b : HartState) → a.code ≡ b.code → a.words ≡ b.words → a.registers ≡ b.registers → a.pc ≡ b.pc → a.inbox ≡ b.inbox → a.status ≡ b.status → a ≡ b
-same_state a b code words registers pc inbox status =
-    λ k. record { code = code k; words = words k; registers = registers k; pc = pc k; inbox = inbox k; status = status k }
 
 zero_again : (xs : List ℕ) → slice_index xs 0 ≡ 0 → slice_set xs 0 0 ≡ xs
 zero_again xs is = ap (set xs 0) (sym is) ∙ set-get_or xs 0 0
@@ -146,14 +143,14 @@ stored_last B M stores w room has =
     ∙ ap (λ b. if true && b && nat_lt (w.addr / 4) M then stores ++ w ∷ [] else stores) second
     ∙ ap (λ b. if true && true && b then stores ++ w ∷ [] else stores) third
 
-stores_back : (B M : ℕ) (stores before : List Write) (rest : List ℕ) → length before + length stores ≤ B → All (HasAddress M) stores
+stores-back : (B M : ℕ) (stores before : List Write) (rest : List ℕ) → length before + length stores ≤ B → All (HasAddress M) stores
     → unpacked_stores B M (length stores) before (flat_map store_words stores ++ rest) ≡ (before ++ stores, rest)
-stores_back B M [] before rest room has = ap (λ (ps : List Write). (ps, rest)) (sym (append-nil before))
-stores_back B M (w ∷ stores) before rest room has =
+stores-back B M [] before rest room has = ap (λ (ps : List Write). (ps, rest)) (sym (append-nil before))
+stores-back B M (w ∷ stores) before rest room has =
     let more : length (before ++ w ∷ []) ≡ length before + 1 = length-append before (w ∷ []) in
     ap (λ ps. unpacked_stores B M (length stores) ps (flat_map store_words stores ++ rest))
     (stored_last B M before w (omega arith) (All-head (HasAddress M) w stores has))
-    ∙ stores_back B M stores (before ++ w ∷ []) rest (omega arith) (All-tail (HasAddress M) w stores has)
+    ∙ stores-back B M stores (before ++ w ∷ []) rest (omega arith) (All-tail (HasAddress M) w stores has)
     ∙ ap (λ (ps : List Write). (ps, rest)) (append_assoc before (w ∷ []) stores)
 
 abbrev Within : ℕ → List Write → Type 0
@@ -168,15 +165,15 @@ buffers_back B M [] [] rest count room has = refl
 buffers_back B M (a ∷ old) (b ∷ bs) rest count room has =
     let few : 0 + length b ≤ B = omega (arith, All-head (Within B) b bs room) in
     let here : unpacked_buffer B M (packed_buffer b ++ (flat_map packed_buffer bs ++ rest)) ≡ (b, flat_map packed_buffer bs ++ rest) =
-    stores_back B M b [] (flat_map packed_buffer bs ++ rest) few (All-head (InMemory M) b bs has) in
+    stores-back B M b [] (flat_map packed_buffer bs ++ rest) few (All-head (InMemory M) b bs has) in
     let there = buffers_back B M old bs rest (omega arith) (All-tail (Within B) b bs room) (All-tail (InMemory M) b bs has) in
     ap (unpacked_buffers B M (a ∷ old)) (append_assoc (packed_buffer b) (flat_map packed_buffer bs) rest)
     ∙ ap (λ (p : List Write × List ℕ). (p.0 ∷ (unpacked_buffers B M old p.1).0, (unpacked_buffers B M old p.1).1)) here
     ∙ ap (λ (p : List (List Write) × List ℕ). (b ∷ p.0, p.1)) there
 buffers_back B M x y rest count room has = cc
 
-words_back : (M : ℕ) (first words : List ℕ) → length first ≡ M → length words ≡ M → with_words M first (written_since first words) ≡ words
-words_back M first words size same =
+words-back : (M : ℕ) (first words : List ℕ) → length first ≡ M → length words ≡ M → with_words M first (written_since first words) ≡ words
+words-back M first words size same =
     let few : length (written_since first words) ≤ M = omega (arith, written_few first words) in
     ap (λ xs. xs ++ drop (length xs) first) (take_all M (written_since first words) few) ∙ written_back first words (size ∙ sym same)
 
@@ -184,7 +181,7 @@ stored_back : (B M : ℕ) (s t : Stored) → s.first ≡ t.first → length s.bu
     → length t.first ≡ M → length t.words ≡ M → unpacked_stored B M s (packed_stored t) ≡ t
 stored_back B M s t first count room has size same =
     let taken = buffers_back B M s.buffers t.buffers (written_since t.first t.words) count room has in
-    let words = words_back M t.first t.words size same in
+    let words = words-back M t.first t.words size same in
     λ k. record {
       buffers = (taken k).0;
       words = (ap (λ (p : List (List Write) × List ℕ). with_words M s.first p.1) taken

@@ -9,17 +9,17 @@ use Rattle.memory.specs.Writes.{WritesInWord}
 use Rattle.hart.specs.State.{HartView}
 use Rattle.hart.specs.Steps.{restarted}
 use Rattle.step_machine.specs.declared.events.Entry.{Entry}
-use Rattle.step_machine.specs.History.{Start, History, unrun}
+use Rattle.step_machine.specs.History.{OpeningValue, History, at_opening}
 use Rattle.step_machine.specs.inner.Stored.{Stored, HasAddress, FitStored, no_stores, restarted_stored}
 use Rattle.step_machine.specs.inner.Config.{Config, Fit, beginning, restarted_config}
-use Rattle.step_machine.specs.inner.Representation.{view_state, Holds, Represents, IsMachineAt}
+use Rattle.step_machine.specs.inner.Representation.{view_state, StoresRepresent, Represents, IsMachineAt}
 use Rattle.step_machine.proofs.Opens.{holds_opened}
-use Rattle.step_machine.proofs.Running.{kept-unrun}
+use Rattle.step_machine.proofs.Running.{kept-at_opening}
 use Rattle.memory.specs.declared.writes.Write.{Write}
 
-no_stores_anywhere : (bs : List (List Write)) (h : ℕ) → get_or (map no_stores bs) h [] ≡ []
-no_stores_anywhere (ps ∷ bs) (suc h) = no_stores_anywhere bs h
-no_stores_anywhere x y = refl
+no_stores-anywhere : (bs : List (List Write)) (h : ℕ) → get_or (map no_stores bs) h [] ≡ []
+no_stores-anywhere (ps ∷ bs) (suc h) = no_stores-anywhere bs h
+no_stores-anywhere x y = refl
 
 state_again : (so : Option HartView) → option_map view_state (option_map restarted so) ≡ option_map beginning so
 state_again so = grind arith
@@ -48,16 +48,16 @@ fit_restarted M c fit = record {
   stored = fit_put_back M c.stored fit.stored;
 }
 
-pub holds_restarted : (M : ℕ) (t : History) (s : Stored) → Holds M t s → Holds M (unrun t.opening) (restarted_stored s)
-holds_restarted M t s holds = grind (arith, no_stores_anywhere s.buffers, All-nil WritesInWord, holds_opened M t.opening (length s.buffers))
+pub holds_restarted : (M : ℕ) (t : History) (s : Stored) → StoresRepresent M t s → StoresRepresent M (at_opening t.opening) (restarted_stored s)
+holds_restarted M t s holds = grind (arith, no_stores-anywhere s.buffers, All-nil WritesInWord, holds_opened M t.opening (length s.buffers))
 
-pub tied_restarted : (M : ℕ) (t : History) (c : Config) → Represents M t c → Represents M (unrun t.opening) (restarted_config c)
+pub tied_restarted : (M : ℕ) (t : History) (c : Config) → Represents M t c → Represents M (at_opening t.opening) (restarted_config c)
 tied_restarted M t c tied = grind (arith, slice_get-map restarted c.harts, state_again, first_again, none_reported, holds_restarted M t c.stored tied.holds)
 
-pub sound_restarted : (B M n : ℕ) (t : History) (c : Config) → IsMachineAt B M t c n → IsMachineAt B M (unrun t.opening) (restarted_config c) n
+pub sound_restarted : (B M n : ℕ) (t : History) (c : Config) → IsMachineAt B M t c n → IsMachineAt B M (at_opening t.opening) (restarted_config c) n
 sound_restarted B M n t c sound = record {
   fits = sound.fits;
-  kept = kept-unrun B M t.opening;
+  kept = kept-at_opening B M t.opening;
   tied = tied_restarted M t c sound.tied;
   fit = fit_restarted M c sound.fit;
   count = length-map c.harts restarted ∙ sound.count;
@@ -65,5 +65,5 @@ sound_restarted B M n t c sound = record {
 }
 
 -- the same of what the machine then holds
-pub sound_put_back : (B M n : ℕ) (o : Start) (es none : List Entry) (c d : Config) → IsMachineAt B M (record { opening = o; entries = es }) c n → none ≡ [] → d ≡ restarted_config c → IsMachineAt B M (record { opening = o; entries = none }) d n
+pub sound_put_back : (B M n : ℕ) (o : OpeningValue) (es none : List Entry) (c d : Config) → IsMachineAt B M (record { opening = o; entries = es }) c n → none ≡ [] → d ≡ restarted_config c → IsMachineAt B M (record { opening = o; entries = none }) d n
 sound_put_back B M n o es none c d sound is_none is = grind (arith, sound_restarted B M n (record { opening = o; entries = es }) c sound)

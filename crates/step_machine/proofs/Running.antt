@@ -11,7 +11,7 @@ use Rattle.step_machine.specs.declared.events.Event.{Event}
 use Rattle.step_machine.specs.declared.events.Entry.{Entry}
 use Rattle.step_machine.specs.declared.events.Outcome.{Outcome}
 use Rattle.step_machine.specs.declared.events.Outcome.TheVariants as outcome
-use Rattle.step_machine.specs.History.{HartStart, Start, History, unrun, with_entry}
+use Rattle.step_machine.specs.History.{HartOpeningValue, OpeningValue, History, at_opening, with_entry}
 use Rattle.step_machine.specs.Entries.{hart_of, is_own}
 use Rattle.step_machine.specs.Paths.{PathOf}
 use Rattle.step_machine.specs.Legal.{IsOfHarts, WellFormed}
@@ -41,10 +41,10 @@ kept_after B M t e kept f = grind (
 pub kept-happens : (B M : ℕ) (t : History) (ev : Event) (o : Outcome) (new : History) → WellFormed B M t → Happens B M t ev o new → WellFormed B M new
 kept-happens B M t ev o new kept h = grind (arith, shape_of, kept_after)
 
-pub kept-unrun : (B M : ℕ) (o : Start) → WellFormed B M (unrun o)
-kept-unrun B M o = record { legal = tt; paths = λ h within. at h within (slice_get o.harts h) refl; of_harts = All-nil (IsOfHarts o) }
+pub kept-at_opening : (B M : ℕ) (o : OpeningValue) → WellFormed B M (at_opening o)
+kept-at_opening B M o = record { legal = tt; paths = λ h within. at h within (slice_get o.harts h) refl; of_harts = All-nil (IsOfHarts o) }
   where
-    at : (h : ℕ) → h < length o.harts → (so : Option HartStart) → slice_get o.harts h ≡ so → PathOf M so []
+    at : (h : ℕ) → h < length o.harts → (so : Option HartOpeningValue) → slice_get o.harts h ≡ so → PathOf M so []
     at h within None none =
         let some : slice_get o.harts h ≡ Some (get_or o.harts h (record { code = []; registers = []; inbox = [] })) = slice_get-get_or o.harts h _ within in
         cc
@@ -68,12 +68,12 @@ pub opening-run : (B M : ℕ) (t : History) (evs : List Event) (new : History) �
 opening-run B M t [] new run = ap (λ (u : History). u.opening) run
 opening-run B M t (ev ∷ evs) new run = opening-run B M run.1 evs new run.3 ∙ opening-happens B M t ev run.0 run.1 run.2
 
-pub opening_kept : (B M : ℕ) (o : Start) (evs : List Event) (t : History) → Run B M o evs t → t.opening ≡ o
-opening_kept B M o evs t run = opening-run B M (unrun o) evs t run
+pub opening_kept : (B M : ℕ) (o : OpeningValue) (evs : List Event) (t : History) → Run B M o evs t → t.opening ≡ o
+opening_kept B M o evs t run = opening-run B M (at_opening o) evs t run
 
 -- a run's entries are of its opening's harts
-pub of_harts-run : (B M : ℕ) (o : Start) (evs : List Event) (t : History) → Run B M o evs t → All (IsOfHarts o) t.entries
-of_harts-run B M o evs t run = grind (arith, opening_kept B M o evs t run, kept-run B M (unrun o) evs t (kept-unrun B M o) run, kept-unrun B M o)
+pub of_harts-run : (B M : ℕ) (o : OpeningValue) (evs : List Event) (t : History) → Run B M o evs t → All (IsOfHarts o) t.entries
+of_harts-run B M o evs t run = grind (arith, opening_kept B M o evs t run, kept-run B M (at_opening o) evs t (kept-at_opening B M o) run, kept-at_opening B M o)
 
 -- a run goes on by one event from its end
 pub RunFrom-more : (B M : ℕ) (t : History) (evs : List Event) (mid : History) (ev : Event) (o : Outcome) (new : History) → RunFrom B M t evs mid → Happens B M mid ev o new → RunFrom B M t (evs ++ ev ∷ []) new

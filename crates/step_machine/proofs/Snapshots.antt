@@ -11,7 +11,7 @@ use Rattle.hart.specs.declared.need.Report.{Report}
 use Rattle.hart.proofs.PutBack.{HasGoneOn, state_again, reports_again}
 use Rattle.memory.specs.declared.writes.Write.{Write}
 use Rattle.step_machine.specs.declared.events.Entry.{Entry}
-use Rattle.step_machine.specs.History.{HartStart, Start, History, up_to}
+use Rattle.step_machine.specs.History.{HartOpeningValue, OpeningValue, History, up_to}
 use Rattle.step_machine.specs.Entries.{own, reported}
 use Rattle.step_machine.specs.Paths.{state_of}
 use Rattle.step_machine.specs.Snapshots.{Taken, AreSaved, IsSavedFrom, IsTakenAt}
@@ -53,7 +53,7 @@ saved_more hs ss rs i v x are within v_is saved more = grind (arith, saved_next,
 same_first : (so to : Option HartView) (v w : HartView) → option_map beginning so ≡ option_map beginning to → so ≡ Some v → to ≡ Some w → v.first ≡ w.first
 same_first so to v w same is_v is_w = grind arith
 
-same_code : (M k : ℕ) (t : History) (h : ℕ) (so : Option HartStart) (r s : HartState) → slice_get t.opening.harts h ≡ so → state_of M t h ≡ Some r
+same_code : (M k : ℕ) (t : History) (h : ℕ) (so : Option HartOpeningValue) (r s : HartState) → slice_get t.opening.harts h ≡ so → state_of M t h ≡ Some r
     → state_of M (up_to k t) h ≡ Some s → r.code ≡ s.code
 same_code M k t h None r s here is_r is_s = let none : None ≡ Some r = sym (ap (option_map (state_after M (own h t.entries))) here) ∙ is_r in cc
 same_code M k t h (Some o) r s here is_r is_s = (state_keeps M t h o r here is_r).code ∙ sym (state_keeps M (up_to k t) h o s here is_s).code
@@ -109,7 +109,7 @@ sound_back B M n t c s now taken =
     sound_same B M 0 n (up_to s.count t) taken.held (restored_config s c) taken.stands (same_again B M n s.count t c taken.held s now taken.stands taken.saved)
     (kept_at put_back (λ v. n ≤ v.room) (λ v x room. room) c.harts s.harts now.room)
 
-pub sound_put_to : (B M n : ℕ) (o : Start) (es fs : List Entry) (c d : Config) (s : Taken) → IsMachineAt B M (record { opening = o; entries = es }) c n
+pub sound_put_to : (B M n : ℕ) (o : OpeningValue) (es fs : List Entry) (c d : Config) (s : Taken) → IsMachineAt B M (record { opening = o; entries = es }) c n
     → IsTakenAt B M (up_to s.count (record { opening = o; entries = es })) s → fs ≡ take s.count es → d ≡ restored_config s c
     → IsMachineAt B M (record { opening = o; entries = fs }) d n
 sound_put_to B M n o es fs c d s now taken cut is = grind (arith, sound_back B M n (record { opening = o; entries = es }) c s now taken)

@@ -10,7 +10,7 @@ use Rattle.hart.specs.declared.need.Report.{Report}
 use Rattle.step_machine.specs.declared.events.Event.{Event}
 use Rattle.step_machine.specs.declared.events.Entry.{Entry}
 use Rattle.step_machine.specs.declared.events.Outcome.{Outcome}
-use Rattle.step_machine.specs.History.{Start, History, unrun, FitsIn}
+use Rattle.step_machine.specs.History.{OpeningValue, History, at_opening, FitsIn}
 use Rattle.step_machine.specs.Runs.{Happens}
 use Rattle.step_machine.specs.inner.Stored.{Stored, FitStored}
 use Rattle.step_machine.specs.inner.Config.{Config, Fit, AllHaveRoom, SameButRoom, without_room, beginning, step_at, after_entry, after_outcome, entries_after, outcome_of, opened_config}
@@ -20,16 +20,16 @@ use Rattle.step_machine.proofs.Fitting.{length-step_at}
 use Rattle.step_machine.proofs.Happening.{history_after, outcome_of-happens}
 use Rattle.step_machine.proofs.Opens.{fit_opened, tied_opened}
 use Rattle.step_machine.proofs.Rooms.{written_at_place, same-length}
-use Rattle.step_machine.proofs.Running.{kept-unrun, kept_after}
+use Rattle.step_machine.proofs.Running.{kept-at_opening, kept_after}
 use Rattle.step_machine.proofs.Stays.{first_same}
 
 -- room is no part of what a history says
 
-without_room_at : (c : Config) (h : ℕ) → option_map without_room (slice_get c.harts h) ≡ slice_get (map without_room c.harts) h
-without_room_at c h = sym (slice_get-map without_room c.harts h)
+without_room-at : (c : Config) (h : ℕ) → option_map without_room (slice_get c.harts h) ≡ slice_get (map without_room c.harts) h
+without_room-at c h = sym (slice_get-map without_room c.harts h)
 
 same_without_room : (c d : Config) (h : ℕ) → SameButRoom c d → option_map without_room (slice_get d.harts h) ≡ option_map without_room (slice_get c.harts h)
-same_without_room c d h same = without_room_at d h ∙ ap (λ (ts : List (HartState × List Report)). slice_get ts h) same.harts ∙ sym (without_room_at c h)
+same_without_room c d h same = without_room-at d h ∙ ap (λ (ts : List (HartState × List Report)). slice_get ts h) same.harts ∙ sym (without_room-at c h)
 
 same_states : (so to : Option HartView) → option_map without_room so ≡ option_map without_room to → option_map view_state so ≡ option_map view_state to
 same_states so to is = grind arith
@@ -62,10 +62,10 @@ entry_count c e = grind (arith, length-step_at)
 
 -- openings
 
-pub sound_opened : (B M : ℕ) (o : Start) → FitsIn M o → IsMachineAt B M (unrun o) (opened_config M o) 0
+pub sound_opened : (B M : ℕ) (o : OpeningValue) → FitsIn M o → IsMachineAt B M (at_opening o) (opened_config M o) 0
 sound_opened B M o fits = record {
   fits = fits;
-  kept = kept-unrun B M o;
+  kept = kept-at_opening B M o;
   tied = tied_opened M o;
   fit = fit_opened M o fits;
   count = length-map o.harts _;
@@ -105,11 +105,11 @@ still B M n t c sound = record { fits = sound.fits; kept = sound.kept; tied = so
 sound_outcome : (B M n : ℕ) (t : History) (c : Config) (ev : Event) (o : Outcome) → IsMachineAt B M t c n → Happens B M t ev o (history_after t o) → Fit M (after_outcome c o) → IsMachineAt B M (history_after t o) (after_outcome c o) (n - 1)
 sound_outcome B M n t c ev o sound adds fit = grind (arith, kept_after, carried, entry_count, entry_room, still)
 
-pub sound_held : (B M : ℕ) (o : Start) (es : List Entry) (c : Config) → FitsIn M o → es ≡ [] → c ≡ opened_config M o → IsMachineAt B M (record { opening = o; entries = es }) c 0
+pub sound_held : (B M : ℕ) (o : OpeningValue) (es : List Entry) (c : Config) → FitsIn M o → es ≡ [] → c ≡ opened_config M o → IsMachineAt B M (record { opening = o; entries = es }) c 0
 sound_held B M o es c fits none is = grind (arith, sound_opened B M o fits)
 
 -- the same entries and the same machine except for room
-pub sound_moved : (B M n m : ℕ) (o : Start) (es moved : List Entry) (c d : Config) → IsMachineAt B M (record { opening = o; entries = es }) c n → moved ≡ es → SameButRoom c d → AllHaveRoom m d.harts → IsMachineAt B M (record { opening = o; entries = moved }) d m
+pub sound_moved : (B M n m : ℕ) (o : OpeningValue) (es moved : List Entry) (c d : Config) → IsMachineAt B M (record { opening = o; entries = es }) c n → moved ≡ es → SameButRoom c d → AllHaveRoom m d.harts → IsMachineAt B M (record { opening = o; entries = moved }) d m
 sound_moved B M n m o es moved c d sound is same room = grind (arith, sound_same B M n m (record { opening = o; entries = es }) c d sound same room)
 
 -- a step of a sound machine, and what it leaves

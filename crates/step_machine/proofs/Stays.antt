@@ -14,13 +14,13 @@ use Rattle.hart.specs.declared.need.Need.{Need}
 use Rattle.hart.specs.declared.need.Report.{Report}
 use Rattle.step_machine.specs.declared.events.Entry.{Entry}
 use Rattle.step_machine.specs.declared.events.Entry.TheVariants as entry
-use Rattle.step_machine.specs.History.{Start, History, with_entry}
+use Rattle.step_machine.specs.History.{OpeningValue, History, with_entry}
 use Rattle.step_machine.specs.Entries.{hart_of, is_land, is_own, store_of, land_of, report_of, reported, pending, write_of, landed, opening_byte, memory_byte}
 use Rattle.step_machine.specs.Paths.{entry_of, value_of, opens_as, state_of}
 use Rattle.step_machine.specs.Legal.{Legal}
 use Rattle.step_machine.specs.inner.Stored.{Stored, HasAddress, written}
 use Rattle.step_machine.specs.inner.Config.{Config, beginning, step_at, step_hart}
-use Rattle.step_machine.specs.inner.Representation.{view_state, Holds, Represents}
+use Rattle.step_machine.specs.inner.Representation.{view_state, StoresRepresent, Represents}
 use Rattle.memory.proofs.Newest.{newest_of-append}
 use Rattle.step_machine.proofs.Appended.{pending-last, landed-last, reported-last}
 use Rattle.step_machine.proofs.Balanced.{balanced}
@@ -114,7 +114,7 @@ pub land_of-other : (h k : ℕ) → (k ≡ h → ⊥) → land_of k (entry.Land 
 land_of-other h k ne = ap (λ b. if b then 1 else 0) (ne_eqb h k (λ q. ne (sym q)))
 
 -- a buffer written at h is what is pending, where it is so at h, and the others stay
-pub buffers_stay : (M : ℕ) (t : History) (c : Stored) (h : ℕ) (ps : List Write) (e : Entry) → Holds M t c → h < length c.buffers → ps ≡ pending h (t.entries ++ e ∷ []) → ((k : ℕ) → (k ≡ h → ⊥) → pending k (t.entries ++ e ∷ []) ≡ pending k t.entries) → (k : ℕ) → get_or (set c.buffers h ps) k [] ≡ pending k (t.entries ++ e ∷ [])
+pub buffers_stay : (M : ℕ) (t : History) (c : Stored) (h : ℕ) (ps : List Write) (e : Entry) → StoresRepresent M t c → h < length c.buffers → ps ≡ pending h (t.entries ++ e ∷ []) → ((k : ℕ) → (k ≡ h → ⊥) → pending k (t.entries ++ e ∷ []) ≡ pending k t.entries) → (k : ℕ) → get_or (set c.buffers h ps) k [] ≡ pending k (t.entries ++ e ∷ [])
 buffers_stay M t c h ps e tied within here others k = grind (arith, set, eqb-true, get_or-set_same, eqb-false, get_or-set_other)
 
 -- what landed
@@ -129,13 +129,13 @@ in_words_write es e w is here small =
 -- bytes
 
 -- an entry that writes nothing leaves every byte
-pub memory_byte-other : (o : Start) (es : List Entry) (e : Entry) (a : ℕ) → write_of es e ≡ [] → memory_byte o (es ++ e ∷ []) a ≡ memory_byte o es a
+pub memory_byte-other : (o : OpeningValue) (es : List Entry) (e : Entry) (a : ℕ) → write_of es e ≡ [] → memory_byte o (es ++ e ∷ []) a ≡ memory_byte o es a
 memory_byte-other o es e a none = ap (λ ws. unwrap_or (newest_of a None ws) (opening_byte o a)) (landed-last es e ∙ ap (λ ws. landed es ++ ws) none ∙ append-nil (landed es))
 
 -- an entry that writes changes the bytes that its write covers
-pub memory_byte-write : (o : Start) (es : List Entry) (e : Entry) (w : Write) (a : ℕ) → write_of es e ≡ w ∷ [] → memory_byte o (es ++ e ∷ []) a ≡ byte_after w a (memory_byte o es a)
+pub memory_byte-write : (o : OpeningValue) (es : List Entry) (e : Entry) (w : Write) (a : ℕ) → write_of es e ≡ w ∷ [] → memory_byte o (es ++ e ∷ []) a ≡ byte_after w a (memory_byte o es a)
 memory_byte-write o es e w a is = grind (arith, landed-last, newest_of-append)
 
 -- words after a write say what memory says after it
-pub bytes_stay : (M : ℕ) (t : History) (c : Stored) (e : Entry) (w : Write) → Holds M t c → length c.words ≡ M → HasAddress M w → write_of t.entries e ≡ w ∷ [] → (a : ℕ) → a < 4 * M → byte_of (written w c.words) a ≡ memory_byte t.opening (t.entries ++ e ∷ []) a
+pub bytes_stay : (M : ℕ) (t : History) (c : Stored) (e : Entry) (w : Write) → StoresRepresent M t c → length c.words ≡ M → HasAddress M w → write_of t.entries e ≡ w ∷ [] → (a : ℕ) → a < 4 * M → byte_of (written w c.words) a ≡ memory_byte t.opening (t.entries ++ e ∷ []) a
 bytes_stay M t c e w tied count place is a below = grind (arith, byte_of-write, memory_byte-write)

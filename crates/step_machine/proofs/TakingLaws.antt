@@ -18,18 +18,18 @@ use Rattle.step_machine.specs.Positions.{changed, unless_same, pair_words, unpac
 
 -- ---- registers that changed
 
-pub changed_same : (first now : List ℕ) (n : ℕ) → get_or first n 0 ≡ get_or now n 0 → changed first now (n + 1) ≡ changed first now n
+pub changed-same : (first now : List ℕ) (n : ℕ) → get_or first n 0 ≡ get_or now n 0 → changed first now (n + 1) ≡ changed first now n
 unfolding changed
-changed_same first now n same =
+changed-same first now n same =
     let next : n + 1 ≡ suc n = omega arith in
     ap (changed first now) next
     ∙ ap (λ b. changed first now n ++ (if b then [] else (n, slice_index now n) ∷ [])) (eq-eqb (get_or first n 0) (get_or now n 0) same)
     ∙ append-nil (changed first now n)
 
-pub changed_other : (first now : List ℕ) (n : ℕ) → (get_or first n 0 ≡ get_or now n 0 → ⊥)
+pub changed-other : (first now : List ℕ) (n : ℕ) → (get_or first n 0 ≡ get_or now n 0 → ⊥)
     → changed first now (n + 1) ≡ changed first now n ++ (n, get_or now n 0) ∷ []
 unfolding changed
-changed_other first now n other =
+changed-other first now n other =
     let next : n + 1 ≡ suc n = omega arith in
     ap (changed first now) next
     ∙ ap (λ b. changed first now n ++ (if b then [] else (n, slice_index now n) ∷ [])) (ne_eqb (get_or first n 0) (get_or now n 0) other)
@@ -52,9 +52,6 @@ pub record AreTaken {X : Type 0} (taken : List X → List ℕ → List X × List
 pub changes_step : (n m : ℕ) (xs ws : List ℕ) → n ≡ suc m
     → unpacked_changes n xs ws ≡ unpacked_changes m (slice_set xs (slice_index ws 0) (slice_index (drop 1 ws) 0)) (drop 2 ws)
 changes_step n m xs ws is = ap (λ (k : ℕ). unpacked_changes k xs ws) is
-
-pub changes_done : (n : ℕ) (xs ws : List ℕ) → n ≡ 0 → unpacked_changes n xs ws ≡ (xs, ws)
-changes_done n xs ws is = ap (λ (k : ℕ). unpacked_changes k xs ws) is
 
 pub stores_step : (B M n m : ℕ) (ps : List Write) (ws : List ℕ) → n ≡ suc m
     → unpacked_stores B M n ps ws ≡ unpacked_stores B M m

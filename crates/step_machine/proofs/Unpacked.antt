@@ -12,10 +12,10 @@ entry_stays : (h : Head) (ns ms : List ℕ) (ps qs : List Entry) → numbers_of 
     → entry_of h (ns ++ ms) (ps ++ qs) ≡ entry_of h ns ps
 entry_stays h ns ms ps qs n p = grind (arith, get_or-append)
 
-unpacked_push : (hs : List Head) (ns ms : List ℕ) (ps qs : List Entry) (h : Head) → IsBalanced hs ns ps
+unpacked-push : (hs : List Head) (ns ms : List ℕ) (ps qs : List Entry) (h : Head) → IsBalanced hs ns ps
     → unpacked (hs ++ h ∷ []) (ns ++ ms) (ps ++ qs) ≡ unpacked hs ns ps ++ row_of h ms qs
-unpacked_push [] ns ms ps qs h b = grind (arith, nil_from_length, append-nil)
-unpacked_push (g ∷ hs) ns ms ps qs h b = grind (
+unpacked-push [] ns ms ps qs h b = grind (arith, nil_from_length, append-nil)
+unpacked-push (g ∷ hs) ns ms ps qs h b = grind (
   arith,
   sum_by-cons numbers_of g hs,
   sum_by-cons plain_of g hs,
@@ -25,7 +25,7 @@ unpacked_push (g ∷ hs) ns ms ps qs h b = grind (
   drop-append-le (numbers_of g) ns ms,
   drop-append-le (plain_of g) ps qs,
   append_assoc (row_of g ns ps) (unpacked hs (drop (numbers_of g) ns) (drop (plain_of g) ps)) (row_of h ms qs),
-  unpacked_push hs (drop (numbers_of g) ns) ms (drop (plain_of g) ps) qs h,
+  unpacked-push hs (drop (numbers_of g) ns) ms (drop (plain_of g) ps) qs h,
 )
 
 -- packed entries, and the same with this entry at the end
@@ -40,7 +40,7 @@ pub record Added (hs : List Head) (ns : List ℕ) (ps : List Entry) (more : List
 pub added_to : {hs more : List Head} {h : Head} {ns ms : List ℕ} {ps qs : List Entry} (ks : List ℕ) (rs : List Entry)
     → IsBalanced hs ns ps → more ≡ hs ++ h ∷ [] → ms ≡ ns ++ ks → qs ≡ ps ++ rs → IsSingle h (length ks) (length rs)
     → Added hs ns ps more ms qs (entry_of h ks rs)
-added_to {hs} {h} {ns} {ps} ks rs b hm nm pm is = grind (arith, unpacked_push, sum_by_push, length-append, length_push)
+added_to {hs} {h} {ns} {ps} ks rs b hm nm pm is = grind (arith, unpacked-push, sum_by_push, length-append, length_push)
 
 -- these are what is left without a last head of one entry
 pub dropped_to : {hs all : List Head} {ns ms : List ℕ} {ps qs : List Entry} (h : Head) (n p : ℕ)

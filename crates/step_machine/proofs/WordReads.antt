@@ -11,7 +11,7 @@ use Rattle.memory.proofs.Newest.{newest_word-last}
 use Rattle.memory.proofs.WholeWords.{word_reads}
 use Rattle.step_machine.specs.declared.events.Entry.{Entry}
 use Rattle.step_machine.specs.Access.{Access, access_of}
-use Rattle.step_machine.specs.History.{Start}
+use Rattle.step_machine.specs.History.{OpeningValue}
 use Rattle.step_machine.specs.Entries.{hart_of, stored_by, written_by, store_of, stores, lands, pending, write_of, landed_after, landed, opening_byte, memory_byte, memory_word, read}
 use Rattle.step_machine.proofs.Appended.{landed-last}
 use Rattle.step_machine.specs.WordReads.{WritesWord, AllWriteWords, OpensWithWords, word_in_memory, word_read}
@@ -19,12 +19,12 @@ use Rattle.step_machine.specs.WordReads.{WritesWord, AllWriteWords, OpensWithWor
 store_whole : (b : Bool) (x : Access) → WritesWord x → All IsWholeWord (stored_by b x)
 store_whole b x is = grind (arith, All-cons, All-nil)
 
-pub stores_whole : (h : ℕ) (es : List Entry) → AllWriteWords es → All IsWholeWord (stores h es)
-stores_whole h [] all = All-nil IsWholeWord
-stores_whole h (e ∷ es) all = All-append IsWholeWord (store_of h e) (stores h es) (store_whole (hart_of e == h) (access_of e) all.0) (stores_whole h es all.1)
+pub stores-whole : (h : ℕ) (es : List Entry) → AllWriteWords es → All IsWholeWord (stores h es)
+stores-whole h [] all = All-nil IsWholeWord
+stores-whole h (e ∷ es) all = All-append IsWholeWord (store_of h e) (stores h es) (store_whole (hart_of e == h) (access_of e) all.0) (stores-whole h es all.1)
 
-pub pending_whole : (h : ℕ) (es : List Entry) → AllWriteWords es → All IsWholeWord (pending h es)
-pending_whole h es all = All-drop IsWholeWord (lands h es) (stores h es) (stores_whole h es all)
+pub pending-whole : (h : ℕ) (es : List Entry) → AllWriteWords es → All IsWholeWord (pending h es)
+pending-whole h es all = All-drop IsWholeWord (lands h es) (stores h es) (stores-whole h es all)
 
 write_whole : (oldest : List Write) (x : Access) → All IsWholeWord oldest → WritesWord x → All IsWholeWord (written_by oldest x)
 write_whole oldest x all is = grind (arith, All-cons, All-nil)
@@ -33,34 +33,34 @@ pub AllWriteWords-append : (es fs : List Entry) → AllWriteWords es → AllWrit
 AllWriteWords-append [] fs all more = more
 AllWriteWords-append (e ∷ es) fs all more = (all.0, AllWriteWords-append es fs all.1 more)
 
-landed_after_whole : (before es : List Entry) → AllWriteWords before → AllWriteWords es → All IsWholeWord (landed_after before es)
-landed_after_whole before [] all more = All-nil IsWholeWord
-landed_after_whole before (e ∷ es) all more =
-    All-append IsWholeWord (write_of before e) (landed_after (before ++ e ∷ []) es) (write_whole (take 1 (pending (hart_of e) before)) (access_of e) (All-take IsWholeWord 1 (pending (hart_of e) before) (pending_whole (hart_of e) before all)) more.0)
-    (landed_after_whole (before ++ e ∷ []) es (AllWriteWords-append before (e ∷ []) all (more.0, tt)) more.1)
+landed_after-whole : (before es : List Entry) → AllWriteWords before → AllWriteWords es → All IsWholeWord (landed_after before es)
+landed_after-whole before [] all more = All-nil IsWholeWord
+landed_after-whole before (e ∷ es) all more =
+    All-append IsWholeWord (write_of before e) (landed_after (before ++ e ∷ []) es) (write_whole (take 1 (pending (hart_of e) before)) (access_of e) (All-take IsWholeWord 1 (pending (hart_of e) before) (pending-whole (hart_of e) before all)) more.0)
+    (landed_after-whole (before ++ e ∷ []) es (AllWriteWords-append before (e ∷ []) all (more.0, tt)) more.1)
 
-pub landed_whole : (es : List Entry) → AllWriteWords es → All IsWholeWord (landed es)
-landed_whole es all = landed_after_whole [] es tt all
+pub landed-whole : (es : List Entry) → AllWriteWords es → All IsWholeWord (landed es)
+landed-whole es all = landed_after-whole [] es tt all
 
 -- a byte of the opening, of the word around it
-opening_at : (o : Start) (a i : ℕ) → a % 4 ≡ 0 → i < 4 → opening_byte o (a + i) ≡ byte_at i (slice_index o.words (a / 4))
+opening_at : (o : OpeningValue) (a i : ℕ) → a % 4 ≡ 0 → i < 4 → opening_byte o (a + i) ≡ byte_at i (slice_index o.words (a / 4))
 opening_at o a i aligned lt = grind arith
 
 -- what a hart reads by bytes is the word
-pub read-word : (o : Start) (es : List Entry) (h a : ℕ) → OpensWithWords o → AllWriteWords es → a % 4 ≡ 0 → read o es h a 4 ≡ word_read o es h a
-read-word o es h a opens all aligned = grind (arith, joined-same, opening_at, word_reads, landed_whole, pending_whole)
+pub read-word : (o : OpeningValue) (es : List Entry) (h a : ℕ) → OpensWithWords o → AllWriteWords es → a % 4 ≡ 0 → read o es h a 4 ≡ word_read o es h a
+read-word o es h a opens all aligned = grind (arith, joined-same, opening_at, word_reads, landed-whole, pending-whole)
 
 -- and so is the word of memory
-pub memory-word : (o : Start) (es : List Entry) (a : ℕ) → OpensWithWords o → AllWriteWords es → a % 4 ≡ 0 → memory_word o es a ≡ word_in_memory o es a
+pub memory-word : (o : OpeningValue) (es : List Entry) (a : ℕ) → OpensWithWords o → AllWriteWords es → a % 4 ≡ 0 → memory_word o es a ≡ word_in_memory o es a
 memory-word o es a opens all aligned =
     joined-same (λ i. memory_byte o es (a + i)) (λ i. unwrap_or (newest_of (a + i) None (landed es)) (byte_at i (slice_index o.words (a / 4)))) 4
     (λ i lt. ap (unwrap_or (newest_of (a + i) None (landed es))) (opening_at o a i aligned lt))
-    ∙ word_reads a (slice_index o.words (a / 4)) (landed es) [] aligned (opens (a / 4)) (landed_whole es all) (All-nil IsWholeWord)
+    ∙ word_reads a (slice_index o.words (a / 4)) (landed es) [] aligned (opens (a / 4)) (landed-whole es all) (All-nil IsWholeWord)
 
 -- a word of memory after one more entry, stated without bytes
 
-pub word_in_memory-other : (o : Start) (es : List Entry) (e : Entry) (a : ℕ) → write_of es e ≡ [] → word_in_memory o (es ++ e ∷ []) a ≡ word_in_memory o es a
+pub word_in_memory-other : (o : OpeningValue) (es : List Entry) (e : Entry) (a : ℕ) → write_of es e ≡ [] → word_in_memory o (es ++ e ∷ []) a ≡ word_in_memory o es a
 word_in_memory-other o es e a none = ap (λ ws. unwrap_or (newest_word a None ws) (slice_index o.words (a / 4))) (landed-last es e ∙ ap (λ ws. landed es ++ ws) none ∙ append-nil (landed es))
 
-pub word_in_memory-write : (o : Start) (es : List Entry) (e : Entry) (w : Write) (a : ℕ) → write_of es e ≡ w ∷ [] → word_in_memory o (es ++ e ∷ []) a ≡ (if w.addr == a then w.value else word_in_memory o es a)
+pub word_in_memory-write : (o : OpeningValue) (es : List Entry) (e : Entry) (w : Write) (a : ℕ) → write_of es e ≡ w ∷ [] → word_in_memory o (es ++ e ∷ []) a ≡ (if w.addr == a then w.value else word_in_memory o es a)
 word_in_memory-write o es e w a is = grind (arith, landed-last, newest_word-last)

@@ -7,7 +7,7 @@ use Rattle.hart.specs.declared.need.Report.{Report}
 use Rattle.hart.specs.declared.need.Report.TheVariants as report
 use Rattle.step_machine.specs.declared.events.Entry.{Entry}
 use Rattle.step_machine.specs.declared.events.Entry.TheVariants as entry
-use Rattle.step_machine.specs.History.{Start}
+use Rattle.step_machine.specs.History.{OpeningValue}
 use Rattle.step_machine.specs.Access.{Access, store, exchange, land, access_of}
 use Rattle.memory.specs.declared.writes.Write.{Write}
 
@@ -113,24 +113,24 @@ reported h [] = []
 reported h (e ∷ es) = report_of h e ++ reported h es
 
 -- the byte with which an address opens; the words of an opening are little-endian
-abbrev pub opening_byte : Start → ℕ → ℕ
+abbrev pub opening_byte : OpeningValue → ℕ → ℕ
 opening_byte o a = byte_of o.words a
 
 -- the byte of memory at an address: that of the last write to cover it that reached memory, else the
 -- opening's
-abbrev pub memory_byte : Start → List Entry → ℕ → ℕ
+abbrev pub memory_byte : OpeningValue → List Entry → ℕ → ℕ
 memory_byte o es a = unwrap_or (newest_of a None (landed es)) (opening_byte o a)
 
 -- the word of memory at an address
-abbrev pub memory_word : Start → List Entry → ℕ → ℕ
+abbrev pub memory_word : OpeningValue → List Entry → ℕ → ℕ
 memory_word o es a = joined (λ i. memory_byte o es (a + i)) 4
 
 -- the byte that a hart reads at an address: that of its newest pending store to cover it, else that of
 -- memory. This is the Load Value Axiom (RVWMO, with the store buffer's early reads) stated by the order
 -- of landings.
-abbrev pub read_byte : Start → List Entry → ℕ → ℕ → ℕ
+abbrev pub read_byte : OpeningValue → List Entry → ℕ → ℕ → ℕ
 read_byte o es h a = unwrap_or (newest_of a None (pending h es)) (memory_byte o es a)
 
 -- the number that a hart reads in width bytes from an address on
-abbrev pub read : Start → List Entry → ℕ → ℕ → ℕ → ℕ
+abbrev pub read : OpeningValue → List Entry → ℕ → ℕ → ℕ → ℕ
 read o es h a width = joined (λ i. read_byte o es h (a + i)) width

@@ -2,7 +2,7 @@
 -- before it. An AMO's new word stands with its hart's path, where its operation is known.
 use Rattle.std.specs.Prelude.{ℕ, ◌≡◌, ◌<◌, IsTrue, List, [], ◌∷◌, ◌++◌, length, All}
 use Rattle.step_machine.specs.declared.events.Entry.{Entry}
-use Rattle.step_machine.specs.History.{Start, History}
+use Rattle.step_machine.specs.History.{OpeningValue, History}
 use Rattle.memory.specs.declared.writes.Write.{Write}
 use Rattle.step_machine.specs.Access.{Access, nothing, load, store, exchange, fence, land, access_of}
 use Rattle.step_machine.specs.Entries.{hart_of, pending, read}
@@ -18,10 +18,10 @@ AllowedBy B pending reads (fence full) = IsTrue full → pending ≡ []
 AllowedBy B pending reads land = 0 < length pending
 
 -- this entry may come after these
-abbrev pub Allowed : ℕ → Start → List Entry → Entry → Type 0
+abbrev pub Allowed : ℕ → OpeningValue → List Entry → Entry → Type 0
 Allowed B o before e = AllowedBy B (pending (hart_of e) before) (read o before (hart_of e)) (access_of e)
 
-abbrev pub LegalAfter : ℕ → Start → List Entry → List Entry → Type 0
+abbrev pub LegalAfter : ℕ → OpeningValue → List Entry → List Entry → Type 0
 LegalAfter B o before [] = Unit {0}
 LegalAfter B o before (e ∷ es) = Allowed B o before e × LegalAfter B o (before ++ e ∷ []) es
 
@@ -30,7 +30,7 @@ abbrev pub Legal : ℕ → History → Type 0
 Legal B t = LegalAfter B t.opening [] t.entries
 
 -- the entry is of one of the opening's harts
-abbrev pub IsOfHarts : Start → Entry → Type 0
+abbrev pub IsOfHarts : OpeningValue → Entry → Type 0
 IsOfHarts o e = hart_of e < length o.harts
 
 -- a history that is legal, in which every hart keeps a path and every entry is of a hart

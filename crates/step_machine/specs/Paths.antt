@@ -13,7 +13,7 @@ use Rattle.hart.specs.declared.need.Need.TheVariants as need
 use Rattle.hart.specs.declared.need.Report.TheVariants as report
 use Rattle.step_machine.specs.declared.events.Entry.{Entry}
 use Rattle.step_machine.specs.declared.events.Entry.TheVariants as entry
-use Rattle.step_machine.specs.History.{HartStart, History}
+use Rattle.step_machine.specs.History.{HartOpeningValue, History}
 use Rattle.step_machine.specs.Entries.{hart_of, own}
 
 -- the entry by which hart h does what its next instruction wants, when v is the number read
@@ -56,7 +56,7 @@ abbrev pub Makes : HartState → List Entry → Type 0
 Makes s [] = Unit {0}
 Makes s (e ∷ es) = CanMake s e × Makes (advanced s (value_of e)) es
 
-abbrev pub opens_as : ℕ → HartStart → HartState
+abbrev pub opens_as : ℕ → HartOpeningValue → HartState
 opens_as M o = first_state o.code o.registers o.inbox M
 
 -- the state of hart h after all its own entries, where h is a hart
@@ -73,7 +73,7 @@ IsPc M t h pc = option_map (λ s. s.pc) (state_of M t h) ≡ Some pc
 abbrev pub IsRegister : ℕ → History → ℕ → ℕ → ℕ → Type 0
 IsRegister M t h number word = option_map (λ s. slice_index s.registers number) (state_of M t h) ≡ Some word
 
-abbrev pub PathOf : ℕ → Option HartStart → List Entry → Type 0
+abbrev pub PathOf : ℕ → Option HartOpeningValue → List Entry → Type 0
 PathOf M None es = ⊥
 PathOf M (Some o) es = Makes (opens_as M o) es
 

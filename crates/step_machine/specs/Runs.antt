@@ -11,7 +11,7 @@ use Rattle.step_machine.specs.declared.events.Entry.{Entry}
 use Rattle.step_machine.specs.declared.events.Entry.TheVariants as entry
 use Rattle.step_machine.specs.declared.events.Outcome.{Outcome}
 use Rattle.step_machine.specs.declared.events.Outcome.TheVariants as outcome
-use Rattle.step_machine.specs.History.{Start, History, unrun, with_entry}
+use Rattle.step_machine.specs.History.{OpeningValue, History, at_opening, with_entry}
 use Rattle.step_machine.specs.Entries.{hart_of, is_land}
 use Rattle.step_machine.specs.Paths.{state_of, Path}
 use Rattle.step_machine.specs.Legal.{Legal}
@@ -70,8 +70,8 @@ RunFrom B M t [] new = new ≡ t
 RunFrom B M t (ev ∷ evs) new = (o : Outcome) × (mid : History) × Happens B M t ev o mid × RunFrom B M mid evs new
 
 -- these events make this history of the opening
-abbrev pub Run : ℕ → ℕ → Start → List Event → History → Type 0
-Run B M o evs t = RunFrom B M (unrun o) evs t
+abbrev pub Run : ℕ → ℕ → OpeningValue → List Event → History → Type 0
+Run B M o evs t = RunFrom B M (at_opening o) evs t
 
 -- the event by which an entry comes about
 abbrev pub event_of : Entry → Event

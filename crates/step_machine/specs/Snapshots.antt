@@ -4,7 +4,7 @@ use Rattle.hart.specs.State.{HartView}
 use Rattle.hart.specs.Saved.{SavedView, IsSavedOf}
 use Rattle.memory.specs.declared.writes.Write.{Write}
 use Rattle.step_machine.specs.History.{History}
-use Rattle.step_machine.specs.Standing.{StandsAt}
+use Rattle.step_machine.specs.Standing.{RepresentsHistory}
 use Rattle.step_machine.specs.inner.Config.{Config}
 
 -- what a contract sees of a snapshot: how many entries came before it, where each hart stood, what was
@@ -33,5 +33,5 @@ pub record IsSavedFrom (M : ℕ) (c : Config) (s : Taken) : Type 0 where
 pub record IsTakenAt (B M : ℕ) (t : History) (s : Taken) : Type 0 where
   pub count : s.count ≡ length t.entries
   pub held : Config
-  pub stands : StandsAt B M t held
+  pub stands : RepresentsHistory B M t held
   pub saved : IsSavedFrom M held s

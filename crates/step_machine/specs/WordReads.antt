@@ -5,7 +5,7 @@ use Rattle.std.specs.Prelude.{ℕ, ◌/◌, ◌^◌, ◌<◌, List, [], ◌∷�
 use Rattle.memory.specs.Writes.{write, newest_word, IsWholeWord}
 use Rattle.step_machine.specs.declared.events.Entry.{Entry}
 use Rattle.step_machine.specs.Access.{Access, store, exchange, access_of}
-use Rattle.step_machine.specs.History.{Start}
+use Rattle.step_machine.specs.History.{OpeningValue}
 use Rattle.step_machine.specs.Entries.{pending, landed}
 
 -- an access that writes, if it does, a whole word
@@ -19,12 +19,12 @@ AllWriteWords [] = Unit {0}
 AllWriteWords (e ∷ es) = WritesWord (access_of e) × AllWriteWords es
 
 -- the opening's words are words
-abbrev pub OpensWithWords : Start → Type 0
+abbrev pub OpensWithWords : OpeningValue → Type 0
 OpensWithWords o = (i : ℕ) → slice_index o.words i < 2 ^ 32
 
 -- the word of memory at a multiple of 4, and what a hart reads there
-abbrev pub word_in_memory : Start → List Entry → ℕ → ℕ
+abbrev pub word_in_memory : OpeningValue → List Entry → ℕ → ℕ
 word_in_memory o es a = unwrap_or (newest_word a None (landed es)) (slice_index o.words (a / 4))
 
-abbrev pub word_read : Start → List Entry → ℕ → ℕ → ℕ
+abbrev pub word_read : OpeningValue → List Entry → ℕ → ℕ → ℕ
 word_read o es h a = unwrap_or (newest_word a None (pending h es)) (word_in_memory o es a)

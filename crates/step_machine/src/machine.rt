@@ -28,10 +28,10 @@ pub struct Machine<const B: usize, const M: usize> {
 
 impl<const B: usize, const M: usize> Model for Machine<B, M> {
     ghost use Rattle.std.specs.Prelude.{◌≤◌};
-    ghost use Rattle.step_machine.specs.History.{Progress};
+    ghost use Rattle.step_machine.specs.History.{HistoryWithRoom};
     ghost use Rattle.step_machine.specs.inner.Representation.{IsMachineAt};
 
-    ghost Value = { Progress };
+    ghost Value = { HistoryWithRoom };
 
     ghost view = { λ m. record { history = record { opening = m.opening; entries = m.entries.entries }; room = m.room } };
 
@@ -52,10 +52,10 @@ impl<const B: usize, const M: usize> Drop for Machine<B, M> {
 }
 
 impl<const B: usize, const M: usize> Machine<B, M> {
-    ghost use Rattle.step_machine.specs.History.{FitsIn, unrun, up_to};
+    ghost use Rattle.step_machine.specs.History.{FitsIn, at_opening, up_to};
     ghost use Rattle.step_machine.specs.Snapshots.{IsTakenAt};
     ghost use Rattle.step_machine.specs.Entries.{pending, reported, memory_word};
-    ghost use Rattle.step_machine.specs.Standing.{StandsAt};
+    ghost use Rattle.step_machine.specs.Standing.{RepresentsHistory};
     ghost use Rattle.step_machine.specs.Paths.{IsStatus, IsPc, IsRegister};
     ghost use Rattle.step_machine.specs.Legal.{IsOfHarts, WellFormed};
     ghost use Rattle.step_machine.specs.Runs.{Happens, RunFrom, IsOwnRun};
@@ -67,7 +67,7 @@ impl<const B: usize, const M: usize> Machine<B, M> {
         requires some_word { 1 ≤ M }
         requires size { M ≤ 65536 }
         requires fits { FitsIn M opening }
-        ensures { IfOk result (λ m. m.history ≡ unrun opening) }
+        ensures { IfOk result (λ m. m.history ≡ at_opening opening) }
     {
         let machine_state = MachineState::opened(alloc, &opening)?;
         Ok(Machine {
@@ -128,7 +128,7 @@ impl<const B: usize, const M: usize> Machine<B, M> {
     /// Puts the machine back at its opening, in the room that it has. It takes no memory, and its time
     /// depends on the harts and on the highest address that was written since, however long it ran.
     pub fn restart(&mut self)
-        ensures { self.new ≡ record self.old { history = unrun self.old.history.opening } }
+        ensures { self.new ≡ record self.old { history = at_opening self.old.history.opening } }
     {
         self.machine_state.put_back();
         self.entries.clear();
@@ -170,7 +170,7 @@ impl<const B: usize, const M: usize> Machine<B, M> {
 
     /// The machine without its history, which stands at its end.
     pub fn machine_state(&self) -> &MachineState<B, M>
-        ensures stands { StandsAt B M self.now.history result.now }
+        ensures stands { RepresentsHistory B M self.now.history result.now }
         ensures harts { length result.now.harts ≡ length self.now.history.opening.harts }
     {
         &self.machine_state

@@ -23,9 +23,9 @@ pub struct HartOpening {
 }
 
 impl Model for HartOpening {
-    ghost use Rattle.step_machine.specs.History.{HartStart};
+    ghost use Rattle.step_machine.specs.History.{HartOpeningValue};
 
-    ghost Value = { HartStart };
+    ghost Value = { HartOpeningValue };
 
     ghost view = { λ o. record { code = o.code.items; registers = o.registers; inbox = o.inbox.items } };
 }
@@ -38,9 +38,9 @@ pub struct Opening {
 }
 
 impl Model for Opening {
-    ghost use Rattle.step_machine.specs.History.{Start};
+    ghost use Rattle.step_machine.specs.History.{OpeningValue};
 
-    ghost Value = { Start };
+    ghost Value = { OpeningValue };
 
     ghost view = { λ o. record { harts = o.harts.items; words = o.words.items } };
 }

@@ -64,7 +64,7 @@ impl Head {
         }
     }
 
-    /// The entry of its row, where the numbers and the plain entries begin with its own.
+    /// The entry that its row repeats. `numbers` and `plain` are the list's from this head's own on.
     fn entry(self, numbers: &[u32], plain: &[Entry]) -> Entry
         requires numbers { numbers_of self ≤ length numbers.now }
         requires plain { plain_of self ≤ length plain.now }

@@ -3,10 +3,10 @@
 
 ghost use Rattle.std.specs.Prelude.{◌≡◌, ◌≤◌, ◌<◌, length, min, take, IfOk, IfErr, OnOk, OnErr};
 ghost use Rattle.memory.specs.Words.{IsAddress};
-ghost use Rattle.step_machine.specs.History.{FitsIn, unrun};
+ghost use Rattle.step_machine.specs.History.{FitsIn, at_opening};
 ghost use Rattle.step_machine.specs.Entries.{pending, reported, memory_word};
 ghost use Rattle.step_machine.specs.Paths.{IsStatus, IsPc, IsRegister};
-ghost use Rattle.step_machine.specs.Standing.{StandsAt, OfEach, MovesBy, RunsBy, StaysPut, BeginsAnew};
+ghost use Rattle.step_machine.specs.Standing.{RepresentsHistory, ForEachHistory, MovesBy, RunsBy, StaysPut, BeginsAnew};
 ghost use Rattle.step_machine.specs.declared.opening.TheConstants.{MAX_HARTS};
 
 use crate::events::{Event, Outcome};
@@ -23,7 +23,7 @@ impl<const B: usize, const M: usize> MachineState<B, M> {
         requires capacity { B ≤ 64 }
         requires size { M ≤ 65536 }
         requires fits { FitsIn M opening.now }
-        ensures { IfOk result (λ c. StandsAt B M (unrun opening.now) c) }
+        ensures { IfOk result (λ c. RepresentsHistory B M (at_opening opening.now) c) }
     {
         let machine_state = MachineState::opened(alloc, opening)?;
         Ok(machine_state)
@@ -69,7 +69,7 @@ impl<const B: usize, const M: usize> MachineState<B, M> {
         ensures value { result ≡ min (length self.now.harts) MAX_HARTS }
         ensures within { result ≤ length self.now.harts }
         ensures most { result ≤ MAX_HARTS }
-        ensures opening { OfEach B M self.now (λ t. result ≡ length t.opening.harts) }
+        ensures opening { ForEachHistory B M self.now (λ t. result ≡ length t.opening.harts) }
     {
         self.count().min(MAX_HARTS) as u32
     }
@@ -77,7 +77,7 @@ impl<const B: usize, const M: usize> MachineState<B, M> {
     /// Whether the hart goes on.
     pub fn status(&self, hart: u32) -> Status
         requires { hart < length self.now.harts }
-        ensures { OfEach B M self.now (λ t. IsStatus M t hart result) }
+        ensures { ForEachHistory B M self.now (λ t. IsStatus M t hart result) }
     {
         self.hart(hart).status()
     }
@@ -85,7 +85,7 @@ impl<const B: usize, const M: usize> MachineState<B, M> {
     /// The address in bytes of the hart's next instruction.
     pub fn pc(&self, hart: u32) -> u32
         requires { hart < length self.now.harts }
-        ensures { OfEach B M self.now (λ t. IsPc M t hart result) }
+        ensures { ForEachHistory B M self.now (λ t. IsPc M t hart result) }
     {
         self.hart(hart).pc()
     }
@@ -94,7 +94,7 @@ impl<const B: usize, const M: usize> MachineState<B, M> {
     pub fn register(&self, hart: u32, number: u8) -> u32
         requires hart { hart < length self.now.harts }
         requires number { number < 32 }
-        ensures { OfEach B M self.now (λ t. IsRegister M t hart number result) }
+        ensures { ForEachHistory B M self.now (λ t. IsRegister M t hart number result) }
     {
         self.hart(hart).register(number)
     }
@@ -102,7 +102,7 @@ impl<const B: usize, const M: usize> MachineState<B, M> {
     /// The hart's reports, oldest first.
     pub fn reports(&self, hart: u32) -> &[Report]
         requires { hart < length self.now.harts }
-        ensures { OfEach B M self.now (λ t. result.now ≡ reported hart t.entries) }
+        ensures { ForEachHistory B M self.now (λ t. result.now ≡ reported hart t.entries) }
     {
         self.hart(hart).reports()
     }
@@ -110,7 +110,7 @@ impl<const B: usize, const M: usize> MachineState<B, M> {
     /// The hart's pending stores, oldest first.
     pub fn pending(&self, hart: u32) -> &[Write]
         requires { hart < length self.now.harts }
-        ensures { OfEach B M self.now (λ t. result.now ≡ pending hart t.entries) }
+        ensures { ForEachHistory B M self.now (λ t. result.now ≡ pending hart t.entries) }
     {
         self.buffer(hart)
     }
@@ -118,7 +118,7 @@ impl<const B: usize, const M: usize> MachineState<B, M> {
     /// The word of memory at an address, a multiple of 4 below 4 times `M`.
     pub fn word(&self, addr: u32) -> u32
         requires { IsAddress M addr }
-        ensures { OfEach B M self.now (λ t. result ≡ memory_word t.opening t.entries addr) }
+        ensures { ForEachHistory B M self.now (λ t. result ≡ memory_word t.opening t.entries addr) }
     {
         self.held_word(addr)
     }

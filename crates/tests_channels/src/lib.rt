@@ -1,4 +1,4 @@
-//! Tests of `hart_threads`, and of channels over both rings.
+//! Tests of `hart_threads`, and of channels over the rings.
 //!
 //! Without its tests this crate is empty: it promises nothing, and no crate uses it.
 

@@ -1,9 +1,10 @@
-//! Channels over both rings, with what they report worked out apart from the program.
+//! Channels over the rings, with what they report worked out apart from the program.
 
 use crate::of_hart_threads::{Thrice, status_of};
 use fastforward::FastForward;
 use hart::{Report, Status};
 use hart_threads::{Open, Record, deliver_threads, deliver_threads_at};
+use lamport_cached::LamportCached;
 use lamport_ring::Lamport;
 use poll_close::{
     Channel, Place, Refused, RefusedAt, RingKind, deliver, deliver_at, deliver_whole_at, opening_at,
@@ -80,7 +81,7 @@ fn words_around(alloc: Global, count: u32) -> Result<Vec<u32>, AllocError> {
 
 /// One sender's block is the six words from word 256 on.
 const ELSEWHERE: Place = Place {
-    ring: 2,
+    slots: 2,
     base: 1024,
     stride: Some(64),
 };
@@ -123,7 +124,7 @@ fn refused_at(rt: &(impl Abort + AllocGlobal), base: u32, stride: u32) -> Result
     let lists = one_list(rt.alloc(), &[9])?;
     let words = words_around(rt.alloc(), 262)?;
     let place = Place {
-        ring: 2,
+        slots: 2,
         base,
         stride: Some(stride),
     };
@@ -173,6 +174,23 @@ fn ended_of<K: RingKind>(rt: &(impl Abort + AllocGlobal), list: &[u32], ring: u3
 fn harts_that_act_and_land_in_turns_end(rt: HostRuntime) {
     assert_same!(rt; ended_of::<Lamport>(&rt, &[2, 3, 4], 3), 2);
     assert_same!(rt; ended_of::<FastForward>(&rt, &[2, 3, 4], 3), 2);
+    assert_same!(rt; ended_of::<LamportCached>(&rt, &[2, 3, 4, 5, 6], 3), 2);
+}
+
+/// With two slots the sender reads the tail anew for each word except the first.
+#[test]
+fn a_plan_finishes_a_channel_with_a_cached_tail(rt: HostRuntime) {
+    let lists = one_list(rt.alloc(), &[9, 9, 9]).expect(&rt, "a list");
+    let words = words_around(rt.alloc(), 300).expect(&rt, "words");
+    let whole = deliver_whole_at::<LamportCached, 2, 4096>(
+        rt.alloc(),
+        &lists,
+        ELSEWHERE,
+        &words,
+        &[],
+    );
+    let took_all = [TOOK, TOOK, TOOK, Report::Closed { sender: 0 }];
+    assert_same!(rt; whole.expect(&rt, "reports").as_slice(), took_all.as_slice());
 }
 
 /// What a ring of two slots does with a thread for each hart and each lander. `deliver` reports the same

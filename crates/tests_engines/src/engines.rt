@@ -2,7 +2,7 @@
 
 use crate::devices::{Reader, Writer};
 use debugger::debug::debug_engine;
-use engine_parts::fault::Fault;
+use engine_support::fault::Fault;
 use lamport_ring::Lamport;
 use poll_close::Place;
 use rand_pcg::Pcg32;
@@ -11,13 +11,15 @@ use std::sync::Wait;
 use std::thread::Threads;
 use tries::progress::Progress;
 use tries::trials::{Runs, try_engine};
-use views::charting::{Selection, Style, chart_engine};
-use views::shrinking::shrink_engine;
+use view_engines::charting::{Selection, Style, chart_engine};
+use view_engines::shrinking::shrink_engine;
 use ztso_engines::asm::asm_engine;
 use ztso_engines::channel::channel_engine;
 use ztso_engines::dis::dis_engine;
 use ztso_engines::moving::move_engine;
+use ztso_engines::programs::OwnFault;
 use ztso_engines::replay::replay_engine;
+use ztso_engines::ring::ring_engine;
 use ztso_engines::run::run_engine;
 use ztso_engines::steps::steps_engine;
 use ztso_engines::threads::threads_engine;
@@ -41,6 +43,8 @@ pub enum Engine {
     Threads,
     /// One run of four events, drawn by the generator of PCG's own demonstration.
     Try,
+    /// The same run of a channel over rings of 2 slots.
+    Ring,
 }
 
 /// What the engines read, in their order. Most read fewer than three.
@@ -59,7 +63,7 @@ impl Inputs<'_> {
 }
 
 const RING: Place = Place {
-    ring: 2,
+    slots: 2,
     base: 0,
     stride: None,
 };
@@ -143,5 +147,21 @@ pub fn answer(
                 writer,
             ).map(|_| ())
         }
+        Engine::Ring => {
+            let generator = Pcg32::new(42, 54);
+            let runs = ONE_RUN;
+            whoever(ring_engine::<4, 4096, _, _, _, _, _, _>(
+                rt, alloc, RING, first, second, third, &generator, runs, writer,
+            ))
+        }
+    }
+}
+
+/// How `ring` ends, whoever's program is refused.
+fn whoever(ended: Result<bool, OwnFault>) -> Result<(), Fault> {
+    match ended {
+        Ok(_) => Ok(()),
+        Err(OwnFault::Program { refusal, .. }) => Err(Fault::Refused(refusal)),
+        Err(OwnFault::Other(fault)) => Err(fault),
     }
 }

@@ -3,7 +3,7 @@
 use crate::devices::{Reader, SOUND, Trouble, Writer};
 use crate::engines::{Inputs, answer};
 use crate::rows::{ROWS, Row};
-use engine_parts::fault::Fault;
+use engine_support::fault::Fault;
 use std::process::Abort;
 use std::sync::Wait;
 use std::thread::Threads;

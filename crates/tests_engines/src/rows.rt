@@ -37,7 +37,7 @@ l1 land 1
 
 const ONE_STORE: &[u8] = b"RISCV S\n{0:x5=1; 0:x6=x}\n P0 ;\n sw x5,0(x6) ;\nexists (x=1)\n";
 
-pub const ROWS: [Row; 13] = [
+pub const ROWS: [Row; 14] = [
     Row {
         engine: Engine::Asm,
         texts: [b"loop: addi x5,x5,-1\nbnez x5,loop\n", NONE, NONE],
@@ -97,13 +97,13 @@ Holds
         texts: [STORE_BUFFERING, b"ztso-schedule 1\na0*2 a1*2 l0 l1\n", NONE],
         wanted: b"SB
 
-       P0                             P1                               memory
-    1  sw x5,0(x6)  x := 1 -------.
-    2  lw x7,0(x8)  y = 0 [init]  |
-    3                             |   sw x5,0(x6)  y := 1 -------.
-    4                             |   lw x7,0(x8)  x = 0 [init]  |
-    5                             '------------------------------|---> x = 1 [1]
-    6                                                            '---> y = 1 [3]
+       P0                              P1                                memory
+    1  sw x5,0(x6)  x := 1 --------.
+    2  lw x7,0(x8)  y = 0 [init]   |
+    3                              |   sw x5,0(x6)  y := 1 --------.
+    4                              |   lw x7,0(x8)  x = 0 [init]   |
+    5                              '-------------------------------|---> x = 1 [1]
+    6                                                              '---> y = 1 [3]
 
 last value: 0:x7 = 0
 last value: 1:x7 = 0
@@ -123,6 +123,12 @@ Holds: exists (0:x7=0 /\\ 1:x7=0)
             NONE,
         ],
         wanted: b"took 0 9\n",
+    },
+    // nobody sends and nobody takes
+    Row {
+        engine: Engine::Ring,
+        texts: [b"wait: j wait\n", b"wait: j wait\n", b"9 8 7\n"],
+        wanted: b"clean 1 runs\nsender 0 took at most 0 of 3 words, closed in 0 runs\n",
     },
     // the words of the generator draw, of one hart, two landings, an act and a landing
     Row {

@@ -13,24 +13,24 @@ use Rattle.texts.proofs.PieceLaws.{position_is, position_past, lines_whole}
 
 -- ---- by the place of the first byte that passes
 
-before_is : (p : ℕ → Bool) (xs : List ℕ) → before p xs ≡ take (position_or_len p xs) xs
-before_is p [] = refl
-before_is p (x ∷ xs) = elim (cases_Bool (p x)) [
+before-is : (p : ℕ → Bool) (xs : List ℕ) → before p xs ≡ take (position_or_len p xs) xs
+before-is p [] = refl
+before-is p (x ∷ xs) = elim (cases_Bool (p x)) [
   | inl passes ↦ rw passes refl
-  | inr fails ↦ (let e : 1 + position_or_len p xs ≡ suc (position_or_len p xs) = omega arith in rw (fails, e) (ap (λ ys. x ∷ ys) (before_is p xs)))
+  | inr fails ↦ (let e : 1 + position_or_len p xs ≡ suc (position_or_len p xs) = omega arith in rw (fails, e) (ap (λ ys. x ∷ ys) (before-is p xs)))
 ]
 
-after_is : (p : ℕ → Bool) (xs : List ℕ) → position_or_len p xs < length xs → after p xs ≡ Some (drop (position_or_len p xs + 1) xs)
-after_is p [] lt = absurd (omega arith)
-after_is p (x ∷ xs) lt = grind (arith, add-one, after_is p xs)
+after-is : (p : ℕ → Bool) (xs : List ℕ) → position_or_len p xs < length xs → after p xs ≡ Some (drop (position_or_len p xs + 1) xs)
+after-is p [] lt = absurd (omega arith)
+after-is p (x ∷ xs) lt = grind (arith, add-one, after-is p xs)
 
-before_whole : (p : ℕ → Bool) (xs : List ℕ) → length xs ≤ position_or_len p xs → before p xs ≡ xs
-before_whole p [] le = refl
-before_whole p (x ∷ xs) le = grind (arith, before_whole p xs)
+before-whole : (p : ℕ → Bool) (xs : List ℕ) → length xs ≤ position_or_len p xs → before p xs ≡ xs
+before-whole p [] le = refl
+before-whole p (x ∷ xs) le = grind (arith, before-whole p xs)
 
-after_past : (p : ℕ → Bool) (xs : List ℕ) → length xs ≤ position_or_len p xs → after p xs ≡ None
-after_past p [] le = refl
-after_past p (x ∷ xs) le = grind (arith, after_past p xs)
+after-past : (p : ℕ → Bool) (xs : List ℕ) → length xs ≤ position_or_len p xs → after p xs ≡ None
+after-past p [] le = refl
+after-past p (x ∷ xs) le = grind (arith, after-past p xs)
 
 from_is : (p : ℕ → Bool) (xs : List ℕ) → from_first p xs ≡ drop (position_or_len p xs) xs
 from_is p [] = refl
@@ -40,16 +40,16 @@ from_is p (x ∷ xs) = elim (cases_Bool (p x)) [
 ]
 
 pub before_found : (p : ℕ → Bool) (xs : List ℕ) (i : ℕ) → position p xs ≡ Some i → before p xs ≡ take i xs
-before_found p xs i e = let at = position_is p xs i e in subst (λ (k : ℕ). before p xs ≡ take k xs) at.1 (before_is p xs)
+before_found p xs i e = let at = position_is p xs i e in subst (λ (k : ℕ). before p xs ≡ take k xs) at.1 (before-is p xs)
 
 pub after_found : (p : ℕ → Bool) (xs : List ℕ) (i : ℕ) → position p xs ≡ Some i → after p xs ≡ Some (drop (i + 1) xs)
-after_found p xs i e = let at = position_is p xs i e in subst (λ (k : ℕ). after p xs ≡ Some (drop (k + 1) xs)) at.1 (after_is p xs at.0)
+after_found p xs i e = let at = position_is p xs i e in subst (λ (k : ℕ). after p xs ≡ Some (drop (k + 1) xs)) at.1 (after-is p xs at.0)
 
 pub before_missing : (p : ℕ → Bool) (xs : List ℕ) → position p xs ≡ None → before p xs ≡ xs
-before_missing p xs e = before_whole p xs (position_past p xs e)
+before_missing p xs e = before-whole p xs (position_past p xs e)
 
 pub after_missing : (p : ℕ → Bool) (xs : List ℕ) → position p xs ≡ None → after p xs ≡ None
-after_missing p xs e = after_past p xs (position_past p xs e)
+after_missing p xs e = after-past p xs (position_past p xs e)
 
 pub from_found : (p : ℕ → Bool) (xs : List ℕ) (i : ℕ) → position p xs ≡ Some i → from_first p xs ≡ drop i xs
 from_found p xs i e = let at = position_is p xs i e in subst (λ (k : ℕ). from_first p xs ≡ drop k xs) at.1 (from_is p xs)
@@ -67,25 +67,25 @@ pub none-append : (p : ℕ → Bool) (xs ys : List ℕ) → NonePass p xs → No
 none-append p [] ys h k = k
 none-append p (x ∷ xs) ys h k = (h.0, none-append p xs ys h.1 k)
 
-pub before_none : (p : ℕ → Bool) (xs : List ℕ) → NonePass p xs → before p xs ≡ xs
-before_none p [] h = refl
-before_none p (x ∷ xs) h = rw (h.0, before_none p xs h.1) refl
+pub before-none : (p : ℕ → Bool) (xs : List ℕ) → NonePass p xs → before p xs ≡ xs
+before-none p [] h = refl
+before-none p (x ∷ xs) h = rw (h.0, before-none p xs h.1) refl
 
-pub after_none : (p : ℕ → Bool) (xs : List ℕ) → NonePass p xs → after p xs ≡ None
-after_none p [] h = refl
-after_none p (x ∷ xs) h = rw h.0 (after_none p xs h.1)
+pub after-none : (p : ℕ → Bool) (xs : List ℕ) → NonePass p xs → after p xs ≡ None
+after-none p [] h = refl
+after-none p (x ∷ xs) h = rw h.0 (after-none p xs h.1)
 
-pub before_stop : (p : ℕ → Bool) (xs : List ℕ) (c : ℕ) (ys : List ℕ) → NonePass p xs → p c ≡ true → before p (xs ++ c ∷ ys) ≡ xs
-before_stop p [] c ys h stop = rw stop refl
-before_stop p (x ∷ xs) c ys h stop = rw (h.0, before_stop p xs c ys h.1 stop) refl
+pub before-stop : (p : ℕ → Bool) (xs : List ℕ) (c : ℕ) (ys : List ℕ) → NonePass p xs → p c ≡ true → before p (xs ++ c ∷ ys) ≡ xs
+before-stop p [] c ys h stop = rw stop refl
+before-stop p (x ∷ xs) c ys h stop = rw (h.0, before-stop p xs c ys h.1 stop) refl
 
-pub after_stop : (p : ℕ → Bool) (xs : List ℕ) (c : ℕ) (ys : List ℕ) → NonePass p xs → p c ≡ true → after p (xs ++ c ∷ ys) ≡ Some ys
-after_stop p [] c ys h stop = rw stop refl
-after_stop p (x ∷ xs) c ys h stop = rw h.0 (after_stop p xs c ys h.1 stop)
+pub after-stop : (p : ℕ → Bool) (xs : List ℕ) (c : ℕ) (ys : List ℕ) → NonePass p xs → p c ≡ true → after p (xs ++ c ∷ ys) ≡ Some ys
+after-stop p [] c ys h stop = rw stop refl
+after-stop p (x ∷ xs) c ys h stop = rw h.0 (after-stop p xs c ys h.1 stop)
 
-pub before_passes_not : (p : ℕ → Bool) (xs : List ℕ) → NonePass p (before p xs)
-before_passes_not p [] = tt
-before_passes_not p (x ∷ xs) = grind (arith, before_passes_not p xs)
+pub before-passes_not : (p : ℕ → Bool) (xs : List ℕ) → NonePass p (before p xs)
+before-passes_not p [] = tt
+before-passes_not p (x ∷ xs) = grind (arith, before-passes_not p xs)
 
 -- a text that is cut at a byte
 pub cut_whole : (p : ℕ → Bool) (xs ys : List ℕ) → after p xs ≡ Some ys → (c : ℕ) × (p c ≡ true) × (xs ≡ before p xs ++ c ∷ ys)
@@ -102,19 +102,19 @@ uncut p (x ∷ xs) e = grind (arith, uncut p xs)
 -- ---- a text that is split at bytes, from its first part on
 
 -- the parts of what stands after a cut
-abbrev pub split_behind : (ℕ → Bool) → Option (List ℕ) → List (List ℕ)
-split_behind p None = []
-split_behind p (Some text) = slice_split p text
+abbrev pub split_after : (ℕ → Bool) → Option (List ℕ) → List (List ℕ)
+split_after p None = []
+split_after p (Some text) = slice_split p text
 
-pub split_cut : (p : ℕ → Bool) (text : List ℕ) → slice_split p text ≡ before p text ∷ split_behind p (after p text)
+pub split_cut : (p : ℕ → Bool) (text : List ℕ) → slice_split p text ≡ before p text ∷ split_after p (after p text)
 split_cut p [] = refl
 split_cut p (x ∷ xs) = grind (arith, split_cut p xs)
 
 pub split_none : (p : ℕ → Bool) (xs : List ℕ) → NonePass p xs → slice_split p xs ≡ xs ∷ []
-split_none p xs h = split_cut p xs ∙ rw (before_none p xs h, after_none p xs h) refl
+split_none p xs h = split_cut p xs ∙ rw (before-none p xs h, after-none p xs h) refl
 
 pub split_stop : (p : ℕ → Bool) (xs : List ℕ) (c : ℕ) (ys : List ℕ) → NonePass p xs → p c ≡ true → slice_split p (xs ++ c ∷ ys) ≡ xs ∷ slice_split p ys
-split_stop p xs c ys h stop = split_cut p (xs ++ c ∷ ys) ∙ rw (before_stop p xs c ys h stop, after_stop p xs c ys h stop) refl
+split_stop p xs c ys h stop = split_cut p (xs ++ c ∷ ys) ∙ rw (before-stop p xs c ys h stop, after-stop p xs c ys h stop) refl
 
 -- ---- lines
 

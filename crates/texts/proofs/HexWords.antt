@@ -34,9 +34,9 @@ zeros_value : (k : ℕ) (ds : List ℕ) → digits_value 16 (replicate k 48 ++ d
 zeros_value zero ds = refl
 zeros_value (suc k) ds = zeros_value k ds
 
-pub hex_word_said : (word : ℕ) → word < 2 ^ 32 → IsHexWord (hex_word word) word
+pub hex_word-said : (word : ℕ) → word < 2 ^ 32 → IsHexWord (hex_word word) word
 unfolding digits
-hex_word_said word small =
+hex_word-said word small =
     let ds = digits 16 false word in
     let said = digits_is_IsNumeral 16 false (omega arith) (omega arith) word (omega arith) in
     let few : length ds ≤ 8 = short 64 8 word [] (omega arith) small in

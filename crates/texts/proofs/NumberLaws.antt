@@ -51,9 +51,9 @@ pub capped_value_other : (radix : ℕ) (digits : List ℕ) (i : ℕ) → i < len
 unfolding capped_value
 capped_value_other radix digits i lt other = grind (arith, list_all_at, le-ltb)
 
-pub capped_value_all : (radix : ℕ) (digits : List ℕ) → 0 < length digits → all_digits radix digits ≡ true → capped_value radix digits ≡ Some (capped (digits_value radix digits))
+pub capped_value-all : (radix : ℕ) (digits : List ℕ) → 0 < length digits → all_digits radix digits ≡ true → capped_value radix digits ≡ Some (capped (digits_value radix digits))
 unfolding capped_value
-capped_value_all radix digits some all = grind arith
+capped_value-all radix digits some all = grind arith
 
 -- ---- the numbers of the grammars
 
@@ -125,9 +125,9 @@ pub hex_word_other : (digits : List ℕ) → (length digits ≡ 8 → ⊥) → h
 unfolding hex_word_of
 hex_word_other digits other = rw (ne_eqb (length digits) 8 other) refl
 
-pub hex_word_said : (digits : List ℕ) (n : ℕ) → hex_word_of digits ≡ Some n → IsHexWord digits n
+pub hex_word-said : (digits : List ℕ) (n : ℕ) → hex_word_of digits ≡ Some n → IsHexWord digits n
 unfolding hex_word_of
-hex_word_said digits n e = grind (arith, eqb-true, IsNumeral-from_test)
+hex_word-said digits n e = grind (arith, eqb-true, IsNumeral-from_test)
 
 pub is_hex_word : (digits : List ℕ) (n : ℕ) → IsHexWord digits n → hex_word_of digits ≡ Some n
 unfolding hex_word_of
@@ -138,7 +138,7 @@ pub found_word : (digits : List ℕ) (o : Option ℕ) → o ≡ word_of digits �
 found_word digits o e = grind (arith, word_said)
 
 pub found_hex_word : (digits : List ℕ) (o : Option ℕ) → o ≡ hex_word_of digits → IfSome o (IsHexWord digits)
-found_hex_word digits o e = grind (arith, hex_word_said)
+found_hex_word digits o e = grind (arith, hex_word-said)
 
 -- ---- how large a number that is read can be
 

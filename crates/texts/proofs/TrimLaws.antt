@@ -46,15 +46,15 @@ trailing_append p (x ∷ xs) ys some h = ap (onto_kept p x) (trailing_append p x
     long [] = some
     long (z ∷ zs) = omega arith
 
-pub stripped_none : (p : ℕ → Bool) (xs : List ℕ) → NonePass p xs → stripped p xs ≡ xs
+pub stripped-none : (p : ℕ → Bool) (xs : List ℕ) → NonePass p xs → stripped p xs ≡ xs
 unfolding stripped
-stripped_none p xs h = rw (leading_none p xs h) (trailing_none p xs h)
+stripped-none p xs h = rw (leading_none p xs h) (trailing_none p xs h)
 
 -- a text in whose first and last parts no byte passes
-pub stripped_ends : (p : ℕ → Bool) (xs ys zs : List ℕ) → 0 < length xs → NonePass p xs → 0 < length zs → NonePass p zs → stripped p (xs ++ (ys ++ zs)) ≡ xs ++ (ys ++ zs)
+pub stripped-ends : (p : ℕ → Bool) (xs ys zs : List ℕ) → 0 < length xs → NonePass p xs → 0 < length zs → NonePass p zs → stripped p (xs ++ (ys ++ zs)) ≡ xs ++ (ys ++ zs)
 unfolding stripped
-stripped_ends p [] ys zs begins h some k = absurd (omega arith)
-stripped_ends p (x ∷ xs) ys zs begins h some k = rw (h.0, ← append_assoc xs ys zs) (trailing_append p (x ∷ (xs ++ ys)) zs some k)
+stripped-ends p [] ys zs begins h some k = absurd (omega arith)
+stripped-ends p (x ∷ xs) ys zs begins h some k = rw (h.0, ← append_assoc xs ys zs) (trailing_append p (x ∷ (xs ++ ys)) zs some k)
 
 -- ---- where all bytes pass, round a text
 
@@ -78,21 +78,21 @@ trailing_past : (p : ℕ → Bool) (xs back : List ℕ) → AllPass p back → w
 trailing_past p [] back h = trailing_all p back h
 trailing_past p (x ∷ xs) back h = ap (onto_kept p x) (trailing_past p xs back h)
 
-pub stripped_back : (p : ℕ → Bool) (xs back : List ℕ) → AllPass p back → stripped p (xs ++ back) ≡ stripped p xs
+pub stripped-back : (p : ℕ → Bool) (xs back : List ℕ) → AllPass p back → stripped p (xs ++ back) ≡ stripped p xs
 unfolding stripped
-stripped_back p [] back h = rw (leading_all p back h) refl
-stripped_back p (x ∷ xs) back h = grind (arith, trailing_past, stripped_back p xs back h)
+stripped-back p [] back h = rw (leading_all p back h) refl
+stripped-back p (x ∷ xs) back h = grind (arith, trailing_past, stripped-back p xs back h)
 
-stripped_front : (p : ℕ → Bool) (front xs : List ℕ) → AllPass p front → stripped p (front ++ xs) ≡ stripped p xs
+stripped-front : (p : ℕ → Bool) (front xs : List ℕ) → AllPass p front → stripped p (front ++ xs) ≡ stripped p xs
 unfolding stripped
-stripped_front p front xs h = ap (without_trailing p) (leading_past p front xs h)
+stripped-front p front xs h = ap (without_trailing p) (leading_past p front xs h)
 
-pub stripped_padded : (p : ℕ → Bool) (core text : List ℕ) → IsPaddedBy p core text → stripped p text ≡ stripped p core
-stripped_padded p core text pad = ap (stripped p) pad.4 ∙ (stripped_front p pad.0 (core ++ pad.1) pad.2 ∙ stripped_back p core pad.1 pad.3)
+pub stripped-padded : (p : ℕ → Bool) (core text : List ℕ) → IsPaddedBy p core text → stripped p text ≡ stripped p core
+stripped-padded p core text pad = ap (stripped p) pad.4 ∙ (stripped-front p pad.0 (core ++ pad.1) pad.2 ∙ stripped-back p core pad.1 pad.3)
 
-pub stripped_all : (p : ℕ → Bool) (text : List ℕ) → AllPass p text → stripped p text ≡ []
+pub stripped-all : (p : ℕ → Bool) (text : List ℕ) → AllPass p text → stripped p text ≡ []
 unfolding stripped
-stripped_all p text h = ap (without_trailing p) (leading_all p text h)
+stripped-all p text h = ap (without_trailing p) (leading_all p text h)
 
 -- ---- what was taken off
 
@@ -131,5 +131,5 @@ padded_stripped p text =
 pub padded_twice : (p : ℕ → Bool) (core mid text : List ℕ) → IsPaddedBy p core mid → IsPaddedBy p mid text → IsPaddedBy p core text
 padded_twice p core mid text h k = grind (arith, all-append, append_assoc)
 
-pub stripped_trailing : (p : ℕ → Bool) (part : List ℕ) → stripped p (without_trailing p part) ≡ stripped p part
-stripped_trailing p part = let split = trailing_split p part in sym (stripped_back p (without_trailing p part) split.0 split.1) ∙ ap (stripped p) (sym split.2)
+pub stripped-trailing : (p : ℕ → Bool) (part : List ℕ) → stripped p (without_trailing p part) ≡ stripped p part
+stripped-trailing p part = let split = trailing_split p part in sym (stripped-back p (without_trailing p part) split.0 split.1) ∙ ap (stripped p) (sym split.2)

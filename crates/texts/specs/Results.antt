@@ -16,9 +16,9 @@ map_err f (Err e) = Err (f e)
 
 -- What a function returned, seen by view, is what the definition answers. Of an error in which
 -- fault_of sees no fault of the text, as memory that ran out, nothing is said.
-abbrev pub Gives : {X Y E F : Type 0} → (E → Option F) → (X → Y) → Result X E → Result Y F → Type 0
-Gives fault_of view (Ok x) answer = answer ≡ Ok (view x)
-Gives fault_of view (Err e) answer = IfSome (fault_of e) (λ fault. answer ≡ Err fault)
+abbrev pub GivesUpToMemory : {X Y E F : Type 0} → (E → Option F) → (X → Y) → Result X E → Result Y F → Type 0
+GivesUpToMemory fault_of view (Ok x) answer = answer ≡ Ok (view x)
+GivesUpToMemory fault_of view (Err e) answer = IfSome (fault_of e) (λ fault. answer ≡ Err fault)
 
 -- the refusal that an error carries; memory that ran out is none
 abbrev pub refusal_of : {R : Type 0} → TextError R → Option R

@@ -3,7 +3,7 @@ use Rattle.std.proofs.Common.{◌≡◌, ℕ, Bool, List, [], ◌∷◌, ◌++�
 use Rattle.std.specs.List.{flat_map}
 use Rattle.std.proofs.lemmas.List.Elements.{All-tail}
 use Rattle.rand_core.specs.Stream.{Stream}
-use Rattle.step_machine.specs.History.{History, unrun}
+use Rattle.step_machine.specs.History.{History, at_opening}
 use Rattle.step_machine.specs.Runs.{Run}
 use Rattle.step_machine.specs.declared.events.Event.{Event}
 use Rattle.step_machine.proofs.Running.{run-one}
@@ -11,8 +11,8 @@ use Rattle.litmus.specs.LitmusTests.{LitmusTest, left_sides}
 use Rattle.litmus.specs.Verdicts.{IsVerdict, final_value}
 use Rattle.litmus.specs.declared.verdict.Verdict.{Verdict}
 use Rattle.litmus.proofs.VerdictLaws.{one_verdict}
-use Rattle.engine_parts.specs.Outcomes.{AreOutcomes, unfinished_line}
-use Rattle.engine_parts.proofs.OutcomeTables.{one_outcomes}
+use Rattle.engine_support.specs.Outcomes.{AreOutcomes, unfinished_line}
+use Rattle.engine_support.proofs.OutcomeTables.{one_outcomes}
 use Rattle.tries.specs.Trials.{Trial, IsTrial, are_good, gave}
 use Rattle.tries.specs.Outcomes.{outcome_line, unfinished, IsTried}
 
@@ -24,7 +24,7 @@ trial_of events verdict values = record { events = events; verdict = verdict; va
 one_trial : (B M : ℕ) (q : LitmusTest) (s t : Trial) → IsTrial B M q s → IsTrial B M q t → s.events ≡ t.events → s ≡ t
 unfolding trial_of
 one_trial B M q s t is other events =
-    let histories : is.history ≡ other.history = run-one B M (unrun q.opening) s.events is.history other.history is.ran (subst (λ (evs : List Event). Run B M q.opening evs other.history) (sym events) other.ran) in
+    let histories : is.history ≡ other.history = run-one B M (at_opening q.opening) s.events is.history other.history is.ran (subst (λ (evs : List Event). Run B M q.opening evs other.history) (sym events) other.ran) in
     let verdicts : s.verdict ≡ t.verdict = one_verdict M q is.history s.verdict t.verdict is.judged (subst (λ (h : History). IsVerdict M q h t.verdict) (sym histories) other.judged) in
     let values : s.values ≡ t.values = is.read ∙ ap (λ (h : History). map (final_value M h) (left_sides q.condition)) histories ∙ sym other.read in
     ap (λ (evs : List Event). trial_of evs s.verdict s.values) events

@@ -4,9 +4,9 @@ use Rattle.std.specs.List.{list_any}
 use Rattle.rand_core.specs.Stream.{Stream}
 use Rattle.litmus.specs.LitmusTests.{LitmusTest}
 use Rattle.litmus.specs.declared.verdict.Quantifier.{Quantifier}
-use Rattle.engine_parts.specs.Outcomes.{unfinished_line}
-use Rattle.engine_parts.specs.Counting.{AreLines, counted}
-use Rattle.engine_parts.proofs.OutcomeTables.{are_outcomes, table_is}
+use Rattle.engine_support.specs.Outcomes.{unfinished_line}
+use Rattle.engine_support.specs.Counting.{AreLines, counted}
+use Rattle.engine_support.proofs.OutcomeTables.{are_outcomes, table_is}
 use Rattle.tries.specs.declared.trials.tally.Tally.{Tally}
 use Rattle.tries.specs.Trials.{Trial, AreTrials, is_holds, is_fails, gave, are_good}
 use Rattle.tries.specs.Outcomes.{first_schedule, IsTried}

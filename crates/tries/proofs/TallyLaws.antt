@@ -8,8 +8,8 @@ use Rattle.std.proofs.lemmas.List.Folds.{find-append}
 use Rattle.std.proofs.lemmas.List.Sums.{count_by-le-length}
 use Rattle.step_machine.specs.declared.events.Event.{Event}
 use Rattle.litmus.specs.declared.verdict.Verdict.{Verdict}
-use Rattle.engine_parts.specs.Counting.{Counted, counted, counted_both, Counts, seen_of}
-use Rattle.engine_parts.proofs.OutcomeTables.{any_more, count_more, seen_few, seen_more, seen_none}
+use Rattle.engine_support.specs.Counting.{Counted, counted, counted_both, Counts, seen_of}
+use Rattle.engine_support.proofs.OutcomeTables.{any_more, count_more, seen_few, seen_more, seen_none}
 use Rattle.tries.specs.declared.trials.tally.Tally.{Tally}
 use Rattle.tries.specs.Trials.{Trial, is_finished, is_holds, is_fails, gave}
 use Rattle.tries.specs.Outcomes.{first_schedule, first_schedule_text, schedule_text}
@@ -58,11 +58,11 @@ tally_more trials trial old new tally more = record {
 }
 
 -- no count is above the number of runs
-pub counted_few : (trials : List Trial) (tally : Tally) (most : ℕ) → IsTallyOf trials tally → length trials < most → (outcome : List ℕ) → IfSome {T = Counted} (counted tally.outcomes outcome) (λ seen. seen.0 < most)
-counted_few trials tally most is few outcome = rw (is.counts outcome) (seen_few gave first_schedule trials outcome most few)
+pub counted-few : (trials : List Trial) (tally : Tally) (most : ℕ) → IsTallyOf trials tally → length trials < most → (outcome : List ℕ) → IfSome {T = Counted} (counted tally.outcomes outcome) (λ seen. seen.0 < most)
+counted-few trials tally most is few outcome = rw (is.counts outcome) (seen_few gave first_schedule trials outcome most few)
 
-pub unfinished_few : (trials : List Trial) (tally : Tally) (most : ℕ) → IsTallyOf trials tally → length trials < most → tally.unfinished < most
-unfinished_few trials tally most is few = omega (arith, is.unfinished_are, count_by-le-length (λ (t : Trial). not (is_finished t.verdict)) trials, few)
+pub unfinished-few : (trials : List Trial) (tally : Tally) (most : ℕ) → IsTallyOf trials tally → length trials < most → tally.unfinished < most
+unfinished-few trials tally most is few = omega (arith, is.unfinished_are, count_by-le-length (λ (t : Trial). not (is_finished t.verdict)) trials, few)
 
 -- ---- the steps of a tally
 

@@ -1,10 +1,7 @@
 -- Runs after runs: their schedules, and the tally of them all from the tallies of the two parts.
 use Rattle.std.proofs.Common.{◌≡◌, ℕ, zero, suc, ◌+◌, ◌*◌, Bool, cond, ◌||◌, not, List, [], ◌∷◌, ◌++◌, length, map, Option, sym, ap, ◌∙◌, arith, append-nil, append_assoc, subst, ◌-◌, ◌≤◌, ◌<◌, rules}
 use Rattle.std.specs.List.{list_any, range_with_len}
-use Rattle.std.specs.Prelude.{IfSome, IfOk, Result, Ok, slice_index_or}
-use Rattle.std.specs.declared.alloc.AllocError.{AllocError}
-use Rattle.std.proofs.Math.Nat.{div-mul-le_self}
-use Rattle.std.proofs.lemmas.Nat.{le-div}
+use Rattle.std.specs.Prelude.{IfSome}
 use Rattle.std.proofs.lemmas.List.{map-append, length-map}
 use Rattle.std.proofs.lemmas.List.Folds.{list_any-append}
 use Rattle.std.proofs.lemmas.List.Sums.{sum_by-append, count_by-le-length}
@@ -12,15 +9,18 @@ use Rattle.std.proofs.lemmas.List.Elements.{All-append}
 use Rattle.std.proofs.lemmas.List.FromFn.{map-range_with_len_more, length-map-range_with_len}
 use Rattle.rand_core.specs.Stream.{Stream}
 use Rattle.step_machine.specs.declared.events.Event.{Event}
-use Rattle.recorder.specs.Drawing.{left_after, drawn}
+use Rattle.recorder.specs.Drawing.{left_after, drawn, schedule_drawn}
+use Rattle.recorder.proofs.Drawn.{left_after-sum}
 use Rattle.tries.specs.declared.trials.tally.Tally.{Tally}
-use Rattle.engine_parts.specs.Counting.{Counted, counted, counted_both, seen_of}
-use Rattle.engine_parts.proofs.OutcomeTables.{seen_both, seen_few}
-use Rattle.tries.specs.Trials.{Trial, IsTrial, schedule_drawn, AreTrials, gave, is_finished, is_holds, is_fails}
+use Rattle.engine_support.specs.Counting.{Counted, counted, counted_both, seen_of}
+use Rattle.engine_support.proofs.OutcomeTables.{seen_both, seen_few}
+use Rattle.tries.specs.Trials.{Trial, IsTrial, AreTrials, gave, is_finished, is_holds, is_fails}
 use Rattle.tries.specs.Outcomes.{first_schedule}
 use Rattle.tries.specs.inner.Tallies.{IsTallyOf}
-use Rattle.tries.specs.inner.Merging.{first_of, AreRunsFrom, AreTalliesFrom, IsTallyFrom, Merges, Source}
-use Rattle.tries.proofs.TrialLaws.{left_after-sum, no_trials}
+use Rattle.jumping.specs.Sharing.{first_of}
+use Rattle.jumping.proofs.SharingLaws.{none_placed}
+use Rattle.tries.specs.inner.Merging.{AreRunsFrom, IsTallyFrom, Merges, Source}
+use Rattle.tries.proofs.TrialLaws.{no_trials}
 use Rattle.tries.proofs.TallyLaws.{first_of_both, first_of_later}
 
 -- ---- the tally of them all
@@ -113,7 +113,7 @@ module _ (source : Source) where
   -- the tally that has none is that of no run
   pub from_none : (runs jobs : ℕ) (tally : Tally) → IsTallyOf [] tally → 1 ≤ jobs → IsTallyFrom source 0 (first_of runs jobs 0) tally
   from_none runs jobs tally none some =
-      let zero_runs : 0 ≡ first_of runs jobs 0 = search rules in
+      let zero_runs = none_placed runs jobs some in
       record {
         trials = [];
         are = are_first (first_of runs jobs 0) [] (subst (λ (n : ℕ). AreRuns n []) zero_runs (no_trials source.B source.M source.test source.stream source.size));
@@ -166,42 +166,3 @@ module _ (source : Source) where
     both_unfinished_few most few =
         let e = sum_by-append (λ (y : Trial). cond (not (is_finished y.verdict)) 1 0) first.trials second.trials in
         omega (arith, both_long, few, e, first.tallied.unfinished_are, second.tallied.unfinished_are, count_by-le-length (λ (t : Trial). not (is_finished t.verdict)) both)
-
-  -- ---- the tallies that are left
-
-  module _ (runs jobs : ℕ) where
-    abbrev IsJobs : ℕ → Result Tally AllocError → Type 0
-    IsJobs job result = IfOk result (λ tally. IsTallyFrom source (first_of runs jobs job) (first_of runs jobs (job + 1)) tally)
-
-    pub job_first : (job : ℕ) (tallies rest : List (Result Tally AllocError)) (tally : Tally) → tallies ≡ Ok tally ∷ rest
-        → AreTalliesFrom source runs jobs job tallies → IsTallyFrom source (first_of runs jobs job) (first_of runs jobs (job + 1)) tally
-    job_first job tallies rest tally is all =
-        let here : job + 0 ≡ job = omega arith in
-        subst (λ (n : ℕ). IsJobs n (Ok tally)) here
-        (subst (λ (xs : List (Result Tally AllocError)). AreTalliesFrom source runs jobs job xs) is all 0 (Ok tally) (omega arith))
-
-    pub jobs_left : (job : ℕ) (tallies rest : List (Result Tally AllocError)) (tally : Result Tally AllocError) → tallies ≡ tally ∷ rest
-        → AreTalliesFrom source runs jobs job tallies → AreTalliesFrom source runs jobs (job + 1) rest
-    jobs_left job tallies rest tally is all k d less =
-        let here : job + (k + 1) ≡ job + 1 + k = omega arith in
-        let next : slice_index_or (tally ∷ rest) (k + 1) d ≡ slice_index_or rest k d = search rules in
-        let found = subst (λ (xs : List (Result Tally AllocError)). AreTalliesFrom source runs jobs job xs) is all (k + 1) d (omega (arith, less)) in
-        subst (λ (n : ℕ). IsJobs n (slice_index_or rest k d)) here (subst (IsJobs (job + (k + 1))) next found)
-
-    pub jobs_all : (tallies shown : List (Result Tally AllocError)) → shown ≡ tallies → length tallies ≡ jobs
-        → ((job : ℕ) (d : Result Tally AllocError) → job < jobs → IsJobs job (slice_index_or tallies job d)) → AreTalliesFrom source runs jobs 0 shown
-    jobs_all tallies shown same long each =
-        subst (λ (xs : List (Result Tally AllocError)). AreTalliesFrom source runs jobs 0 xs) (sym same)
-        (λ k d less. let here : k ≡ 0 + k = omega arith in
-        subst (λ (n : ℕ). IsJobs n (slice_index_or tallies k d)) here (each k d (omega (arith, less, long))))
-
--- ---- where jobs begin
-
-pub all_placed : (runs jobs job : ℕ) → 1 ≤ jobs → job ≡ jobs → first_of runs jobs job ≡ runs
-all_placed runs jobs job some last = search rules
-
-pub placed_later : (runs jobs job : ℕ) → 1 ≤ jobs → first_of runs jobs job ≤ first_of runs jobs (job + 1)
-placed_later runs jobs job some = grind (arith, div-mul-le_self, le-div)
-
-pub placed_within : (runs jobs job : ℕ) → 1 ≤ jobs → job ≤ jobs → first_of runs jobs job ≤ runs
-placed_within runs jobs job some most = search rules

@@ -5,20 +5,8 @@ use Rattle.std.proofs.lemmas.List.FromFn.{map-range_with_len_more}
 use Rattle.std.proofs.lemmas.List.Elements.{All-append, All-cons, All-nil}
 use Rattle.rand_core.specs.Stream.{Stream, next_u32}
 use Rattle.litmus.specs.LitmusTests.{LitmusTest}
-use Rattle.recorder.specs.Drawing.{left_after}
-use Rattle.tries.specs.Trials.{Trial, IsTrial, schedule_drawn, AreTrials}
-
--- what is left after some words and then some more
-pub left_after-sum : (more before : ℕ) (stream : Stream) → left_after more (left_after before stream) ≡ left_after (before + more) stream
-unfolding left_after
-left_after-sum more zero stream = let same : more ≡ 0 + more = omega arith in ap (λ (n : ℕ). left_after n stream) same
-left_after-sum more (suc before) stream =
-    let next : suc (before + more) ≡ suc before + more = omega arith in
-    left_after-sum more before (next_u32 stream).1 ∙ ap (λ (n : ℕ). left_after n stream) next
-
--- one more schedule was drawn
-pub left_more : (size number : ℕ) (first before after : Stream) → before ≡ left_after (number * size) first → after ≡ left_after size before → after ≡ left_after ((number + 1) * size) first
-left_more size number first before after was drawn = grind (arith, left_after-sum)
+use Rattle.recorder.specs.Drawing.{left_after, schedule_drawn}
+use Rattle.tries.specs.Trials.{Trial, IsTrial, AreTrials}
 
 -- no run
 pub no_trials : (B M : ℕ) (test : LitmusTest) (stream : Stream) (size : ℕ) → AreTrials B M test stream 0 size []

@@ -5,12 +5,12 @@ use Rattle.rand_core.specs.Stream.{Stream}
 use Rattle.step_machine.specs.declared.events.Event.{Event}
 use Rattle.litmus.specs.LitmusTests.{LitmusTest}
 use Rattle.recorder.specs.Writing.{tokens_of}
-use Rattle.engine_parts.specs.declared.fault.Refusal.{Refusal}
-use Rattle.engine_parts.specs.Outcomes.{AreOutcomes, line_of, unfinished_line}
-use Rattle.engine_parts.specs.Tests.{ByTest}
+use Rattle.engine_support.specs.declared.fault.Refusal.{Refusal}
+use Rattle.engine_support.specs.Outcomes.{AreOutcomes, line_of, unfinished_line}
+use Rattle.engine_support.specs.Tests.{ByTest}
 use Rattle.tries.specs.Trials.{Trial, AreTrials, is_finished, gave, are_good}
 
--- a schedule's tokens behind a space, where it has any
+-- a schedule's tokens after a space, where it has any
 abbrev pub schedule_text : List Event → List ℕ
 schedule_text events = if length events == 0 then [] else (codes " " ++ tokens_of events)
 

@@ -12,7 +12,7 @@ use Rattle.litmus.specs.declared.verdict.Quantifier.{Quantifier}
 use Rattle.litmus.specs.declared.verdict.Quantifier.TheVariants.{Exists, NotExists, ForAll}
 use Rattle.litmus.specs.declared.verdict.Verdict.{Verdict}
 use Rattle.litmus.specs.declared.verdict.Verdict.TheVariants.{Holds, Fails, Unfinished}
-use Rattle.recorder.specs.Drawing.{drawn, words, left_after}
+use Rattle.recorder.specs.Drawing.{schedule_drawn}
 
 -- one run: its schedule, the verdict on it, and the last values of the condition's left sides
 pub record Trial : Type 0 where
@@ -26,11 +26,6 @@ pub record IsTrial (B M : ℕ) (test : LitmusTest) (trial : Trial) : Type 0 wher
   pub ran : Run B M test.opening trial.events history
   pub judged : IsVerdict M test history trial.verdict
   pub read : trial.values ≡ map (final_value M history) (left_sides test.condition)
-
--- The schedule of this number, from 0. Each has `size` events and takes `size` words of the
--- generator's stream, after those of the schedules before it.
-abbrev pub schedule_drawn : (harts size : ℕ) → Stream → (number : ℕ) → List Event
-schedule_drawn harts size stream number = map (drawn harts) (words size (left_after (number * size) stream))
 
 -- this number of runs, from the schedules that the generator's stream draws one after the other
 pub record AreTrials (B M : ℕ) (test : LitmusTest) (stream : Stream) (runs size : ℕ) (trials : List Trial) : Type 0 where

@@ -1,4 +1,4 @@
 -- What serves the proofs alone, where a private contract names it.
 pub mod Tallies
 pub mod Merging
-pub mod Openings
+pub mod Walks

@@ -1,9 +1,9 @@
 //! The command `try`: runs of a litmus test from schedules that a generator draws, and their outcomes.
 
 ghost use Rattle.std.specs.Prelude.{◌≡◌, ◌≤◌, ◌*◌, IfOk};
-ghost use Rattle.engine_parts.specs.Engines.{EndsBy};
+ghost use Rattle.engine_support.specs.Engines.{EndsBy};
 ghost use Rattle.tries.specs.Outcomes.{IsTried, IsTryAnswer};
-ghost use Rattle.engine_parts.specs.inner.Making.{FindsBy, text_and_value};
+ghost use Rattle.engine_support.specs.inner.Making.{FindsByUpToReads, text_and_value};
 ghost use Rattle.tries.specs.inner.Tallies.{good_by};
 ghost use Rattle.recorder.specs.Drawing.{left_after};
 ghost use Rattle.litmus.specs.declared.litmus_test.TheConstants.{MAX_LOCATIONS};
@@ -12,10 +12,11 @@ use crate::progress::Progress;
 use crate::trials::outcomes::tally_text;
 use crate::trials::spreading::tally_in_rounds;
 use crate::trials::tally::Tally;
-use engine_parts::fault::Fault;
-use engine_parts::litmus_text::read_test;
-use engine_parts::output::end_with;
+use engine_support::fault::Fault;
+use engine_support::litmus_text::read_test;
+use engine_support::output::end_with;
 use jumping::Jump;
+pub use jumping::Runs;
 use litmus::Test;
 use std::alloc::{AllocError, Global};
 use std::io::{Read, Write};
@@ -25,19 +26,8 @@ mod drawing;
 mod outcomes;
 mod spreading;
 mod tally;
-
-/// Which runs of a test a generator draws, and how they are spread.
-#[derive(Clone, Copy)]
-pub struct Runs {
-    /// How many runs of the stream are passed over.
-    pub skip: u64,
-    /// How many runs after them are made.
-    pub number: u32,
-    /// How many events each run has, passed over or made.
-    pub length: u32,
-    /// How many threads share the runs, where 0 is one. The answer doesn't depend on it.
-    pub jobs: u32,
-}
+mod walking;
+mod walks;
 
 /// Whether the runs of a tally show what the test asks.
 fn is_good(test: &Test, tally: &Tally) -> bool
@@ -102,7 +92,7 @@ fn made<
     requires capacity { B ≤ 64 }
     requires words { MAX_LOCATIONS ≤ M }
     requires size { M ≤ 65536 }
-    ensures { FindsBy (IsTryAnswer B M (left_after (runs.skip * runs.length) (G.Rng.stream generator.now)) runs.number runs.length) text_and_value (R.remaining file.old) result }
+    ensures { FindsByUpToReads (IsTryAnswer B M (left_after (runs.skip * runs.length) (G.Rng.stream generator.now)) runs.number runs.length) text_and_value (R.remaining file.old) result }
 {
     let test = read_test(alloc, file)?;
     let answered = answer::<B, M, G, T, P>(rt, alloc, &test, generator, runs, progress)?;

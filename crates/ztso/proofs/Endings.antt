@@ -1,10 +1,10 @@
 -- An engine's end as the job's.
 use Rattle.std.proofs.Common.{◌≡◌, ℕ, List, refl, subst}
 use Rattle.std.specs.Prelude.{Option, Result, Ok, Err}
-use Rattle.engine_parts.specs.declared.fault.Fault.{Fault}
-use Rattle.engine_parts.specs.declared.fault.Fault.TheVariants.{ReadFailed, WriteFailed, NoMemory, Refused}
-use Rattle.engine_parts.specs.declared.fault.Refusal.{Refusal}
-use Rattle.engine_parts.specs.Engines.{Ends}
+use Rattle.engine_support.specs.declared.fault.Fault.{Fault}
+use Rattle.engine_support.specs.declared.fault.Fault.TheVariants.{ReadFailed, WriteFailed, NoMemory, Refused}
+use Rattle.engine_support.specs.declared.fault.Refusal.{Refusal}
+use Rattle.engine_support.specs.Engines.{Ends}
 use Rattle.debugger.specs.Transcripts.{EndsInteractive, OnRefused, OnStopped, OnUnwritten}
 use Rattle.ztso.specs.declared.job.MachineCommand.TheVariants.{Debug}
 use Rattle.ztso.specs.Work.{IsRefusal, LeavesCommands, WithStatus, done_status, ended_with}

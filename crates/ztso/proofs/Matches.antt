@@ -6,7 +6,7 @@ use Rattle.clap.specs.Words.{HasKind, Kinds, Row, Text, fault_of, is_simple, is_
 use Rattle.clap.specs.declared.error.Error.{Error}
 use Rattle.clap.specs.declared.error.kind.ErrorKind.TheVariants.{OutOfMemory}
 use Rattle.clap.proofs.OnLiterals.{clap_on_literals}
-use Rattle.ztso.specs.CommandLines.{Answers, job_in, job_said, job_without}
+use Rattle.ztso.specs.CommandLines.{Answers, job_at, job_said, job_without}
 use Rattle.ztso.specs.Descriptions.{ztso_command}
 use Rattle.ztso.specs.Jobs.{wanted_by}
 use Rattle.ztso.specs.Failures.{IsFailureFor}
@@ -39,7 +39,7 @@ answers_failed words = failed (fault_of ztso_command words) (subcommand_of ztso_
 
 -- a parse that succeeds is answered by what it found
 pub answers_found : (words : List Text) → fault_of ztso_command words ≡ []
-    → (found : Option Job) → option_map wanted_by found ≡ option_and_then job_in (subcommand_of ztso_command words)
+    → (found : Option Job) → option_map wanted_by found ≡ option_and_then job_at (subcommand_of ztso_command words)
     → (r : Result Job Failure) → r ≡ ok_or found BadCommandLine → Answers (job_said words) r
 unfolding job_said
 answers_found words none found is_found r is_r = rw (none, ← is_found, is_r) (by_found found)

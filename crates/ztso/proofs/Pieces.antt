@@ -104,7 +104,7 @@ fault-pieces s w (plain word ∷ ps) (is, are) =
     (ap (λ (v : Walk). walk_fault s [] v (map text_in ps)) (walked-plain s.rules w word is) ∙ fault-pieces s (plain_walked s.rules w.stopped w word) ps are)
 fault-pieces s w (other word ∷ ps) are = ap (or_else (turn_fault s [] w word)) (fault-pieces s (walked s.rules [] w word) ps are)
 
--- ---- words behind a command
+-- ---- words after a command
 
 abbrev pub begun : Walk
 begun = walk_from nothing_held
@@ -153,7 +153,7 @@ abbrev pub named : Text → Option Shape
 named command = find (λ s. answers_to command (label_of s)) whole.subs
 
 -- what all words say, by the faults of the walk to the command's name and where it ends, and by what the
--- command says of the words behind it
+-- command says of the words after it
 abbrev pub said_by : Kinds → Walk → Kinds → Option (Text × List Row) → Option Wanted
 said_by faults end below found =
     let top = whole.top in
@@ -182,7 +182,7 @@ job_said-pieces name command ps (met, passes) are =
     ap₂ (said_at name words) faults end
     ∙ ap₂ (said_by [] (at_command command words)) (fault_of_found ps are (named command)) (rows_of_found ps are (named command))
 
--- the words behind a command say a job where their pieces do
+-- the words after a command say a job where their pieces do
 pub by_pieces : (name command : Text) (ps : List Piece) (rest : List Text) (wanted : Wanted) → IsCommand command → ArePlain ps
     → rest ≡ command ∷ map text_in ps → said command ps ≡ Some wanted → job_said (name ∷ rest) ≡ Some wanted
 by_pieces name command ps rest wanted is_command are is says =

@@ -1,6 +1,7 @@
 -- Each way of writing a job says that job.
 use Rattle.std.proofs.Common.{◌≡◌, ℕ, Bool, true, false, List, [], ◌∷◌, ◌++◌, map, Option, Some, None, refl, codes, ap, ap₂, sym, inl, inr, ◌∙◌, arith}
-use Rattle.std.specs.Prelude.{Result, option_map}
+use Rattle.std.specs.Prelude.{Result, if◌then◌else◌, option_map}
+use Rattle.std.specs.Str.{bytes_eq}
 use Rattle.clap.specs.Words.{Text}
 use Rattle.clap.proofs.OnLiterals.{clap_on_literals}
 use Rattle.ztso.proofs.Pieces.{Piece, plain, other, text_in, ArePlain, IsCommand, said, pieces_fault, by_pieces}
@@ -9,31 +10,31 @@ use Rattle.ztso.specs.Numbers.{number_within}
 use Rattle.ztso.specs.Spellings.{AsksByFlag, AsksFor, AsksForNumber, AsksForStride, IsOnFiles, IsSpelling, IsSpellingOf}
 use Rattle.ztso.specs.Spellings.{IsWord, is_steps, is_of_memory, is_svg, name_of, text_of}
 use Rattle.ztso.specs.declared.job.Ring.{Ring}
-use Rattle.ztso.specs.declared.job.Ring.TheVariants.{Lamport, FastForward}
+use Rattle.ztso.specs.declared.job.Ring.TheVariants.{Lamport, FastForward, LamportCached}
 use Rattle.ztso.specs.declared.job.Command.{Command}
 use Rattle.ztso.specs.declared.failure.Failure.{Failure}
 use Rattle.ztso.specs.declared.job.Capacity.{Capacity}
 use Rattle.ztso.specs.declared.job.Capacity.TheVariants.{One, Two, Four, Sixteen}
 use Rattle.ztso.specs.declared.job.Job.{Job}
 use Rattle.ztso.specs.declared.job.CodeCommand.TheVariants.{Asm, Dis}
-use Rattle.ztso.specs.declared.job.Command.TheVariants.{Code, Machine, Find, Threads}
+use Rattle.ztso.specs.declared.job.Command.TheVariants.{Code, Machine, Find, Threads, Own, Ring as OwnRing}
 use Rattle.ztso.specs.declared.job.MachineCommand.{MachineCommand}
 use Rattle.ztso.specs.declared.job.MachineCommand.TheVariants.{Steps, Run, Replay, Move, Shrink, Chart, Show, Check, Debug, Try, Channel}
 use Rattle.poll_close.specs.declared.place.Place.{Place}
 use Rattle.chart.specs.declared.scenes.Selection.{Selection}
 use Rattle.chart.specs.declared.scenes.Selection.TheVariants.{EveryRow, MemoryRows}
-use Rattle.views.specs.declared.charting.Style.{Style}
-use Rattle.views.specs.declared.charting.Style.TheVariants.{Svg}
-use Rattle.views.specs.declared.charting.Style.TheVariants as style
-use Rattle.views.specs.declared.showing.Form.{Form}
-use Rattle.views.specs.declared.showing.Form.TheVariants as form
-use Rattle.tries.specs.declared.trials.Runs.{Runs}
-use Rattle.ztso.specs.Jobs.{Wanted, one_input, two_inputs}
+use Rattle.view_engines.specs.declared.charting.Style.{Style}
+use Rattle.view_engines.specs.declared.charting.Style.TheVariants.{Svg}
+use Rattle.view_engines.specs.declared.charting.Style.TheVariants as style
+use Rattle.view_engines.specs.declared.showing.Form.{Form}
+use Rattle.view_engines.specs.declared.showing.Form.TheVariants as form
+use Rattle.jumping.specs.declared.Runs.{Runs}
+use Rattle.ztso.specs.Jobs.{Wanted, four_inputs, one_input, three_inputs, two_inputs}
 use Rattle.ztso.specs.Jobs.Input.{Standard, File}
 
 -- ---- the capacity
 
--- what stands for the capacity behind a command's other words, where its text is t
+-- what stands for the capacity after a command's other words, where its text is t
 data Tail : Type 0 where
   none : Tail
   blank : Tail
@@ -144,14 +145,14 @@ abbrev flag_pieces : (flag : Text) → Bool → List Piece → List Piece
 flag_pieces flag false tail = tail
 flag_pieces flag true tail = other flag ∷ tail
 
-flag_plain : (flag : Text) (b : Bool) (tail : List Piece) → ArePlain tail → ArePlain (flag_pieces flag b tail)
-flag_plain flag false tail are = are
-flag_plain flag true tail are = are
+flag-plain : (flag : Text) (b : Bool) (tail : List Piece) → ArePlain tail → ArePlain (flag_pieces flag b tail)
+flag-plain flag false tail are = are
+flag-plain flag true tail are = are
 
-flag_texts : (flag : Text) (b : Bool) (words options : List Text) (tail : List Piece) → AsksByFlag flag b words → options ≡ map text_in tail
+flag-texts : (flag : Text) (b : Bool) (words options : List Text) (tail : List Piece) → AsksByFlag flag b words → options ≡ map text_in tail
     → words ++ options ≡ map text_in (flag_pieces flag b tail)
-flag_texts flag false words options tail asks is = ap₂ (λ (a b : List Text). a ++ b) asks is
-flag_texts flag true words options tail asks is = ap₂ (λ (a b : List Text). a ++ b) asks is
+flag-texts flag false words options tail asks is = ap₂ (λ (a b : List Text). a ++ b) asks is
+flag-texts flag true words options tail asks is = ap₂ (λ (a b : List Text). a ++ b) asks is
 
 -- ---- `asm`, `dis` and `steps`
 
@@ -294,7 +295,7 @@ check_is_command : IsCommand (codes "check")
 unfolding clap_on_literals
 check_is_command = (refl, refl)
 
--- `check` reads standard input behind its file, as `channel` does
+-- `check` reads standard input after its file, as `channel` does
 check_read : (file : Text) (tail : Tail) (t : Text)
     → said (codes "check") (plain file ∷ tail_of tail t) ≡ on_schedule_of file (machine_of (capacity_at tail t) (Some Check))
 unfolding clap_on_literals pieces_fault
@@ -316,21 +317,30 @@ try_is_command : IsCommand (codes "try")
 unfolding clap_on_literals
 try_is_command = (refl, refl)
 
--- what the words of `try` say, by the texts of its numbers and what is said of the capacity
-abbrev tried : (file s n l k j : Text) → Option Capacity → Option Wanted
-tried file s n l k j found = on_file_of file (machine_of found (do
-  seed ← number_within 0 18446744073709551615 s
+-- which runs the texts of their numbers say
+abbrev drawn_by : (k n l j : Text) → Option Runs
+drawn_by k n l j = do
   skip ← number_within 0 18446744073709551615 k
   runs ← number_within 1 100000 n
   events ← number_within 0 1048576 l
   jobs ← number_within 1 64 j
-  Some (Try seed (record { skip = skip; number = runs; length = events; jobs = jobs }))))
+  Some (record { skip = skip; number = runs; length = events; jobs = jobs })
+
+drawn_says : (k n l j : Text) (runs : Runs) → number_within 0 18446744073709551615 k ≡ Some runs.skip → number_within 1 100000 n ≡ Some runs.number
+    → number_within 0 1048576 l ≡ Some runs.length → number_within 1 64 j ≡ Some runs.jobs → drawn_by k n l j ≡ Some runs
+drawn_says k n l j runs a b c d = rw (a, b, c, d) refl
+
+-- what the words of `try` say, by the texts of its numbers and what is said of the capacity
+abbrev tried : (file s n l k j : Text) → Option Capacity → Option Wanted
+tried file s n l k j found = on_file_of file (machine_of found (do
+  seed ← number_within 0 18446744073709551615 s
+  runs ← drawn_by k n l j
+  Some (Try seed runs)))
 
 tried_says : (file s n l k j : Text) (seed : ℕ) (runs : Runs) (capacity : Capacity) (found : Option Capacity)
-    → number_within 0 18446744073709551615 s ≡ Some seed → number_within 0 18446744073709551615 k ≡ Some runs.skip → number_within 1 100000 n ≡ Some runs.number
-    → number_within 0 1048576 l ≡ Some runs.length → number_within 1 64 j ≡ Some runs.jobs → found ≡ Some capacity
+    → number_within 0 18446744073709551615 s ≡ Some seed → drawn_by k n l j ≡ Some runs → found ≡ Some capacity
     → tried file s n l k j found ≡ Some (one_input (Machine (Try seed runs) capacity) (File file))
-tried_says file s n l k j seed runs capacity found a b c d e f = rw (a, b, c, d, e, f) refl
+tried_says file s n l k j seed runs capacity found a b c = rw (a, b, c) refl
 
 try_read : (file s n l : Text) (skip jobs : Option Text) (tail : Tail) (t : Text)
     → said (codes "try") (try_pieces file s n l (number_pieces (codes "--skip") skip (number_pieces (codes "--jobs") jobs (tail_of tail t))))
@@ -369,25 +379,41 @@ channel_is_command = (refl, refl)
 kind_is_word : (ring : Ring) → IsWord (name_of ring)
 kind_is_word Lamport = λ e. omega (arith, e)
 kind_is_word FastForward = λ e. omega (arith, e)
+kind_is_word LamportCached = λ e. omega (arith, e)
 
 kind_says : (ring : Ring) → ring_said (name_of ring) ≡ Some ring
 kind_says Lamport = refl
 kind_says FastForward = refl
+kind_says LamportCached = refl
 
-abbrev carried : (kind number schedule base : Text) (stride : Option Text) (finish : Bool) → Option Capacity → Option Wanted
-carried kind number schedule base stride finish found = on_schedule_of schedule (machine_of found (do
-  ring ← ring_said kind
+abbrev placed_by : (number base : Text) (stride : Option Text) → Option Place
+placed_by number base stride = do
   slots ← number_within 0 4294967295 number
   start ← number_within 0 4294967295 base
   apart ← number_if_said stride
-  Some (Channel ring (record { ring = slots; base = start; stride = apart }) finish)))
+  Some (record { slots = slots; base = start; stride = apart })
 
-carried_says : (ring : Ring) (place : Place) (kind number schedule base : Text) (stride : Option Text) (finish : Bool)
-    (capacity : Capacity) (found : Option Capacity)
-    → ring_said kind ≡ Some ring → number_within 0 4294967295 number ≡ Some place.ring → number_within 0 4294967295 base ≡ Some place.base
-    → number_if_said stride ≡ Some place.stride → found ≡ Some capacity
-    → carried kind number schedule base stride finish found ≡ Some (two_inputs (Machine (Channel ring place finish) capacity) (File schedule) Standard)
-carried_says ring place kind number schedule base stride finish capacity found a b c d e = rw (a, b, c, d, e) refl
+placed_says : (number base : Text) (stride : Option Text) (place : Place) → number_within 0 4294967295 number ≡ Some place.slots
+    → number_within 0 4294967295 base ≡ Some place.base → number_if_said stride ≡ Some place.stride → placed_by number base stride ≡ Some place
+placed_says number base stride place a b c = rw (a, b, c) refl
+
+kind_not_own : (ring : Ring) → bytes_eq (name_of ring) (codes "own") ≡ false
+kind_not_own Lamport = refl
+kind_not_own FastForward = refl
+kind_not_own LamportCached = refl
+
+abbrev carried : (kind number schedule base : Text) (stride : Option Text) (finish : Bool) → Option Capacity → Option Wanted
+carried kind number schedule base stride finish found =
+    if bytes_eq kind (codes "own") then None else on_schedule_of schedule (machine_of found (do
+      ring ← ring_said kind
+      place ← placed_by number base stride
+      Some (Channel ring place finish)))
+
+carried_says : (ring : Ring) (place : Place) (number schedule base : Text) (stride : Option Text) (finish : Bool)
+    (capacity : Capacity) (found : Option Capacity) → placed_by number base stride ≡ Some place → found ≡ Some capacity
+    → carried (name_of ring) number schedule base stride finish found
+    ≡ Some (two_inputs (Machine (Channel ring place finish) capacity) (File schedule) Standard)
+carried_says ring place number schedule base stride finish capacity found a b = rw (kind_not_own ring, kind_says ring, a, b) refl
 
 abbrev place_pieces : (base stride : Option Text) → List Piece → List Piece
 place_pieces base stride tail = number_pieces (codes "--base") base (number_pieces (codes "--stride") stride tail)
@@ -495,6 +521,127 @@ most_turns : number_within 0 10000000 (codes "100000") ≡ Some 100000
 unfolding number_within
 most_turns = refl
 
+-- ---- `channel own`
+
+abbrev own_pieces : (sender receiver number schedule : Text) → List Piece → List Piece
+own_pieces sender receiver number schedule tail =
+    other (codes "own") ∷ plain number ∷ plain schedule ∷ other (codes "--sender") ∷ plain sender ∷ other (codes "--receiver") ∷ plain receiver ∷ tail
+
+abbrev own_run : (sender receiver number schedule base : Text) (stride : Option Text) → Option Capacity → Option Wanted
+own_run sender receiver number schedule base stride found = (do
+  place ← placed_by number base stride
+  capacity ← found
+  Some (Own place capacity)) >>= (λ command. Some (four_inputs command (File sender) (File receiver) (File schedule) Standard))
+
+own_says : (sender receiver number schedule base : Text) (stride : Option Text) (place : Place) (capacity : Capacity) (found : Option Capacity)
+    → placed_by number base stride ≡ Some place → found ≡ Some capacity
+    → own_run sender receiver number schedule base stride found
+    ≡ Some (four_inputs (Own place capacity) (File sender) (File receiver) (File schedule) Standard)
+own_says sender receiver number schedule base stride place capacity found a b = rw (a, b) refl
+
+own_read : (sender receiver number schedule : Text) (base stride : Option Text) (tail : Tail) (t : Text)
+    → said (codes "channel") (own_pieces sender receiver number schedule (place_pieces base stride (tail_of tail t)))
+    ≡ own_run sender receiver number schedule (text_or (codes "0") base) stride (capacity_at tail t)
+unfolding clap_on_literals pieces_fault
+own_read sender receiver number schedule None None none t = refl
+own_read sender receiver number schedule None None blank t = refl
+own_read sender receiver number schedule None None equals t = refl
+own_read sender receiver number schedule None (Some d) none t = refl
+own_read sender receiver number schedule None (Some d) blank t = refl
+own_read sender receiver number schedule None (Some d) equals t = refl
+own_read sender receiver number schedule (Some b) None none t = refl
+own_read sender receiver number schedule (Some b) None blank t = refl
+own_read sender receiver number schedule (Some b) None equals t = refl
+own_read sender receiver number schedule (Some b) (Some d) none t = refl
+own_read sender receiver number schedule (Some b) (Some d) blank t = refl
+own_read sender receiver number schedule (Some b) (Some d) equals t = refl
+
+-- ---- `ring`
+
+abbrev ring_pieces : (sender receiver number s n l : Text) → List Piece → List Piece
+ring_pieces sender receiver number s n l tail =
+    plain sender ∷ plain receiver ∷ plain number ∷ other (codes "--seed") ∷ plain s ∷ other (codes "--runs") ∷ plain n
+    ∷ other (codes "--length") ∷ plain l ∷ tail
+
+abbrev drawing_pieces : (skip jobs : Option Text) → List Piece → List Piece
+drawing_pieces skip jobs tail = number_pieces (codes "--skip") skip (number_pieces (codes "--jobs") jobs tail)
+
+ring_is_command : IsCommand (codes "ring")
+unfolding clap_on_literals
+ring_is_command = (refl, refl)
+
+abbrev on_programs_of : (sender receiver : Text) → Option Command → Option Wanted
+on_programs_of sender receiver command = command >>= (λ wanted. Some (three_inputs wanted (File sender) (File receiver) Standard))
+
+abbrev ringed : (sender receiver number s n l k j base : Text) (stride : Option Text) → Option Capacity → Option Wanted
+ringed sender receiver number s n l k j base stride found = on_programs_of sender receiver (do
+  seed ← number_within 0 18446744073709551615 s
+  runs ← drawn_by k n l j
+  place ← placed_by number base stride
+  capacity ← found
+  Some (OwnRing seed runs place capacity))
+
+ringed_says : (sender receiver number s n l k j base : Text) (stride : Option Text) (seed : ℕ) (runs : Runs) (place : Place)
+    (capacity : Capacity) (found : Option Capacity)
+    → number_within 0 18446744073709551615 s ≡ Some seed → drawn_by k n l j ≡ Some runs → placed_by number base stride ≡ Some place
+    → found ≡ Some capacity
+    → ringed sender receiver number s n l k j base stride found
+    ≡ Some (three_inputs (OwnRing seed runs place capacity) (File sender) (File receiver) Standard)
+ringed_says sender receiver number s n l k j base stride seed runs place capacity found a b c d = rw (a, b, c, d) refl
+
+ring_read : (sender receiver number s n l : Text) (skip jobs base stride : Option Text) (tail : Tail) (t : Text)
+    → said (codes "ring") (ring_pieces sender receiver number s n l (drawing_pieces skip jobs (place_pieces base stride (tail_of tail t))))
+    ≡ ringed sender receiver number s n l (text_or (codes "0") skip) (text_or (codes "1") jobs) (text_or (codes "0") base) stride (capacity_at tail t)
+unfolding clap_on_literals pieces_fault
+ring_read sender receiver number s n l None None None None none t = refl
+ring_read sender receiver number s n l None None None None blank t = refl
+ring_read sender receiver number s n l None None None None equals t = refl
+ring_read sender receiver number s n l None None None (Some d) none t = refl
+ring_read sender receiver number s n l None None None (Some d) blank t = refl
+ring_read sender receiver number s n l None None None (Some d) equals t = refl
+ring_read sender receiver number s n l None None (Some b) None none t = refl
+ring_read sender receiver number s n l None None (Some b) None blank t = refl
+ring_read sender receiver number s n l None None (Some b) None equals t = refl
+ring_read sender receiver number s n l None None (Some b) (Some d) none t = refl
+ring_read sender receiver number s n l None None (Some b) (Some d) blank t = refl
+ring_read sender receiver number s n l None None (Some b) (Some d) equals t = refl
+ring_read sender receiver number s n l None (Some j) None None none t = refl
+ring_read sender receiver number s n l None (Some j) None None blank t = refl
+ring_read sender receiver number s n l None (Some j) None None equals t = refl
+ring_read sender receiver number s n l None (Some j) None (Some d) none t = refl
+ring_read sender receiver number s n l None (Some j) None (Some d) blank t = refl
+ring_read sender receiver number s n l None (Some j) None (Some d) equals t = refl
+ring_read sender receiver number s n l None (Some j) (Some b) None none t = refl
+ring_read sender receiver number s n l None (Some j) (Some b) None blank t = refl
+ring_read sender receiver number s n l None (Some j) (Some b) None equals t = refl
+ring_read sender receiver number s n l None (Some j) (Some b) (Some d) none t = refl
+ring_read sender receiver number s n l None (Some j) (Some b) (Some d) blank t = refl
+ring_read sender receiver number s n l None (Some j) (Some b) (Some d) equals t = refl
+ring_read sender receiver number s n l (Some k) None None None none t = refl
+ring_read sender receiver number s n l (Some k) None None None blank t = refl
+ring_read sender receiver number s n l (Some k) None None None equals t = refl
+ring_read sender receiver number s n l (Some k) None None (Some d) none t = refl
+ring_read sender receiver number s n l (Some k) None None (Some d) blank t = refl
+ring_read sender receiver number s n l (Some k) None None (Some d) equals t = refl
+ring_read sender receiver number s n l (Some k) None (Some b) None none t = refl
+ring_read sender receiver number s n l (Some k) None (Some b) None blank t = refl
+ring_read sender receiver number s n l (Some k) None (Some b) None equals t = refl
+ring_read sender receiver number s n l (Some k) None (Some b) (Some d) none t = refl
+ring_read sender receiver number s n l (Some k) None (Some b) (Some d) blank t = refl
+ring_read sender receiver number s n l (Some k) None (Some b) (Some d) equals t = refl
+ring_read sender receiver number s n l (Some k) (Some j) None None none t = refl
+ring_read sender receiver number s n l (Some k) (Some j) None None blank t = refl
+ring_read sender receiver number s n l (Some k) (Some j) None None equals t = refl
+ring_read sender receiver number s n l (Some k) (Some j) None (Some d) none t = refl
+ring_read sender receiver number s n l (Some k) (Some j) None (Some d) blank t = refl
+ring_read sender receiver number s n l (Some k) (Some j) None (Some d) equals t = refl
+ring_read sender receiver number s n l (Some k) (Some j) (Some b) None none t = refl
+ring_read sender receiver number s n l (Some k) (Some j) (Some b) None blank t = refl
+ring_read sender receiver number s n l (Some k) (Some j) (Some b) None equals t = refl
+ring_read sender receiver number s n l (Some k) (Some j) (Some b) (Some d) none t = refl
+ring_read sender receiver number s n l (Some k) (Some j) (Some b) (Some d) blank t = refl
+ring_read sender receiver number s n l (Some k) (Some j) (Some b) (Some d) equals t = refl
+
 -- ---- each command
 
 spelled_of : (name : Text) (rest : List Text) (command : Command) (wanted : Wanted) → IsSpellingOf command wanted rest → job_said (name ∷ rest) ≡ Some wanted
@@ -513,20 +660,20 @@ spelled_of name rest (Machine Shrink capacity) wanted spelling = of_files name r
 spelled_of name rest (Machine (Chart drawn selection) capacity) wanted (file, schedule, first, second, options, is, f, s, draws, chooses, asks, wants) =
     let to = capacity_spelled capacity options asks in
     let end = tail_of to.tail to.text in
-    let behind = flag_pieces (codes "--memory") (is_of_memory selection) end in
+    let following = flag_pieces (codes "--memory") (is_of_memory selection) end in
     by_pieces name (codes "chart") (chart_pieces file schedule drawn selection end) rest wanted chart_is_command
-    (f, (s, flag_plain (codes "--svg") (is_svg drawn) behind (flag_plain (codes "--memory") (is_of_memory selection) end to.are)))
+    (f, (s, flag-plain (codes "--svg") (is_svg drawn) following (flag-plain (codes "--memory") (is_of_memory selection) end to.are)))
     (is ∙ ap (λ (o : List Text). codes "chart" ∷ file ∷ schedule ∷ o)
-    (flag_texts (codes "--svg") (is_svg drawn) first (second ++ options) behind draws
-    (flag_texts (codes "--memory") (is_of_memory selection) second options end chooses to.is)))
+    (flag-texts (codes "--svg") (is_svg drawn) first (second ++ options) following draws
+    (flag-texts (codes "--memory") (is_of_memory selection) second options end chooses to.is)))
     (chart_read file schedule drawn selection to.tail to.text
     ∙ on_files_says (Chart drawn selection) file schedule capacity _ to.says ∙ ap (λ (w : Wanted). Some w) (sym wants))
 spelled_of name rest (Machine (Show told) capacity) wanted (file, first, options, is, f, tells, asks, wants) =
     let to = capacity_spelled capacity options asks in
     let end = tail_of to.tail to.text in
     by_pieces name (codes "show") (plain file ∷ flag_pieces (codes "--steps") (is_steps told) end) rest wanted show_is_command
-    (f, flag_plain (codes "--steps") (is_steps told) end to.are)
-    (is ∙ ap (λ (o : List Text). codes "show" ∷ file ∷ o) (flag_texts (codes "--steps") (is_steps told) first options end tells to.is))
+    (f, flag-plain (codes "--steps") (is_steps told) end to.are)
+    (is ∙ ap (λ (o : List Text). codes "show" ∷ file ∷ o) (flag-texts (codes "--steps") (is_steps told) first options end tells to.is))
     (show_read file told to.tail to.text ∙ show_says told file capacity _ to.says ∙ ap (λ (w : Wanted). Some w) (sym wants))
 spelled_of name rest (Machine Check capacity) wanted (file, options, is, f, asks, wants) =
     let to = capacity_spelled capacity options asks in
@@ -546,7 +693,8 @@ spelled_of name rest (Machine (Try seed runs) capacity) wanted
     (is ∙ ap (λ (o : List Text). codes "try" ∷ file ∷ codes "--seed" ∷ s ∷ codes "--runs" ∷ n ∷ codes "--length" ∷ l ∷ o)
     (skip.is (second ++ options) with_jobs (jobs.is options end to.is)))
     (try_read file s n l skip.text jobs.text to.tail to.text
-    ∙ tried_says file s n l _ _ seed runs capacity _ seed_is.1 skip.says runs_are.1 events_are.1 jobs.says to.says ∙ ap (λ (w : Wanted). Some w) (sym wants))
+    ∙ tried_says file s n l _ _ seed runs capacity _ seed_is.1 (drawn_says _ n l _ runs skip.says runs_are.1 events_are.1 jobs.says) to.says
+    ∙ ap (λ (w : Wanted). Some w) (sym wants))
 spelled_of name rest (Machine (Channel ring place finish) capacity) wanted
     (number, schedule, first, second, third, options, is, slots_are, s, base_is, stride_is, finishes, asks, wants) =
     let to = capacity_spelled capacity options asks in
@@ -557,12 +705,12 @@ spelled_of name rest (Machine (Channel ring place finish) capacity) wanted
     let with_stride = number_pieces (codes "--stride") stride.text with_finish in
     by_pieces name (codes "channel") (channel_pieces (name_of ring) number schedule (place_pieces base.text stride.text with_finish)) rest wanted
     channel_is_command
-    (kind_is_word ring, (slots_are.0, (s, base.are with_stride (stride.are with_finish (flag_plain (codes "--finish") finish end to.are)))))
+    (kind_is_word ring, (slots_are.0, (s, base.are with_stride (stride.are with_finish (flag-plain (codes "--finish") finish end to.are)))))
     (is ∙ ap (λ (o : List Text). codes "channel" ∷ name_of ring ∷ number ∷ schedule ∷ o)
     (base.is (second ++ (third ++ options)) with_stride (stride.is (third ++ options) with_finish
-    (flag_texts (codes "--finish") finish third options end finishes to.is))))
+    (flag-texts (codes "--finish") finish third options end finishes to.is))))
     (channel_read (name_of ring) number schedule base.text stride.text finish to.tail to.text
-    ∙ carried_says ring place (name_of ring) number schedule _ _ finish capacity _ (kind_says ring) slots_are.1 base.says stride.says to.says
+    ∙ carried_says ring place number schedule _ _ finish capacity _ (placed_says number _ _ place slots_are.1 base.says stride.says) to.says
     ∙ ap (λ (w : Wanted). Some w) (sym wants))
 spelled_of name rest (Find states capacity) wanted (file, first, options, is, f, states_are, asks, wants) =
     let to = capacity_spelled capacity options asks in
@@ -578,6 +726,82 @@ spelled_of name rest (Threads turns capacity) wanted (file, first, options, is, 
     by_pieces name (codes "threads") (plain file ∷ number_pieces (codes "--turns") number.text end) rest wanted threads_is_command (f, number.are end to.are)
     (is ∙ ap (λ (o : List Text). codes "threads" ∷ file ∷ o) (number.is options end to.is))
     (threads_read file number.text to.tail to.text ∙ threaded_says file turns capacity _ _ number.says to.says ∙ ap (λ (w : Wanted). Some w) (sym wants))
+spelled_of name rest (Own place capacity) wanted
+    (sender, receiver, number, schedule, first, second, options, is, slots_are, s, from, to_it, base_is, stride_is, asks, wants) =
+    let to = capacity_spelled capacity options asks in
+    let base = number_spelled (codes "--base") (codes "0") 0 0 4294967295 place.base first no_base base_is in
+    let stride = stride_spelled place.stride second stride_is in
+    let end = tail_of to.tail to.text in
+    let with_stride = number_pieces (codes "--stride") stride.text end in
+    by_pieces name (codes "channel") (own_pieces sender receiver number schedule (place_pieces base.text stride.text end)) rest wanted channel_is_command
+    (slots_are.0, (s, (from, (to_it, base.are with_stride (stride.are end to.are)))))
+    (is ∙ ap (λ (o : List Text). codes "channel" ∷ codes "own" ∷ number ∷ schedule ∷ codes "--sender" ∷ sender ∷ codes "--receiver" ∷ receiver ∷ o)
+    (base.is (second ++ options) with_stride (stride.is options end to.is)))
+    (own_read sender receiver number schedule base.text stride.text to.tail to.text
+    ∙ own_says sender receiver number schedule _ _ place capacity _ (placed_says number _ _ place slots_are.1 base.says stride.says) to.says
+    ∙ ap (λ (w : Wanted). Some w) (sym wants))
+spelled_of name rest (OwnRing seed runs place capacity) wanted (
+  sender,
+  receiver,
+  number,
+  s,
+  n,
+  l,
+  first,
+  second,
+  third,
+  fourth,
+  options,
+  is,
+  from,
+  to_it,
+  slots_are,
+  seed_is,
+  runs_are,
+  events_are,
+  skips,
+  jobs_are,
+  base_is,
+  stride_is,
+  asks,
+  wants,
+) =
+    let to = capacity_spelled capacity options asks in
+    let stride = stride_spelled place.stride fourth stride_is in
+    let base = number_spelled (codes "--base") (codes "0") 0 0 4294967295 place.base third no_base base_is in
+    let jobs = number_spelled (codes "--jobs") (codes "1") 1 1 64 runs.jobs second one_job jobs_are in
+    let skip = number_spelled (codes "--skip") (codes "0") 0 0 18446744073709551615 runs.skip first no_skip skips in
+    let end = tail_of to.tail to.text in
+    let with_stride = number_pieces (codes "--stride") stride.text end in
+    let with_base = number_pieces (codes "--base") base.text with_stride in
+    let with_jobs = number_pieces (codes "--jobs") jobs.text with_base in
+    by_pieces name (codes "ring") (ring_pieces sender receiver number s n l (number_pieces (codes "--skip") skip.text with_jobs)) rest wanted ring_is_command (
+      from,
+      (
+        to_it,
+        (
+          slots_are.0,
+          (
+            seed_is.0,
+            (
+              runs_are.0,
+              (
+                events_are.0,
+                skip.are with_jobs (jobs.are with_base (base.are with_stride
+                    (stride.are end to.are))),
+              ),
+            ),
+          ),
+        ),
+      ),
+    )
+    (is ∙ ap (λ (o : List Text). codes "ring" ∷ sender ∷ receiver ∷ number ∷ codes "--seed" ∷ s ∷ codes "--runs" ∷ n ∷ codes "--length" ∷ l ∷ o)
+    (skip.is (second ++ (third ++ (fourth ++ options))) with_jobs (jobs.is (third ++ (fourth ++ options)) with_base
+    (base.is (fourth ++ options) with_stride (stride.is options end to.is)))))
+    (ring_read sender receiver number s n l skip.text jobs.text base.text stride.text to.tail to.text
+    ∙ ringed_says sender receiver number s n l _ _ _ _ seed runs place capacity _ seed_is.1
+    (drawn_says _ n l _ runs skip.says runs_are.1 events_are.1 jobs.says)
+    (placed_says number _ _ place slots_are.1 base.says stride.says) to.says ∙ ap (λ (w : Wanted). Some w) (sym wants))
 
 pub job_said-spelling : (name : Text) (rest : List Text) (wanted : Wanted) → IsSpelling wanted rest
     → job_said (name ∷ rest) ≡ Some wanted

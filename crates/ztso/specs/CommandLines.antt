@@ -3,7 +3,7 @@ use Rattle.std.specs.Prelude.{ℕ, ◌≡◌, ◌⊎◌, Bool, List, [], ◌∷�
 use Rattle.std.specs.Str.{bytes_eq}
 use Rattle.clap.specs.Words.{Kinds, Row, Text, fault_of, first_of, subcommand_of}
 use Rattle.recorder.specs.declared.reading.TheConstants.{MAX_EVENTS}
-use Rattle.engine_parts.specs.declared.fault.Fault.TheVariants.{NoMemory}
+use Rattle.engine_support.specs.declared.fault.Fault.TheVariants.{NoMemory}
 use Rattle.ztso.specs.declared.failure.Failure.{Failure}
 use Rattle.ztso.specs.declared.failure.Failure.TheVariants.{BadCommandLine, Engine}
 use Rattle.ztso.specs.declared.job.Capacity.{Capacity}
@@ -11,20 +11,22 @@ use Rattle.ztso.specs.declared.job.Capacity.TheVariants.{One, Two, Four, Sixteen
 use Rattle.ztso.specs.declared.job.Job.{Job}
 use Rattle.ztso.specs.Descriptions.{ztso_command}
 use Rattle.ztso.specs.declared.job.Ring.{Ring}
-use Rattle.ztso.specs.declared.job.Ring.TheVariants.{Lamport, FastForward}
+use Rattle.ztso.specs.declared.job.Ring.TheVariants.{Lamport, FastForward, LamportCached}
 use Rattle.ztso.specs.declared.job.CodeCommand.TheVariants.{Asm, Dis}
 use Rattle.ztso.specs.declared.job.Command.{Command}
-use Rattle.ztso.specs.declared.job.Command.TheVariants.{Code, Machine, Find, Threads}
+use Rattle.ztso.specs.declared.job.Command.TheVariants.{Code, Machine, Find, Threads, Own, Ring as OwnRing}
+use Rattle.jumping.specs.declared.Runs.{Runs}
+use Rattle.poll_close.specs.declared.place.Place.{Place}
 use Rattle.ztso.specs.declared.job.MachineCommand.{MachineCommand}
 use Rattle.chart.specs.declared.scenes.Selection.{Selection}
 use Rattle.chart.specs.declared.scenes.Selection.TheVariants.{EveryRow, MemoryRows}
-use Rattle.views.specs.declared.charting.Style.{Style}
-use Rattle.views.specs.declared.charting.Style.TheVariants.{Svg}
-use Rattle.views.specs.declared.charting.Style.TheVariants as style
-use Rattle.views.specs.declared.showing.Form.{Form}
-use Rattle.views.specs.declared.showing.Form.TheVariants as form
+use Rattle.view_engines.specs.declared.charting.Style.{Style}
+use Rattle.view_engines.specs.declared.charting.Style.TheVariants.{Svg}
+use Rattle.view_engines.specs.declared.charting.Style.TheVariants as style
+use Rattle.view_engines.specs.declared.showing.Form.{Form}
+use Rattle.view_engines.specs.declared.showing.Form.TheVariants as form
 use Rattle.ztso.specs.declared.job.MachineCommand.TheVariants.{Steps, Run, Replay, Move, Shrink, Chart, Show, Check, Debug, Try, Channel}
-use Rattle.ztso.specs.Jobs.{Input, Wanted, one_input, two_inputs, wanted_by}
+use Rattle.ztso.specs.Jobs.{Input, Wanted, four_inputs, one_input, three_inputs, two_inputs, wanted_by}
 use Rattle.ztso.specs.Jobs.Input.{Standard, File}
 use Rattle.ztso.specs.Numbers.{number_within}
 
@@ -39,11 +41,13 @@ capacity_said text =
     else (if bytes_eq text (codes "4") then Some Four
     else (if bytes_eq text (codes "16") then Some Sixteen else None)))
 
--- the numbers of `try`, from its options
-abbrev pub try_in : List Row → Option MachineCommand
-try_in options = do
-  seed_text ← first_of (codes "seed") options
-  seed ← number_within 0 18446744073709551615 seed_text
+-- the seed of the generator that draws schedules
+abbrev pub seed_in : List Row → Option ℕ
+seed_in options = first_of (codes "seed") options >>= number_within 0 18446744073709551615
+
+-- which runs are drawn
+abbrev pub runs_in : List Row → Option Runs
+runs_in options = do
   skip_text ← first_of (codes "skip") options
   skip ← number_within 0 18446744073709551615 skip_text
   runs_text ← first_of (codes "runs") options
@@ -52,12 +56,19 @@ try_in options = do
   events ← number_within 0 MAX_EVENTS length_text
   jobs_text ← first_of (codes "jobs") options
   jobs ← number_within 1 64 jobs_text
-  Some (Try seed (record { skip = skip; number = runs; length = events; jobs = jobs }))
+  Some (record { skip = skip; number = runs; length = events; jobs = jobs })
+
+-- the runs of `try`, from its options
+abbrev pub try_in : List Row → Option MachineCommand
+try_in options = do
+  seed ← seed_in options
+  runs ← runs_in options
+  Some (Try seed runs)
 
 abbrev pub ring_said : Text → Option Ring
 ring_said text =
     if bytes_eq text (codes "lamport") then Some Lamport
-    else (if bytes_eq text (codes "fastforward") then Some FastForward else None)
+    else (if bytes_eq text (codes "fastforward") then Some FastForward else (if bytes_eq text (codes "cached") then Some LamportCached else None))
 
 -- whether a flag with this value is given
 abbrev pub flag_said : Text → Bool
@@ -91,18 +102,24 @@ show_in options = do
   steps ← first_of (codes "steps") options
   Some (Show (form_said steps))
 
--- the ring of `channel`, from its words, its place, and whether it is to be finished
-abbrev pub channel_in : List Row → Option MachineCommand
-channel_in options = do
-  kind ← first_of (codes "kind") options
-  ring ← ring_said kind
+-- where a channel's blocks lie
+abbrev pub place_in : List Row → Option Place
+place_in options = do
   slots_text ← first_of (codes "ring") options
   slots ← number_within 0 4294967295 slots_text
   base_text ← first_of (codes "base") options
   base ← number_within 0 4294967295 base_text
   stride ← number_if_said (first_of (codes "stride") options)
+  Some (record { slots = slots; base = base; stride = stride })
+
+-- the ring of `channel`, from its words, its place, and whether it is to be finished
+abbrev pub channel_in : List Row → Option MachineCommand
+channel_in options = do
+  kind ← first_of (codes "kind") options
+  ring ← ring_said kind
+  place ← place_in options
   finish ← first_of (codes "finish") options
-  Some (Channel ring (record { ring = slots; base = base; stride = stride }) (flag_said finish))
+  Some (Channel ring place (flag_said finish))
 
 -- the capacity that the options ask for
 abbrev pub capacity_in : List Row → Option Capacity
@@ -130,6 +147,24 @@ threads_in options = do
   turns ← number_within 0 10000000 turns_text
   capacity ← capacity_in options
   Some (Threads turns capacity)
+
+-- the runs of `ring`, from its options, and of which channel
+abbrev pub ring_in : List Row → Option Command
+ring_in options = do
+  seed ← seed_in options
+  runs ← runs_in options
+  place ← place_in options
+  capacity ← capacity_in options
+  Some (OwnRing seed runs place capacity)
+
+-- the channel of a user's programs, from its words and its place; it isn't finished by a plan
+abbrev pub own_in : List Row → Option Command
+own_in options = do
+  place ← place_in options
+  finish ← first_of (codes "finish") options
+  if flag_said finish then None else (do
+    capacity ← capacity_in options
+    Some (Own place capacity))
 
 -- the file that a word names
 abbrev pub file_in : (id : Text) → List Row → Option Input
@@ -166,6 +201,36 @@ on_schedule_and_standard options found = do
   schedule ← file_in (codes "schedule") options
   Some (two_inputs command schedule Standard)
 
+-- a command on the files `sender` and `receiver`, and then on standard input
+abbrev pub on_programs_and_standard : List Row → Option Command → Option Wanted
+on_programs_and_standard options found = do
+  command ← found
+  sender ← file_in (codes "sender") options
+  receiver ← file_in (codes "receiver") options
+  Some (three_inputs command sender receiver Standard)
+
+-- what is found, where this option is left out
+abbrev pub where_left_out : {A : Type 0} → Option Text → Option A → Option A
+where_left_out None found = found
+where_left_out (Some said) found = None
+
+-- `channel own`, on the files `sender`, `receiver` and `schedule`, and then on standard input
+abbrev pub on_own_channel : List Row → Option Wanted
+on_own_channel options = do
+  sender ← file_in (codes "sender") options
+  receiver ← file_in (codes "receiver") options
+  command ← own_in options
+  schedule ← file_in (codes "schedule") options
+  Some (four_inputs command sender receiver schedule Standard)
+
+-- `channel`, with KIND `own` over the user's programs, else without them
+abbrev pub on_channel : List Row → Option Wanted
+on_channel options = do
+  kind ← first_of (codes "kind") options
+  if bytes_eq kind (codes "own") then on_own_channel options
+      else where_left_out (first_of (codes "sender") options) (where_left_out (first_of (codes "receiver") options)
+      (on_schedule_and_standard options (machine_in options (channel_in options))))
+
 -- a command on standard input
 abbrev pub on_standard : Option Command → Option Wanted
 on_standard found = do
@@ -173,8 +238,8 @@ on_standard found = do
   Some (one_input command Standard)
 
 -- The table of commands: what each asks for, by its options and words.
-abbrev pub job_in : Text × List Row → Option Wanted
-job_in p =
+abbrev pub job_at : Text × List Row → Option Wanted
+job_at p =
     if bytes_eq p.0 (codes "steps") then on_standard (machine_in p.1 (Some Steps))
     else (if bytes_eq p.0 (codes "asm") then on_standard (Some (Code Asm))
     else (if bytes_eq p.0 (codes "dis") then on_standard (Some (Code Dis))
@@ -188,11 +253,12 @@ job_in p =
     else (if bytes_eq p.0 (codes "find") then on_file p.1 (find_in p.1)
     else (if bytes_eq p.0 (codes "debug") then on_file_and_schedule p.1 (machine_in p.1 (Some Debug))
     else (if bytes_eq p.0 (codes "try") then on_file p.1 (machine_in p.1 (try_in p.1))
-    else (if bytes_eq p.0 (codes "channel") then on_schedule_and_standard p.1 (machine_in p.1 (channel_in p.1))
-    else (if bytes_eq p.0 (codes "threads") then on_file p.1 (threads_in p.1) else None))))))))))))))
+    else (if bytes_eq p.0 (codes "channel") then on_channel p.1
+    else (if bytes_eq p.0 (codes "threads") then on_file p.1 (threads_in p.1)
+    else (if bytes_eq p.0 (codes "ring") then on_programs_and_standard p.1 (ring_in p.1) else None)))))))))))))))
 
 abbrev pub job_without : Kinds → Option (Text × List Row) → Option Wanted
-job_without [] found = option_and_then job_in found
+job_without [] found = option_and_then job_at found
 job_without (kind ∷ kinds) found = None
 
 -- what the words ask for, the first of which is the program's name

@@ -117,10 +117,11 @@ find_rules = word_wanted (codes "file") ∷ option_or (codes "states") (codes "1
 abbrev pub find_command : App
 find_command = with_rules (new_app (codes "find")) find_rules
 
--- `channel KIND RING SCHEDULE [--base A] [--stride T] [--finish] [--buffer B]`
+-- `channel KIND RING SCHEDULE [--base A] [--stride T] [--finish] [--sender SENDER] [--receiver RECEIVER] [--buffer B]`
 abbrev pub channel_rules : List Rule
 channel_rules = word_wanted (codes "kind") ∷ word_wanted (codes "ring") ∷ word_wanted (codes "schedule")
-    ∷ option_or (codes "base") (codes "0") ∷ option_said (codes "stride") ∷ flag (codes "finish") ∷ buffer_option ∷ []
+    ∷ option_or (codes "base") (codes "0") ∷ option_said (codes "stride") ∷ flag (codes "finish")
+    ∷ option_said (codes "sender") ∷ option_said (codes "receiver") ∷ buffer_option ∷ []
 
 abbrev pub channel_command : App
 channel_command = with_rules (new_app (codes "channel")) channel_rules
@@ -132,6 +133,15 @@ threads_rules = word_wanted (codes "file") ∷ option_or (codes "turns") (codes 
 abbrev pub threads_command : App
 threads_command = with_rules (new_app (codes "threads")) threads_rules
 
+-- `ring SENDER RECEIVER RING --seed S --runs N --length L [--skip K] [--jobs J] [--base A] [--stride T] [--buffer B]`
+abbrev pub ring_rules : List Rule
+ring_rules = word_wanted (codes "sender") ∷ word_wanted (codes "receiver") ∷ word_wanted (codes "ring") ∷ option_wanted (codes "seed")
+    ∷ option_wanted (codes "runs") ∷ option_wanted (codes "length") ∷ option_or (codes "skip") (codes "0") ∷ option_or (codes "jobs") (codes "1")
+    ∷ option_or (codes "base") (codes "0") ∷ option_said (codes "stride") ∷ buffer_option ∷ []
+
+abbrev pub ring_command : App
+ring_command = with_rules (new_app (codes "ring")) ring_rules
+
 abbrev pub with_commands : App → List App → App
 with_commands app [] = app
 with_commands app (command ∷ commands) = with_commands (with_subcommand app command.top) commands
@@ -140,7 +150,7 @@ abbrev pub ztso_commands : List App
 ztso_commands =
     steps_command ∷ asm_command ∷ dis_command ∷ schedule_command (codes "run") ∷ schedule_command (codes "replay") ∷ schedule_command (codes "move")
     ∷ schedule_command (codes "shrink") ∷ chart_command ∷ show_command ∷ check_command ∷ find_command ∷ schedule_command (codes "debug")
-    ∷ try_command ∷ channel_command ∷ threads_command ∷ []
+    ∷ try_command ∷ channel_command ∷ threads_command ∷ ring_command ∷ []
 
 abbrev pub ztso_command : App
 ztso_command = with_commands (new_app (codes "ztso")) ztso_commands

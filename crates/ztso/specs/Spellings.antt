@@ -4,21 +4,21 @@ use Rattle.clap.specs.Words.{Text}
 use Rattle.ztso.specs.declared.job.Capacity.{Capacity}
 use Rattle.ztso.specs.declared.job.Capacity.TheVariants.{One, Two, Four, Sixteen}
 use Rattle.ztso.specs.declared.job.Ring.{Ring}
-use Rattle.ztso.specs.declared.job.Ring.TheVariants.{Lamport, FastForward}
+use Rattle.ztso.specs.declared.job.Ring.TheVariants.{Lamport, FastForward, LamportCached}
 use Rattle.ztso.specs.declared.job.Command.{Command}
 use Rattle.ztso.specs.declared.job.CodeCommand.TheVariants.{Asm, Dis}
-use Rattle.ztso.specs.declared.job.Command.TheVariants.{Code, Machine, Find, Threads}
+use Rattle.ztso.specs.declared.job.Command.TheVariants.{Code, Machine, Find, Threads, Own, Ring as OwnRing}
 use Rattle.ztso.specs.declared.job.MachineCommand.{MachineCommand}
 use Rattle.chart.specs.declared.scenes.Selection.{Selection}
 use Rattle.chart.specs.declared.scenes.Selection.TheVariants.{EveryRow, MemoryRows}
-use Rattle.views.specs.declared.charting.Style.{Style}
-use Rattle.views.specs.declared.charting.Style.TheVariants.{Svg}
-use Rattle.views.specs.declared.charting.Style.TheVariants as style
-use Rattle.views.specs.declared.showing.Form.{Form}
-use Rattle.views.specs.declared.showing.Form.TheVariants as form
+use Rattle.view_engines.specs.declared.charting.Style.{Style}
+use Rattle.view_engines.specs.declared.charting.Style.TheVariants.{Svg}
+use Rattle.view_engines.specs.declared.charting.Style.TheVariants as style
+use Rattle.view_engines.specs.declared.showing.Form.{Form}
+use Rattle.view_engines.specs.declared.showing.Form.TheVariants as form
 use Rattle.ztso.specs.declared.job.MachineCommand.TheVariants.{Steps, Run, Replay, Move, Shrink, Chart, Show, Check, Debug, Try, Channel}
 use Rattle.recorder.specs.declared.reading.TheConstants.{MAX_EVENTS}
-use Rattle.ztso.specs.Jobs.{Wanted, one_input, two_inputs}
+use Rattle.ztso.specs.Jobs.{Wanted, four_inputs, one_input, three_inputs, two_inputs}
 use Rattle.ztso.specs.Jobs.Input.{Standard, File}
 use Rattle.ztso.specs.Numbers.{number_within}
 
@@ -45,6 +45,7 @@ AsksFor capacity words =
 abbrev pub name_of : Ring → Text
 name_of Lamport = codes "lamport"
 name_of FastForward = codes "fastforward"
+name_of LamportCached = codes "cached"
 
 -- a word that says this number, within these limits
 abbrev pub SaysNumber : (least most number : ℕ) → Text → Type 0
@@ -120,9 +121,8 @@ IsOnFiles name command capacity wanted words =
     × IsWord file × IsWord schedule × AsksFor capacity options
     × (wanted ≡ two_inputs (Machine command capacity) (File file) (File schedule))
 
--- The words after the program's name that ask for this command, by the command: the table's rows. Options may
--- also stand in other places, and those with a number be written with an equals sign, which isn't said
--- here.
+-- The words after the program's name that ask for this command: a row for each command. Options in other places and
+-- `--name=NUMBER` are accepted too, and not stated here.
 abbrev pub IsSpellingOf : Command → Wanted → List Text → Type 0
 IsSpellingOf (Code Asm) wanted words = (words ≡ codes "asm" ∷ []) × (wanted ≡ one_input (Code Asm) Standard)
 IsSpellingOf (Code Dis) wanted words = (words ≡ codes "dis" ∷ []) × (wanted ≡ one_input (Code Dis) Standard)
@@ -154,7 +154,7 @@ IsSpellingOf (Machine (Try seed runs) capacity) wanted words =
 IsSpellingOf (Machine (Channel ring place finish) capacity) wanted words =
     (said schedule : Text) × (first second third options : List Text)
     × (words ≡ codes "channel" ∷ name_of ring ∷ said ∷ schedule ∷ (first ++ (second ++ (third ++ options))))
-    × SaysNumber 0 4294967295 place.ring said × IsWord schedule
+    × SaysNumber 0 4294967295 place.slots said × IsWord schedule
     × AsksForBase place.base first × AsksForStride place.stride second × AsksToFinish finish third × AsksFor capacity options
     × (wanted ≡ two_inputs (Machine (Channel ring place finish) capacity) (File schedule) Standard)
 IsSpellingOf (Find states capacity) wanted words =
@@ -165,6 +165,22 @@ IsSpellingOf (Threads turns capacity) wanted words =
     (file : Text) × (first options : List Text) × (words ≡ codes "threads" ∷ file ∷ (first ++ options))
     × IsWord file × AsksForTurns turns first × AsksFor capacity options
     × (wanted ≡ one_input (Threads turns capacity) (File file))
+IsSpellingOf (Own place capacity) wanted words =
+    (sender receiver said schedule : Text) × (first second options : List Text)
+    × (words ≡ codes "channel" ∷ codes "own" ∷ said ∷ schedule ∷ codes "--sender" ∷ sender ∷ codes "--receiver" ∷ receiver
+    ∷ (first ++ (second ++ options)))
+    × SaysNumber 0 4294967295 place.slots said × IsWord schedule × IsWord sender × IsWord receiver
+    × AsksForBase place.base first × AsksForStride place.stride second × AsksFor capacity options
+    × (wanted ≡ four_inputs (Own place capacity) (File sender) (File receiver) (File schedule) Standard)
+IsSpellingOf (OwnRing seed runs place capacity) wanted words =
+    (sender receiver said s n l : Text) × (first second third fourth options : List Text)
+    × (words ≡ codes "ring" ∷ sender ∷ receiver ∷ said ∷ codes "--seed" ∷ s ∷ codes "--runs" ∷ n ∷ codes "--length" ∷ l
+    ∷ (first ++ (second ++ (third ++ (fourth ++ options)))))
+    × IsWord sender × IsWord receiver × SaysNumber 0 4294967295 place.slots said × SaysNumber 0 18446744073709551615 seed s
+    × SaysNumber 1 100000 runs.number n × SaysNumber 0 MAX_EVENTS runs.length l
+    × AsksToSkip runs.skip first × AsksForJobs runs.jobs second × AsksForBase place.base third × AsksForStride place.stride fourth
+    × AsksFor capacity options
+    × (wanted ≡ three_inputs (OwnRing seed runs place capacity) (File sender) (File receiver) Standard)
 
 abbrev pub IsSpelling : Wanted → List Text → Type 0
 IsSpelling wanted words = IsSpellingOf wanted.command wanted words

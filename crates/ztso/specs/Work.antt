@@ -8,43 +8,49 @@ use Rattle.rand_pcg.specs.Pcg.{pcg32, pcg32_of_seed}
 use Rattle.recorder.specs.Drawing.{left_after}
 use Rattle.litmus.specs.declared.verdict.Verdict.{Verdict}
 use Rattle.litmus.specs.declared.verdict.Verdict.TheVariants.{Holds}
-use Rattle.engine_parts.specs.declared.fault.Fault.{Fault}
-use Rattle.engine_parts.specs.declared.fault.Fault.TheVariants.{Refused}
-use Rattle.engine_parts.specs.declared.fault.Refusal.{Refusal}
-use Rattle.engine_parts.specs.Engines.{AnswersBoth, Ends, EndsBy, OfInput}
+use Rattle.engine_support.specs.declared.fault.Fault.{Fault}
+use Rattle.engine_support.specs.declared.fault.Fault.TheVariants.{Refused}
+use Rattle.engine_support.specs.declared.fault.Refusal.{Refusal}
+use Rattle.engine_support.specs.Engines.{AnswersBoth, Ends, EndsBy, OfInput}
 use Rattle.ztso_engines.specs.Asm.{IsAsmAnswer}
 use Rattle.ztso_engines.specs.Dis.{IsDisAnswer}
 use Rattle.ztso_engines.specs.Steps.{IsStepsAnswer}
-use Rattle.engine_parts.specs.Tests.{HasNoTest}
+use Rattle.engine_support.specs.Tests.{HasNoTest}
 use Rattle.ztso_engines.specs.Run.{IsRunAnswer}
 use Rattle.ztso_engines.specs.Move.{IsMoveAnswer}
 use Rattle.checking.specs.Checking.{IsCheckAnswer, IsCheckFront}
 use Rattle.finding.specs.Find.{IsFindAnswer}
 use Rattle.finding.specs.declared.finds.Found.{Found}
-use Rattle.views.specs.Chart.{IsChartAnswer, drawing}
-use Rattle.views.specs.Show.{IsShowAnswer}
-use Rattle.views.specs.Shrink.{IsShrinkAnswer}
+use Rattle.view_engines.specs.Chart.{IsChartAnswer, drawing}
+use Rattle.view_engines.specs.Show.{IsShowAnswer}
+use Rattle.view_engines.specs.Shrink.{IsShrinkAnswer}
 use Rattle.ztso_engines.specs.Replay.{IsReplayAnswer}
 use Rattle.debugger.specs.Transcripts.{EndsInteractive, IsDebugAnswer, IsDebugFront, IsDebugSome, OnStopped, OnUnwritten}
 use Rattle.tries.specs.Outcomes.{IsTryAnswer}
-use Rattle.engine_parts.specs.Schedules.{HasNoSchedule}
+use Rattle.engine_support.specs.Schedules.{HasNoSchedule}
 use Rattle.poll_close.specs.Places.{layout_of}
+use Rattle.poll_close.specs.declared.place.Place.{Place}
+use Rattle.jumping.specs.declared.Runs.{Runs}
 use Rattle.ztso_engines.specs.Channels.{IsChannelAnswer}
 use Rattle.ztso_engines.specs.Threads.{IsThreadsAnswer}
+use Rattle.ztso_engines.specs.OwnChannels.{EndsOwn}
+use Rattle.ztso_engines.specs.Rings.{Draws, EndsRing}
+use Rattle.ztso_engines.specs.declared.programs.OwnFault.{OwnFault}
 use Rattle.poll_close.specs.Laws.{Ring as RingTables}
 use Rattle.lamport_ring.specs.Listing.{lamport}
 use Rattle.fastforward.specs.Listing.{fastforward}
+use Rattle.lamport_cached.specs.Listing.{lamport_cached}
 use Rattle.ztso.specs.declared.job.Capacity.{Capacity}
 use Rattle.ztso.specs.declared.job.Capacity.TheVariants.{One, Two, Four, Sixteen}
 use Rattle.ztso.specs.declared.job.Ring.{Ring}
-use Rattle.ztso.specs.declared.job.Ring.TheVariants.{Lamport, FastForward}
+use Rattle.ztso.specs.declared.job.Ring.TheVariants.{Lamport, FastForward, LamportCached}
 use Rattle.ztso.specs.declared.job.CodeCommand.{CodeCommand}
 use Rattle.ztso.specs.declared.job.CodeCommand.TheVariants.{Asm, Dis}
 use Rattle.ztso.specs.declared.job.MachineCommand.{MachineCommand}
 use Rattle.ztso.specs.declared.job.MachineCommand.TheVariants.{Steps, Run, Replay, Move, Shrink, Chart, Show, Check, Debug, Try, Channel}
 use Rattle.ztso.specs.declared.failure.Failure.{Failure}
 use Rattle.ztso.specs.declared.work.TheConstants.{WORDS}
-use Rattle.ztso.specs.Failures.{found_status}
+use Rattle.ztso.specs.Failures.{found_status, own_status, ring_status}
 
 -- how many stores a buffer of this capacity holds
 abbrev pub stores_of : Capacity → ℕ
@@ -57,10 +63,22 @@ stores_of Sixteen = 16
 abbrev pub drawn_from : (seed : ℕ) → Stream
 drawn_from seed = stream_of (steps_u32 pcg32) (pcg32_of_seed (pcg32_seed 16 seed))
 
+-- the runs of a channel at this place that the generator of this seed draws, with buffers of B stores
+abbrev pub drawn_runs : (B seed : ℕ) → Runs → Place → Draws
+drawn_runs B seed runs place = record {
+  B = B;
+  M = WORDS;
+  place = place;
+  stream = left_after (runs.skip * runs.length) (drawn_from seed);
+  size = runs.length;
+  runs = runs.number;
+}
+
 -- the tables and the least size of the rings of a kind
 abbrev pub tables_of : Ring → RingTables
 tables_of Lamport = lamport
 tables_of FastForward = fastforward
+tables_of LamportCached = lamport_cached
 
 -- ---- exit statuses of a job that was done
 
@@ -163,6 +181,25 @@ abbrev pub DoesThreads : {W : Type 0} → ℕ → Capacity → Result ℕ Fault 
 DoesThreads n capacity result file contents old new = Ends (WithStatus verdict_status
     (λ answer. OfInput file (λ bytes. IsThreadsAnswer (stores_of capacity) WORDS n bytes answer))) result contents old
     new
+
+-- what the readers tell of the sender's program, the receiver's, the schedule and the lists
+pub record GivenOwn : Type 0 where
+  pub sender : Option (List ℕ)
+  pub receiver : Option (List ℕ)
+  pub schedule : Option (List ℕ)
+  pub lists : Option (List ℕ)
+
+-- The runs of a channel ended with an answer to the programs and the lists that were read, over buffers of this capacity
+-- and a memory of 4,096 words.
+abbrev pub DoesRing : {W : Type 0} → (seed : ℕ) → Runs → Place → Capacity → Result ℕ Failure → (sender receiver lists : Option (List ℕ))
+    → (contents : W → Option (List ℕ)) → (old new : W) → Type 0
+DoesRing seed runs place capacity result sender receiver lists contents old new = (ended : Result Bool OwnFault) × (result ≡ ring_status ended)
+    × EndsRing (drawn_runs (stores_of capacity) seed runs place) ended sender receiver lists contents old new
+
+-- and so of one run, by the schedule that was read too
+abbrev pub DoesOwn : {W : Type 0} → Place → Capacity → Result ℕ Failure → GivenOwn → (contents : W → Option (List ℕ)) → (old new : W) → Type 0
+DoesOwn place capacity result given contents old new = (ended : Result (Unit {0}) OwnFault) × (result ≡ own_status ended)
+    × EndsOwn (stores_of capacity) WORDS (layout_of place []) ended given.sender given.receiver given.schedule given.lists contents old new
 
 -- ---- what is left unread
 

@@ -2,7 +2,7 @@
 
 ghost use Rattle.std.specs.Prelude.{◌≡◌, ◌∷◌, ℕ, List, IfOk, map, option_and_then, option_map};
 ghost use Rattle.clap.specs.Words.{FailsBy, fault_of, first_of, found_of, rows_of, subcommand_of, subcommand_rows_of};
-ghost use Rattle.ztso.specs.CommandLines.{Answers, capacity_said, job_in, channel_in, chart_in, find_in, flag_said, form_said, show_in, style_said, selection_said, job_said, number_if_said, machine_in, on_file, on_file_and_schedule, on_file_and_standard, on_schedule_and_standard, on_standard, ring_said, threads_in, try_in};
+ghost use Rattle.ztso.specs.CommandLines.{Answers, capacity_said, job_at, channel_in, chart_in, find_in, flag_said, form_said, show_in, style_said, selection_said, job_said, number_if_said, machine_in, own_in, on_file, on_file_and_schedule, on_channel, on_file_and_standard, on_own_channel, on_programs_and_standard, on_schedule_and_standard, on_standard, place_in, ring_in, ring_said, runs_in, seed_in, threads_in, try_in};
 ghost use Rattle.ztso.specs.Descriptions.{ztso_command};
 ghost use Rattle.ztso.specs.Spellings.{IsSpelling};
 ghost use Rattle.ztso.specs.Jobs.{Wanted, wanted_by};
@@ -11,19 +11,19 @@ use crate::failure::Failure;
 use crate::job::{Capacity, CodeCommand, Command, Input, Job, MachineCommand, Ring};
 use clap::ArgMatches;
 use description::ztso_command;
+use jumping::Runs;
 use numbers::{count_of, number_of};
 use poll_close::Place;
 use recorder::MAX_EVENTS;
 use std::alloc::Global;
 use std::convert::AsStr;
-use tries::trials::Runs;
-use views::charting::{Selection, Style};
-use views::showing::Form;
+use view_engines::charting::{Selection, Style};
+use view_engines::showing::Form;
 
 mod description;
 mod numbers;
 
-/// The most runs that `try` makes.
+/// The most runs that `try` and `ring` make.
 const MOST_RUNS: u32 = 100_000;
 
 /// The most threads that share them.
@@ -47,7 +47,7 @@ pub fn job_of<'a, S: AsStr>(alloc: Global, words: &'a [S]) -> Result<Job<'a>, Fa
         → map S.text words.entry.now ≡ name ∷ rest → IsSpelling wanted rest → Answers (Some wanted) result }
 {
     let matches = matches_of(alloc, words)?;
-    job_in(&matches).ok_or(Failure::BadCommandLine)
+    job_at(&matches).ok_or(Failure::BadCommandLine)
 }
 
 fn matches_of<'a, S: AsStr>(alloc: Global, words: &'a [S]) -> Result<ArgMatches<'a>, clap::Error>
@@ -60,8 +60,8 @@ fn matches_of<'a, S: AsStr>(alloc: Global, words: &'a [S]) -> Result<ArgMatches<
 }
 
 /// The table of commands: what each asks for.
-fn job_in<'a>(matches: &ArgMatches<'a>) -> Option<Job<'a>>
-    ensures { option_map wanted_by result ≡ option_and_then job_in (subcommand_rows_of matches.now) }
+fn job_at<'a>(matches: &ArgMatches<'a>) -> Option<Job<'a>>
+    ensures { option_map wanted_by result ≡ option_and_then job_at (subcommand_rows_of matches.now) }
 {
     match matches.subcommand()? {
         ("steps", options) => on_standard(machine_in(options, Some(MachineCommand::Steps))),
@@ -93,10 +93,9 @@ fn job_in<'a>(matches: &ArgMatches<'a>) -> Option<Job<'a>>
             machine_in(options, Some(MachineCommand::Debug)),
         ),
         ("try", options) => on_file(options, machine_in(options, try_in(options))),
-        ("channel", options) => {
-            on_schedule_and_standard(options, machine_in(options, channel_in(options)))
-        }
+        ("channel", options) => on_channel(options),
         ("threads", options) => on_file(options, threads_in(options)),
+        ("ring", options) => on_programs_and_standard(options, ring_in(options)),
         _ => None,
     }
 }
@@ -110,6 +109,8 @@ fn on_standard<'a>(command: Option<Command>) -> Option<Job<'a>>
         command,
         first: Input::Standard,
         second: None,
+        third: None,
+        fourth: None,
     })
 }
 
@@ -123,6 +124,8 @@ fn on_file<'a>(options: &ArgMatches<'a>, command: Option<Command>) -> Option<Job
         command,
         first: Input::File(file),
         second: None,
+        third: None,
+        fourth: None,
     })
 }
 
@@ -137,6 +140,8 @@ fn on_file_and_schedule<'a>(options: &ArgMatches<'a>, command: Option<Command>) 
         command,
         first: Input::File(file),
         second: Some(Input::File(schedule)),
+        third: None,
+        fourth: None,
     })
 }
 
@@ -150,6 +155,8 @@ fn on_file_and_standard<'a>(options: &ArgMatches<'a>, command: Option<Command>) 
         command,
         first: Input::File(file),
         second: Some(Input::Standard),
+        third: None,
+        fourth: None,
     })
 }
 
@@ -166,6 +173,58 @@ fn on_schedule_and_standard<'a>(
         command,
         first: Input::File(schedule),
         second: Some(Input::Standard),
+        third: None,
+        fourth: None,
+    })
+}
+
+/// The command, if there is one, on the files `sender` and `receiver`, and then on standard input.
+fn on_programs_and_standard<'a>(
+    options: &ArgMatches<'a>,
+    command: Option<Command>,
+) -> Option<Job<'a>>
+    ensures { option_map wanted_by result ≡ on_programs_and_standard (rows_of (found_of options.now)) command }
+{
+    let command = command?;
+    let sender = word_in(options, "sender")?;
+    let receiver = word_in(options, "receiver")?;
+    Some(Job {
+        command,
+        first: Input::File(sender),
+        second: Some(Input::File(receiver)),
+        third: Some(Input::Standard),
+        fourth: None,
+    })
+}
+
+/// What `channel` asks for: with KIND `own` a run over the user's programs, which have to be there; else one of a known
+/// ring, without them.
+fn on_channel<'a>(options: &ArgMatches<'a>) -> Option<Job<'a>>
+    ensures { option_map wanted_by result ≡ on_channel (rows_of (found_of options.now)) }
+{
+    if word_in(options, "kind")? == "own" {
+        return on_own_channel(options);
+    }
+    if word_in(options, "sender").is_some() || word_in(options, "receiver").is_some() {
+        return None;
+    }
+    on_schedule_and_standard(options, machine_in(options, channel_in(options)))
+}
+
+/// `channel own`: the files `sender`, `receiver` and `schedule`, and then standard input.
+fn on_own_channel<'a>(options: &ArgMatches<'a>) -> Option<Job<'a>>
+    ensures { option_map wanted_by result ≡ on_own_channel (rows_of (found_of options.now)) }
+{
+    let sender = word_in(options, "sender")?;
+    let receiver = word_in(options, "receiver")?;
+    let command = own_in(options)?;
+    let schedule = word_in(options, "schedule")?;
+    Some(Job {
+        command,
+        first: Input::File(sender),
+        second: Some(Input::File(receiver)),
+        third: Some(Input::File(schedule)),
+        fourth: Some(Input::Standard),
     })
 }
 
@@ -196,22 +255,52 @@ fn threads_in(options: &ArgMatches<'_>) -> Option<Command>
     Some(Command::Threads { turns, capacity })
 }
 
-/// The runs that `try` is to make.
-fn try_in(options: &ArgMatches<'_>) -> Option<MachineCommand>
-    ensures { result ≡ try_in (rows_of (found_of options.now)) }
+/// The seed of the generator that draws schedules.
+fn seed_in(options: &ArgMatches<'_>) -> Option<u64>
+    ensures { result ≡ seed_in (rows_of (found_of options.now)) }
 {
-    let seed = number_of(word_in(options, "seed")?)?;
+    number_of(word_in(options, "seed")?)
+}
+
+/// Which runs are drawn.
+fn runs_in(options: &ArgMatches<'_>) -> Option<Runs>
+    ensures { result ≡ runs_in (rows_of (found_of options.now)) }
+{
     let skip = number_of(word_in(options, "skip")?)?;
     let number = count_of(word_in(options, "runs")?, 1, MOST_RUNS)?;
     let length = count_of(word_in(options, "length")?, 0, MAX_EVENTS as u32)?;
     let jobs = count_of(word_in(options, "jobs")?, 1, MOST_JOBS)?;
-    let runs = Runs {
+    Some(Runs {
         skip,
         number,
         length,
         jobs,
-    };
+    })
+}
+
+/// The runs that `try` is to make.
+fn try_in(options: &ArgMatches<'_>) -> Option<MachineCommand>
+    ensures { result ≡ try_in (rows_of (found_of options.now)) }
+{
+    let seed = seed_in(options)?;
+    let runs = runs_in(options)?;
     Some(MachineCommand::Try { seed, runs })
+}
+
+/// The runs that `ring` is to make, and of which channel.
+fn ring_in(options: &ArgMatches<'_>) -> Option<Command>
+    ensures { result ≡ ring_in (rows_of (found_of options.now)) }
+{
+    let seed = seed_in(options)?;
+    let runs = runs_in(options)?;
+    let place = place_in(options)?;
+    let capacity = capacity_of(word_in(options, "buffer")?)?;
+    Some(Command::Ring {
+        seed,
+        runs,
+        place,
+        capacity,
+    })
 }
 
 /// The picture that is to be drawn.
@@ -262,25 +351,45 @@ fn form_of(text: &str) -> Form
     }
 }
 
+/// Where a channel's blocks lie.
+fn place_in(options: &ArgMatches<'_>) -> Option<Place>
+    ensures { result ≡ place_in (rows_of (found_of options.now)) }
+{
+    let slots = count_of(word_in(options, "ring")?, 0, u32::MAX)?;
+    let base = count_of(word_in(options, "base")?, 0, u32::MAX)?;
+    let stride = number_if_said(word_in(options, "stride"))?;
+    Some(Place {
+        slots,
+        base,
+        stride,
+    })
+}
+
 /// The channel that is to run.
 fn channel_in(options: &ArgMatches<'_>) -> Option<MachineCommand>
     ensures { result ≡ channel_in (rows_of (found_of options.now)) }
 {
-    let ring = ring_of(word_in(options, "kind")?)?;
-    let slots = count_of(word_in(options, "ring")?, 0, u32::MAX)?;
-    let base = count_of(word_in(options, "base")?, 0, u32::MAX)?;
-    let stride = number_if_said(word_in(options, "stride"))?;
+    let kind = ring_of(word_in(options, "kind")?)?;
+    let place = place_in(options)?;
     let finish = flag_of(word_in(options, "finish")?);
-    let place = Place {
-        ring: slots,
-        base,
-        stride,
-    };
     Some(MachineCommand::Channel {
-        ring,
+        kind,
         place,
         finish,
     })
+}
+
+/// The channel of a user's programs that is to run. It isn't finished by a plan.
+fn own_in(options: &ArgMatches<'_>) -> Option<Command>
+    ensures { result ≡ own_in (rows_of (found_of options.now)) }
+{
+    let place = place_in(options)?;
+    let finish = word_in(options, "finish")?;
+    if flag_of(finish) {
+        return None;
+    }
+    let capacity = capacity_of(word_in(options, "buffer")?)?;
+    Some(Command::Own { place, capacity })
 }
 
 /// The number of 32 bits, if one is said; none where that is no such number.
@@ -306,11 +415,12 @@ fn ring_of(text: &str) -> Option<Ring>
     match text {
         "lamport" => Some(Ring::Lamport),
         "fastforward" => Some(Ring::FastForward),
+        "cached" => Some(Ring::LamportCached),
         _ => None,
     }
 }
 
-/// The word in this place, or behind this option.
+/// The word in this place, or after this option.
 fn word_in<'a>(options: &ArgMatches<'a>, id: &str) -> Option<&'a str>
     ensures { option_map (λ word. word.now) result ≡ first_of id.now (rows_of (found_of options.now)) }
 {

@@ -5,16 +5,17 @@ ghost use Rattle.clap.specs.Words.{kind_of};
 ghost use Rattle.clap.specs.declared.error.kind.ErrorKind.TheVariants as kind;
 ghost use Rattle.std.specs.IoError.{error_kind};
 ghost use Rattle.std.specs.declared.io.ErrorKind.TheVariants as io_kind;
-ghost use Rattle.ztso.specs.Failures.{IsFailureFor, found_status, status_of};
+ghost use Rattle.ztso.specs.Failures.{IsFailureFor, found_status, own_failure, own_status, ring_status, status_of};
 ghost use Rattle.ztso.specs.declared.failure.Failure.TheVariants.{Engine};
-ghost use Rattle.engine_parts.specs.declared.fault.Fault.TheVariants.{NoMemory};
+ghost use Rattle.engine_support.specs.declared.fault.Fault.TheVariants.{NoMemory};
 
 use clap::error::ErrorKind;
-use engine_parts::fault::Fault;
+use engine_support::fault::{Fault, Refusal};
 use finding::Found;
 use std::alloc::AllocError;
 use std::io;
 use thiserror::Error;
+use ztso_engines::programs::{OwnFault, Role};
 
 /// Why the program ends without having done a job. Its text is what stands after `ztso: ` on
 /// standard error.
@@ -29,6 +30,9 @@ pub enum Failure {
     /// A search saw this many states, and none that it looked for. Its answer says no more.
     #[error("not found in {states} states")]
     NotFound { states: u32 },
+    /// The assembly of a channel's program is refused.
+    #[error("{refusal} of the {role}")]
+    Program { role: Role, refusal: Refusal },
 }
 
 impl Failure {
@@ -40,6 +44,7 @@ impl Failure {
             Failure::BadCommandLine => 2,
             Failure::Engine(fault) => fault.status(),
             Failure::NotFound { .. } => 1,
+            Failure::Program { .. } => 2,
         }
     }
 }
@@ -72,6 +77,37 @@ impl Failure {
             Ok(Found::Shown) => Ok(0),
             Ok(Found::NotFound { states }) => Err(Failure::NotFound { states }),
             Err(fault) => Err(Failure::Engine(fault)),
+        }
+    }
+
+    /// The exit status after runs of a channel over a user's programs: 0 where all are clean, else 1.
+    pub fn after_ring(ended: Result<bool, OwnFault>) -> Result<u8, Failure>
+        ensures { result ≡ ring_status ended }
+    {
+        match ended {
+            Ok(true) => Ok(0),
+            Ok(false) => Ok(1),
+            Err(fault) => Err(Failure::of_own(fault)),
+        }
+    }
+
+    /// The exit status after a run of a channel over a user's programs.
+    pub fn after_own(ended: Result<(), OwnFault>) -> Result<u8, Failure>
+        ensures { result ≡ own_status ended }
+    {
+        match ended {
+            Ok(()) => Ok(0),
+            Err(fault) => Err(Failure::of_own(fault)),
+        }
+    }
+
+    /// The failure of a command on a user's programs.
+    fn of_own(fault: OwnFault) -> Failure
+        ensures { result ≡ own_failure fault }
+    {
+        match fault {
+            OwnFault::Program { role, refusal } => Failure::Program { role, refusal },
+            OwnFault::Other(fault) => Failure::Engine(fault),
         }
     }
 

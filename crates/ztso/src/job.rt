@@ -1,9 +1,9 @@
 //! What a command line can ask for.
 
+use jumping::Runs;
 use poll_close::Place;
-use tries::trials::Runs;
-use views::charting::{Selection, Style};
-use views::showing::Form;
+use view_engines::charting::{Selection, Style};
+use view_engines::showing::Form;
 
 /// How many stores a hart's buffer holds.
 #[derive(Clone, Copy)]
@@ -27,6 +27,8 @@ pub enum Input<'a> {
 pub enum Ring {
     Lamport,
     FastForward,
+    /// Lamport's ring with a cached tail.
+    LamportCached,
 }
 
 /// What is done with a machine.
@@ -63,7 +65,7 @@ pub enum MachineCommand {
     /// To run a channel over lists of words by a schedule, through rings of this kind at this place, and to
     /// `finish` it by a plan.
     Channel {
-        ring: Ring,
+        kind: Ring,
         place: Place,
         finish: bool,
     },
@@ -99,6 +101,20 @@ pub enum Command {
         turns: u32,
         capacity: Capacity,
     },
+    /// To run a channel over two programs at this place by a schedule, and to tell what its receiver reports. The harts
+    /// have buffers of this capacity.
+    Own {
+        place: Place,
+        capacity: Capacity,
+    },
+    /// To make these runs of a channel over two programs at this place, by schedules that are drawn from a generator
+    /// of this seed, and to judge each. The harts have buffers of this capacity.
+    Ring {
+        seed: u64,
+        runs: Runs,
+        place: Place,
+        capacity: Capacity,
+    },
 }
 
 /// What a command line asks for: a command, and its inputs in the order in which they are read.
@@ -108,4 +124,8 @@ pub struct Job<'a> {
     pub first: Input<'a>,
     /// `None` for a command with one input.
     pub second: Option<Input<'a>>,
+    /// `None` for a command with at most two inputs.
+    pub third: Option<Input<'a>>,
+    /// `None` for a command with at most three.
+    pub fourth: Option<Input<'a>>,
 }

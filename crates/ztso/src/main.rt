@@ -1,11 +1,11 @@
 //! The program `ztso`: its command line, and the streams and files for the engine that a job wants.
 //!
 //! The contract: [`command_line::job_of`] says which words ask for which job, [`work::do_code`],
-//! [`work::do_machine`], [`work::do_find`] and [`work::do_threads`] which engine does it with what capacity and with which exit
-//! status, and [`failure::Failure`] the exit status of each failure. This crate knows no text, no
-//! instruction and no machine. Only the command `threads` may wait, for the lock and for its threads:
-//! [`work::do_threads`] does. The jobs of `try` are threads too, but no job other than `threads` has leave
-//! to wait.
+//! [`work::do_machine`], [`work::do_find`], [`work::do_own`], [`work::do_ring`] and [`work::do_threads`] which
+//! engine does it with what capacity and with which exit status, and [`failure::Failure`] the exit status of each failure.
+//! This crate knows no text, no instruction and no machine. Only the command `threads` may wait, for the lock
+//! and for its threads: [`work::do_threads`] does. The jobs of `try` and `ring` are threads too, but no job
+//! other than `threads` has leave to wait.
 
 #![tactic(auto)]
 
@@ -35,7 +35,7 @@ use std::sync::Wait;
 use std::thread::Threads;
 use std::{env, io};
 use tries::progress::Progress;
-use work::{do_code, do_find, do_machine, do_threads};
+use work::{do_code, do_find, do_machine, do_own, do_ring, do_threads};
 
 fn main(rt: HostRuntime) -> ExitCode {
     let is_terminal = rt.stderr().is_terminal();
@@ -105,6 +105,33 @@ where
             capacity,
             &mut first,
             search,
+            &mut writer,
+        ),
+        Command::Own { place, capacity } => do_own(
+            rt.alloc(),
+            place,
+            capacity,
+            &mut first,
+            &mut LazyInput::new(rt, job.second),
+            &mut LazyInput::new(rt, job.third),
+            &mut LazyInput::new(rt, job.fourth),
+            &mut writer,
+        ),
+        Command::Ring {
+            seed,
+            runs,
+            place,
+            capacity,
+        } => do_ring(
+            rt,
+            rt.alloc(),
+            seed,
+            runs,
+            place,
+            capacity,
+            &mut first,
+            &mut LazyInput::new(rt, job.second),
+            &mut LazyInput::new(rt, job.third),
             &mut writer,
         ),
         Command::Threads { turns, capacity } => {

@@ -1,27 +1,33 @@
 //! Which engine does a job.
 
-ghost use Rattle.std.specs.Prelude.{◌≡◌, ℕ, ◌≤◌, ◌*◌, List, [], max, Option, IfOk};
+ghost use Rattle.std.specs.Prelude.{◌≡◌, ◌⊎◌, ℕ, ◌≤◌, ◌*◌, List, [], max, Option, IfOk};
 ghost use Rattle.ztso.specs.declared.work.TheConstants.{WORDS};
+ghost use Rattle.ztso.specs.Work.{DoesOwn, DoesRing, drawn_runs};
 ghost use Rattle.ztso.specs.Work.{DoesCode, DoesFind, DoesMachine, DoesThreads, IsRefusal, LeavesCommands, LeavesFront, LeavesReports, LeavesSecond, WithStatus, done_status, drawn_from, ended_with, good_status, stores_of, tables_of, verdict_status};
 ghost use Rattle.recorder.specs.Drawing.{left_after};
 ghost use Rattle.poll_close.specs.Places.{layout_of};
 ghost use Rattle.ztso_engines.specs.Channels.{IsChannelAnswer};
-ghost use Rattle.engine_parts.specs.Engines.{AnswersBoth, Ends, EndsBy, EndsByBoth, OfInput};
-ghost use Rattle.engine_parts.specs.Schedules.{HasNoSchedule};
+ghost use Rattle.engine_support.specs.Engines.{AnswersBoth, Ends, EndsBy, EndsByBoth, OfInput};
+ghost use Rattle.engine_support.specs.Schedules.{HasNoSchedule};
 ghost use Rattle.checking.specs.Checking.{IsCheckAnswer};
 ghost use Rattle.finding.specs.Find.{IsFindAnswer};
 ghost use Rattle.debugger.specs.Transcripts.{EndsInteractive, IsDebugAnswer, OnRefused};
-ghost use Rattle.engine_parts.specs.Tests.{HasNoTest};
+ghost use Rattle.engine_support.specs.Tests.{HasNoTest};
 ghost use Rattle.tries.specs.Outcomes.{IsTryAnswer};
 ghost use Rattle.ztso_engines.specs.Threads.{IsThreadsAnswer};
+ghost use Rattle.ztso_engines.specs.OwnChannels.{EndsOwn};
+ghost use Rattle.ztso_engines.specs.Programs.{HasNoProgram};
+ghost use Rattle.ztso_engines.specs.Rings.{EndsRing};
 
 use crate::failure::Failure;
 use crate::job::{Capacity, CodeCommand, MachineCommand, Ring};
 use checking::check_engine;
 use debugger::debug::debug_engine;
-use engine_parts::fault::Fault;
+use engine_support::fault::Fault;
 use fastforward::FastForward;
 use finding::{Found, SearchProgress, find_engine};
+use jumping::Runs;
+use lamport_cached::LamportCached;
 use lamport_ring::Lamport;
 use litmus::Verdict;
 use poll_close::Place;
@@ -32,15 +38,18 @@ use std::io::{BufReader, Read, Write};
 use std::sync::Wait;
 use std::thread::Threads;
 use tries::progress::Progress;
-use tries::trials::{Runs, try_engine};
-use views::charting::chart_engine;
-use views::showing::show_engine;
-use views::shrinking::shrink_engine;
+use tries::trials::try_engine;
+use view_engines::charting::chart_engine;
+use view_engines::showing::show_engine;
+use view_engines::shrinking::shrink_engine;
 use ztso_engines::asm::asm_engine;
 use ztso_engines::channel::channel_engine;
 use ztso_engines::dis::dis_engine;
 use ztso_engines::moving::move_engine;
+use ztso_engines::own_channel::own_channel_engine;
+use ztso_engines::programs::OwnFault;
 use ztso_engines::replay::replay_engine;
+use ztso_engines::ring::ring_engine;
 use ztso_engines::run::run_engine;
 use ztso_engines::steps::steps_engine;
 use ztso_engines::threads::threads_engine;
@@ -150,7 +159,7 @@ fn try_drawn<const B: usize, F: Read, W: Write, T: Threads + Sync, P: Progress>(
 /// plan if it is to be finished.
 fn run_rings<const B: usize, S: Read, L: Read, W: Write>(
     alloc: Global,
-    ring: Ring,
+    kind: Ring,
     place: Place,
     finish: bool,
     schedule: &mut S,
@@ -159,14 +168,17 @@ fn run_rings<const B: usize, S: Read, L: Read, W: Write>(
 ) -> Result<(), Fault>
     requires some_capacity { 1 ≤ B }
     requires capacity { B ≤ 64 }
-    ensures ends { EndsByBoth (IsChannelAnswer (tables_of ring) B WORDS (layout_of place []) finish) result (S.remaining schedule.old) (L.remaining lists.old) W.contents writer.old writer.new }
+    ensures ends { EndsByBoth (IsChannelAnswer (tables_of kind) B WORDS (layout_of place []) finish) result (S.remaining schedule.old) (L.remaining lists.old) W.contents writer.old writer.new }
     ensures unread { HasNoSchedule (S.remaining schedule.old) → lists.new ≡ lists.old }
 {
-    match ring {
+    match kind {
         Ring::Lamport => channel_engine::<Lamport, B, WORDS, _, _, _>(
             alloc, place, finish, schedule, lists, writer,
         ),
         Ring::FastForward => channel_engine::<FastForward, B, WORDS, _, _, _>(
+            alloc, place, finish, schedule, lists, writer,
+        ),
+        Ring::LamportCached => channel_engine::<LamportCached, B, WORDS, _, _, _>(
             alloc, place, finish, schedule, lists, writer,
         ),
     }
@@ -216,10 +228,10 @@ fn do_buffered<const B: usize, F: Read, S: Read, C: Read, W: Write, T: Threads +
             after_runs(try_drawn::<B, _, _, _, _>(rt, alloc, seed, runs, first, progress, writer))
         }
         MachineCommand::Channel {
-            ring,
+            kind,
             place,
             finish,
-        } => after(run_rings::<B, _, _, _>(alloc, ring, place, finish, first, second, writer)),
+        } => after(run_rings::<B, _, _, _>(alloc, kind, place, finish, first, second, writer)),
     }
 }
 
@@ -243,7 +255,7 @@ pub fn do_code<F: Read, W: Write>(
 /// 0, but 1 where the verdict is that the test fails or is unfinished, the runs that were tried don't show
 /// what the test asks, or a record was refused.
 ///
-/// `first` is what the command reads first, and `second` what it reads behind that, if it has two inputs and
+/// `first` is what the command reads first, and `second` what it reads after that, if it has two inputs and
 /// the first one was accepted. `commands` is what a user types to the debugger, which writes as it reads.
 /// `progress` gets the reports of runs that are tried. Their jobs are threads; it has no leave to wait for
 /// anything else.
@@ -352,4 +364,107 @@ fn run_threads<const B: usize, F: Read, W: Write, T: Threads + Wait + Sync>(
     ensures status { IfOk result (λ status. status ≤ 1) }
 {
     after_run(threads_engine::<B, WORDS, _, _, _>(rt, alloc, file, turns, writer))
+}
+
+/// Runs a channel over two programs by schedules that are drawn from a generator of this seed, with buffers of `B`
+/// stores.
+fn run_own_ring<const B: usize, S: Read, R: Read, L: Read, W: Write, T: Threads + Sync>(
+    rt: &T,
+    alloc: Global,
+    seed: u64,
+    runs: Runs,
+    place: Place,
+    sender: &mut S,
+    receiver: &mut R,
+    lists: &mut L,
+    writer: &mut W,
+) -> Result<bool, OwnFault>
+    requires some_capacity { 1 ≤ B }
+    requires capacity { B ≤ 64 }
+    ensures ends { EndsRing (drawn_runs B seed runs place) result (S.remaining sender.old) (R.remaining receiver.old) (L.remaining lists.old)
+        W.contents writer.old writer.new }
+    ensures unread { HasNoProgram (S.remaining sender.old) → receiver.new ≡ receiver.old }
+    ensures unread_lists { HasNoProgram (S.remaining sender.old) ⊎ HasNoProgram (R.remaining receiver.old) → lists.new ≡ lists.old }
+{
+    let generator = Lcg64Xsh32::seed_from_u64(seed);
+    ring_engine::<B, WORDS, _, _, _, _, _, _>(
+        rt, alloc, place, sender, receiver, lists, &generator, runs, writer,
+    )
+}
+
+/// Runs a channel over two programs by drawn schedules and judges each run: reads the sender's program, the receiver's
+/// and the senders' lists, and writes what is told of the runs. It answers the exit status: 0 where all are clean, else
+/// 1. The jobs are threads; it has no leave to wait for anything else.
+pub fn do_ring<S: Read, R: Read, L: Read, W: Write, T: Threads + Sync>(
+    rt: &T,
+    alloc: Global,
+    seed: u64,
+    runs: Runs,
+    place: Place,
+    capacity: Capacity,
+    sender: &mut S,
+    receiver: &mut R,
+    lists: &mut L,
+    writer: &mut W,
+) -> Result<u8, Failure>
+    ensures does { DoesRing seed runs place capacity result (S.remaining sender.old) (R.remaining receiver.old) (L.remaining lists.old)
+        W.contents writer.old writer.new }
+    ensures unread { HasNoProgram (S.remaining sender.old) → receiver.new ≡ receiver.old }
+    ensures unread_lists { HasNoProgram (S.remaining sender.old) ⊎ HasNoProgram (R.remaining receiver.old) → lists.new ≡ lists.old }
+    ensures status { IfOk result (λ status. status ≤ 1) }
+{
+    Failure::after_ring(match capacity {
+        Capacity::One => run_own_ring::<1, _, _, _, _, _>(
+            rt, alloc, seed, runs, place, sender, receiver, lists, writer,
+        ),
+        Capacity::Two => run_own_ring::<2, _, _, _, _, _>(
+            rt, alloc, seed, runs, place, sender, receiver, lists, writer,
+        ),
+        Capacity::Four => run_own_ring::<4, _, _, _, _, _>(
+            rt, alloc, seed, runs, place, sender, receiver, lists, writer,
+        ),
+        Capacity::Sixteen => run_own_ring::<16, _, _, _, _, _>(
+            rt, alloc, seed, runs, place, sender, receiver, lists, writer,
+        ),
+    })
+}
+
+/// Runs a channel over two programs by a schedule, and writes what the receiver reports: reads the sender's program, the
+/// receiver's, the schedule and the senders' lists. It answers the exit status 0.
+pub fn do_own<S: Read, R: Read, C: Read, L: Read, W: Write>(
+    alloc: Global,
+    place: Place,
+    capacity: Capacity,
+    sender: &mut S,
+    receiver: &mut R,
+    schedule: &mut C,
+    lists: &mut L,
+    writer: &mut W,
+) -> Result<u8, Failure>
+    ensures does { DoesOwn place capacity result (record {
+      sender = S.remaining sender.old;
+      receiver = R.remaining receiver.old;
+      schedule = C.remaining schedule.old;
+      lists = L.remaining lists.old;
+    }) W.contents writer.old writer.new }
+    ensures unread { HasNoProgram (S.remaining sender.old) → receiver.new ≡ receiver.old }
+    ensures unread_others { HasNoProgram (S.remaining sender.old) ⊎ HasNoProgram (R.remaining receiver.old)
+        → (schedule.new ≡ schedule.old) × (lists.new ≡ lists.old) }
+    ensures unread_lists { HasNoSchedule (C.remaining schedule.old) → lists.new ≡ lists.old }
+    ensures status { IfOk result (λ status. status ≤ 1) }
+{
+    Failure::after_own(match capacity {
+        Capacity::One => own_channel_engine::<1, WORDS, _, _, _, _, _>(
+            alloc, place, sender, receiver, schedule, lists, writer,
+        ),
+        Capacity::Two => own_channel_engine::<2, WORDS, _, _, _, _, _>(
+            alloc, place, sender, receiver, schedule, lists, writer,
+        ),
+        Capacity::Four => own_channel_engine::<4, WORDS, _, _, _, _, _>(
+            alloc, place, sender, receiver, schedule, lists, writer,
+        ),
+        Capacity::Sixteen => own_channel_engine::<16, WORDS, _, _, _, _, _>(
+            alloc, place, sender, receiver, schedule, lists, writer,
+        ),
+    })
 }

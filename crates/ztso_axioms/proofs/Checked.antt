@@ -5,7 +5,7 @@ use Rattle.std.proofs.lemmas.Bool.{and_parts, ltb-true, ltb-false, lt-ltb, le-lt
 use Rattle.std.proofs.lemmas.List.{take_rest, get_or_default, get_or_read, drop_more}
 use Rattle.std.proofs.lemmas.List.Elements.{filter-append}
 use Rattle.std.proofs.lemmas.Option.{slice_get_past}
-use Rattle.step_machine.specs.History.{Start}
+use Rattle.step_machine.specs.History.{OpeningValue}
 use Rattle.step_machine.specs.declared.events.Entry.{Entry}
 use Rattle.ztso_axioms.specs.Operations.{is_operation, is_at, read_at, written_at}
 use Rattle.ztso_axioms.specs.Axioms.{times_named, is_named, is_before, in_program_order, is_preserved, is_seen, last_written, NamesEachOnce, KeepsProgramOrder, HasLoadValue}
@@ -39,10 +39,10 @@ keeps_from_indices es gs n none p q is =
     let at_p : (i : ℕ) × (i < length gs) × (get_or gs i 0 ≡ p) = index_of p gs (named_op es gs p n ops.0) in
     let at_q : (i : ℕ) × (i < length gs) × (get_or gs i 0 ≡ q) = index_of q gs (named_op es gs q n ops.1) in
     subst (λ (x : ℕ). is_before gs x q ≡ true) at_p.2 (subst (λ (y : ℕ). is_before gs (get_or gs at_p.0 0) y ≡ true) at_q.2
-    (is_before-index gs at_p.0 at_q.0 (once_of es gs n) at_p.1 at_q.1 ∙ true_from_ne_false _ (behind at_p.0 at_q.0 at_p.1 at_q.1 at_p.2 at_q.2)))
+    (is_before-index gs at_p.0 at_q.0 (once_of es gs n) at_p.1 at_q.1 ∙ true_from_ne_false _ (following at_p.0 at_q.0 at_p.1 at_q.1 at_p.2 at_q.2)))
   where
-    behind : (j i : ℕ) → j < length gs → i < length gs → get_or gs j 0 ≡ p → get_or gs i 0 ≡ q → nat_lt j i ≡ false → ⊥
-    behind j i lt_j lt_i is_p is_q lt =
+    following : (j i : ℕ) → j < length gs → i < length gs → get_or gs j 0 ≡ p → get_or gs i 0 ≡ q → nat_lt j i ≡ false → ⊥
+    following j i lt_j lt_i is_p is_q lt =
         let le : i ≤ j = ltb-false j i lt in
         let there : i + (j - i) ≡ j = omega arith in
         let same : get_or (drop i gs) (j - i) 0 ≡ p = get_or-drop i gs (j - i) 0 ∙ ap (λ k. get_or gs k 0) there ∙ is_p in
@@ -96,7 +96,7 @@ last_found es a w j b seen gs lt is none =
 pub read_op : (es : List Entry) (q : ℕ) (r : ℕ × ℕ × ℕ) → read_at es q ≡ Some r → is_at is_operation es q ≡ true
 read_op es q r is = grind arith
 
-pub values_from_indices : (o : Start) (es : List Entry) (gs : List ℕ) → NamesEachOnce es gs → ((i : ℕ) → i < length gs → HasLoadValue o es gs (get_or gs i 0)) → (q : ℕ) → HasLoadValue o es gs q
+pub values_from_indices : (o : OpeningValue) (es : List Entry) (gs : List ℕ) → NamesEachOnce es gs → ((i : ℕ) → i < length gs → HasLoadValue o es gs (get_or gs i 0)) → (q : ℕ) → HasLoadValue o es gs q
 values_from_indices o es gs n values q a width v is =
     let at_q : (i : ℕ) × (i < length gs) × (get_or gs i 0 ≡ q) = index_of q gs (named_op es gs q n (read_op es q (a, width, v) is)) in
     subst (λ (x : ℕ). HasLoadValue o es gs x) at_q.2 (values at_q.0 at_q.1) a width v is
@@ -115,6 +115,6 @@ is_seen-index es gs i j x y o lt_i lt_j read_x read_y = grind (arith, is_before-
 pub seen_in_front : (es : List Entry) (gs : List ℕ) (i j : ℕ) → Once gs → i < length gs → j < length gs → j < i → nat_lt j i ≡ is_seen es gs (get_or gs i 0) (get_or gs j 0)
 seen_in_front es gs i j o lt_i lt_j front = grind (arith, nat_lt, lt-ltb, is_before-index)
 
-pub seen_behind : (es : List Entry) (gs : List ℕ) (i j x y : ℕ) (r : Bool) → Once gs → i < length gs → j < length gs → x ≡ get_or gs i x → y ≡ get_or gs j y → i ≤ j → r ≡ in_program_order es y x → r ≡ is_seen es gs (get_or gs i 0) (get_or gs j 0)
-seen_behind es gs i j x y r o lt_i lt_j read_x read_y behind is =
-    is ∙ ap (λ b. b || in_program_order es y x) (sym (le-ltb j i behind)) ∙ sym (is_seen-index es gs i j x y o lt_i lt_j read_x read_y)
+pub seen_after : (es : List Entry) (gs : List ℕ) (i j x y : ℕ) (r : Bool) → Once gs → i < length gs → j < length gs → x ≡ get_or gs i x → y ≡ get_or gs j y → i ≤ j → r ≡ in_program_order es y x → r ≡ is_seen es gs (get_or gs i 0) (get_or gs j 0)
+seen_after es gs i j x y r o lt_i lt_j read_x read_y following is =
+    is ∙ ap (λ b. b || in_program_order es y x) (sym (le-ltb j i following)) ∙ sym (is_seen-index es gs i j x y o lt_i lt_j read_x read_y)

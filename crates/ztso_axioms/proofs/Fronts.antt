@@ -4,18 +4,19 @@ use Rattle.std.specs.List.{slice_get, AllZip}
 use Rattle.std.proofs.lemmas.Bool.{eqb-true, and_parts, or_left, false_from_ne_true}
 use Rattle.std.proofs.lemmas.List.{take-append-drop, take-append-le, take_all}
 use Rattle.std.proofs.lemmas.Option.{slice_get_past}
-use Rattle.step_machine.specs.History.{Start}
+use Rattle.step_machine.specs.History.{OpeningValue}
 use Rattle.step_machine.specs.Entries.{store_of, stores, lands, pending}
 use Rattle.step_machine.specs.Legal.{Allowed, LegalAfter}
 use Rattle.step_machine.specs.declared.events.Entry.{Entry}
 use Rattle.step_machine.proofs.Appended.{LegalAfter-front, LegalAfter-back}
 use Rattle.step_machine.proofs.Balanced.{balanced-after}
+use Rattle.step_machine.proofs.Appended.{entry_there}
 use Rattle.ztso_axioms.specs.Operations.{passes, is_at, byte_in, written_at}
 use Rattle.ztso_axioms.specs.Axioms.{is_named, is_barrier}
 use Rattle.ztso_axioms.specs.Performed.{places_of, is_store_of, store_places, performed_after, left_below, hart_bound}
 use Rattle.ztso_axioms.proofs.Listing.{named-append}
 use Rattle.ztso_axioms.proofs.Members.{places_of-cons, places_of-split, place_of, performed_after-append, named-filter, named-places}
-use Rattle.ztso_axioms.proofs.Performs.{is_reader, stores_at, reads_at, entry_here, stores_performed, reads_performed}
+use Rattle.ztso_axioms.proofs.Performs.{is_reader, stores_at, reads_at, stores_performed, reads_performed}
 use Rattle.memory.specs.declared.writes.Write.{Write}
 
 -- entries by place
@@ -74,7 +75,7 @@ AreWritten-drop all (suc n) (g ∷ gs) (p ∷ ps) written = AreWritten-drop all 
 AreWritten-drop all (suc n) gs ps written = absurd written
 
 written_before : (all us : List Entry) (e : Entry) (ws : List Entry) (h : ℕ) (rest : List Entry) → all ≡ us ++ e ∷ ws → (gs : List ℕ) → AreWritten all gs (stores h rest) → AreWritten all (place_of (is_store_of h) (length us) e ++ gs) (store_of h e ++ stores h rest)
-written_before all us e ws h rest split gs written = grind (arith, place_of, entry_here)
+written_before all us e ws h rest split gs written = grind (arith, place_of, entry_there)
 
 pub written_stores : (all us es ws : List Entry) (h : ℕ) → all ≡ us ++ (es ++ ws) → AreWritten all (places_of (is_store_of h) (length us) es) (stores h es)
 written_stores all us [] ws h split = tt
@@ -90,7 +91,7 @@ written_stores all us (e ∷ es) ws h split =
 pub front_written : (es us ws : List Entry) (h : ℕ) → es ≡ us ++ ws → AreWritten es (store_places h us) (stores h us)
 front_written es us ws h split = written_stores es [] us ws h split
 
-pub front_balanced : (B : ℕ) (o : Start) (es us ws : List Entry) (h : ℕ) → LegalAfter B o [] es → es ≡ us ++ ws → lands h us ≤ length (store_places h us)
+pub front_balanced : (B : ℕ) (o : OpeningValue) (es us ws : List Entry) (h : ℕ) → LegalAfter B o [] es → es ≡ us ++ ws → lands h us ≤ length (store_places h us)
 front_balanced B o es us ws h legal split =
     let front : LegalAfter B o [] us = LegalAfter-front B o [] us ws (subst (λ (zs : List Entry). LegalAfter B o [] zs) split legal) in
     let le : lands h us ≤ length (stores h us) = balanced-after B o [] us h front (omega arith) in
@@ -100,16 +101,16 @@ front_balanced B o es us ws h legal split =
 pub front_stores : (es us ws : List Entry) (h : ℕ) → es ≡ us ++ ws → store_places h es ≡ store_places h us ++ places_of (is_store_of h) (length us) ws
 front_stores es us ws h split = ap (store_places h) split ∙ places_of-split (is_store_of h) us ws
 
-pub front_landed : (B : ℕ) (o : Start) (es us ws : List Entry) (h : ℕ) → LegalAfter B o [] es → es ≡ us ++ ws → take (lands h us) (store_places h es) ≡ take (lands h us) (store_places h us)
+pub front_landed : (B : ℕ) (o : OpeningValue) (es us ws : List Entry) (h : ℕ) → LegalAfter B o [] es → es ≡ us ++ ws → take (lands h us) (store_places h es) ≡ take (lands h us) (store_places h us)
 front_landed B o es us ws h legal split =
     ap (take (lands h us)) (front_stores es us ws h split)
     ∙ take-append-le (lands h us) (store_places h us) (places_of (is_store_of h) (length us) ws) (front_balanced B o es us ws h legal split)
 
-pub front_allows : (B : ℕ) (o : Start) (es us : List Entry) (e : Entry) (ws : List Entry) → LegalAfter B o [] es → es ≡ us ++ e ∷ ws → Allowed B o us e
+pub front_allows : (B : ℕ) (o : OpeningValue) (es us : List Entry) (e : Entry) (ws : List Entry) → LegalAfter B o [] es → es ≡ us ++ e ∷ ws → Allowed B o us e
 front_allows B o es us e ws legal split = (LegalAfter-back B o [] us (e ∷ ws) (subst (λ (zs : List Entry). LegalAfter B o [] zs) split legal)).0
 
 -- where nothing is pending of a hart, its stores have been performed
-pub store_performed : (B : ℕ) (o : Start) (es us ws : List Entry) (h p : ℕ) → LegalAfter B o [] es → es ≡ us ++ ws → pending h us ≡ [] → stores_at es h p ≡ true → p < length us → is_named p (performed_after es [] us) ≡ true
+pub store_performed : (B : ℕ) (o : OpeningValue) (es us ws : List Entry) (h p : ℕ) → LegalAfter B o [] es → es ≡ us ++ ws → pending h us ≡ [] → stores_at es h p ≡ true → p < length us → is_named p (performed_after es [] us) ≡ true
 store_performed B o es us ws h p legal split none own lt =
     let same : length (store_places h us) ≡ length (stores h us) = AreWritten-length es (store_places h us) (stores h us) (front_written es us ws h split) in
     let left : length (drop (lands h us) (stores h us)) ≡ 0 = ap length none in
@@ -121,7 +122,7 @@ store_performed B o es us ws h p legal split none own lt =
     ∙ own
 
 -- a store that the front does not hold has not been performed by it
-pub store_not_yet : (B : ℕ) (o : Start) (es us ws : List Entry) (h q : ℕ) → LegalAfter B o [] es → es ≡ us ++ ws → stores_at es h q ≡ true → length us ≤ q → is_named q (performed_after es [] us) ≡ false
+pub store_not_yet : (B : ℕ) (o : OpeningValue) (es us ws : List Entry) (h q : ℕ) → LegalAfter B o [] es → es ≡ us ++ ws → stores_at es h q ≡ true → length us ≤ q → is_named q (performed_after es [] us) ≡ false
 store_not_yet B o es us ws h q legal split own le =
     store_in_front es us ws h q split own
     ∙ ap (is_named q) (front_landed B o es us ws h legal split)
@@ -134,5 +135,5 @@ store_not_yet B o es us ws h q legal split own le =
     (cc))
 
 -- an AMO or a full fence finds nothing pending of its hart
-pub barrier_waits : (B : ℕ) (o : Start) (us : List Entry) (h : ℕ) (e : Entry) → is_barrier h e ≡ true → Allowed B o us e → pending h us ≡ []
+pub barrier_waits : (B : ℕ) (o : OpeningValue) (us : List Entry) (h : ℕ) (e : Entry) → is_barrier h e ≡ true → Allowed B o us e → pending h us ≡ []
 barrier_waits B o us h e is may = grind (arith, eqb-true, and_parts)

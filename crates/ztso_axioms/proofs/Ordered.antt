@@ -5,7 +5,7 @@ use Rattle.std.specs.Option.{option_map_or}
 use Rattle.std.proofs.lemmas.Bool.{eqb-true, eq-eqb, and_parts, or_cases, ltb-true, not-true, not-false, false_from_ne_true}
 use Rattle.std.proofs.lemmas.List.{take-append-drop, length-take-le}
 use Rattle.std.proofs.lemmas.Option.{slice_get_within}
-use Rattle.step_machine.specs.History.{Start}
+use Rattle.step_machine.specs.History.{OpeningValue}
 use Rattle.step_machine.specs.Entries.{hart_of}
 use Rattle.step_machine.specs.Legal.{LegalAfter}
 use Rattle.step_machine.specs.declared.events.Entry.{Entry}
@@ -64,7 +64,7 @@ front_of : (es : List Entry) (q : ℕ) → es ≡ take q es ++ drop q es
 front_of es q = sym (take-append-drop q es)
 
 -- a store and a later read with a barrier of their hart between them
-by_barrier : (B : ℕ) (o : Start) (es us : List Entry) (e : Entry) (ws : List Entry) (h p q : ℕ) → LegalAfter B o [] es → es ≡ us ++ e ∷ ws → is_barrier h e ≡ true → stores_at es h p ≡ true → p < length us → reads_at es q ≡ true → length us ≤ q → is_before (performed_order es) p q ≡ true
+by_barrier : (B : ℕ) (o : OpeningValue) (es us : List Entry) (e : Entry) (ws : List Entry) (h p q : ℕ) → LegalAfter B o [] es → es ≡ us ++ e ∷ ws → is_barrier h e ≡ true → stores_at es h p ≡ true → p < length us → reads_at es q ≡ true → length us ≤ q → is_before (performed_order es) p q ≡ true
 by_barrier B o es us e ws h p q legal split barrier own lt reads le = grind (arith, by_front, store_performed, barrier_waits, front_allows, read_not_yet)
 
 any_split : (test : Entry → Bool) (xs : List Entry) → list_any test xs ≡ true → (ys : List Entry) × (e : Entry) × (zs : List Entry) × (xs ≡ ys ++ e ∷ zs) × (test e ≡ true)
@@ -75,7 +75,7 @@ any_split test (x ∷ xs) some = at (test x) refl some (any_split test xs)
     at true is so more = ([], x, xs, refl, is)
     at false is so more = let rest = more so in (x ∷ rest.0, rest.1, rest.2, ap (λ zs. x ∷ zs) rest.3, rest.4)
 
-by_fence : (B : ℕ) (o : Start) (es : List Entry) (h p q : ℕ) → LegalAfter B o [] es → is_fenced es h p q ≡ true → stores_at es h p ≡ true → p < q → q < length es → reads_at es q ≡ true → is_before (performed_order es) p q ≡ true
+by_fence : (B : ℕ) (o : OpeningValue) (es : List Entry) (h p q : ℕ) → LegalAfter B o [] es → is_fenced es h p q ≡ true → stores_at es h p ≡ true → p < q → q < length es → reads_at es q ≡ true → is_before (performed_order es) p q ≡ true
 by_fence B o es h p q legal fenced own lt within reads = at (any_split (is_barrier h) (drop (suc p) (take q es)) fenced)
   where
     at : (ys : List Entry) × (e : Entry) × (zs : List Entry) × (drop (suc p) (take q es) ≡ ys ++ e ∷ zs) × (is_barrier h e ≡ true) → is_before (performed_order es) p q ≡ true
@@ -105,7 +105,7 @@ by_stores es h p q own_p own_q lt within =
     ∙ before-split (store_places h us) (places_of (is_store_of h) (length us) ws) p q some none
 
 -- a read, and a later operation
-by_read : (B : ℕ) (o : Start) (es : List Entry) (p q : ℕ) → LegalAfter B o [] es → reads_at es p ≡ true → (reads_at es q ≡ true) ⊎ (stores_at es (hart_at es q) q ≡ true) → p < q → q < length es → is_before (performed_order es) p q ≡ true
+by_read : (B : ℕ) (o : OpeningValue) (es : List Entry) (p q : ℕ) → LegalAfter B o [] es → reads_at es p ≡ true → (reads_at es q ≡ true) ⊎ (stores_at es (hart_at es q) q ≡ true) → p < q → q < length es → is_before (performed_order es) p q ≡ true
 by_read B o es p q legal reads kind lt within =
     by_front es (take (suc p) es) (drop (suc p) es) p q (front_of es (suc p))
     (read_performed es (take (suc p) es) (drop (suc p) es) p (front_of es (suc p)) reads (omega (arith, length-take-le (suc p) es)))
@@ -119,7 +119,7 @@ by_read B o es p q legal reads kind lt within =
     later (inr s) = store_not_yet B o es (take (suc p) es) (drop (suc p) es) (hart_at es q) q legal (front_of es (suc p)) s (omega (arith, len))
 
 -- a store, and a later read that may not pass it
-by_store : (B : ℕ) (o : Start) (es : List Entry) (h p q : ℕ) → LegalAfter B o [] es → stores_at es h p ≡ true → h ≡ hart_at es q → may_pass es p q ≡ false → p < q → q < length es → reads_at es q ≡ true → is_before (performed_order es) p q ≡ true
+by_store : (B : ℕ) (o : OpeningValue) (es : List Entry) (h p q : ℕ) → LegalAfter B o [] es → stores_at es h p ≡ true → h ≡ hart_at es q → may_pass es p q ≡ false → p < q → q < length es → reads_at es q ≡ true → is_before (performed_order es) p q ≡ true
 by_store B o es h p q legal own hart held lt within reads = at (load_or_amo es q reads)
   where
     amo_barrier : (e : Entry) → slice_get es q ≡ Some e → is_amo e ≡ true → is_barrier h e ≡ true
@@ -139,5 +139,5 @@ by_store B o es h p q legal own hart held lt within reads = at (load_or_amo es q
         let len : length (take q es) ≡ q = length-take-le q es (omega arith) in
         by_barrier B o es (take q es) found.0 (drop (suc q) es) h p q legal (split_entry es q found.0 found.1) (amo_barrier found.0 found.1 found.2) own (omega arith) reads (omega arith)
 
-pub order-program : (B : ℕ) (o : Start) (es : List Entry) → LegalAfter B o [] es → KeepsProgramOrder es (performed_order es)
+pub order-program : (B : ℕ) (o : OpeningValue) (es : List Entry) → LegalAfter B o [] es → KeepsProgramOrder es (performed_order es)
 order-program B o es legal p q is = grind (arith, and_parts, nat_lt, eqb-true, ltb-true, some_at, slice_get_within, not-true, kind_at, reads_at, stores_at, by_read, by_store, by_stores)

@@ -10,6 +10,7 @@ use Rattle.std.proofs.lemmas.List.Elements.{All-append, All-cons, All-drop, All-
 use Rattle.step_machine.specs.Entries.{hart_of, land_of, lands}
 use Rattle.step_machine.specs.declared.events.Entry.{Entry}
 use Rattle.step_machine.specs.declared.events.Entry.TheVariants as entry
+use Rattle.step_machine.proofs.Appended.{entry_there}
 use Rattle.ztso_axioms.specs.Operations.{is_load, is_amo, is_operation, passes, is_at}
 use Rattle.ztso_axioms.specs.Performed.{places_of, is_store_of, store_places, performed_by, performed_after, left_places, left_below, hart_bound}
 use Rattle.ztso_axioms.proofs.Members.{IsPassed, places_of-cons, place_of, lands-last, AllPass-get, AllPass-places, filter-every, filter-none}
@@ -26,12 +27,8 @@ stores_at es h p = is_at (is_store_of h) es p
 abbrev pub reads_at : List Entry → ℕ → Bool
 reads_at es p = is_at is_reader es p
 
-pub entry_here : (us : List Entry) (e : Entry) (ws : List Entry) → slice_get (us ++ e ∷ ws) (length us) ≡ Some e
-entry_here [] e ws = refl
-entry_here (u ∷ us) e ws = entry_here us e ws
-
 at_here : (test : Entry → Bool) (all us : List Entry) (e : Entry) (ws : List Entry) → all ≡ us ++ e ∷ ws → is_at test all (length us) ≡ test e
-at_here test all us e ws split = ap (λ es. passes test (slice_get es (length us))) split ∙ ap (passes test) (entry_here us e ws)
+at_here test all us e ws split = ap (λ es. passes test (slice_get es (length us))) split ∙ ap (passes test) (entry_there us e ws)
 
 -- take one more
 take_next : (xs : List ℕ) (k n : ℕ) → option_to_list (slice_get xs k) ++ take n (drop (k + 1) xs) ≡ take (1 + n) (drop k xs)

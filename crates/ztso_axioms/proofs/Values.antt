@@ -10,20 +10,21 @@ use Rattle.std.proofs.lemmas.Option.{slice_get_within}
 use Rattle.std.specs.Int.{byte_at}
 use Rattle.memory.specs.Writes.{write, covers, newest_of}
 use Rattle.memory.proofs.Bytes.{joined-same, byte_below}
-use Rattle.step_machine.specs.History.{Start, History}
+use Rattle.step_machine.specs.History.{OpeningValue, History}
 use Rattle.step_machine.specs.Entries.{hart_of, stores, lands, write_of, landed_after, opening_byte, memory_byte, read_byte, read}
 use Rattle.step_machine.specs.Legal.{Allowed, LegalAfter, Legal}
 use Rattle.step_machine.specs.declared.events.Entry.{Entry}
 use Rattle.step_machine.specs.declared.events.Entry.TheVariants as entry
 use Rattle.memory.proofs.Newest.{newest_of-append}
 use Rattle.step_machine.proofs.Appended.{LegalAfter-front}
+use Rattle.step_machine.proofs.Appended.{entry_there}
 use Rattle.ztso_axioms.specs.Operations.{is_operation, passes, is_at, hart_at, read_of, written_to, written_at, byte_in}
 use Rattle.ztso_axioms.specs.Axioms.{times_named, before, is_named, in_program_order, is_seen, last_written, byte_for, value_for, HasLoadValue, Ztso}
 use Rattle.ztso_axioms.specs.Performed.{places_of, is_store_of, store_places, performed_by, performed_after, left_below, hart_bound, order}
 use Rattle.ztso_axioms.proofs.Listing.{times-append, times-none, times-some, named-append, before-at}
 use Rattle.ztso_axioms.proofs.Checked.{once_of, last_written-append}
 use Rattle.ztso_axioms.proofs.Members.{IsPassed, passes_by_name, named_passes, AllPass-places, filter-every, filter-none, filter-same, filter-both, times-low}
-use Rattle.ztso_axioms.proofs.Performs.{is_reader, stores_at, reads_at, entry_here, stores_performed, order-stores, order-operations}
+use Rattle.ztso_axioms.proofs.Performs.{is_reader, stores_at, reads_at, stores_performed, order-stores, order-operations}
 use Rattle.ztso_axioms.proofs.Fronts.{split_entry, at_past, order-front, AreWritten, AreWritten-length, AreWritten-drop, front_written, front_balanced, front_stores, front_allows}
 use Rattle.ztso_axioms.proofs.Ordered.{performed_order, kind_at, order-once, order-program, read_performed, read_not_yet}
 use Rattle.memory.specs.declared.writes.Write.{Write}
@@ -52,11 +53,11 @@ written_first : (all : List Entry) (gs : List ℕ) (ps : List Write) → AreWrit
 written_first all gs ps written = grind arith
 
 -- what one entry performs writes what it writes to memory
-writes_by : (B : ℕ) (o : Start) (all us : List Entry) (e : Entry) (ws : List Entry) (a w : ℕ) (found : Option ℕ) → all ≡ us ++ e ∷ ws → Allowed B o us e → last_written all a (unwrap_or found w) (performed_by all us e) ≡ unwrap_or (newest_of a found (write_of us e)) w
+writes_by : (B : ℕ) (o : OpeningValue) (all us : List Entry) (e : Entry) (ws : List Entry) (a w : ℕ) (found : Option ℕ) → all ≡ us ++ e ∷ ws → Allowed B o us e → last_written all a (unwrap_or found w) (performed_by all us e) ≡ unwrap_or (newest_of a found (write_of us e)) w
 writes_by B o all us e ws a w found split = at e split
   where
     written : (d : Entry) → all ≡ us ++ d ∷ ws → written_at all a (length us) ≡ written_to a d
-    written d here = ap (λ zs. written_at zs a (length us)) here ∙ ap (option_and_then (written_to a)) (entry_here us d ws)
+    written d here = ap (λ zs. written_at zs a (length us)) here ∙ ap (option_and_then (written_to a)) (entry_there us d ws)
 
     at : (d : Entry) → all ≡ us ++ d ∷ ws → Allowed B o us d → last_written all a (unwrap_or found w) (performed_by all us d) ≡ unwrap_or (newest_of a found (write_of us d)) w
     at (entry.Load g b width v) here may = ap (λ so. unwrap_or so (unwrap_or found w)) (written (entry.Load g b width v) here)
@@ -72,7 +73,7 @@ writes_by B o all us e ws a w found split = at e split
     at other here may = refl
 
 -- what entries perform writes what reaches memory
-writes_after : (B : ℕ) (o : Start) (all us es ws : List Entry) (a w : ℕ) (found : Option ℕ) → all ≡ us ++ (es ++ ws) → LegalAfter B o us es → last_written all a (unwrap_or found w) (performed_after all us es) ≡ unwrap_or (newest_of a found (landed_after us es)) w
+writes_after : (B : ℕ) (o : OpeningValue) (all us es ws : List Entry) (a w : ℕ) (found : Option ℕ) → all ≡ us ++ (es ++ ws) → LegalAfter B o us es → last_written all a (unwrap_or found w) (performed_after all us es) ≡ unwrap_or (newest_of a found (landed_after us es)) w
 writes_after B o all us [] ws a w found split legal = refl
 writes_after B o all us (e ∷ es) ws a w found split legal =
     last_written-append all a (unwrap_or found w) (performed_by all us e) (performed_after all (us ++ e ∷ []) es)
@@ -80,7 +81,7 @@ writes_after B o all us (e ∷ es) ws a w found split legal =
     ∙ writes_after B o all (us ++ e ∷ []) es ws a w (newest_of a found (write_of us e)) (split ∙ sym (append_assoc us (e ∷ []) (es ++ ws))) legal.1
     ∙ ap (λ so. unwrap_or so w) (sym (newest_of-append a found (write_of us e) (landed_after (us ++ e ∷ []) es)))
 
-front_memory : (B : ℕ) (o : Start) (es us ws : List Entry) (a : ℕ) → LegalAfter B o [] es → es ≡ us ++ ws → last_written es a (opening_byte o a) (performed_after es [] us) ≡ memory_byte o us a
+front_memory : (B : ℕ) (o : OpeningValue) (es us ws : List Entry) (a : ℕ) → LegalAfter B o [] es → es ≡ us ++ ws → last_written es a (opening_byte o a) (performed_after es [] us) ≡ memory_byte o us a
 front_memory B o es us ws a legal split =
     writes_after B o es [] us ws a (opening_byte o a) None split (LegalAfter-front B o [] us ws (subst (λ (zs : List Entry). LegalAfter B o [] zs) split legal))
 
@@ -101,7 +102,7 @@ back_stores es us ws h split =
     ∙ sym (take-append-drop (lands h us) (store_places h es)))
 
 -- those of them before place q are the pending ones
-pending_places : (B : ℕ) (o : Start) (es us ws : List Entry) (h q : ℕ) → LegalAfter B o [] es → es ≡ us ++ ws → length us ≡ q → filter (λ x. nat_lt x q) (drop (lands h us) (store_places h es)) ≡ drop (lands h us) (store_places h us)
+pending_places : (B : ℕ) (o : OpeningValue) (es us ws : List Entry) (h q : ℕ) → LegalAfter B o [] es → es ≡ us ++ ws → length us ≡ q → filter (λ x. nat_lt x q) (drop (lands h us) (store_places h es)) ≡ drop (lands h us) (store_places h us)
 pending_places B o es us ws h q legal split len =
     ap (λ zs. filter (λ x. nat_lt x q) (drop (lands h us) zs)) (front_stores es us ws h split)
     ∙ ap (filter (λ x. nat_lt x q)) (drop-append-le (lands h us) (store_places h us) (places_of (is_store_of h) (length us) ws) (front_balanced B o es us ws h legal split))
@@ -131,8 +132,8 @@ reader_performs : (es us : List Entry) (e : Entry) → is_reader e ≡ true → 
 reader_performs es us e is = grind arith
 
 -- what stands before a read is what the front performed
-before_read : (es us : List Entry) (e : Entry) (ws : List Entry) (q : ℕ) → es ≡ us ++ e ∷ ws → length us ≡ q → is_reader e ≡ true → reads_at es q ≡ true → before q (performed_order es) ≡ performed_after es [] us
-before_read es us e ws q split len reader reads =
+before-read : (es us : List Entry) (e : Entry) (ws : List Entry) (q : ℕ) → es ≡ us ++ e ∷ ws → length us ≡ q → is_reader e ≡ true → reads_at es q ≡ true → before q (performed_order es) ≡ performed_after es [] us
+before-read es us e ws q split len reader reads =
     let absent : times_named q (performed_after es [] us) ≡ 0 = times-none q (performed_after es [] us) (read_not_yet es us (e ∷ ws) q split reads (omega arith)) in
     let itself : performed_by es us e ≡ q ∷ [] = reader_performs es us e reader ∙ ap (λ n. n ∷ []) len in
     ap (before q) (order-front es us (e ∷ ws) split)
@@ -140,7 +141,7 @@ before_read es us e ws q split len reader reads =
     ∙ before-at q (performed_after es [] us) (performed_after es (us ++ e ∷ []) ws ++ left_below (hart_bound es) es) absent
 
 -- a read sees what the front performed, and then its hart's pending stores
-seen_by_read : (B : ℕ) (o : Start) (es us : List Entry) (e : Entry) (ws : List Entry) (q : ℕ) → LegalAfter B o [] es → es ≡ us ++ e ∷ ws → length us ≡ q → is_reader e ≡ true → reads_at es q ≡ true → filter (is_seen es (performed_order es) q) (performed_order es) ≡ performed_after es [] us ++ drop (lands (hart_at es q) us) (store_places (hart_at es q) us)
+seen_by_read : (B : ℕ) (o : OpeningValue) (es us : List Entry) (e : Entry) (ws : List Entry) (q : ℕ) → LegalAfter B o [] es → es ≡ us ++ e ∷ ws → length us ≡ q → is_reader e ≡ true → reads_at es q ≡ true → filter (is_seen es (performed_order es) q) (performed_order es) ≡ performed_after es [] us ++ drop (lands (hart_at es q) us) (store_places (hart_at es q) us)
 seen_by_read B o es us e ws q legal split len reader reads =
     ap (filter (is_seen es (performed_order es) q)) (order-front es us (e ∷ ws) split)
     ∙ filter-append (is_seen es (performed_order es) q) (performed_after es [] us) (performed_after es us (e ∷ ws) ++ left_below (hart_bound es) es)
@@ -152,7 +153,7 @@ seen_by_read B o es us e ws q legal split len reader reads =
     ∙ pending_places B o es us (e ∷ ws) (hart_at es q) q legal split len)
   where
     seen_is : (x : ℕ) → is_seen es (performed_order es) q x ≡ (is_named x (performed_after es [] us) || in_program_order es x q)
-    seen_is x = ap (λ gs. is_named x gs || in_program_order es x q) (before_read es us e ws q split len reader reads)
+    seen_is x = ap (λ gs. is_named x gs || in_program_order es x q) (before-read es us e ws q split len reader reads)
 
     front : AllPass (is_seen es (performed_order es) q) (performed_after es [] us)
     front = passes_by_name (is_seen es (performed_order es) q) (performed_after es [] us) (λ x named. seen_is x ∙ ap (λ b. b || in_program_order es x q) named)
@@ -179,7 +180,7 @@ seen_by_read B o es us e ws q legal split len reader reads =
         seen_is x ∙ ap (λ b. b || in_program_order es x q) out ∙ sees_own es q x us (e ∷ ws) split len out (operation x named)
 
 -- so each byte is what the store buffers and memory give it
-byte_of_read : (B : ℕ) (o : Start) (es us : List Entry) (e : Entry) (ws : List Entry) (q a : ℕ) → LegalAfter B o [] es → es ≡ us ++ e ∷ ws → length us ≡ q → is_reader e ≡ true → reads_at es q ≡ true → byte_for o es (performed_order es) q a ≡ read_byte o us (hart_at es q) a
+byte_of_read : (B : ℕ) (o : OpeningValue) (es us : List Entry) (e : Entry) (ws : List Entry) (q a : ℕ) → LegalAfter B o [] es → es ≡ us ++ e ∷ ws → length us ≡ q → is_reader e ≡ true → reads_at es q ≡ true → byte_for o es (performed_order es) q a ≡ read_byte o us (hart_at es q) a
 byte_of_read B o es us e ws q a legal split len reader reads =
     ap (last_written es a (opening_byte o a)) (seen_by_read B o es us e ws q legal split len reader reads)
     ∙ last_written-append es a (opening_byte o a) (performed_after es [] us) (drop (lands (hart_at es q) us) (store_places (hart_at es q) us))
@@ -187,10 +188,10 @@ byte_of_read B o es us e ws q a legal split len reader reads =
     ∙ written_values es a (memory_byte o us a) None (drop (lands (hart_at es q) us) (store_places (hart_at es q) us)) (drop (lands (hart_at es q) us) (stores (hart_at es q) us))
     (AreWritten-drop es (lands (hart_at es q) us) (store_places (hart_at es q) us) (stores (hart_at es q) us) (front_written es us (e ∷ ws) (hart_at es q) split))
 
-reads_what : (B : ℕ) (o : Start) (us : List Entry) (e : Entry) (a n v : ℕ) → read_of e ≡ Some (a, n, v) → Allowed B o us e → (is_reader e ≡ true) × (v ≡ read o us (hart_of e) a n)
+reads_what : (B : ℕ) (o : OpeningValue) (us : List Entry) (e : Entry) (a n v : ℕ) → read_of e ≡ Some (a, n, v) → Allowed B o us e → (is_reader e ≡ true) × (v ≡ read o us (hart_of e) a n)
 reads_what B o us e a n v is may = grind arith
 
-pub order-values : (B : ℕ) (o : Start) (es : List Entry) → LegalAfter B o [] es → (q : ℕ) → HasLoadValue o es (performed_order es) q
+pub order-values : (B : ℕ) (o : OpeningValue) (es : List Entry) → LegalAfter B o [] es → (q : ℕ) → HasLoadValue o es (performed_order es) q
 order-values B o es legal q a width v is = at (slice_get es q) refl is
   where
     at : (so : Option Entry) → slice_get es q ≡ so → option_and_then read_of so ≡ Some (a, width, v) → v ≡ value_for o es (performed_order es) q a width
@@ -213,27 +214,27 @@ legal-ztso B t legal = grind (arith, order-once, order-program, order-values)
 
 -- ---- A read's value against the bytes that the order gives it
 
-byte_in_below : (w : Write) (a b : ℕ) → b < 256 → unwrap_or (byte_in w a) b < 256
-byte_in_below w a b small = cond_both (covers w a) _ _ (λ found. unwrap_or found b < 256) (λ _. byte_below (a - w.addr) w.value) (λ _. small)
+byte_in-below : (w : Write) (a b : ℕ) → b < 256 → unwrap_or (byte_in w a) b < 256
+byte_in-below w a b small = cond_both (covers w a) _ _ (λ found. unwrap_or found b < 256) (λ _. byte_below (a - w.addr) w.value) (λ _. small)
 
 written_below : (a b : ℕ) (so : Option Entry) → b < 256 → unwrap_or (option_and_then (written_to a) so) b < 256
-written_below a b so small = grind (arith, byte_in_below)
+written_below a b so small = grind (arith, byte_in-below)
 
 last_below : (es : List Entry) (a b : ℕ) (gs : List ℕ) → b < 256 → last_written es a b gs < 256
 last_below es a b [] small = small
 last_below es a b (g ∷ gs) small = last_below es a (unwrap_or (written_at es a g) b) gs (written_below a b (slice_get es g) small)
 
-pub byte_for-below : (o : Start) (es : List Entry) (gs : List ℕ) (q a : ℕ) → byte_for o es gs q a < 256
+pub byte_for-below : (o : OpeningValue) (es : List Entry) (gs : List ℕ) (q a : ℕ) → byte_for o es gs q a < 256
 byte_for-below o es gs q a = last_below es a (opening_byte o a) (filter (is_seen es gs q) gs) (byte_below (a % 4) (slice_index o.words (a / 4)))
 
 -- the value is the number of the bytes, where each is right and nothing is above them
-pub value_from_bytes : (o : Start) (es : List Entry) (gs : List ℕ) (q a width v : ℕ) → v < 256 ^ width → ((i : ℕ) → i < width → byte_at i v ≡ byte_for o es gs q (a + i)) → v ≡ value_for o es gs q a width
+pub value_from_bytes : (o : OpeningValue) (es : List Entry) (gs : List ℕ) (q a width v : ℕ) → v < 256 ^ width → ((i : ℕ) → i < width → byte_at i v ≡ byte_for o es gs q (a + i)) → v ≡ value_for o es gs q a width
 value_from_bytes o es gs q a width v below same = number_of_bytes (λ i. byte_for o es gs q (a + i)) v width below same
 
-pub bytes_from_value : (o : Start) (es : List Entry) (gs : List ℕ) (q a width v i : ℕ) → v ≡ value_for o es gs q a width → i < width → byte_at i v ≡ byte_for o es gs q (a + i)
+pub bytes_from_value : (o : OpeningValue) (es : List Entry) (gs : List ℕ) (q a width v i : ℕ) → v ≡ value_for o es gs q a width → i < width → byte_at i v ≡ byte_for o es gs q (a + i)
 bytes_from_value o es gs q a width v i is lt = grind (arith, byte_of_joined-any, byte_for-below)
 
-pub below_from_value : (o : Start) (es : List Entry) (gs : List ℕ) (q a width v : ℕ) → v ≡ value_for o es gs q a width → v < 256 ^ width
+pub below_from_value : (o : OpeningValue) (es : List Entry) (gs : List ℕ) (q a width v : ℕ) → v ≡ value_for o es gs q a width → v < 256 ^ width
 below_from_value o es gs q a width v is = subst (λ (n : ℕ). n < 256 ^ width) (sym is) (joined-below (λ j. byte_for o es gs q (a + j)) (λ j. byte_for-below o es gs q (a + j)) width)
 
 pub below_all : (n v : ℕ) → 4 ≤ n → v < 2 ^ 32 → v < 256 ^ n

@@ -108,8 +108,8 @@ stores_more h es i d b lt is =
     ∙ ap (λ n. store_places h (take i es) ++ place_of (is_store_of h) n (get_or es i d)) len
     ∙ ap (λ c. store_places h (take i es) ++ (if c then i ∷ [] else [])) is
 
-pub lands_more : (h : ℕ) (es : List Entry) (i : ℕ) (d : Entry) → i < length es → lands h (take (i + 1) es) ≡ lands h (take i es) + land_of h (get_or es i d)
-lands_more h es i d lt = ap (lands h) (take_more es i d lt) ∙ lands-last h (take i es) (get_or es i d)
+pub lands-more : (h : ℕ) (es : List Entry) (i : ℕ) (d : Entry) → i < length es → lands h (take (i + 1) es) ≡ lands h (take i es) + land_of h (get_or es i d)
+lands-more h es i d lt = ap (lands h) (take_more es i d lt) ∙ lands-last h (take i es) (get_or es i d)
 
 -- what an entry performs, by the list of landings
 pub performed_by-there : (es : List Entry) (i : ℕ) (e : Entry) (landed : List (Option ℕ)) (stands : Option ℕ) → NamesLandings es (hart_bound es) landed → slice_get es i ≡ Some e → i ≡ length (take i es) → stands ≡ get_or landed i None → performed_by es (take i es) e ≡ option_to_list (performed_there e i stands)
@@ -183,7 +183,7 @@ naming_hit es h i count old landed d stands n lt is stands_is =
     let len : length landed ≡ length es = n.len in
     record {
       few = omega arith;
-      counted = ap (λ m. m + 1) n.counted ∙ sym (lands_more h es i d lt ∙ ap (λ e. lands h (take i es) + land_of h e) is ∙ ap (λ m. lands h (take i es) + m) (land_of-land h));
+      counted = ap (λ m. m + 1) n.counted ∙ sym (lands-more h es i d lt ∙ ap (λ e. lands h (take i es) + land_of h e) is ∙ ap (λ m. lands h (take i es) + m) (land_of-land h));
       len = length-set landed i stands ∙ n.len;
       added = λ k below is_k. at k (k == i) refl below is_k (omega arith);
       others = λ k no. get_or-set_other landed i k stands None (λ same. no (ap (slice_get es) same ∙ here)) ∙ n.others k no;
@@ -206,7 +206,7 @@ naming_missed es h i count old landed d n lt not_is =
     let none : lands h (take i es) + land_of h (get_or es i d) ≡ lands h (take i es) = let zero_is : land_of h (get_or es i d) ≡ 0 = land_of-else h (get_or es i d) not_is in omega arith in
     record {
       few = omega arith;
-      counted = n.counted ∙ sym (lands_more h es i d lt ∙ none);
+      counted = n.counted ∙ sym (lands-more h es i d lt ∙ none);
       len = n.len;
       added = λ k below is_k. n.added k (lt_of k below is_k) is_k;
       others = n.others;

@@ -4,7 +4,7 @@ use Rattle.std.specs.Prelude.{ℕ, suc, ◌+◌, ◌≡◌, ◌==◌, Bool, not,
 use Rattle.std.specs.List.{list_any}
 use Rattle.step_machine.specs.Entries.{hart_of, opening_byte}
 use Rattle.memory.specs.Writes.{joined}
-use Rattle.step_machine.specs.History.{Start, History}
+use Rattle.step_machine.specs.History.{OpeningValue, History}
 use Rattle.step_machine.specs.declared.events.Entry.{Entry}
 use Rattle.ztso_axioms.specs.Operations.{is_load, is_store, is_amo, is_full_fence, is_operation, is_at, hart_at, read_at, written_at}
 
@@ -57,10 +57,10 @@ last_written es a w [] = w
 last_written es a w (g ∷ gs) = last_written es a (unwrap_or (written_at es a g) w) gs
 
 -- the byte that the Load Value Axiom gives the read at q of address a, and the number of `width` bytes from there
-abbrev pub byte_for : Start → List Entry → List ℕ → ℕ → ℕ → ℕ
+abbrev pub byte_for : OpeningValue → List Entry → List ℕ → ℕ → ℕ → ℕ
 byte_for o es gs q a = last_written es a (opening_byte o a) (filter (is_seen es gs q) gs)
 
-abbrev pub value_for : Start → List Entry → List ℕ → ℕ → ℕ → ℕ → ℕ
+abbrev pub value_for : OpeningValue → List Entry → List ℕ → ℕ → ℕ → ℕ → ℕ
 value_for o es gs q a width = joined (λ i. byte_for o es gs q (a + i)) width
 
 -- each operation is named once, and nothing else is
@@ -72,7 +72,7 @@ abbrev pub KeepsProgramOrder : List Entry → List ℕ → Type 0
 KeepsProgramOrder es gs = (p q : ℕ) → IsTrue (is_preserved es p q) → IsTrue (is_before gs p q)
 
 -- a load at q, or an AMO's for its old word, has the value of the Load Value Axiom
-abbrev pub HasLoadValue : Start → List Entry → List ℕ → ℕ → Type 0
+abbrev pub HasLoadValue : OpeningValue → List Entry → List ℕ → ℕ → Type 0
 HasLoadValue o es gs q = (a width v : ℕ) → read_at es q ≡ Some (a, width, v) → v ≡ value_for o es gs q a width
 
 -- The list is a global memory order that Ztso allows for the trace. An AMO is one operation and there is

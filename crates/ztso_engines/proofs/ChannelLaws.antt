@@ -2,11 +2,11 @@
 use Rattle.std.proofs.Common.{◌≡◌, ◌⊎◌, inl, inr, ℕ, Bool, true, false, List, [], refl, sym, subst, ◌∙◌, Result, Ok, Err}
 use Rattle.std.specs.Prelude.{Option, Some, None}
 use Rattle.hart.specs.declared.need.Report.{Report}
-use Rattle.step_machine.specs.History.{Start, History}
+use Rattle.step_machine.specs.History.{OpeningValue, History}
 use Rattle.step_machine.specs.Runs.{Run}
 use Rattle.step_machine.specs.declared.events.Event.{Event}
-use Rattle.recorder.specs.Versions.{Said}
-use Rattle.recorder.specs.Versions.Said.{plain, recorded}
+use Rattle.recorder.specs.Versions.{ScheduleValue}
+use Rattle.recorder.specs.Versions.ScheduleValue.{plain, recorded}
 use Rattle.recorder.specs.declared.replaying.CheckError.{CheckError}
 use Rattle.recorder.specs.declared.replaying.CheckError.TheVariants as check
 use Rattle.recorder.specs.Replaying.{IsRunRecord, DiffersAt, Differs}
@@ -18,33 +18,33 @@ use Rattle.poll_close.specs.declared.faults.Refused.TheVariants as refused
 use Rattle.poll_close.specs.declared.faults.RefusedAt.{RefusedAt}
 use Rattle.poll_close.specs.declared.faults.RefusedAt.TheVariants as why
 use Rattle.poll_close.specs.declared.place.Place.{Place}
-use Rattle.engine_parts.specs.declared.fault.Fault.{Fault}
-use Rattle.engine_parts.specs.declared.fault.Fault.TheVariants.{NoMemory, Refused}
-use Rattle.engine_parts.specs.declared.fault.Refusal.{Refusal}
-use Rattle.engine_parts.specs.Engines.{Output, OfInput, AnswersBoth}
-use Rattle.engine_parts.specs.Faults.{AnswersAs}
-use Rattle.engine_parts.specs.Histories.{fault_of_check}
-use Rattle.engine_parts.specs.Schedules.{IsNoSchedule}
+use Rattle.engine_support.specs.declared.fault.Fault.{Fault}
+use Rattle.engine_support.specs.declared.fault.Fault.TheVariants.{NoMemory, Refused}
+use Rattle.engine_support.specs.declared.fault.Refusal.{Refusal}
+use Rattle.engine_support.specs.Engines.{Output, OfInput, AnswersBoth}
+use Rattle.engine_support.specs.Faults.{AnswersAs}
+use Rattle.engine_support.specs.Histories.{fault_of_check}
+use Rattle.engine_support.specs.Schedules.{IsNoSchedule}
 use Rattle.ztso_engines.specs.Channels.{fault_from, IsUnfilled, IsDelivery, IsReported, IsUnreported, IsChannelAnswer, Reported, opening_over}
 use Rattle.ztso_engines.specs.Channels.IsChannelAnswer.{no_schedule, no_lists, unreported, delivered}
-use Rattle.engine_parts.specs.inner.Making.{Finds, FindsBy}
-use Rattle.engine_parts.specs.inner.Inputs.{IsReadAsSchedule}
+use Rattle.engine_support.specs.inner.Making.{FindsUpToReads, FindsByUpToReads}
+use Rattle.engine_support.specs.inner.Inputs.{IsReadAsSchedule}
 use Rattle.ztso_engines.specs.inner.Inputs.{IsReadAsLists}
 use Rattle.ztso_engines.specs.inner.Reporting.{Reports}
-use Rattle.engine_parts.proofs.Endings.{answered_by, handed_on, weaker}
+use Rattle.engine_support.proofs.Endings.{answered_by, handed_on, weaker}
 
 -- ---- what a schedule and lists give
 
 module _ (ring : Ring) (B M : ℕ) (place : Place) (lists : List (List ℕ)) where
   -- a reason is want of memory, or one that a fault of the input has
-  refusal_as : (because : RefusedAt) → RefusesAt ring M lists (layout_of place []) because
+  pub refusal_as : (because : RefusedAt) → RefusesAt ring M lists (layout_of place []) because
       → (fault_from because ≡ NoMemory) ⊎ ((r : Refusal) × (fault_from because ≡ Refused r) × IsUnfilled because)
   refusal_as (why.Lists refused.NoMemory) refuses = inl refl
   refusal_as (why.FilledBlock word) refuses = absurd (refuses.2.filled refl)
   refusal_as other refuses = inr (_, refl, tt)
 
   -- where there is no channel, whatever must hold of an answer that may be such a refusal
-  pub no_channel : {X Y : Type 0} (IsAnswer : Result Y Refusal → Type 0) (view : X → Y) (said : Said)
+  pub no_channel : {X Y : Type 0} (IsAnswer : Result Y Refusal → Type 0) (view : X → Y) (said : ScheduleValue)
       → ((refusal : Refusal) → IsUnreported ring B M (layout_of place []) said lists refusal → IsAnswer (Err refusal))
       → (because : RefusedAt) (fault : Fault) → fault ≡ fault_from because → RefusesAt ring M lists (layout_of place []) because
       → AnswersAs IsAnswer view (Err fault)
@@ -57,15 +57,15 @@ module _ (ring : Ring) (B M : ℕ) (place : Place) (lists : List (List ℕ)) whe
       ]
 
   -- where a record differs
-  pub differs : (finish : Bool) {X : Type 0} (view : X → List Report) (steps : List Step) (o : Start) (error : CheckError) (fault : Fault)
+  pub differs : (finish : Bool) {X : Type 0} (view : X → List Report) (steps : List Step) (o : OpeningValue) (error : CheckError) (fault : Fault)
       → o ≡ opening_over ring (layout_of place []) lists → AcceptedAt ring M lists (layout_of place []) → fault ≡ fault_of_check error
       → Differs (DiffersAt B M o steps) error → AnswersAs (Reports ring B M (layout_of place []) finish (recorded steps) lists) view (Err fault)
   differs finish view steps o check.NoMemory fault is within holds other = rw holds tt
   differs finish view steps o (check.Differs event) fault is within holds other =
-      rw holds (inr (record { within = within; differs = (event, subst (λ (s : Start). DiffersAt B M s steps event) is other, refl) }))
+      rw holds (inr (record { within = within; differs = (event, subst (λ (s : OpeningValue). DiffersAt B M s steps event) is other, refl) }))
 
   -- what is reported of events alone comes of their run
-  ran : (finish : Bool) (o : Start) (events : List Event) (reports : List Report) → Reported finish B M o lists events reports
+  ran : (finish : Bool) (o : OpeningValue) (events : List Event) (reports : List Report) → Reported finish B M o lists events reports
       → (history : History) × Run B M o events history
   ran false o events reports is = (is.history, is.run)
   ran true o events reports is = (is.middle, is.run)
@@ -76,14 +76,14 @@ module _ (ring : Ring) (B M : ℕ) (place : Place) (lists : List (List ℕ)) whe
   events_reported finish events reports within is = record { within = within; ran = ran finish _ events reports is; delivers = is }
 
   -- and of a record, of the run in which it was checked
-  pub steps_reported : (finish : Bool) (steps : List Step) (o : Start) (t : History) (reports : List Report)
-      → ((p : Start) → IsRunRecord B M p steps t → Run B M p (events_in steps) t) → o ≡ opening_over ring (layout_of place []) lists
+  pub steps_reported : (finish : Bool) (steps : List Step) (o : OpeningValue) (t : History) (reports : List Report)
+      → ((p : OpeningValue) → IsRunRecord B M p steps t → Run B M p (events_in steps) t) → o ≡ opening_over ring (layout_of place []) lists
       → AcceptedAt ring M lists (layout_of place []) → IsRunRecord B M o steps t
       → (Run B M (opening_over ring (layout_of place []) lists) (events_in steps) t
       → Reported finish B M (opening_over ring (layout_of place []) lists) lists (events_in steps) reports)
       → IsReported ring B M (layout_of place []) finish (recorded steps) lists reports
   steps_reported finish steps o t reports runs is within made delivers =
-      let checked = subst (λ (p : Start). IsRunRecord B M p steps t) is made in
+      let checked = subst (λ (p : OpeningValue). IsRunRecord B M p steps t) is made in
       record { within = within; ran = (t, checked); delivers = delivers (runs _ checked) }
 
 -- ---- what answers both
@@ -95,23 +95,23 @@ module _ (ring : Ring) (B M : ℕ) (place : Place) (finish : Bool) (first second
   abbrev Answers : Result Output Refusal → Type 0
   Answers = AnswersBoth IsAnswer first second
 
-  abbrev ReadsSchedule : Said → Type 0
+  abbrev ReadsSchedule : ScheduleValue → Type 0
   ReadsSchedule said = OfInput first (λ bytes. IsReadAsSchedule bytes (Ok said))
 
   abbrev ReadsLists : List (List ℕ) → Type 0
   ReadsLists lists = OfInput second (λ bytes. IsReadAsLists bytes (Ok lists))
 
-  abbrev GivesReports : Said → List (List ℕ) → Result (List Report) Refusal → Type 0
+  abbrev GivesReports : ScheduleValue → List (List ℕ) → Result (List Report) Refusal → Type 0
   GivesReports = Reports ring B M (layout_of place []) finish
 
   -- both were read, and there are reports
-  pub answers_delivered : (said : Said) (lists : List (List ℕ)) (answer : Output) → ReadsSchedule said → ReadsLists lists
+  pub answers_delivered : (said : ScheduleValue) (lists : List (List ℕ)) (answer : Output) → ReadsSchedule said → ReadsLists lists
       → IsDelivery ring B M (layout_of place []) finish said lists answer → Answers (Ok answer)
   answers_delivered said lists answer schedule input is =
       weaker first _ _ (λ text says. weaker second _ _ (λ words holds. delivered said lists answer says holds is) input) schedule
 
   -- or there are none
-  answers_unreported : (said : Said) (lists : List (List ℕ)) (refusal : Refusal) → ReadsSchedule said → ReadsLists lists
+  answers_unreported : (said : ScheduleValue) (lists : List (List ℕ)) (refusal : Refusal) → ReadsSchedule said → ReadsLists lists
       → IsUnreported ring B M (layout_of place []) said lists refusal → Answers (Err refusal)
   answers_unreported said lists refusal schedule input none =
       weaker first _ _ (λ text says. weaker second _ _ (λ words holds. unreported said lists refusal says holds none) input) schedule
@@ -124,7 +124,7 @@ module _ (ring : Ring) (B M : ℕ) (place : Place) (finish : Bool) (first second
       any None text bad = ([], no_schedule refusal bad)
       any (Some words) text bad = no_schedule refusal bad
 
-  answers_no_lists : (said : Said) (refusal : Refusal) → ReadsSchedule said → OfInput second (λ bytes. IsReadAsLists bytes (Err refusal))
+  answers_no_lists : (said : ScheduleValue) (refusal : Refusal) → ReadsSchedule said → OfInput second (λ bytes. IsReadAsLists bytes (Err refusal))
       → Answers (Err refusal)
   answers_no_lists said refusal schedule none =
       weaker first _ _ (λ text says. weaker second _ _ (λ words bad. no_lists said refusal says bad) none) schedule
@@ -132,18 +132,18 @@ module _ (ring : Ring) (B M : ℕ) (place : Place) (finish : Bool) (first second
   -- ---- faults on the way
 
   module _ {X : Type 0} (seen : X → Output) (result : Result X Fault) (fault : Fault) (is : result ≡ Err fault) where
-    pub schedule_fault : {Y : Type 0} (view : Y → Said) → FindsBy IsReadAsSchedule view first (Err fault) → Finds Answers seen result
-    schedule_fault view = handed_on (λ (a : Result Said Refusal). OfInput first (λ bytes. IsReadAsSchedule bytes a))
+    pub schedule_fault : {Y : Type 0} (view : Y → ScheduleValue) → FindsByUpToReads IsReadAsSchedule view first (Err fault) → FindsUpToReads Answers seen result
+    schedule_fault view = handed_on (λ (a : Result ScheduleValue Refusal). OfInput first (λ bytes. IsReadAsSchedule bytes a))
         Answers view seen result fault answers_no_schedule is
 
-    pub lists_fault : {Y : Type 0} (view : Y → List (List ℕ)) (said : Said) → ReadsSchedule said → FindsBy IsReadAsLists view second (Err fault)
-        → Finds Answers seen result
+    pub lists_fault : {Y : Type 0} (view : Y → List (List ℕ)) (said : ScheduleValue) → ReadsSchedule said → FindsByUpToReads IsReadAsLists view second (Err fault)
+        → FindsUpToReads Answers seen result
     lists_fault view said schedule =
         handed_on (λ (a : Result (List (List ℕ)) Refusal). OfInput second (λ bytes. IsReadAsLists bytes a)) Answers view seen result fault
         (λ r. answers_no_lists said r schedule) is
 
-    pub reports_fault : {Y : Type 0} (view : Y → List Report) (said : Said) (lists given : List (List ℕ)) → ReadsSchedule said → ReadsLists lists
-        → given ≡ lists → AnswersAs (GivesReports said given) view (Err fault) → Finds Answers seen result
+    pub reports_fault : {Y : Type 0} (view : Y → List Report) (said : ScheduleValue) (lists given : List (List ℕ)) → ReadsSchedule said → ReadsLists lists
+        → given ≡ lists → AnswersAs (GivesReports said given) view (Err fault) → FindsUpToReads Answers seen result
     reports_fault view said lists given schedule input same answers =
         handed_on (GivesReports said lists) Answers view seen result fault (λ r. answers_unreported said lists r schedule input) is
         (answered_by (GivesReports said given) (GivesReports said lists) view (Err fault)

@@ -4,12 +4,12 @@ use Rattle.std.specs.List.{AllZip, flat_map}
 use Rattle.std.specs.Str.Lines.{lines}
 use Rattle.texts.specs.Numbers.{IsHexWord}
 use Rattle.texts.proofs.ResultLaws.{bind_ok, ok_is}
-use Rattle.engine_parts.specs.declared.fault.Refusal.{Refusal}
+use Rattle.engine_support.specs.declared.fault.Refusal.{Refusal}
 use Rattle.texts.specs.Cutting.{tokens}
 use Rattle.ztso_engines.specs.Dis.{SaysCode, code_of_lines, dis_at}
 use Rattle.texts.proofs.FormatLaws.{settled_found, settled_only}
 use Rattle.ztso_engines.proofs.NumberWords.{code_settles}
-use Rattle.engine_parts.proofs.LineFaulted.{at_line_ok}
+use Rattle.engine_support.proofs.LineFaulted.{at_line-ok}
 
 -- ---- two lists, element by element, in front of two others
 
@@ -33,7 +33,7 @@ zip_parted {B = B} R (x ∷ xs) ys (u ∷ all) zip =
 lines_said : (number : ℕ) (left : List (List ℕ)) (code : List ℕ) → code_of_lines number left ≡ Ok code → AllZip IsHexWord (flat_map tokens left) code
 unfolding code_of_lines
 lines_said number [] code e = subst (λ (xs : List ℕ). AllZip IsHexWord [] xs) (ok_is Refusal [] code e) tt
-lines_said number (line ∷ others) code e = grind (arith, bind_ok, ok_is, zip_joined, settled_found, code_settles, at_line_ok, lines_said (number + 1) others)
+lines_said number (line ∷ others) code e = grind (arith, bind_ok, ok_is, zip_joined, settled_found, code_settles, at_line-ok, lines_said (number + 1) others)
 
 lines_read : (number : ℕ) (left : List (List ℕ)) (code : List ℕ) → AllZip IsHexWord (flat_map tokens left) code → code_of_lines number left ≡ Ok code
 unfolding code_of_lines

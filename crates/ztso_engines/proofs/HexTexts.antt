@@ -10,7 +10,7 @@ use Rattle.std.proofs.lemmas.List.Splits.{length-slice_split}
 use Rattle.texts.specs.Numbers.{hex_word}
 use Rattle.texts.specs.Pieces.{is_blank}
 use Rattle.texts.specs.Cutting.{tokens, NonePass}
-use Rattle.texts.proofs.HexWords.{hex_word_said}
+use Rattle.texts.proofs.HexWords.{hex_word-said}
 use Rattle.texts.proofs.PieceLaws.{lines_of_parts-cons}
 use Rattle.texts.proofs.CuttingLaws.{split_none, split_stop}
 use Rattle.ztso_engines.specs.Asm.{hex_line}
@@ -51,7 +51,7 @@ one_word ds some all = grind (arith, ltb, split_none, none_pass, no_blank, filte
 words_written : (code : List ℕ) → AllByRecursion (λ word. word < 2 ^ 32) code → SaysCode (flat_map hex_line code) code
 words_written [] small = tt
 words_written (word ∷ code) small =
-    let said = hex_word_said word small.0 in
+    let said = hex_word-said word small.0 in
     rw (append_assoc (hex_word word) (10 ∷ []) (flat_map hex_line code), lines_after (hex_word word) (flat_map hex_line code) said.1.0.1, one_word (hex_word word) said.1.0.0 said.1.0.1)
     (said, words_written code small.1)
 

@@ -10,5 +10,10 @@ mod ListTexts
 pub mod OneAnswer
 pub mod OneChannel
 pub mod ChannelLaws
+pub mod ProgramLaws
+pub mod RingLaws
+pub mod OwnLaws
+pub mod OneOwn
+pub mod OneRing
 pub mod SeatsComplete
 pub mod ShownSteps

@@ -8,10 +8,10 @@ use Rattle.std.proofs.lemmas.Bool.{cases_Bool}
 use Rattle.std.proofs.lemmas.Bool.Decides.{nat_tests}
 use Rattle.std.proofs.lemmas.Slice.Eq.{bytes_eq-Decides}
 use Rattle.texts.specs.Numbers.{IsHexWord}
-use Rattle.texts.specs.Formats.{Settles}
+use Rattle.texts.specs.Formats.{DecidesGrammar}
 use Rattle.texts.proofs.ResultLaws.{bind_ok, ok_is}
 use Rattle.memory.specs.Words.{IsAddress}
-use Rattle.step_machine.specs.History.{HartStart}
+use Rattle.step_machine.specs.History.{HartOpeningValue}
 use Rattle.step_machine.specs.declared.events.Event.{Event}
 use Rattle.recorder.specs.Schedule.{IsTokensOf}
 use Rattle.texts.proofs.FormatLaws.{settled_found, settled_only, settles_then, settles_unless, settles_ok, settles_map_err}
@@ -19,12 +19,12 @@ use Rattle.recorder.proofs.TextLaws.{further_settles}
 use Rattle.ztso_engines.specs.declared.steps.line.Keyword.{Keyword}
 use Rattle.ztso_engines.specs.declared.steps.line.Keyword.TheVariants as keyword
 use Rattle.texts.specs.Cutting.{tokens, first_cut}
-use Rattle.ztso_engines.specs.Scenario.{Scenario, Statement, hart, reg, word, steps, fresh, register_set, with_statement, MayCome}
+use Rattle.ztso_engines.specs.ScriptValue.{ScriptValue, Statement, hart, reg, word, steps, fresh, register_set, with_statement, MayCome}
 use Rattle.ztso_engines.specs.StepsText.{LineSays}
-use Rattle.engine_parts.specs.LineFaults.{bad_line}
+use Rattle.engine_support.specs.LineFaults.{bad_line}
 use Rattle.ztso_engines.specs.StepsReading.{two_numbers, three_numbers, with_hart, with_register, with_word, with_steps}
 use Rattle.ztso_engines.specs.StepsReading.{keyword_named, by_keyword, by_cut, after_line}
-use Rattle.texts.proofs.TokenLaws.{tokens_cut, tokens_uncut, tokens_first, tokens_none}
+use Rattle.texts.proofs.TokenLaws.{tokens-cut, tokens_uncut, tokens-first, tokens_none}
 use Rattle.ztso_engines.proofs.NumberWords.{code_settles, SayTwo, two_settles, Three, SayThree, three_settles}
 
 -- ---- keywords
@@ -46,18 +46,18 @@ named name k e = grind (arith, cases_Bool, bytes_eq-Decides, some_is)
 
 -- ---- what each kind of line changes
 
-hart_settles : (harts : List HartStart) (text : List (List ℕ))
-    → Settles (λ made. (code : List ℕ) × AllZip IsHexWord text code
+hart_settles : (harts : List HartOpeningValue) (text : List (List ℕ))
+    → DecidesGrammar (λ made. (code : List ℕ) × AllZip IsHexWord text code
     × (((length harts < 64) × (length code ≤ 4096)) × (made ≡ harts ++ fresh code ∷ []))) (with_hart harts text)
 unfolding with_hart
 hart_settles harts text = grind (arith, settles_then, leb, ltb, code_settles, settles_unless, nat_tests, settles_ok)
 
 -- a hart that there is, and a register but x0
-abbrev IsRegister : List HartStart → Three → Type 0
+abbrev IsRegister : List HartOpeningValue → Three → Type 0
 IsRegister harts s = (s.0 < length harts) × (1 ≤ s.1) × (s.1 < 32)
 
-register_settles : (harts : List HartStart) (text : List (List ℕ))
-    → Settles (λ made. (s : Three) × SayThree text s × (IsRegister harts s × (made ≡ register_set harts s.0 s.1 s.2)))
+register_settles : (harts : List HartOpeningValue) (text : List (List ℕ))
+    → DecidesGrammar (λ made. (s : Three) × SayThree text s × (IsRegister harts s × (made ≡ register_set harts s.0 s.1 s.2)))
     (with_register harts text)
 unfolding with_register
 register_settles harts text =
@@ -72,7 +72,7 @@ register_settles harts text =
     fits : (h n : ℕ) → (h < length harts) × (1 ≤ n) × (n < 32) → (leb (length harts) h || eqb n 0 || leb 32 n) ≡ false
     fits h n register = grind (arith, nat_tests)
 
-word_settles : (memory : List ℕ) (text : List (List ℕ)) → Settles
+word_settles : (memory : List ℕ) (text : List (List ℕ)) → DecidesGrammar
     (λ made. (s : ℕ × ℕ) × SayTwo text s × (IsAddress (length memory) s.0 × (made ≡ set memory (s.0 / 4) s.1)))
     (with_word memory text)
 unfolding with_word
@@ -88,7 +88,7 @@ word_settles memory text =
     fits : (a : ℕ) → IsAddress (length memory) a → (not (eqb (a % 4) 0) || leb (length memory) (a / 4)) ≡ false
     fits a address = grind (arith, nat_tests)
 
-steps_settle : (events : List Event) (text : List ℕ) → length events ≤ 1048576 → Settles (λ made.
+steps_settle : (events : List Event) (text : List ℕ) → length events ≤ 1048576 → DecidesGrammar (λ made.
     (more : List Event) × (IsTokensOf text more × (length more ≤ 1048576 - length events)) × (made ≡ events ++ more))
     (with_steps events text)
 unfolding with_steps
@@ -97,7 +97,7 @@ steps_settle events text few = grind (arith, settles_then, settles_map_err, furt
 -- ---- a line
 
 -- the line has no word and changes nothing, or says what may come and changes that
-abbrev pub LineMakes : Scenario → List ℕ → Scenario → Type 0
+abbrev pub LineMakes : ScriptValue → List ℕ → ScriptValue → Type 0
 LineMakes before line made = ((tokens line ≡ []) × (made ≡ before)) ⊎ ((s : Statement) × LineSays line s × MayCome before s × (made ≡ with_statement before s))
 
 -- ---- what is read of a line is what it says
@@ -106,9 +106,9 @@ abbrev cut_of : List ℕ → List ℕ → Option (List ℕ × List ℕ)
 cut_of name rest = Some (name, rest)
 
 with_name : (line name rest : List ℕ) (k : Keyword) → first_cut line ≡ Some (name, rest) → keyword_named name ≡ Some k → tokens line ≡ spelling k ∷ tokens rest
-with_name line name rest k cut e = tokens_cut line name rest cut ∙ ap (λ (w : List ℕ). w ∷ tokens rest) (named name k e)
+with_name line name rest k cut e = tokens-cut line name rest cut ∙ ap (λ (w : List ℕ). w ∷ tokens rest) (named name k e)
 
-module _ (t : Scenario) (line name rest : List ℕ) (made : Scenario) (cut : first_cut line ≡ Some (name, rest)) where
+module _ (t : ScriptValue) (line name rest : List ℕ) (made : ScriptValue) (cut : first_cut line ≡ Some (name, rest)) where
   abbrev Makes : Keyword → Type 0
   Makes k = keyword_named name ≡ Some k → by_keyword t (Some k) rest ≡ Ok made → LineMakes t line made
 
@@ -120,7 +120,7 @@ module _ (t : Scenario) (line name rest : List ℕ) (made : Scenario) (cut : fir
         hart code,
         (tokens rest, with_name line name rest keyword.Hart cut k, say),
         fits,
-        sym (ok_is ℕ (record t { harts = read.0 }) made read.2) ∙ ap (λ (harts : List HartStart). record t { harts = harts }) same,
+        sym (ok_is ℕ (record t { harts = read.0 }) made read.2) ∙ ap (λ (harts : List HartOpeningValue). record t { harts = harts }) same,
       )
 
   register_made : Makes keyword.Register
@@ -132,7 +132,7 @@ module _ (t : Scenario) (line name rest : List ℕ) (made : Scenario) (cut : fir
         reg s.0 s.1 s.2,
         (H, N, V, with_name line name rest keyword.Register cut k ∙ ap (λ (ws : List (List ℕ)). codes "reg" ∷ ws) are, h, n, v),
         fits,
-        sym (ok_is ℕ (record t { harts = read.0 }) made read.2) ∙ ap (λ (harts : List HartStart). record t { harts = harts }) same,
+        sym (ok_is ℕ (record t { harts = read.0 }) made read.2) ∙ ap (λ (harts : List HartOpeningValue). record t { harts = harts }) same,
       )
 
   word_made : Makes keyword.Word
@@ -164,21 +164,21 @@ module _ (t : Scenario) (line name rest : List ℕ) (made : Scenario) (cut : fir
   name_made (Some keyword.Word) k few e = word_made k e
   name_made (Some keyword.Steps) k few e = steps_made few k e
 
-cut_made : (t : Scenario) (line : List ℕ) (made : Scenario) (cut : Option (List ℕ × List ℕ)) → first_cut line ≡ cut
+cut_made : (t : ScriptValue) (line : List ℕ) (made : ScriptValue) (cut : Option (List ℕ × List ℕ)) → first_cut line ≡ cut
     → length t.events ≤ 1048576 → by_cut t cut ≡ Ok made → LineMakes t line made
 cut_made t line made None cut few e = inl (tokens_uncut line cut, sym (ok_is ℕ t made e))
 cut_made t line made (Some (name, rest)) cut few e = name_made t line name rest made cut (keyword_named name) refl few e
 
-pub line_made : (t : Scenario) (line : List ℕ) (made : Scenario) → length t.events ≤ 1048576 → after_line t line ≡ Ok made → LineMakes t line made
+pub line-made : (t : ScriptValue) (line : List ℕ) (made : ScriptValue) → length t.events ≤ 1048576 → after_line t line ≡ Ok made → LineMakes t line made
 unfolding after_line
-line_made t line made few e = cut_made t line made (first_cut line) refl few e
+line-made t line made few e = cut_made t line made (first_cut line) refl few e
 
 -- ---- what a line says is read
 
-hart_read : (t : Scenario) (line code : List ℕ) → LineSays line (hart code) → MayCome t (hart code) → after_line t line ≡ Ok (with_statement t (hart code))
+hart_read : (t : ScriptValue) (line code : List ℕ) → LineSays line (hart code) → MayCome t (hart code) → after_line t line ≡ Ok (with_statement t (hart code))
 unfolding after_line
 hart_read t line code said fits =
-    let first = tokens_first line (codes "hart") said.0 said.1 in
+    let first = tokens-first line (codes "hart") said.0 said.1 in
     rw (
       first.1,
       first.2,
@@ -186,11 +186,11 @@ hart_read t line code said fits =
           (code, said.2, (fits, refl)),
     ) refl
 
-register_read : (t : Scenario) (line : List ℕ) (h n v : ℕ) → LineSays line (reg h n v) → MayCome t (reg h n v)
+register_read : (t : ScriptValue) (line : List ℕ) (h n v : ℕ) → LineSays line (reg h n v) → MayCome t (reg h n v)
     → after_line t line ≡ Ok (with_statement t (reg h n v))
 unfolding after_line
 register_read t line h n v said fits =
-    let first = tokens_first line (codes "reg") (said.0 ∷ said.1 ∷ said.2 ∷ []) said.3 in
+    let first = tokens-first line (codes "reg") (said.0 ∷ said.1 ∷ said.2 ∷ []) said.3 in
     let text = said.0 ∷ said.1 ∷ said.2 ∷ [] in
     rw (
       first.1,
@@ -199,10 +199,10 @@ register_read t line h n v said fits =
           ((h, n, v), (said.0, said.1, said.2, refl, said.4, said.5, said.6), (fits, refl)),
     ) refl
 
-word_read : (t : Scenario) (line : List ℕ) (a v : ℕ) → LineSays line (word a v) → MayCome t (word a v) → after_line t line ≡ Ok (with_statement t (word a v))
+word_read : (t : ScriptValue) (line : List ℕ) (a v : ℕ) → LineSays line (word a v) → MayCome t (word a v) → after_line t line ≡ Ok (with_statement t (word a v))
 unfolding after_line
 word_read t line a v said fits =
-    let first = tokens_first line (codes "word") (said.0 ∷ said.1 ∷ []) said.2 in
+    let first = tokens-first line (codes "word") (said.0 ∷ said.1 ∷ []) said.2 in
     let text = said.0 ∷ said.1 ∷ [] in
     rw (
       first.1,
@@ -211,7 +211,7 @@ word_read t line a v said fits =
           ((a, v), (said.0, said.1, refl, said.3, said.4), (fits, refl)),
     ) refl
 
-steps_read : (t : Scenario) (line : List ℕ) (events : List Event) → LineSays line (steps events)
+steps_read : (t : ScriptValue) (line : List ℕ) (events : List Event) → LineSays line (steps events)
     → MayCome t (steps events) → after_line t line ≡ Ok (with_statement t (steps events))
 unfolding after_line
 steps_read t line events said fits = rw (
@@ -220,9 +220,9 @@ steps_read t line events said fits = rw (
       (steps_settle t.events said.0 (omega (arith, fits))) (events, (said.2, omega (arith, fits)), refl),
 ) refl
 
-pub statement_read : (t : Scenario) (line : List ℕ) (s : Statement) → LineSays line s → MayCome t s → after_line t line ≡ Ok (with_statement t s)
+pub statement_read : (t : ScriptValue) (line : List ℕ) (s : Statement) → LineSays line s → MayCome t s → after_line t line ≡ Ok (with_statement t s)
 statement_read t line s said fits = grind (arith, hart_read, register_read, word_read, steps_read)
 
-pub blank_read : (t : Scenario) (line : List ℕ) → tokens line ≡ [] → after_line t line ≡ Ok t
+pub blank_read : (t : ScriptValue) (line : List ℕ) → tokens line ≡ [] → after_line t line ≡ Ok t
 unfolding after_line
 blank_read t line none = rw (tokens_none line none) refl

@@ -3,15 +3,15 @@ use Rattle.std.proofs.Common.{arith, ◌≡◌, ℕ, List, [], ◌∷◌, Ok, re
 use Rattle.std.specs.List.{AllZip}
 use Rattle.texts.specs.Numbers.{SaysWord, IsHexWord, hex_word_of}
 use Rattle.texts.specs.Results.{◌>>=◌}
-use Rattle.texts.specs.Formats.{Settles}
+use Rattle.texts.specs.Formats.{DecidesGrammar}
 use Rattle.texts.proofs.FormatLaws.{settles_as, settles_then, settles_ok, settles_word, settles_each, settles_hex_word}
-use Rattle.engine_parts.specs.LineFaults.{bad_line, or_bad}
+use Rattle.engine_support.specs.LineFaults.{bad_line, or_bad}
 use Rattle.ztso_engines.specs.Code.{code_at}
 use Rattle.ztso_engines.specs.StepsReading.{number_at, with_no_more, two_numbers, three_numbers}
 
 -- ---- instruction words
 
-pub code_settles : (text : List (List ℕ)) → Settles (AllZip IsHexWord text) (code_at text)
+pub code_settles : (text : List (List ℕ)) → DecidesGrammar (AllZip IsHexWord text) (code_at text)
 unfolding code_at
 code_settles text = settles_each IsHexWord (λ digits. or_bad (hex_word_of digits)) (settles_hex_word bad_line) text
 
@@ -23,19 +23,19 @@ Cut = ℕ × List (List ℕ)
 abbrev IsCut : List (List ℕ) → Cut → Type 0
 IsCut text cut = (N : List ℕ) × (text ≡ N ∷ cut.1) × SaysWord N cut.0
 
-pub number_settles : (text : List (List ℕ)) → Settles (IsCut text) (number_at text)
+pub number_settles : (text : List (List ℕ)) → DecidesGrammar (IsCut text) (number_at text)
 unfolding number_at
 number_settles text = grind (arith, settles_as, settles_then, settles_word, settles_ok)
 
 -- ---- two and three numbers
 
-more_settles : {A : Type 0} (x : A) (rest : List (List ℕ)) → Settles (λ v. (rest ≡ []) × (v ≡ x)) (with_no_more x rest)
+more_settles : {A : Type 0} (x : A) (rest : List (List ℕ)) → DecidesGrammar (λ v. (rest ≡ []) × (v ≡ x)) (with_no_more x rest)
 more_settles x rest = grind arith
 
 abbrev pub SayTwo : List (List ℕ) → ℕ × ℕ → Type 0
 SayTwo text s = (A B : List ℕ) × (text ≡ A ∷ B ∷ []) × SaysWord A s.0 × SaysWord B s.1
 
-pub two_settles : (text : List (List ℕ)) → Settles (SayTwo text) (two_numbers text)
+pub two_settles : (text : List (List ℕ)) → DecidesGrammar (SayTwo text) (two_numbers text)
 unfolding two_numbers
 two_settles text =
     settles_as _ (SayTwo text) (two_numbers text)
@@ -53,7 +53,7 @@ Three = ℕ × ℕ × ℕ
 abbrev pub SayThree : List (List ℕ) → Three → Type 0
 SayThree text s = (A B C : List ℕ) × (text ≡ A ∷ B ∷ C ∷ []) × SaysWord A s.0 × SaysWord B s.1 × SaysWord C s.2
 
-pub three_settles : (text : List (List ℕ)) → Settles (SayThree text) (three_numbers text)
+pub three_settles : (text : List (List ℕ)) → DecidesGrammar (SayThree text) (three_numbers text)
 unfolding three_numbers
 three_settles text =
     settles_as _ (SayThree text) (three_numbers text)

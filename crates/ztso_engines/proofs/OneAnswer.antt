@@ -10,42 +10,42 @@ use Rattle.assembler.specs.Program.{IsCode}
 use Rattle.assembler.proofs.OneCode.{refused_without_program}
 use Rattle.assembler.proofs.OneCode as assembler
 use Rattle.recorder.specs.Records.{record_text}
-use Rattle.recorder.specs.Versions.{Said, events_said}
+use Rattle.recorder.specs.Versions.{ScheduleValue, events_said}
 use Rattle.litmus.specs.LitmusTests.{LitmusTest}
 use Rattle.litmus.specs.declared.verdict.Verdict.{Verdict}
-use Rattle.engine_parts.specs.declared.fault.Refusal.{Refusal}
-use Rattle.engine_parts.specs.Engines.{Output, Accepted, AreOneAnswer, judged}
+use Rattle.engine_support.specs.declared.fault.Refusal.{Refusal}
+use Rattle.engine_support.specs.Engines.{Output, Accepted, AreOneAnswer, decoded}
 use Rattle.ztso_engines.specs.Asm.{IsAsmAnswer, asm_at, hex_line}
-use Rattle.ztso_engines.specs.Scenario.{Scenario}
+use Rattle.ztso_engines.specs.ScriptValue.{ScriptValue}
 use Rattle.ztso_engines.specs.StepsText.{Describes}
 use Rattle.ztso_engines.specs.StepsReading.{script_at}
 use Rattle.ztso_engines.specs.Steps.{IsStateText, IsStepsAnswer}
 use Rattle.ztso_engines.specs.Dis.{SaysCode, dis_at, instr_line, IsDisAnswer}
-use Rattle.engine_parts.specs.Histories.{AnswersEvents, AnswersRun}
+use Rattle.engine_support.specs.Histories.{AnswersEvents, AnswersRun}
 use Rattle.recorder.specs.Outcomes.{entry_line}
 use Rattle.ztso_engines.specs.Run.{IsJudged, IsRunAnswer}
 use Rattle.ztso_engines.specs.Move.{IsMoved, IsMoveAnswer}
 use Rattle.ztso_engines.specs.Replay.{IsReplay, IsReplayAnswer}
 use Rattle.debugger.specs.Transcripts.{IsDebugAnswer, IsTranscript}
 use Rattle.tries.specs.Outcomes.{IsTriedOf, IsTryAnswer}
-use Rattle.engine_parts.proofs.Judging.{judged_text}
-use Rattle.ztso_engines.proofs.Describing.{text_read, one_scenario}
+use Rattle.engine_support.proofs.Judging.{decoded-text}
+use Rattle.ztso_engines.proofs.Describing.{text_read, one_script}
 use Rattle.ztso_engines.proofs.CodeTexts.{code_read, one_code}
 use Rattle.litmus.proofs.VerdictLaws.{one_verdict}
 use Rattle.tries.proofs.OneText.{one_try}
 use Rattle.debugger.proofs.OneTranscript.{one_transcript_of}
-use Rattle.engine_parts.proofs.RunLaws.{one_record}
-use Rattle.engine_parts.proofs.OneInput.{alike_by_schedule, alike_by_test, equal_alike, one_by_value, one_of_history, same_output, value_or_refusal}
+use Rattle.engine_support.proofs.RunLaws.{one_record}
+use Rattle.engine_support.proofs.OneInput.{alike_by_schedule, alike_by_test, equal_alike, one_by_value, one_of_history, same_output, value_or_refusal}
 
 -- ---- `steps`, `dis` and `asm`
 
-one_state : (B M : ℕ) (scenario : Scenario) (a b : Output) → IsStateText B M scenario a.0 → IsStateText B M scenario b.0 → a ≡ b
-one_state B M scenario a b is other = grind (arith, same_output, run-one)
+one_state : (B M : ℕ) (script : ScriptValue) (a b : Output) → IsStateText B M script a.0 → IsStateText B M script b.0 → a ≡ b
+one_state B M script a b is other = grind (arith, same_output, run-one)
 
 pub one_steps : (B M : ℕ) (input : List ℕ) (a b : Result Output Refusal) → IsStepsAnswer B M input a → IsStepsAnswer B M input b → a ≡ b
 one_steps B M input =
-    one_by_value (Describes M) (script_at M) (λ scenario out. IsStateText B M scenario out.0) input (one_scenario M input)
-    (λ scenario r. value_or_refusal (script_at M) (Describes M) input scenario r (text_read M input scenario)) (one_state B M)
+    one_by_value (Describes M) (script_at M) (λ script out. IsStateText B M script out.0) input (one_script M input)
+    (λ script r. value_or_refusal (script_at M) (Describes M) input script r (text_read M input script)) (one_state B M)
 
 -- outputs of one text
 one_lines : (text : List ℕ) (a b : Output) → a.0 ≡ text → b.0 ≡ text → a ≡ b
@@ -60,9 +60,9 @@ unread_program : (text : List ℕ) (r : Refusal) → asm_at text ≡ Err r → I
 unfolding asm_at
 unread_program text r e = grind arith
 
-code_or_refusal : (input words : List ℕ) (r : Refusal) → Accepted IsCode input words → judged asm_at input ≡ Err r → ⊥
+pub code_or_refusal : (input words : List ℕ) (r : Refusal) → Accepted IsCode input words → decoded asm_at input ≡ Err r → ⊥
 code_or_refusal input words r is refused =
-    let no_program : IsErr (assembled input) = unread_program input r (sym (judged_text asm_at input is.few is.text) ∙ refused) in
+    let no_program : IsErr (assembled input) = unread_program input r (sym (decoded-text asm_at input is.few is.text) ∙ refused) in
     (refused_without_program input).0 no_program is.value_is.instrs is.value_is.program
 
 pub one_asm : (input : List ℕ) (a b : Result Output Refusal) → IsAsmAnswer input a → IsAsmAnswer input b → a ≡ b
@@ -79,13 +79,13 @@ one_replayed : (q : LitmusTest) (t : History) (a b : Output) → IsReplay q t a 
 one_replayed q t = one_lines (flat_map entry_line t.entries)
 
 module _ (B M : ℕ) where
-  one_talked : (input : List ℕ) (q : LitmusTest) (said : Said) (a b : Result Output Refusal)
+  one_talked : (input : List ℕ) (q : LitmusTest) (said : ScheduleValue) (a b : Result Output Refusal)
       → AnswersEvents (IsTranscript B M (Some input)) q said a → AnswersEvents (IsTranscript B M (Some input)) q said b → AreOneAnswer a b
   one_talked input q said (Ok a) (Ok b) is other = one_transcript_of B M input q (events_said said) a b is other
   one_talked input q said (Ok a) (Err s) is none = absurd none
   one_talked input q said (Err r) b none other = absurd none
 
-  one_moved : (q : LitmusTest) (said : Said) (a b : Result Output Refusal) → IsMoved B M q said a → IsMoved B M q said b → AreOneAnswer a b
+  one_moved : (q : LitmusTest) (said : ScheduleValue) (a b : Result Output Refusal) → IsMoved B M q said a → IsMoved B M q said b → AreOneAnswer a b
   one_moved q said (Ok a) (Ok b) (steps, records, is, read) (others, also, other, again) =
       let records_same = one_record B M q.opening said (Ok steps) (Ok others) records also in
       let same : steps ≡ others = cc in

@@ -5,31 +5,32 @@ use Rattle.std.specs.List.{flat_map}
 use Rattle.std.specs.Prelude.{slice_index}
 use Rattle.std.proofs.lemmas.Bool.{cases_eq}
 use Rattle.std.proofs.lemmas.List.{get_or-take, length-take-le}
-use Rattle.step_machine.specs.History.{History, unrun}
+use Rattle.step_machine.specs.History.{History, at_opening}
 use Rattle.step_machine.specs.Entries.{reported}
 use Rattle.step_machine.proofs.Running.{run-one}
-use Rattle.recorder.specs.Versions.{Said, Says, events_said}
+use Rattle.recorder.specs.Versions.{ScheduleValue, Says, events_said}
 use Rattle.poll_close.specs.Layout.{Layout, block_size}
 use Rattle.poll_close.specs.Laws.{AreWords, Ring, AcceptedAt}
 use Rattle.poll_close.specs.Refusals.{HasRing, HasPlace, FitsAt, IsBeyond, RefusesAt, ZeroAt, ZeroWordAt}
 use Rattle.poll_close.specs.declared.faults.Refused.TheVariants as refused
 use Rattle.poll_close.specs.declared.faults.RefusedAt.{RefusedAt}
 use Rattle.poll_close.specs.declared.faults.RefusedAt.TheVariants as why
-use Rattle.engine_parts.specs.declared.fault.Fault.TheVariants as fault
-use Rattle.engine_parts.specs.declared.fault.Position.{Position}
-use Rattle.engine_parts.specs.declared.fault.Position.TheVariants.{Nowhere, Word}
-use Rattle.engine_parts.specs.declared.fault.Refusal.{Refusal}
-use Rattle.engine_parts.specs.Engines.{Output, Accepted, AreAlike, judged}
-use Rattle.engine_parts.specs.Schedules.{schedule_of}
-use Rattle.engine_parts.proofs.RunLaws.{one_difference, runs_or_differs}
+use Rattle.engine_support.specs.declared.fault.Fault.TheVariants as fault
+use Rattle.engine_support.specs.declared.fault.Position.{Position}
+use Rattle.engine_support.specs.declared.fault.Position.TheVariants.{Nowhere, Word}
+use Rattle.engine_support.specs.declared.fault.Refusal.{Refusal}
+use Rattle.engine_support.specs.Engines.{Output, Accepted, AreAlike, decoded}
+use Rattle.engine_support.specs.Histories.{Runs}
+use Rattle.engine_support.specs.Schedules.{schedule_of}
+use Rattle.engine_support.proofs.RunLaws.{one_difference, runs_or_differs}
 use Rattle.recorder.proofs.HeadLaws.{one_said}
 use Rattle.ztso_engines.specs.Lists.{SaysLists, lists_at}
 use Rattle.ztso_engines.specs.Channels.{HasNoChannel, IsUnfilled, IsChannelAnswer, IsDelivery, IsNoLists, IsUnreported, fault_from, opening_over, report_line}
 use Rattle.ztso_engines.specs.Channels.IsChannelAnswer.{no_schedule, no_lists, unreported, delivered}
 use Rattle.ztso_engines.proofs.ListTexts.{lists_read, one_lists}
-use Rattle.engine_parts.proofs.OneInput.{same_output, one_refusal, said_or_refusal, value_or_refusal}
+use Rattle.engine_support.proofs.OneInput.{same_output, one_refusal, said-or_refusal, value_or_refusal}
 
-lists_or_refusal : (input : List ℕ) (lists : List (List ℕ)) (r : Refusal) → Accepted SaysLists input lists → IsNoLists input r → ⊥
+pub lists_or_refusal : (input : List ℕ) (lists : List (List ℕ)) (r : Refusal) → Accepted SaysLists input lists → IsNoLists input r → ⊥
 lists_or_refusal input lists r = value_or_refusal lists_at SaysLists input lists r (lists_read input lists)
 
 -- ---- the first word that is 0
@@ -177,32 +178,42 @@ module _ (ring : Ring) (M : ℕ) (l : Layout) (lists : List (List ℕ)) where
         | inr early ↦ first.plain early ∙ sym (other.plain (λ end. early (same ∙ end)))
       ]
 
+  stopped : (r : Refusal) → HasNoChannel ring M l lists r → Stops r
+  stopped r none = stops none.why r none.unfilled none.refuses none.is_fault
+
+  pub one_channel_refusal : (r s : Refusal) → HasNoChannel ring M l lists r → HasNoChannel ring M l lists s → r ≡ s
+  one_channel_refusal r s none other = one_stop r s (stopped r none) (stopped s other)
+
+  pub channel_or_refusal : (r : Refusal) → AcceptedAt ring M lists l → HasNoChannel ring M l lists r → ⊥
+  channel_or_refusal r is none = no_stop r is (stopped r none)
+
 -- ---- the answer
 
-module _ (ring : Ring) (B M : ℕ) (l : Layout) (said : Said) (lists : List (List ℕ)) where
-  stopped : (r : Refusal) → HasNoChannel ring M l lists r → Stops ring M l lists r
-  stopped r none = stops ring M l lists none.why r none.unfilled none.refuses none.is_fault
-
+module _ (ring : Ring) (B M : ℕ) (l : Layout) (said : ScheduleValue) (lists : List (List ℕ)) where
   abbrev IsReason : Refusal → Type 0
   IsReason = IsUnreported ring B M l said lists
 
   -- the lists and the place are judged first, and then a record
-  one_reason : (r s : Refusal) → IsReason r → IsReason s → r ≡ s
-  one_reason r s (inl none) (inl other) = one_stop ring M l lists r s (stopped r none) (stopped s other)
-  one_reason r s (inl none) (inr other) = absurd (no_stop ring M l lists r other.within (stopped r none))
-  one_reason r s (inr other) (inl none) = absurd (no_stop ring M l lists s other.within (stopped s none))
+  pub one_reason : (r s : Refusal) → IsReason r → IsReason s → r ≡ s
+  one_reason r s (inl none) (inl other) = one_channel_refusal ring M l lists r s none other
+  one_reason r s (inl none) (inr other) = absurd (channel_or_refusal ring M l lists r other.within none)
+  one_reason r s (inr other) (inl none) = absurd (channel_or_refusal ring M l lists s other.within none)
   one_reason r s (inr first) (inr other) = one_difference B M (opening_over ring l lists) said r s first.differs other.differs
 
+  pub ran_or_reason : (history : History) (r : Refusal) → AcceptedAt ring M lists l → Runs B M (opening_over ring l lists) said (Ok history) → IsReason r → ⊥
+  ran_or_reason history r within ran (inl none) = channel_or_refusal ring M l lists r within none
+  ran_or_reason history r within ran (inr other) = runs_or_differs B M (opening_over ring l lists) said history r ran other.differs
+
   no_reason : (finish : Bool) (a : Output) (r : Refusal) → IsDelivery ring B M l finish said lists a → IsReason r → ⊥
-  no_reason finish a r is (inl none) = no_stop ring M l lists r is.is_reported.within (stopped r none)
-  no_reason finish a r is (inr other) = runs_or_differs B M (opening_over ring l lists) said is.is_reported.ran.0 r is.is_reported.ran.1 other.differs
+  no_reason finish a r is =
+      ran_or_reason is.is_reported.ran.0 r is.is_reported.within is.is_reported.ran.1
 
 -- a text has one value
-module _ (P : Said → List (List ℕ) → Type 0) (schedule input : List ℕ) where
-  read_again : (said also : Said) (lists words : List (List ℕ)) → Accepted Says schedule said → Accepted Says schedule also
+module _ (P : ScheduleValue → List (List ℕ) → Type 0) (schedule input : List ℕ) where
+  read_again : (said also : ScheduleValue) (lists words : List (List ℕ)) → Accepted Says schedule said → Accepted Says schedule also
       → Accepted SaysLists input lists → Accepted SaysLists input words → P also words → P said lists
   read_again said also lists words is other tells holds p =
-      subst (λ (s : Said). P s lists) (one_said schedule also said other.value_is is.value_is)
+      subst (λ (s : ScheduleValue). P s lists) (one_said schedule also said other.value_is is.value_is)
       (subst (λ (ls : List (List ℕ)). P also ls) (one_lists input words lists holds.value_is tells.value_is) p)
 
 module _ (ring : Ring) (B M : ℕ) (l : Layout) (finish : Bool) (schedule input : List ℕ) where
@@ -210,7 +221,7 @@ module _ (ring : Ring) (B M : ℕ) (l : Layout) (finish : Bool) (schedule input 
   IsAnswer = IsChannelAnswer ring B M l finish schedule input
 
   delivered_or_refused : (a : Output) (s : Refusal) → IsAnswer (Ok a) → IsAnswer (Err s) → ⊥
-  delivered_or_refused a s (delivered said lists given is reads tells) (no_schedule r none) = said_or_refusal schedule said s is none
+  delivered_or_refused a s (delivered said lists given is reads tells) (no_schedule r none) = said-or_refusal schedule said s is none
   delivered_or_refused a s (delivered said lists given is reads tells) (no_lists also r other none) =
       lists_or_refusal input lists s reads none
   delivered_or_refused a s (delivered said lists given is reads tells) (unreported also words r other says none) =
@@ -218,12 +229,12 @@ module _ (ring : Ring) (B M : ℕ) (l : Layout) (finish : Bool) (schedule input 
       (read_again (λ x ls. IsUnreported ring B M l x ls s) schedule input said also lists words is other reads says none)
 
   one_refused : (r s : Refusal) → IsAnswer (Err r) → IsAnswer (Err s) → r ≡ s
-  one_refused r s (no_schedule x none) (no_schedule y other) = one_refusal (judged schedule_of schedule) r s none other
-  one_refused r s (no_schedule x none) (no_lists said y is more) = absurd (said_or_refusal schedule said r is none)
-  one_refused r s (no_schedule x none) (unreported said lists y is reads more) = absurd (said_or_refusal schedule said r is none)
-  one_refused r s (no_lists said x is more) (no_schedule y none) = absurd (said_or_refusal schedule said s is none)
-  one_refused r s (unreported said lists x is reads more) (no_schedule y none) = absurd (said_or_refusal schedule said s is none)
-  one_refused r s (no_lists said x is none) (no_lists also y other more) = one_refusal (judged lists_at input) r s none more
+  one_refused r s (no_schedule x none) (no_schedule y other) = one_refusal (decoded schedule_of schedule) r s none other
+  one_refused r s (no_schedule x none) (no_lists said y is more) = absurd (said-or_refusal schedule said r is none)
+  one_refused r s (no_schedule x none) (unreported said lists y is reads more) = absurd (said-or_refusal schedule said r is none)
+  one_refused r s (no_lists said x is more) (no_schedule y none) = absurd (said-or_refusal schedule said s is none)
+  one_refused r s (unreported said lists x is reads more) (no_schedule y none) = absurd (said-or_refusal schedule said s is none)
+  one_refused r s (no_lists said x is none) (no_lists also y other more) = one_refusal (decoded lists_at input) r s none more
   one_refused r s (no_lists said x is none) (unreported also words y other says more) = absurd (lists_or_refusal input words r says none)
   one_refused r s (unreported said lists x is reads more) (no_lists also y other none) = absurd (lists_or_refusal input lists s reads none)
   one_refused r s (unreported said lists x is reads none) (unreported also words y other says more) =
@@ -240,12 +251,12 @@ module _ (ring : Ring) (B M : ℕ) (l : Layout) (schedule input : List ℕ) wher
   abbrev IsUnfinished : Result Output Refusal → Type 0
   IsUnfinished = IsChannelAnswer ring B M l false schedule input
 
-  one_delivery : (said : Said) (lists : List (List ℕ)) (a b : Output)
+  one_delivery : (said : ScheduleValue) (lists : List (List ℕ)) (a b : Output)
       → IsDelivery ring B M l false said lists a → IsDelivery ring B M l false said lists b → a ≡ b
   one_delivery said lists a b is other =
       let first = is.is_reported.delivers in
       let second = other.is_reported.delivers in
-      let histories : first.history ≡ second.history = run-one B M (unrun (opening_over ring l lists)) (events_said said)
+      let histories : first.history ≡ second.history = run-one B M (at_opening (opening_over ring l lists)) (events_said said)
       first.history second.history first.run second.run in
       same_output a b (is.text
       ∙ ap (flat_map report_line) (first.answer ∙ ap (λ (h : History). reported 0 h.entries) histories ∙ sym second.answer) ∙ sym other.text)

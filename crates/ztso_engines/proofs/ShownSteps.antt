@@ -17,33 +17,33 @@ use Rattle.texts.specs.Numbers.{IsHexWord, hex_word}
 use Rattle.texts.specs.Rows.{Written, word_text, row_text}
 use Rattle.texts.specs.Rows.Written.{plain, number}
 use Rattle.texts.proofs.CuttingLaws.{split_stop}
-use Rattle.texts.proofs.HexWords.{hex_word_said}
+use Rattle.texts.proofs.HexWords.{hex_word-said}
 use Rattle.texts.proofs.PieceLaws.{lines_of_parts-cons}
-use Rattle.texts.proofs.RowLaws.{is_low, Solid, solid_by_test, decimal_solid, decimal_says, AreSolid, row_again, row_none, line_stays}
-use Rattle.step_machine.specs.History.{HartStart, Start}
+use Rattle.texts.proofs.RowLaws.{is_low, Solid, solid_by_test, decimal_solid, decimal_says, AreSolid, row-again, row_none, line-stays}
+use Rattle.step_machine.specs.History.{HartOpeningValue, OpeningValue}
 use Rattle.step_machine.specs.declared.events.Event.{Event}
 use Rattle.litmus_reader.specs.PlainOpenings.{IsWord, IsPlainHart, IsPlainOpening}
-use Rattle.views.specs.Openings.{numbered, code_line, register_line, registers_text, hart_steps, word_line, steps_text}
-use Rattle.ztso_engines.specs.Scenario.{Scenario, no_scenario, scenario_from, Statement, hart, reg, word, steps, register_set, with_statement, MayCome}
+use Rattle.view_engines.specs.Openings.{numbered, code_line, register_line, registers_text, hart_steps, word_line, steps_text}
+use Rattle.ztso_engines.specs.ScriptValue.{ScriptValue, no_script, script_from, Statement, hart, reg, word, steps, register_set, with_statement, MayCome}
 use Rattle.ztso_engines.specs.StepsText.{LineSays, LinesDescribe, Describes}
 
--- ---- texts that lead from one scenario to another
+-- ---- texts that lead from one script to another
 
 -- what follows the text is read from the second one
-abbrev Leads : Scenario → List ℕ → Scenario → Type 0
-Leads t text u = (rest : List ℕ) (end : Scenario) → LinesDescribe u (lines rest) end → LinesDescribe t (lines (text ++ rest)) end
+abbrev Leads : ScriptValue → List ℕ → ScriptValue → Type 0
+Leads t text u = (rest : List ℕ) (end : ScriptValue) → LinesDescribe u (lines rest) end → LinesDescribe t (lines (text ++ rest)) end
 
-leads_on : (t u v : Scenario) (first second : List ℕ) → Leads t first u → Leads u second v → Leads t (first ++ second) v
+leads_on : (t u v : ScriptValue) (first second : List ℕ) → Leads t first u → Leads u second v → Leads t (first ++ second) v
 leads_on t u v first second a b rest end tells =
     subst (λ (bytes : List ℕ). LinesDescribe t (lines bytes) end) (sym (append_assoc first second rest)) (a (second ++ rest) end (b rest end tells))
 
 line_before : (line rest : List ℕ) → NonePass (is_byte 10) line → NonePass (is_byte 13) line → lines (line ++ 10 ∷ rest) ≡ line ∷ lines rest
-line_before line rest feed return = grind (arith, eqb, split_stop, lines_of_parts-cons, length-slice_split, line_stays)
+line_before line rest feed return = grind (arith, eqb, split_stop, lines_of_parts-cons, length-slice_split, line-stays)
 
 -- a line of words that says what may come
-row_leads : (t : Scenario) (s : Statement) (row : List Written) → AreSolid row → LineSays (row_text row) s → MayCome t s
+row-leads : (t : ScriptValue) (s : Statement) (row : List Written) → AreSolid row → LineSays (row_text row) s → MayCome t s
     → Leads t (row_text row ++ 10 ∷ []) (with_statement t s)
-row_leads t s row solid said may rest end tells =
+row-leads t s row solid said may rest end tells =
     let line = row_text row in
     let first : lines ((line ++ 10 ∷ []) ++ rest) ≡ line ∷ lines rest =
     ap (λ (bytes : List ℕ). lines bytes) (append_assoc line (10 ∷ []) rest)
@@ -60,7 +60,7 @@ digits_solid [] all = tt
 digits_solid (d ∷ ds) all = (low_no_digit d all.0, digits_solid ds all.1)
 
 hex_solid : (w : ℕ) → IsWord w → Solid (hex_word w)
-hex_solid w small = let said = hex_word_said w small in (said.1.0.0, digits_solid (hex_word w) said.1.0.1)
+hex_solid w small = let said = hex_word-said w small in (said.1.0.0, digits_solid (hex_word w) said.1.0.1)
 
 abbrev code_words : List ℕ → List Written
 code_words [] = []
@@ -79,28 +79,28 @@ code_solid (w ∷ code) all = (hex_solid w all.0, code_solid code all.1)
 
 code_said : (code : List ℕ) → AllByRecursion IsWord code → AllZip IsHexWord (map word_text (code_words code)) code
 code_said [] all = tt
-code_said (w ∷ code) all = (hex_word_said w all.0, code_said code all.1)
+code_said (w ∷ code) all = (hex_word-said w all.0, code_said code all.1)
 
 -- ---- harts that are added
 
-abbrev with_harts : List HartStart → (words : List ℕ) → Scenario
+abbrev with_harts : List HartOpeningValue → (words : List ℕ) → ScriptValue
 with_harts harts words = record { harts = harts; words = words; events = [] }
 
-abbrev hart_with : (code registers : List ℕ) → HartStart
+abbrev hart_with : (code registers : List ℕ) → HartOpeningValue
 hart_with code registers = record { code = code; registers = registers; inbox = [] }
 
 -- the last hart so far has these registers
-abbrev and_last : List HartStart → (code registers words : List ℕ) → Scenario
+abbrev and_last : List HartOpeningValue → (code registers words : List ℕ) → ScriptValue
 and_last front code registers words = with_harts (front ++ hart_with code registers ∷ []) words
 
-code_leads : (front : List HartStart) (code words : List ℕ) → length front < 64 → length code ≤ 4096 → AllByRecursion IsWord code
+code_leads : (front : List HartOpeningValue) (code words : List ℕ) → length front < 64 → length code ≤ 4096 → AllByRecursion IsWord code
     → Leads (with_harts front words) (code_line code) (and_last front code (replicate 32 0) words)
 code_leads front code words room short all =
     let solid : AreSolid (code_row code) = (solid_by_test (codes "hart") refl, code_solid code all) in
     let says : LineSays (row_text (code_row code)) (hart code) =
-    (map word_text (code_words code), row_again (code_row code) solid, code_said code all) in
+    (map word_text (code_words code), row-again (code_row code) solid, code_said code all) in
     subst (λ (text : List ℕ). Leads (with_harts front words) (text ++ 10 ∷ []) (and_last front code (replicate 32 0) words))
-    (code_text (codes "hart") code) (row_leads (with_harts front words) (hart code) (code_row code) solid says (room, short))
+    (code_text (codes "hart") code) (row-leads (with_harts front words) (hart code) (code_row code) solid says (room, short))
 
 -- ---- registers
 
@@ -110,10 +110,10 @@ register_row h n v = plain (codes "reg") ∷ number h ∷ number n ∷ number v 
 register_text : (h n v : ℕ) → row_text (register_row h n (suc v)) ++ 10 ∷ [] ≡ register_line h n (suc v)
 register_text h n v = rw (ne_eqb (suc v) 0 (λ same. omega (arith, same))) (simp append_assoc)
 
-last_set : (front : List HartStart) (x : HartStart) (n v : ℕ)
+last_set : (front : List HartOpeningValue) (x : HartOpeningValue) (n v : ℕ)
     → register_set (front ++ x ∷ []) (length front) n v ≡ front ++ (record x { registers = set x.registers n v }) ∷ []
 last_set [] x n v = refl
-last_set (first ∷ front) x n v = ap (λ (harts : List HartStart). first ∷ harts) (last_set front x n v)
+last_set (first ∷ front) x n v = ap (λ (harts : List HartOpeningValue). first ∷ harts) (last_set front x n v)
 
 -- one more of a list that is 0 from there on
 one_set : (done : List ℕ) (n m v : ℕ) → n ≡ length done → set (done ++ replicate (suc m) 0) n v ≡ (done ++ v ∷ []) ++ replicate m 0
@@ -121,7 +121,7 @@ one_set done n m v at =
     subst (λ (k : ℕ). set (done ++ replicate (suc m) 0) k v ≡ (done ++ v ∷ []) ++ replicate m 0) (sym at)
     (set-append_seam done 0 (replicate m 0) v ∙ sym (append_assoc done (v ∷ []) (replicate m 0)))
 
-register_leads : (front : List HartStart) (code words done : List ℕ) (n m v : ℕ) → length front < 64 → n ≡ length done → 1 ≤ n → n < 32 → IsWord v
+register_leads : (front : List HartOpeningValue) (code words done : List ℕ) (n m v : ℕ) → length front < 64 → n ≡ length done → 1 ≤ n → n < 32 → IsWord v
     → Leads (and_last front code (done ++ replicate (suc m) 0) words) (register_line (length front) n v)
     (and_last front code ((done ++ v ∷ []) ++ replicate m 0) words)
 register_leads front code words done n m zero room at some below small =
@@ -135,16 +135,16 @@ register_leads front code words done n m (suc v) room at some below small =
     let solid : AreSolid row =
     (solid_by_test (codes "reg") refl, (decimal_solid h (omega arith), (decimal_solid n (omega arith), (decimal_solid (suc v) (omega (arith, small)), tt)))) in
     let says : LineSays (row_text row) (reg h n (suc v)) =
-    (decimal h, decimal n, decimal (suc v), row_again row solid, decimal_says h (omega arith), decimal_says n (omega arith), decimal_says (suc v) small) in
+    (decimal h, decimal n, decimal (suc v), row-again row solid, decimal_says h (omega arith), decimal_says n (omega arith), decimal_says (suc v) small) in
     let may : MayCome t (reg h n (suc v)) = (omega (arith, length-append front (hart_with code before ∷ [])), some, below) in
     let harts = last_set front (hart_with code before) n (suc v)
     ∙ ap (λ (registers : List ℕ). front ++ hart_with code registers ∷ []) (one_set done n m (suc v) at) in
-    let led : Leads t (row_text row ++ 10 ∷ []) (with_statement t (reg h n (suc v))) = row_leads t (reg h n (suc v)) row solid says may in
+    let led : Leads t (row_text row ++ 10 ∷ []) (with_statement t (reg h n (suc v))) = row-leads t (reg h n (suc v)) row solid says may in
     subst (λ (text : List ℕ). Leads t text (and_last front code ((done ++ suc v ∷ []) ++ replicate m 0) words)) (register_text h n v)
-    (subst (λ (after : List HartStart). Leads t (row_text row ++ 10 ∷ []) (with_harts after words)) harts led)
+    (subst (λ (after : List HartOpeningValue). Leads t (row_text row ++ 10 ∷ []) (with_harts after words)) harts led)
 
 -- the registers from n on
-registers_lead : (front : List HartStart) (code words done left all : List ℕ) (n : ℕ) → length front < 64 → n ≡ length done → 1 ≤ n
+registers_lead : (front : List HartOpeningValue) (code words done left all : List ℕ) (n : ℕ) → length front < 64 → n ≡ length done → 1 ≤ n
     → n + length left ≡ 32 → AllByRecursion IsWord left → all ≡ done ++ left
     → Leads (and_last front code (done ++ replicate (length left) 0) words) (numbered (register_line (length front)) n left) (and_last front code all words)
 registers_lead front code words done [] all n room at some sum small whole =
@@ -157,7 +157,7 @@ registers_lead front code words done (v ∷ left) all n room at some sum small w
     (registers_lead front code words (done ++ v ∷ []) left all (n + 1) room (omega (arith, length-append done (v ∷ []))) (omega arith)
     (omega (arith, sum)) small.1 (whole ∙ sym (append_assoc done (v ∷ []) left)))
 
-all_registers : (front : List HartStart) (code words registers : List ℕ) → length front < 64 → length registers ≡ 32 → slice_index_or registers 0 0 ≡ 0
+all_registers : (front : List HartOpeningValue) (code words registers : List ℕ) → length front < 64 → length registers ≡ 32 → slice_index_or registers 0 0 ≡ 0
     → AllByRecursion IsWord registers
     → Leads (and_last front code (replicate 32 0) words) (registers_text (length front) registers) (and_last front code registers words)
 all_registers front code words [] room count none small = absurd (omega (arith, count))
@@ -170,7 +170,7 @@ all_registers front code words (zero ∷ left) room count none small =
 
 -- ---- harts
 
-hart_leads : (front : List HartStart) (x : HartStart) (words : List ℕ) → length front < 64 → IsPlainHart x
+hart_leads : (front : List HartOpeningValue) (x : HartOpeningValue) (words : List ℕ) → length front < 64 → IsPlainHart x
     → Leads (with_harts front words) (hart_steps (length front) x) (with_harts (front ++ x ∷ []) words)
 hart_leads front x words room is =
     subst (λ (inbox : List ℕ). Leads (with_harts front words) (hart_steps (length front) x)
@@ -179,10 +179,10 @@ hart_leads front x words room is =
     (code_line x.code) (registers_text (length front) x.registers) (code_leads front x.code words room is.short is.code)
     (all_registers front x.code words x.registers room is.count is.zero is.registers))
 
-harts_lead : (front left all : List HartStart) (words : List ℕ) (h : ℕ) → h ≡ length front → h + length left ≤ 64 → AllByRecursion IsPlainHart left
+harts_lead : (front left all : List HartOpeningValue) (words : List ℕ) (h : ℕ) → h ≡ length front → h + length left ≤ 64 → AllByRecursion IsPlainHart left
     → all ≡ front ++ left → Leads (with_harts front words) (numbered hart_steps h left) (with_harts all words)
 harts_lead front [] all words h at few are whole =
-    subst (λ (harts : List HartStart). Leads (with_harts front words) [] (with_harts harts words))
+    subst (λ (harts : List HartOpeningValue). Leads (with_harts front words) [] (with_harts harts words))
     (sym (whole ∙ append-nil front)) (λ rest end tells. tells)
 harts_lead front (x ∷ left) all words h at few are whole =
     leads_on (with_harts front words) (with_harts (front ++ x ∷ []) words) (with_harts all words) (hart_steps h x) (numbered hart_steps (h + 1) left)
@@ -199,7 +199,7 @@ word_row a v = plain (codes "word") ∷ number a ∷ number v ∷ []
 word_text_is : (place v : ℕ) → row_text (word_row (4 * place) (suc v)) ++ 10 ∷ [] ≡ word_line place (suc v)
 word_text_is place v = rw (ne_eqb (suc v) 0 (λ same. omega (arith, same))) (simp append_assoc)
 
-word_leads : (harts : List HartStart) (done : List ℕ) (place k v : ℕ) → place ≡ length done → place < 1024 → IsWord v
+word_leads : (harts : List HartOpeningValue) (done : List ℕ) (place k v : ℕ) → place ≡ length done → place < 1024 → IsWord v
     → Leads (with_harts harts (done ++ replicate (suc k) 0)) (word_line place v) (with_harts harts ((done ++ v ∷ []) ++ replicate k 0))
 word_leads harts done place k zero at few small =
     subst (λ (words : List ℕ). Leads (with_harts harts (done ++ replicate (suc k) 0)) [] (with_harts harts words))
@@ -211,18 +211,18 @@ word_leads harts done place k (suc v) at few small =
     let t = with_harts harts before in
     let solid : AreSolid row = (solid_by_test (codes "word") refl, (decimal_solid a (omega arith), (decimal_solid (suc v) (omega (arith, small)), tt))) in
     let says : LineSays (row_text row) (word a (suc v)) =
-    (decimal a, decimal (suc v), row_again row solid, decimal_says a (omega arith), decimal_says (suc v) small) in
+    (decimal a, decimal (suc v), row-again row solid, decimal_says a (omega arith), decimal_says (suc v) small) in
     let long : length before ≡ length done + suc (length (replicate k 0)) = length-append done (replicate (suc k) 0) in
     let may : MayCome t (word a (suc v)) = (omega arith, omega (arith, long, at)) in
     let there : a / 4 ≡ place = omega arith in
     let words : set before (a / 4) (suc v) ≡ (done ++ suc v ∷ []) ++ replicate k 0 =
     ap (λ (i : ℕ). set before i (suc v)) there ∙ one_set done place k (suc v) at in
-    let led : Leads t (row_text row ++ 10 ∷ []) (with_statement t (word a (suc v))) = row_leads t (word a (suc v)) row solid says may in
+    let led : Leads t (row_text row ++ 10 ∷ []) (with_statement t (word a (suc v))) = row-leads t (word a (suc v)) row solid says may in
     subst (λ (text : List ℕ). Leads t text (with_harts harts ((done ++ suc v ∷ []) ++ replicate k 0))) (word_text_is place v)
     (subst (λ (after : List ℕ). Leads t (row_text row ++ 10 ∷ []) (with_harts harts after)) words led)
 
 -- the words from a place on; k are left in memory, of which m stay 0
-words_lead : (harts : List HartStart) (done left all : List ℕ) (place k m : ℕ) → place ≡ length done → place + length left ≤ 1024
+words_lead : (harts : List HartOpeningValue) (done left all : List ℕ) (place k m : ℕ) → place ≡ length done → place + length left ≤ 1024
     → k ≡ length left + m → AllByRecursion IsWord left → all ≡ done ++ left
     → Leads (with_harts harts (done ++ replicate k 0)) (numbered word_line place left) (with_harts harts (all ++ replicate m 0))
 words_lead harts done [] all place k m at few room small whole =
@@ -239,31 +239,31 @@ words_lead harts done (v ∷ left) all place (suc k) m at few room small whole =
 
 -- ---- an opening
 
-opening_leads : (M : ℕ) (o : Start) → IsPlainOpening o → length o.words ≤ M → Leads (no_scenario M) (steps_text o) (scenario_from M o [])
+opening_leads : (M : ℕ) (o : OpeningValue) → IsPlainOpening o → length o.words ≤ M → Leads (no_script M) (steps_text o) (script_from M o [])
 unfolding steps_text
 opening_leads M o is room =
     let rest : replicate (M - length o.words) 0 ≡ drop (length o.words) (replicate M 0) = sym (drop-replicate (length o.words) M 0) in
-    subst (λ (zeros : List ℕ). Leads (no_scenario M) (steps_text o) (with_harts o.harts (o.words ++ zeros))) rest
-    (leads_on (no_scenario M) (with_harts o.harts (replicate M 0)) (with_harts o.harts (o.words ++ replicate (M - length o.words) 0))
+    subst (λ (zeros : List ℕ). Leads (no_script M) (steps_text o) (with_harts o.harts (o.words ++ zeros))) rest
+    (leads_on (no_script M) (with_harts o.harts (replicate M 0)) (with_harts o.harts (o.words ++ replicate (M - length o.words) 0))
     (numbered hart_steps 0 o.harts) (numbered word_line 0 o.words)
     (harts_lead [] o.harts o.harts (replicate M 0) 0 refl (omega (arith, is.few)) is.harts refl)
     (words_lead o.harts [] o.words o.words 0 M (M - length o.words) refl (omega (arith, is.locations)) (omega arith) is.words refl))
 
-pub opens : (M : ℕ) (o : Start) → IsPlainOpening o → length o.words ≤ M → Describes M (steps_text o) (scenario_from M o [])
+pub opens : (M : ℕ) (o : OpeningValue) → IsPlainOpening o → length o.words ≤ M → Describes M (steps_text o) (script_from M o [])
 opens M o is room =
-    let led = opening_leads M o is room [] (scenario_from M o []) refl in
+    let led = opening_leads M o is room [] (script_from M o []) refl in
     record {
-      lines_describe = subst (λ (text : List ℕ). LinesDescribe (no_scenario M) (lines text) (scenario_from M o [])) (append-nil (steps_text o)) led;
+      lines_describe = subst (λ (text : List ℕ). LinesDescribe (no_script M) (lines text) (script_from M o [])) (append-nil (steps_text o)) led;
       some_hart = is.some_hart;
     }
 
-pub opens_with : (M : ℕ) (o : Start) (more line : List ℕ) (events : List Event) → IsPlainOpening o → length o.words ≤ M → lines more ≡ line ∷ []
-    → LineSays line (steps events) → length events ≤ 1048576 → Describes M (steps_text o ++ more) (scenario_from M o events)
+pub opens_with : (M : ℕ) (o : OpeningValue) (more line : List ℕ) (events : List Event) → IsPlainOpening o → length o.words ≤ M → lines more ≡ line ∷ []
+    → LineSays line (steps events) → length events ≤ 1048576 → Describes M (steps_text o ++ more) (script_from M o events)
 opens_with M o more line events is room one says few =
-    let t = scenario_from M o [] in
-    let last : LinesDescribe t (line ∷ []) (scenario_from M o events) = inr (steps events, says, omega (arith, few), refl) in
+    let t = script_from M o [] in
+    let last : LinesDescribe t (line ∷ []) (script_from M o events) = inr (steps events, says, omega (arith, few), refl) in
     record {
-      lines_describe = opening_leads M o is room more (scenario_from M o events)
-          (subst (λ (read : List (List ℕ)). LinesDescribe t read (scenario_from M o events)) (sym one) last);
+      lines_describe = opening_leads M o is room more (script_from M o events)
+          (subst (λ (read : List (List ℕ)). LinesDescribe t read (script_from M o events)) (sym one) last);
       some_hart = is.some_hart;
     }

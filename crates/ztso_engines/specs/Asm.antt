@@ -7,9 +7,9 @@ use Rattle.rv_decode.specs.declared.instruction.Instr.{Instr}
 use Rattle.assembler.specs.Drafts.{assembled}
 use Rattle.assembler.specs.Program.{IsCode}
 use Rattle.assembler.specs.Faults.{fault_number, Refusal as AsmRefusal}
-use Rattle.engine_parts.specs.declared.fault.Refusal.{Refusal}
-use Rattle.engine_parts.specs.Faults.{refused_at}
-use Rattle.engine_parts.specs.Engines.{ByValue, Output}
+use Rattle.engine_support.specs.declared.fault.Refusal.{Refusal}
+use Rattle.engine_support.specs.Faults.{refused_at}
+use Rattle.engine_support.specs.Engines.{ByValue, Output}
 
 -- a fault of an assembly text, refused by its number at its line
 abbrev pub refused_program : {V : Type 0} → Result V AsmRefusal → Result V Refusal

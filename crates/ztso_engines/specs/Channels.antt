@@ -5,8 +5,8 @@ use Rattle.std.specs.List.{flat_map}
 use Rattle.hart.specs.declared.need.Report.{Report}
 use Rattle.hart.specs.declared.need.Report.TheVariants as report
 use Rattle.step_machine.specs.declared.events.Event.{Event}
-use Rattle.step_machine.specs.History.{Start, History}
-use Rattle.recorder.specs.Versions.{Said, Says, events_said}
+use Rattle.step_machine.specs.History.{OpeningValue, History}
+use Rattle.recorder.specs.Versions.{ScheduleValue, Says, events_said}
 use Rattle.poll_close.specs.Layout.{Layout, opening_at}
 use Rattle.poll_close.specs.Laws.{Ring, AcceptedAt as IsWithin}
 use Rattle.poll_close.specs.Delivery.{Delivers, DeliversWhole}
@@ -14,13 +14,13 @@ use Rattle.poll_close.specs.Refusals.{RefusesAt, fault_number_at}
 use Rattle.poll_close.specs.declared.faults.Refused.TheVariants as refused
 use Rattle.poll_close.specs.declared.faults.RefusedAt.{RefusedAt}
 use Rattle.poll_close.specs.declared.faults.RefusedAt.TheVariants as refused_at
-use Rattle.engine_parts.specs.declared.fault.Fault.{Fault}
-use Rattle.engine_parts.specs.declared.fault.Fault.TheVariants as fault
-use Rattle.engine_parts.specs.declared.fault.Position.TheVariants as place
-use Rattle.engine_parts.specs.declared.fault.Refusal.{Refusal}
-use Rattle.engine_parts.specs.Engines.{Output, Accepted, judged}
-use Rattle.engine_parts.specs.Schedules.{IsNoSchedule}
-use Rattle.engine_parts.specs.Histories.{Runs}
+use Rattle.engine_support.specs.declared.fault.Fault.{Fault}
+use Rattle.engine_support.specs.declared.fault.Fault.TheVariants as fault
+use Rattle.engine_support.specs.declared.fault.Position.TheVariants as place
+use Rattle.engine_support.specs.declared.fault.Refusal.{Refusal}
+use Rattle.engine_support.specs.Engines.{Output, Accepted, decoded}
+use Rattle.engine_support.specs.Schedules.{IsNoSchedule}
+use Rattle.engine_support.specs.Histories.{Runs}
 use Rattle.ztso_engines.specs.Lists.{SaysLists, lists_at}
 
 -- the line of a report
@@ -28,25 +28,25 @@ abbrev pub report_line : Report → List ℕ
 report_line (report.Took sender word) = codes "took " ++ decimal sender ++ 32 ∷ decimal word ++ 10 ∷ []
 report_line (report.Closed sender) = codes "closed " ++ decimal sender ++ 10 ∷ []
 
--- what the receiver reports in the run of the events, and of a plan behind them if the channel is to be
+-- what the receiver reports in the run of the events, and of a plan after them if the channel is to be
 -- finished
-abbrev pub Reported : (finish : Bool) → (B M : ℕ) → Start → List (List ℕ) → List Event → List Report → Type 0
+abbrev pub Reported : (finish : Bool) → (B M : ℕ) → OpeningValue → List (List ℕ) → List Event → List Report → Type 0
 Reported false B M opening lists events reports = Delivers B M opening lists events reports
 Reported true B M opening lists events reports = DeliversWhole B M opening lists events reports
 
 -- the opening over these lists
-abbrev pub opening_over : Ring → Layout → List (List ℕ) → Start
+abbrev pub opening_over : Ring → Layout → List (List ℕ) → OpeningValue
 opening_over ring l lists = opening_at ring.sender ring.receiver lists l
 
 -- The receiver reports this in the run of what the schedule says over these lists: lists and a layout within
 -- the limits, whose reports are clean. A record's outcomes are the run's.
-pub record IsReported (ring : Ring) (B M : ℕ) (l : Layout) (finish : Bool) (said : Said) (lists : List (List ℕ)) (reports : List Report) : Type 0 where
+pub record IsReported (ring : Ring) (B M : ℕ) (l : Layout) (finish : Bool) (said : ScheduleValue) (lists : List (List ℕ)) (reports : List Report) : Type 0 where
   pub within : IsWithin ring M lists l
   pub ran : (history : History) × Runs B M (opening_over ring l lists) said (Ok history)
   pub delivers : Reported finish B M (opening_over ring l lists) lists (events_said said) reports
 
 -- the same, with the reports a line each
-pub record IsDelivery (ring : Ring) (B M : ℕ) (l : Layout) (finish : Bool) (said : Said) (lists : List (List ℕ)) (answer : Output) : Type 0 where
+pub record IsDelivery (ring : Ring) (B M : ℕ) (l : Layout) (finish : Bool) (said : ScheduleValue) (lists : List (List ℕ)) (answer : Output) : Type 0 where
   pub reports : List Report
   pub is_reported : IsReported ring B M l finish said lists reports
   pub text : answer.0 ≡ flat_map report_line reports
@@ -70,25 +70,25 @@ pub record HasNoChannel (ring : Ring) (M : ℕ) (l : Layout) (lists : List (List
   pub is_fault : fault_from why ≡ fault.Refused refusal
 
 -- There is a channel over these lists, and a record is refused at the first event whose outcome isn't the run's.
-pub record IsOtherRun (ring : Ring) (B M : ℕ) (l : Layout) (said : Said) (lists : List (List ℕ)) (refusal : Refusal) : Type 0 where
+pub record IsOtherRun (ring : Ring) (B M : ℕ) (l : Layout) (said : ScheduleValue) (lists : List (List ℕ)) (refusal : Refusal) : Type 0 where
   pub within : IsWithin ring M lists l
   pub differs : Runs B M (opening_over ring l lists) said (Err refusal)
 
 -- why nothing is reported
-abbrev pub IsUnreported : (ring : Ring) (B M : ℕ) (l : Layout) (said : Said) (lists : List (List ℕ)) → Refusal → Type 0
+abbrev pub IsUnreported : (ring : Ring) (B M : ℕ) (l : Layout) (said : ScheduleValue) (lists : List (List ℕ)) → Refusal → Type 0
 IsUnreported ring B M l said lists refusal = HasNoChannel ring M l lists refusal ⊎ IsOtherRun ring B M l said lists refusal
 
 -- The input says no lists, for this reason.
 abbrev pub IsNoLists : List ℕ → Refusal → Type 0
-IsNoLists input refusal = judged lists_at input ≡ Err refusal
+IsNoLists input refusal = decoded lists_at input ≡ Err refusal
 
 -- What answers a schedule of either version and lists. The schedule is judged first, then the text of lists,
 -- then the lists and the place, and then a record.
 pub data IsChannelAnswer (ring : Ring) (B M : ℕ) (l : Layout) (finish : Bool) (schedule input : List ℕ) : Result Output Refusal → Type 0 where
   no_schedule : (refusal : Refusal) → IsNoSchedule schedule refusal → IsChannelAnswer ring B M l finish schedule input (Err refusal)
-  no_lists : (said : Said) (refusal : Refusal) → Accepted Says schedule said → IsNoLists input refusal
+  no_lists : (said : ScheduleValue) (refusal : Refusal) → Accepted Says schedule said → IsNoLists input refusal
       → IsChannelAnswer ring B M l finish schedule input (Err refusal)
-  unreported : (said : Said) (lists : List (List ℕ)) (refusal : Refusal) → Accepted Says schedule said → Accepted SaysLists input lists
+  unreported : (said : ScheduleValue) (lists : List (List ℕ)) (refusal : Refusal) → Accepted Says schedule said → Accepted SaysLists input lists
       → IsUnreported ring B M l said lists refusal → IsChannelAnswer ring B M l finish schedule input (Err refusal)
-  delivered : (said : Said) (lists : List (List ℕ)) (answer : Output) → Accepted Says schedule said → Accepted SaysLists input lists
+  delivered : (said : ScheduleValue) (lists : List (List ℕ)) (answer : Output) → Accepted Says schedule said → Accepted SaysLists input lists
       → IsDelivery ring B M l finish said lists answer → IsChannelAnswer ring B M l finish schedule input (Ok answer)

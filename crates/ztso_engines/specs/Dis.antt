@@ -8,11 +8,11 @@ use Rattle.rv_decode.specs.Meaning.{meaning}
 use Rattle.rv_decode.specs.declared.instruction.Instr.{Instr}
 use Rattle.assembler.specs.Drafts.{onto}
 use Rattle.assembler.specs.Writing.{text_of}
-use Rattle.engine_parts.specs.declared.fault.Refusal.{Refusal}
+use Rattle.engine_support.specs.declared.fault.Refusal.{Refusal}
 use Rattle.texts.specs.Cutting.{tokens}
-use Rattle.engine_parts.specs.LineFaults.{at_line}
+use Rattle.engine_support.specs.LineFaults.{at_line}
 use Rattle.ztso_engines.specs.Code.{code_at}
-use Rattle.engine_parts.specs.Engines.{ByValue, Output}
+use Rattle.engine_support.specs.Engines.{ByValue, Output}
 
 -- The text says these instruction words: each word of its lines is 8 hex digits that say the next one.
 abbrev pub SaysCode : List ℕ → List ℕ → Type 0

@@ -1,5 +1,5 @@
 pub mod Code
-pub mod Scenario
+pub mod ScriptValue
 pub mod StepsText
 pub mod StepsReading
 pub mod Steps
@@ -11,4 +11,7 @@ pub mod Move
 pub mod inner
 pub mod Lists
 pub mod Channels
+pub mod Programs
+pub mod Rings
+pub mod OwnChannels
 pub mod Threads

@@ -6,8 +6,8 @@ use Rattle.texts.specs.Numbers.{word_of}
 use Rattle.texts.specs.Pieces.{pieces}
 use Rattle.texts.specs.declared.pieces.Separators.TheVariants.{Spaces}
 use Rattle.texts.specs.Formats.{each, each_at}
-use Rattle.engine_parts.specs.declared.fault.Refusal.{Refusal}
-use Rattle.engine_parts.specs.LineFaults.{or_bad, at_line}
+use Rattle.engine_support.specs.declared.fault.Refusal.{Refusal}
+use Rattle.engine_support.specs.LineFaults.{or_bad, at_line}
 use Rattle.texts.specs.Numbers.{SaysWord}
 
 -- the pieces that have a byte

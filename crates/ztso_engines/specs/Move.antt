@@ -2,14 +2,14 @@
 use Rattle.std.specs.Prelude.{ℕ, ◌≡◌, List, Result, Ok, Err}
 use Rattle.litmus.specs.LitmusTests.{LitmusTest}
 use Rattle.recorder.specs.Records.{Step, IsRecordOf, record_text}
-use Rattle.recorder.specs.Versions.{Said}
-use Rattle.engine_parts.specs.declared.fault.Refusal.{Refusal}
-use Rattle.engine_parts.specs.Engines.{Output}
-use Rattle.engine_parts.specs.Histories.{BySchedule, Records}
+use Rattle.recorder.specs.Versions.{ScheduleValue}
+use Rattle.engine_support.specs.declared.fault.Refusal.{Refusal}
+use Rattle.engine_support.specs.Engines.{Output}
+use Rattle.engine_support.specs.Histories.{BySchedule, Records}
 
 -- The one text of the record of the schedule's run from the test's opening, which is read as this record again;
 -- a record that differs has none.
-abbrev pub IsMoved : (B M : ℕ) → LitmusTest → Said → Result Output Refusal → Type 0
+abbrev pub IsMoved : (B M : ℕ) → LitmusTest → ScheduleValue → Result Output Refusal → Type 0
 IsMoved B M test said (Ok answer) = (steps : List Step) × Records B M test.opening said (Ok steps) × (answer.0 ≡ record_text steps) × IsRecordOf answer.0 steps
 IsMoved B M test said (Err refusal) = Records B M test.opening said (Err refusal)
 

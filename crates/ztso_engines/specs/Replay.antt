@@ -3,10 +3,10 @@ use Rattle.std.specs.Prelude.{ℕ, ◌≡◌, List, Result}
 use Rattle.std.specs.List.{flat_map}
 use Rattle.step_machine.specs.History.{History}
 use Rattle.litmus.specs.LitmusTests.{LitmusTest}
-use Rattle.engine_parts.specs.declared.fault.Refusal.{Refusal}
+use Rattle.engine_support.specs.declared.fault.Refusal.{Refusal}
 use Rattle.recorder.specs.Outcomes.{entry_line}
-use Rattle.engine_parts.specs.Histories.{ByRun}
-use Rattle.engine_parts.specs.Engines.{Output}
+use Rattle.engine_support.specs.Histories.{ByRun}
+use Rattle.engine_support.specs.Engines.{Output}
 
 -- the lines of a history's entries
 abbrev pub IsReplay : LitmusTest → History → (answer : Output) → Type 0

@@ -5,9 +5,9 @@ use Rattle.litmus.specs.LitmusTests.{LitmusTest}
 use Rattle.litmus.specs.Verdicts.{IsVerdict}
 use Rattle.litmus.specs.declared.verdict.Verdict.{Verdict}
 use Rattle.litmus.specs.declared.verdict.Verdict.TheVariants.{Holds, Fails, Unfinished}
-use Rattle.engine_parts.specs.declared.fault.Refusal.{Refusal}
-use Rattle.engine_parts.specs.StateText.{shown}
-use Rattle.engine_parts.specs.Histories.{ByRun}
+use Rattle.engine_support.specs.declared.fault.Refusal.{Refusal}
+use Rattle.engine_support.specs.StateText.{shown}
+use Rattle.engine_support.specs.Histories.{ByRun}
 
 abbrev pub verdict_line : Verdict → List ℕ
 verdict_line Holds = codes "Holds" ++ 10 ∷ []

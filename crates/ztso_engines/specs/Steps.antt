@@ -2,20 +2,20 @@
 use Rattle.std.specs.Prelude.{ℕ, ◌≡◌, List, Result}
 use Rattle.step_machine.specs.History.{History}
 use Rattle.step_machine.specs.Runs.{Run}
-use Rattle.engine_parts.specs.declared.fault.Refusal.{Refusal}
-use Rattle.ztso_engines.specs.Scenario.{Scenario, opening_of}
+use Rattle.engine_support.specs.declared.fault.Refusal.{Refusal}
+use Rattle.ztso_engines.specs.ScriptValue.{ScriptValue, opening_of}
 use Rattle.ztso_engines.specs.StepsText.{Describes}
 use Rattle.ztso_engines.specs.StepsReading.{script_at}
-use Rattle.engine_parts.specs.StateText.{shown}
-use Rattle.engine_parts.specs.Engines.{ByValue, Output}
+use Rattle.engine_support.specs.StateText.{shown}
+use Rattle.engine_support.specs.Engines.{ByValue, Output}
 
 -- the state text of the history that the events make of the opening, over store buffers of B pairs and
 -- a memory of M words
-pub record IsStateText (B M : ℕ) (scenario : Scenario) (out : List ℕ) : Type 0 where
+pub record IsStateText (B M : ℕ) (script : ScriptValue) (out : List ℕ) : Type 0 where
   pub history : History
-  pub ran : Run B M (opening_of scenario) scenario.events history
+  pub ran : Run B M (opening_of script) script.events history
   pub is_shown : out ≡ shown M history
 
 -- What answers an input: the state text of what it tells.
 abbrev pub IsStepsAnswer : (B M : ℕ) → List ℕ → Result Output Refusal → Type 0
-IsStepsAnswer B M = ByValue (Describes M) (script_at M) (λ scenario answer. IsStateText B M scenario answer.0)
+IsStepsAnswer B M = ByValue (Describes M) (script_at M) (λ script answer. IsStateText B M script answer.0)

@@ -6,32 +6,32 @@ use Rattle.std.specs.Str.{bytes_eq}
 use Rattle.std.specs.Str.Lines.{lines}
 use Rattle.texts.specs.Numbers.{word_of}
 use Rattle.texts.specs.Results.{◌>>=◌, map_err}
-use Rattle.step_machine.specs.History.{HartStart}
+use Rattle.step_machine.specs.History.{HartOpeningValue}
 use Rattle.step_machine.specs.declared.events.Event.{Event}
 use Rattle.step_machine.specs.declared.opening.TheConstants.{MAX_HARTS}
 use Rattle.recorder.specs.declared.faults.AtByte.{AtByte}
 use Rattle.recorder.specs.Faults.{fault_number}
 use Rattle.recorder.specs.Reading.{tokens_after}
-use Rattle.engine_parts.specs.declared.fault.Refusal.{Refusal}
-use Rattle.engine_parts.specs.declared.fault.Position.TheVariants.{Nowhere}
+use Rattle.engine_support.specs.declared.fault.Refusal.{Refusal}
+use Rattle.engine_support.specs.declared.fault.Position.TheVariants.{Nowhere}
 use Rattle.ztso_engines.specs.declared.steps.line.Keyword.{Keyword}
 use Rattle.ztso_engines.specs.declared.steps.line.Keyword.TheVariants as keyword
 use Rattle.texts.specs.Cutting.{tokens, first_cut}
-use Rattle.engine_parts.specs.LineFaults.{bad_line, or_bad, at_line}
+use Rattle.engine_support.specs.LineFaults.{bad_line, or_bad, at_line}
 use Rattle.ztso_engines.specs.Code.{code_at}
-use Rattle.ztso_engines.specs.Scenario.{Scenario, no_scenario, fresh, register_set}
+use Rattle.ztso_engines.specs.ScriptValue.{ScriptValue, no_script, fresh, register_set}
 use Rattle.rv_decode.specs.declared.instruction.TheConstants.{MAX_CODE}
 
--- ---- the words behind a keyword
+-- ---- the words after a keyword
 
--- the number that the first word says, and the words behind it
+-- the number that the first word says, and the words after it
 unfoldable pub number_at : List (List ℕ) → Result (ℕ × List (List ℕ)) ℕ
 number_at [] = Err bad_line
 number_at (digits ∷ others) = do
   number ← or_bad (word_of digits)
   Ok (number, others)
 
--- a value behind which no word is left
+-- a value after which no word is left
 abbrev pub with_no_more : {A : Type 0} → A → List (List ℕ) → Result A ℕ
 with_no_more x [] = Ok x
 with_no_more x (digits ∷ others) = Err bad_line
@@ -50,12 +50,12 @@ three_numbers text = do
 
 -- ---- what a line changes
 
-unfoldable pub with_hart : List HartStart → List (List ℕ) → Result (List HartStart) ℕ
+unfoldable pub with_hart : List HartOpeningValue → List (List ℕ) → Result (List HartOpeningValue) ℕ
 with_hart harts text = do
   code ← code_at text
   if nat_le MAX_HARTS (length harts) || nat_lt MAX_CODE (length code) then Err bad_line else Ok (harts ++ fresh code ∷ [])
 
-unfoldable pub with_register : List HartStart → List (List ℕ) → Result (List HartStart) ℕ
+unfoldable pub with_register : List HartOpeningValue → List (List ℕ) → Result (List HartOpeningValue) ℕ
 with_register harts text = do
   said ← three_numbers text
   if nat_le (length harts) said.0 || (said.1 == 0) || nat_le 32 said.1 then Err bad_line else Ok (register_set harts said.0 said.1 said.2)
@@ -83,7 +83,7 @@ keyword_named name =
     (if bytes_eq name (codes "word") then Some keyword.Word else
     (if bytes_eq name (codes "steps") then Some keyword.Steps else None)))
 
-abbrev pub by_keyword : Scenario → Option Keyword → List ℕ → Result Scenario ℕ
+abbrev pub by_keyword : ScriptValue → Option Keyword → List ℕ → Result ScriptValue ℕ
 by_keyword t None rest = Err bad_line
 by_keyword t (Some keyword.Hart) rest = do
   harts ← with_hart t.harts (tokens rest)
@@ -98,29 +98,29 @@ by_keyword t (Some keyword.Steps) rest = do
   events ← with_steps t.events rest
   Ok (record t { events = events })
 
-abbrev pub by_cut : Scenario → Option (List ℕ × List ℕ) → Result Scenario ℕ
+abbrev pub by_cut : ScriptValue → Option (List ℕ × List ℕ) → Result ScriptValue ℕ
 by_cut t None = Ok t
 by_cut t (Some cut) = by_keyword t (keyword_named cut.0) cut.1
 
--- the scenario after one more line; a line without a word adds nothing
-unfoldable pub after_line : Scenario → List ℕ → Result Scenario ℕ
+-- the script after one more line; a line without a word adds nothing
+unfoldable pub after_line : ScriptValue → List ℕ → Result ScriptValue ℕ
 after_line t line = by_cut t (first_cut line)
 
 -- ---- a text
 
--- the scenario after these lines, the first of which has this number
-unfoldable pub after_lines : Scenario → (number : ℕ) → List (List ℕ) → Result Scenario Refusal
+-- the script after these lines, the first of which has this number
+unfoldable pub after_lines : ScriptValue → (number : ℕ) → List (List ℕ) → Result ScriptValue Refusal
 after_lines t number [] = Ok t
 after_lines t number (line ∷ others) = do
   next ← at_line number (after_line t line)
   after_lines next (number + 1) others
 
 -- a text without a hart is refused as a whole, where no line is
-abbrev pub with_some_hart : Scenario → Result Scenario Refusal
+abbrev pub with_some_hart : ScriptValue → Result ScriptValue Refusal
 with_some_hart t = if length t.harts == 0 then Err (record { number = bad_line; place = Nowhere }) else Ok t
 
 -- what a steps text tells of a machine with M words, or its first fault
-unfoldable pub script_at : (M : ℕ) → List ℕ → Result Scenario Refusal
+unfoldable pub script_at : (M : ℕ) → List ℕ → Result ScriptValue Refusal
 script_at M text = do
-  scenario ← after_lines (no_scenario M) 1 (lines text)
-  with_some_hart scenario
+  script ← after_lines (no_script M) 1 (lines text)
+  with_some_hart script

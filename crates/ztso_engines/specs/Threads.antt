@@ -13,11 +13,11 @@ use Rattle.hart_threads.specs.Returns.{IsLost}
 use Rattle.hart_threads.specs.Seats.{seats_of}
 use Rattle.hart_threads.specs.declared.fault.Fault.{Fault as ThreadFault}
 use Rattle.hart_threads.specs.declared.fault.Fault.TheVariants as thread
-use Rattle.engine_parts.specs.declared.fault.Fault.{Fault}
-use Rattle.engine_parts.specs.declared.fault.Fault.TheVariants.{NoMemory, Refused}
-use Rattle.engine_parts.specs.declared.fault.Refusal.{Refusal}
-use Rattle.engine_parts.specs.declared.fault.Position.TheVariants.{Nowhere}
-use Rattle.engine_parts.specs.Tests.{ByTest}
+use Rattle.engine_support.specs.declared.fault.Fault.{Fault}
+use Rattle.engine_support.specs.declared.fault.Fault.TheVariants.{NoMemory, Refused}
+use Rattle.engine_support.specs.declared.fault.Refusal.{Refusal}
+use Rattle.engine_support.specs.declared.fault.Position.TheVariants.{Nowhere}
+use Rattle.engine_support.specs.Tests.{ByTest}
 use Rattle.ztso_engines.specs.Run.{IsJudged}
 
 -- a fault of the threads as a fault of the command

@@ -1,3 +1,4 @@
 -- What serves the proofs alone, where a private contract names it.
 pub mod Inputs
 pub mod Reporting
+pub mod ReadPrograms

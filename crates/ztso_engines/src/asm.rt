@@ -7,21 +7,21 @@ ghost use Rattle.rv_decode.specs.Meaning.{meaning};
 ghost use Rattle.rv_decode.specs.declared.instruction.Instr.{Instr};
 ghost use Rattle.assembler.specs.Drafts.{AllPlain};
 ghost use Rattle.assembler.specs.Program.{IsProgram, AreWordsOf};
-ghost use Rattle.engine_parts.specs.Faults.{Answers};
-ghost use Rattle.engine_parts.specs.Engines.{EndsBy};
+ghost use Rattle.engine_support.specs.Faults.{Answers};
+ghost use Rattle.engine_support.specs.Engines.{EndsBy};
 ghost use Rattle.ztso_engines.specs.Asm.{asm_at, hex_line, IsAsmAnswer};
-ghost use Rattle.engine_parts.specs.inner.Making.{FindsBy, text_and_value};
+ghost use Rattle.engine_support.specs.inner.Making.{FindsByUpToReads, text_and_value};
 
 use assembler::assemble;
-use engine_parts::fault::Fault;
-use engine_parts::input::read_text;
-use engine_parts::output::end_with;
+use engine_support::fault::Fault;
+use engine_support::input::read_text;
+use engine_support::output::end_with;
 use std::alloc::{AllocError, Global};
 use std::io::{Read, Write};
 
 /// The words of a text.
 #[tactic(auto, unfolding(crate::specs::Asm::asm_at))]
-fn code_of(alloc: Global, text: &str) -> Result<Vec<u32>, Fault>
+pub(crate) fn code_of(alloc: Global, text: &str) -> Result<Vec<u32>, Fault>
     ensures found { IfOk result (λ code. (instrs : List Instr) × IsProgram text.now instrs × AreWordsOf code.items instrs) }
     ensures exact { Answers (λ code. map meaning code.items) result (asm_at text.now) }
     ensures plain { IfOk result (λ code. AllPlain code.items) }
@@ -50,7 +50,7 @@ fn code_text(alloc: Global, code: &[u32]) -> Result<String, AllocError>
 
 /// What is to be written for the input that a reader gives.
 fn made<R: Read>(alloc: Global, reader: &mut R) -> Result<(String, ()), Fault>
-    ensures { FindsBy IsAsmAnswer text_and_value (R.remaining reader.old) result }
+    ensures { FindsByUpToReads IsAsmAnswer text_and_value (R.remaining reader.old) result }
 {
     let text = read_text(alloc, reader)?;
     let code = code_of(alloc, &text)?;
@@ -60,8 +60,8 @@ fn made<R: Read>(alloc: Global, reader: &mut R) -> Result<(String, ()), Fault>
 
 /// Reads an assembly text to its end, and writes its words, each as 8 hex digits on a line.
 ///
-/// An input is refused as too large ([`engine_parts::fault::TOO_LARGE`]), else as no text
-/// ([`engine_parts::fault::NOT_TEXT`]), else as [`assemble`] says, at the line, and then nothing was written.
+/// An input is refused as too large ([`engine_support::fault::TOO_LARGE`]), else as no text
+/// ([`engine_support::fault::NOT_TEXT`]), else as [`assemble`] says, at the line, and then nothing was written.
 pub fn asm_engine<R: Read, W: Write>(
     alloc: Global,
     reader: &mut R,

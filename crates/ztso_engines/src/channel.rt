@@ -3,24 +3,24 @@
 ghost use Rattle.std.specs.Prelude.{◌≡◌, ◌≤◌, ◌++◌, [], IfErr, IfOk, OnOk, map};
 ghost use Rattle.std.specs.List.{flat_map};
 ghost use Rattle.std.specs.String.{string_bytes};
-ghost use Rattle.engine_parts.specs.Engines.{AnswersBoth, EndsByBoth};
-ghost use Rattle.engine_parts.specs.Faults.{AnswersAs};
+ghost use Rattle.engine_support.specs.Engines.{AnswersBoth, EndsByBoth};
+ghost use Rattle.engine_support.specs.Faults.{AnswersAs};
 ghost use Rattle.poll_close.specs.Layout.{opening_at};
 ghost use Rattle.poll_close.specs.Laws.{AcceptedAt};
 ghost use Rattle.poll_close.specs.Places.{layout_of};
 ghost use Rattle.poll_close.specs.Refusals.{RefusesAt};
 ghost use Rattle.recorder.specs.Versions.{said_of};
-ghost use Rattle.recorder.specs.Versions.Said.{recorded};
+ghost use Rattle.recorder.specs.Versions.ScheduleValue.{recorded};
 ghost use Rattle.ztso_engines.specs.Channels.{report_line, fault_from, Reported, IsChannelAnswer};
-ghost use Rattle.engine_parts.specs.Schedules.{HasNoSchedule};
-ghost use Rattle.engine_parts.specs.inner.Making.{Finds, text_and_value};
+ghost use Rattle.engine_support.specs.Schedules.{HasNoSchedule};
+ghost use Rattle.engine_support.specs.inner.Making.{FindsUpToReads, text_and_value};
 ghost use Rattle.ztso_engines.specs.inner.Reporting.{Reports};
 
 use crate::lists::read_lists;
-use engine_parts::fault::{Fault, Position};
-use engine_parts::output::end_with;
-use engine_parts::running::check_fault;
-use engine_parts::schedule::read_schedule;
+use engine_support::fault::{Fault, Position};
+use engine_support::output::end_with;
+use engine_support::running::check_fault;
+use engine_support::schedule::read_schedule;
 use hart::need::Report;
 use poll_close::plans::Finish;
 use poll_close::{
@@ -33,7 +33,7 @@ use std::io::{Read, Write};
 use step_machine::{Event, Outcome};
 
 /// Why there is no channel, as a fault.
-fn channel_fault(why: RefusedAt) -> Fault
+pub(crate) fn channel_fault(why: RefusedAt) -> Fault
     ensures { result ≡ fault_from why }
 {
     match why {
@@ -56,7 +56,7 @@ fn push_report_line(out: &mut String, report: Report) -> Result<(), AllocError>
 }
 
 /// The lines of all reports.
-fn reports_text(alloc: Global, reports: &[Report]) -> Result<String, AllocError>
+pub(crate) fn reports_text(alloc: Global, reports: &[Report]) -> Result<String, AllocError>
     ensures { IfOk result (λ text. string_bytes text ≡ flat_map report_line reports.now) }
 {
     let mut text = String::new(alloc);
@@ -165,7 +165,7 @@ fn made<K: Finish<B, M>, const B: usize, const M: usize, S: Read, L: Read>(
     requires capacity { B ≤ 64 }
     requires some_word { 1 ≤ M }
     requires size { M ≤ 65536 }
-    ensures made { Finds (AnswersBoth (IsChannelAnswer K.RingKind.ring B M (layout_of place []) finish)
+    ensures made { FindsUpToReads (AnswersBoth (IsChannelAnswer K.RingKind.ring B M (layout_of place []) finish)
         (S.remaining schedule.old) (L.remaining input.old)) text_and_value result }
     ensures unread { HasNoSchedule (S.remaining schedule.old) → input.new ≡ input.old }
 {
@@ -186,10 +186,10 @@ fn made<K: Finish<B, M>, const B: usize, const M: usize, S: Read, L: Read>(
 /// reported, and that it is closed.
 ///
 /// The schedule is refused as [`crate::run::run_engine`] refuses it, and the lists are not read then.
-/// An input of lists is refused as too large ([`engine_parts::fault::TOO_LARGE`]), as no text
-/// ([`engine_parts::fault::NOT_TEXT`]), else at its first line that holds anything but such words
-/// ([`engine_parts::fault::BAD_LINE`]). Lists are refused by the numbers of [`poll_close::RefusedAt`], but never for a
-/// filled block. At last a schedule of version 2 is refused by [`engine_parts::fault::DIFFERS`] at the first
+/// An input of lists is refused as too large ([`engine_support::fault::TOO_LARGE`]), as no text
+/// ([`engine_support::fault::NOT_TEXT`]), else at its first line that holds anything but such words
+/// ([`engine_support::fault::BAD_LINE`]). Lists are refused by the numbers of [`poll_close::RefusedAt`], but never for a
+/// filled block. At last a schedule of version 2 is refused by [`engine_support::fault::DIFFERS`] at the first
 /// event whose outcome isn't the run's. Then nothing was written.
 pub fn channel_engine<K: Finish<B, M>, const B: usize, const M: usize, S: Read, L: Read, W: Write>(
     alloc: Global,

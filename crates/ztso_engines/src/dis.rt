@@ -4,26 +4,26 @@ ghost use Rattle.std.specs.Prelude.{◌≡◌, ◌++◌, IfOk, OnOk};
 ghost use Rattle.std.specs.List.{flat_map};
 ghost use Rattle.std.specs.String.{string_bytes};
 ghost use Rattle.rv_decode.specs.Meaning.{meaning};
-ghost use Rattle.engine_parts.specs.Faults.{Answers};
-ghost use Rattle.engine_parts.specs.Engines.{EndsBy};
+ghost use Rattle.engine_support.specs.Faults.{Answers};
+ghost use Rattle.engine_support.specs.Engines.{EndsBy};
 ghost use Rattle.texts.specs.Cutting.{tokens};
-ghost use Rattle.engine_parts.specs.LineFaults.{at_line as line_at};
+ghost use Rattle.engine_support.specs.LineFaults.{at_line as line_at};
 ghost use Rattle.ztso_engines.specs.Code.{code_at};
 ghost use Rattle.ztso_engines.specs.Dis.{dis_at, meant_text, instr_line, IsDisAnswer};
-ghost use Rattle.engine_parts.specs.inner.Making.{FindsBy, text_and_value};
+ghost use Rattle.engine_support.specs.inner.Making.{FindsByUpToReads, text_and_value};
 
 use crate::code::code_of;
 use assembler::write_instr;
-use engine_parts::fault::{Fault, at_line};
-use engine_parts::input::read_text;
-use engine_parts::output::end_with;
+use engine_support::fault::{Fault, at_line};
+use engine_support::input::read_text;
+use engine_support::output::end_with;
 use rv_decode::decode;
 use std::alloc::{AllocError, Global};
 use std::io::{Read, Write};
 use texts::first_line;
 
 /// The instruction words of the line of this number.
-#[tactic(auto, using(engine_parts::proofs::LineFaulted::refused_at_line))]
+#[tactic(auto, using(engine_support::proofs::LineFaulted::refused_at_line))]
 fn code_of_line(alloc: Global, line: &[u8], number: usize) -> Result<Vec<u32>, Fault>
     ensures { Answers (λ code. code.items) result (line_at number (code_at (tokens line.now))) }
 {
@@ -79,7 +79,7 @@ fn code_text(alloc: Global, code: &[u32]) -> Result<String, AllocError>
 
 /// What is to be written for the input that a reader gives.
 fn made<R: Read>(alloc: Global, reader: &mut R) -> Result<(String, ()), Fault>
-    ensures { FindsBy IsDisAnswer text_and_value (R.remaining reader.old) result }
+    ensures { FindsByUpToReads IsDisAnswer text_and_value (R.remaining reader.old) result }
 {
     let text = read_text(alloc, reader)?;
     let code = code_of_text(alloc, text.as_bytes())?;
@@ -90,9 +90,9 @@ fn made<R: Read>(alloc: Global, reader: &mut R) -> Result<(String, ()), Fault>
 /// Reads words of 8 hex digits to the end, parted by blanks and line ends, and writes what each means
 /// on a line, or `illegal`.
 ///
-/// An input is refused as too large ([`engine_parts::fault::TOO_LARGE`]), else as no text
-/// ([`engine_parts::fault::NOT_TEXT`]), else at the line of its first word that isn't 8 hex digits
-/// ([`engine_parts::fault::BAD_LINE`]), and then nothing was written.
+/// An input is refused as too large ([`engine_support::fault::TOO_LARGE`]), else as no text
+/// ([`engine_support::fault::NOT_TEXT`]), else at the line of its first word that isn't 8 hex digits
+/// ([`engine_support::fault::BAD_LINE`]), and then nothing was written.
 pub fn dis_engine<R: Read, W: Write>(
     alloc: Global,
     reader: &mut R,

@@ -1,15 +1,15 @@
 //! Lists of words, a line each: the input of `channel`.
 
 ghost use Rattle.std.specs.Prelude.{map};
-ghost use Rattle.texts.specs.Results.{Gives, refusal_of};
-ghost use Rattle.engine_parts.specs.Faults.{Answers};
-ghost use Rattle.engine_parts.specs.LineFaults.{at_line as line_at};
+ghost use Rattle.texts.specs.Results.{GivesUpToMemory, refusal_of};
+ghost use Rattle.engine_support.specs.Faults.{Answers};
+ghost use Rattle.engine_support.specs.LineFaults.{at_line as line_at};
 ghost use Rattle.ztso_engines.specs.Lists.{list_of as list_said, lists_at};
-ghost use Rattle.engine_parts.specs.inner.Making.{FindsBy};
+ghost use Rattle.engine_support.specs.inner.Making.{FindsByUpToReads};
 ghost use Rattle.ztso_engines.specs.inner.Inputs.{IsReadAsLists};
 
-use engine_parts::fault::{BAD, Fault, LineFault, at_line};
-use engine_parts::input::read_text;
+use engine_support::fault::{BAD, Fault, LineFault, at_line};
+use engine_support::input::read_text;
 use std::alloc::Global;
 use std::io::Read;
 use texts::{Separators, first_line, first_piece, word};
@@ -17,7 +17,7 @@ use texts::{Separators, first_line, first_piece, word};
 /// The words of a line.
 #[tactic(auto, unfolding(crate::specs::Lists::list_at, texts::specs::Formats::each))]
 fn list_of(alloc: Global, line: &[u8]) -> Result<Vec<u32>, LineFault>
-    ensures { Gives refusal_of (λ list. list.items) result (list_said line.now) }
+    ensures { GivesUpToMemory refusal_of (λ list. list.items) result (list_said line.now) }
 {
     let mut list = Vec::new(alloc);
     let mut rest = Some(line);
@@ -32,7 +32,7 @@ fn list_of(alloc: Global, line: &[u8]) -> Result<Vec<u32>, LineFault>
 }
 
 /// The words of the line of this number.
-#[tactic(auto, using(engine_parts::proofs::LineFaulted::refused_at_line))]
+#[tactic(auto, using(engine_support::proofs::LineFaulted::refused_at_line))]
 fn list_of_line(alloc: Global, line: &[u8], number: usize) -> Result<Vec<u32>, Fault>
     ensures { Answers (λ list. list.items) result (line_at number (list_said line.now)) }
 {
@@ -61,7 +61,7 @@ fn lists_of_text(alloc: Global, text: &[u8]) -> Result<Vec<Vec<u32>>, Fault>
 
 /// The lists of the input that a reader gives.
 pub fn read_lists<R: Read>(alloc: Global, reader: &mut R) -> Result<Vec<Vec<u32>>, Fault>
-    ensures { FindsBy IsReadAsLists (λ lists. map (λ list. list.items) lists.items) (R.remaining reader.old) result }
+    ensures { FindsByUpToReads IsReadAsLists (λ lists. map (λ list. list.items) lists.items) (R.remaining reader.old) result }
 {
     let text = read_text(alloc, reader)?;
     lists_of_text(alloc, text.as_bytes())

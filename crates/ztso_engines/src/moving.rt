@@ -1,14 +1,14 @@
 //! The command `move`: a litmus text and a schedule in, the schedule's text of version 2 out.
 
 ghost use Rattle.std.specs.Prelude.{◌≡◌, ◌≤◌};
-ghost use Rattle.engine_parts.specs.Engines.{EndsByBoth};
-ghost use Rattle.engine_parts.specs.Tests.{HasNoTest};
+ghost use Rattle.engine_support.specs.Engines.{EndsByBoth};
+ghost use Rattle.engine_support.specs.Tests.{HasNoTest};
 ghost use Rattle.ztso_engines.specs.Move.{IsMoved, IsMoveAnswer};
 ghost use Rattle.litmus.specs.declared.litmus_test.TheConstants.{MAX_LOCATIONS};
 
-use engine_parts::command::{ScheduleCommand, schedule_engine};
-use engine_parts::fault::Fault;
-use engine_parts::running::record_of_schedule;
+use engine_support::command::{ScheduleCommand, schedule_engine};
+use engine_support::fault::Fault;
+use engine_support::running::record_of_schedule;
 use litmus::Test;
 use recorder::{Schedule, records_can_be_written, write_record};
 use std::alloc::Global;

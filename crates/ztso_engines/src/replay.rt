@@ -3,16 +3,16 @@
 ghost use Rattle.std.specs.Prelude.{◌≡◌, ◌≤◌, IfOk};
 ghost use Rattle.std.specs.List.{flat_map};
 ghost use Rattle.std.specs.String.{string_bytes};
-ghost use Rattle.engine_parts.specs.Engines.{EndsByBoth};
-ghost use Rattle.engine_parts.specs.Histories.{AnswersRun};
-ghost use Rattle.engine_parts.specs.Tests.{HasNoTest};
+ghost use Rattle.engine_support.specs.Engines.{EndsByBoth};
+ghost use Rattle.engine_support.specs.Histories.{AnswersRun};
+ghost use Rattle.engine_support.specs.Tests.{HasNoTest};
 ghost use Rattle.recorder.specs.Outcomes.{entry_line};
 ghost use Rattle.ztso_engines.specs.Replay.{IsReplay, IsReplayAnswer};
 ghost use Rattle.litmus.specs.declared.litmus_test.TheConstants.{MAX_LOCATIONS};
 
-use engine_parts::command::{ScheduleCommand, schedule_engine};
-use engine_parts::fault::Fault;
-use engine_parts::running::machine_of_schedule;
+use engine_support::command::{ScheduleCommand, schedule_engine};
+use engine_support::fault::Fault;
+use engine_support::running::machine_of_schedule;
 use litmus::Test;
 use recorder::{Schedule, push_entry_line};
 use std::alloc::{AllocError, Global};

@@ -2,18 +2,18 @@
 
 ghost use Rattle.std.specs.Prelude.{◌≡◌, ◌≤◌, ◌++◌, length, IfOk, OnOk};
 ghost use Rattle.std.specs.String.{string_bytes};
-ghost use Rattle.step_machine.specs.Standing.{OfEach};
-ghost use Rattle.engine_parts.specs.Engines.{EndsByBoth};
-ghost use Rattle.engine_parts.specs.Histories.{AnswersRun};
-ghost use Rattle.engine_parts.specs.Tests.{HasNoTest};
+ghost use Rattle.step_machine.specs.Standing.{ForEachHistory};
+ghost use Rattle.engine_support.specs.Engines.{EndsByBoth};
+ghost use Rattle.engine_support.specs.Histories.{AnswersRun};
+ghost use Rattle.engine_support.specs.Tests.{HasNoTest};
 ghost use Rattle.ztso_engines.specs.Run.{verdict_line, IsJudged, IsRunAnswer};
-ghost use Rattle.engine_parts.specs.inner.Making.{text_and_value};
+ghost use Rattle.engine_support.specs.inner.Making.{text_and_value};
 ghost use Rattle.litmus.specs.declared.litmus_test.TheConstants.{MAX_LOCATIONS};
 
-use engine_parts::command::{ScheduleCommand, schedule_engine};
-use engine_parts::fault::Fault;
-use engine_parts::running::state_of_schedule;
-use engine_parts::state_text::state_text;
+use engine_support::command::{ScheduleCommand, schedule_engine};
+use engine_support::fault::Fault;
+use engine_support::running::state_of_schedule;
+use engine_support::state_text::state_text;
 use litmus::{Test, Verdict};
 use recorder::Schedule;
 use std::alloc::{AllocError, Global};
@@ -39,7 +39,7 @@ pub(crate) fn judged_text<const B: usize, const M: usize>(
     requires harts { length machine.now.harts ≡ length test.now.opening.harts }
     requires names { length test.now.names ≤ M }
     requires size { M ≤ 65536 }
-    ensures { IfOk result (λ answer. OfEach B M machine.now (λ t. IsJudged M test.now t (text_and_value answer))) }
+    ensures { IfOk result (λ answer. ForEachHistory B M machine.now (λ t. IsJudged M test.now t (text_and_value answer))) }
 {
     let verdict = test.verdict(machine);
     let mut text = state_text(alloc, machine)?;
@@ -65,10 +65,10 @@ impl<const B: usize, const M: usize> ScheduleCommand<B, M> for Run {
 /// test's opening with store buffers of `B` pairs and `M` words of memory, writes the state text and the
 /// verdict on a line, and answers the verdict.
 ///
-/// Each input is refused as too large ([`engine_parts::fault::TOO_LARGE`]), else as no text
-/// ([`engine_parts::fault::NOT_TEXT`]), else as [`litmus_reader::read`] says, at the line, or as
+/// Each input is refused as too large ([`engine_support::fault::TOO_LARGE`]), else as no text
+/// ([`engine_support::fault::NOT_TEXT`]), else as [`litmus_reader::read`] says, at the line, or as
 /// [`recorder::read_either`] says, at the byte. A schedule of version 2 is refused last, by
-/// [`engine_parts::fault::DIFFERS`] at the first event whose outcome isn't the run's. Then nothing was
+/// [`engine_support::fault::DIFFERS`] at the first event whose outcome isn't the run's. Then nothing was
 /// written. After a refused litmus text the schedule is not read. A memory of 1,024 words has room for each
 /// test's locations.
 pub fn run_engine<const B: usize, const M: usize, F: Read, S: Read, W: Write>(

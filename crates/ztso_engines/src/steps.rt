@@ -3,16 +3,16 @@
 ghost use Rattle.std.specs.Prelude.{◌≤◌, IfOk};
 ghost use Rattle.std.specs.String.{string_bytes};
 ghost use Rattle.step_machine.specs.History.{FitsIn};
-ghost use Rattle.engine_parts.specs.Engines.{EndsBy};
-ghost use Rattle.ztso_engines.specs.Scenario.{scenario_of, opening_of};
+ghost use Rattle.engine_support.specs.Engines.{EndsBy};
+ghost use Rattle.ztso_engines.specs.ScriptValue.{script_value, opening_of};
 ghost use Rattle.ztso_engines.specs.Steps.{IsStateText, IsStepsAnswer};
-ghost use Rattle.engine_parts.specs.inner.Making.{FindsBy, text_and_value};
+ghost use Rattle.engine_support.specs.inner.Making.{FindsByUpToReads, text_and_value};
 
 use crate::steps::script::{Script, read_script};
-use engine_parts::fault::Fault;
-use engine_parts::input::read_text;
-use engine_parts::output::end_with;
-use engine_parts::state_text::state_text;
+use engine_support::fault::Fault;
+use engine_support::input::read_text;
+use engine_support::output::end_with;
+use engine_support::state_text::state_text;
 use recorder::replay_state;
 use std::alloc::{AllocError, Global};
 use std::io::{Read, Write};
@@ -30,8 +30,8 @@ fn script_text<const B: usize, const M: usize>(
     requires capacity { B ≤ 64 }
     requires some_word { 1 ≤ M }
     requires size { M ≤ 65536 }
-    requires fits { FitsIn M (opening_of (scenario_of script)) }
-    ensures { IfOk result (λ text. IsStateText B M (scenario_of script) (string_bytes text)) }
+    requires fits { FitsIn M (opening_of (script_value script)) }
+    ensures { IfOk result (λ text. IsStateText B M (script_value script) (string_bytes text)) }
 {
     let Script {
         harts,
@@ -51,7 +51,7 @@ fn made<const B: usize, const M: usize, R: Read>(
     requires capacity { B ≤ 64 }
     requires some_word { 1 ≤ M }
     requires size { M ≤ 65536 }
-    ensures { FindsBy (IsStepsAnswer B M) text_and_value (R.remaining reader.old) result }
+    ensures { FindsByUpToReads (IsStepsAnswer B M) text_and_value (R.remaining reader.old) result }
 {
     let input = read_text(alloc, reader)?;
     let script = read_script::<M>(alloc, input.as_bytes())?;

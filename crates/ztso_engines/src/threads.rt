@@ -4,19 +4,19 @@
 ghost use Rattle.std.specs.Prelude.{ℕ, ◌≡◌, ◌<◌, ◌≤◌, ◌⊎◌, Err, IfErr, length};
 ghost use Rattle.hart_threads.specs.GettingOn.{AllGetOn, AtMost};
 ghost use Rattle.hart_threads.specs.Records.{IsRecord};
-ghost use Rattle.engine_parts.specs.Engines.{EndsBy};
-ghost use Rattle.engine_parts.specs.Faults.{AnswersAs, too_large};
-ghost use Rattle.engine_parts.specs.declared.fault.Fault.TheVariants.{NoMemory, Refused};
+ghost use Rattle.engine_support.specs.Engines.{EndsBy};
+ghost use Rattle.engine_support.specs.Faults.{AnswersAs, too_large};
+ghost use Rattle.engine_support.specs.declared.fault.Fault.TheVariants.{NoMemory, Refused};
 ghost use Rattle.ztso_engines.specs.Threads.{fault_of_threads, IsThreadsGiven, IsThreadsAnswer};
-ghost use Rattle.engine_parts.specs.inner.Making.{FindsBy, text_and_value};
+ghost use Rattle.engine_support.specs.inner.Making.{FindsByUpToReads, text_and_value};
 ghost use Rattle.step_machine.specs.declared.opening.TheConstants.{MAX_HARTS};
 ghost use Rattle.litmus.specs.declared.litmus_test.TheConstants.{MAX_LOCATIONS};
 ghost use Rattle.recorder.specs.declared.reading.TheConstants.{MAX_EVENTS};
 
 use crate::run::judged_text;
-use engine_parts::fault::{Fault, Position, TOO_LARGE};
-use engine_parts::litmus_text::read_test;
-use engine_parts::output::end_with;
+use engine_support::fault::{Fault, Position, TOO_LARGE};
+use engine_support::litmus_text::read_test;
+use engine_support::output::end_with;
 use hart_threads::{Open, Record, Shared, run_harts};
 use litmus::{Test, Verdict};
 use recorder::{MAX_EVENTS, write_schedule};
@@ -94,7 +94,7 @@ fn made<const B: usize, const M: usize, R: Read, T: Threads + Wait + Sync>(
     requires capacity { B ≤ 64 }
     requires words { MAX_LOCATIONS ≤ M }
     requires size { M ≤ 65536 }
-    ensures { FindsBy (IsThreadsAnswer B M turns) text_and_value (R.remaining file.old) result }
+    ensures { FindsByUpToReads (IsThreadsAnswer B M turns) text_and_value (R.remaining file.old) result }
 {
     let test = read_test(alloc, file)?;
     answer::<B, M, T>(rt, alloc, &test, turns)

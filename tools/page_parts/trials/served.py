@@ -73,7 +73,7 @@ class Served:
         """The status with which a signal ends it, or None where it doesn't."""
         self.process.send_signal(by)
         try:
-            return self.process.wait(10)
+            return self.process.wait(SECONDS)
         except subprocess.TimeoutExpired:
             self.process.kill()
             self.process.wait()

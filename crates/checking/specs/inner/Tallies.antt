@@ -1,6 +1,7 @@
--- What is kept of the texts that were judged: how many, and a row for each outcome.
+-- What is kept of the texts that were judged: how many, how many were unfinished or refused, and a row for each
+-- outcome.
 use Rattle.std.specs.Prelude.{ℕ, ◌≡◌, ◌+◌, if◌then◌else◌, ◌<◌, IfSome, List, length, count_by, Some}
-use Rattle.engine_parts.specs.Counting.{counted, counted_both, seen_of}
+use Rattle.engine_support.specs.Counting.{counted, counted_both, seen_of}
 use Rattle.checking.specs.declared.tally.Tally.{Tally}
 use Rattle.checking.specs.declared.judging.Judgement.{Judgement}
 use Rattle.checking.specs.declared.judging.Judgement.TheVariants as judgement
@@ -9,6 +10,7 @@ use Rattle.checking.specs.Judgements.{Difference, Judged}
 use Rattle.checking.specs.Judgements.Judged.{finished, unfinished, differing, no_record}
 use Rattle.checking.specs.Outcomes.{first_record, gave, is_unfinished, is_refused, record_end}
 
+-- what a difference in the code stands for
 abbrev pub difference_of : CodeDifference → Difference
 difference_of d = record { event = d.event; line = d.line; step = d.step; found = d.found }
 

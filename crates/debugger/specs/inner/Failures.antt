@@ -3,7 +3,7 @@ use Rattle.std.specs.Prelude.{◌≡◌, List}
 use Rattle.step_machine.specs.declared.events.Event.{Event}
 use Rattle.litmus.specs.LitmusTests.{LitmusTest}
 use Rattle.debugger.specs.DebuggerStates.{DebuggerState, at_start}
-pub use Rattle.engine_parts.specs.inner.Failures.{IsFailure, IsReadFailure}
+pub use Rattle.engine_support.specs.inner.Failures.{IsFailure, IsReadFailure}
 
 -- a debugger at a test's opening, along these events
 abbrev pub IsAtStart : LitmusTest → List Event → DebuggerState → Type 0

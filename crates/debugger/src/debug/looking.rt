@@ -5,7 +5,7 @@ ghost use Rattle.std.specs.String.{string_bytes};
 ghost use Rattle.debugger.specs.Debugging.{hart_answer, pending_answer, word_answer};
 
 use crate::debug::lines::{push_number_line, push_store_lines, push_unknown_line};
-use engine_parts::state_text::push_hart;
+use engine_support::state_text::push_hart;
 use std::alloc::AllocError;
 use step_machine::Machine;
 

@@ -6,7 +6,7 @@ use Rattle.poll_close.specs.Invariant.Blocks.{Block, offset}
 use Rattle.poll_close.specs.Invariant.Outlines.{Outline, row}
 use Rattle.poll_close.specs.Listing.{words_of}
 use Rattle.fastforward.specs.Listing.{listing}
-use Rattle.fastforward.specs.Invariant.Numbers.{Sent}
+use Rattle.fastforward.specs.Invariant.Counters.{Sent}
 
 -- between two words: all that it took are stored, and no mark
 pub record Between (k : Block) (n : Sent) : Type 0 where

@@ -1,64 +1,18 @@
--- The sender's outline: at each line how far it is from its end, and what holds there of its own numbers
--- and registers.
-use Rattle.std.proofs.Common.{ℕ, ◌+◌, ◌*◌, ◌<◌, ◌≤◌, ◌≡◌, ◌==◌, ◌⊎◌, if◌then◌else◌, [], ◌∷◌, length}
+-- The outline of Lamport's sender: at each line how far it is from its end, and what holds there.
+use Rattle.std.proofs.Common.{◌+◌, ◌*◌, ◌≡◌, ◌==◌, if◌then◌else◌, [], ◌∷◌, length}
 use Rattle.std.specs.Prelude.{slice_index}
-use Rattle.poll_close.specs.Invariant.Blocks.{Block, offset}
-use Rattle.poll_close.specs.Invariant.Outlines.{Outline, row}
+use Rattle.poll_close.specs.Invariant.Blocks.{offset}
+use Rattle.poll_close.specs.Invariant.Outlines.{row}
 use Rattle.poll_close.specs.Listing.{words_of}
 use Rattle.lamport_ring.specs.Listing.{listing}
-use Rattle.lamport_ring.specs.Invariant.Numbers.{Sent}
+use Rattle.lamport_ring.specs.Invariant.Assertions.{Between, Holds, Asked, HasRead, Room, Stored, Marked}
+use Rattle.lamport_ring.specs.Invariant.Programs.{Program}
 
--- between two words: all that it asked for are stored, with their heads, and no mark
-pub record Between (k : Block) (n : Sent) : Type 0 where
-  pub taken : n.asked ≡ n.stored
-  pub heads : n.headed ≡ n.stored
-  pub unmarked : n.marked ≡ 0
-
--- it holds the next word, which it has not stored
-pub record Holds (k : Block) (n : Sent) (x5 x10 : ℕ) : Type 0 where
-  pub taken : n.asked ≡ n.stored + 1
-  pub heads : n.headed ≡ n.stored
-  pub unmarked : n.marked ≡ 0
-  pub within : n.stored < length k.list
-  pub word : x10 ≡ slice_index k.list n.stored
-  pub index : x5 ≡ offset k n.stored
-
-pub record Asked (k : Block) (n : Sent) (x5 x10 x11 : ℕ) : Type 0 where
-  pub heads : n.headed ≡ n.stored
-  pub unmarked : n.marked ≡ 0
-  pub index : x5 ≡ offset k n.stored
-  pub answer :
-      ((x11 ≡ 1) × (n.asked ≡ n.stored + 1) × (n.stored < length k.list) × (x10 ≡ slice_index k.list n.stored))
-      ⊎ ((x11 ≡ 0) × (n.asked ≡ n.stored) × (n.stored ≡ length k.list))
-
--- the tail that was read
-pub record HasRead (k : Block) (n : Sent) (x7 : ℕ) : Type 0 where
-  pub near : n.stored + 1 ≤ n.seen + k.size
-  pub is : x7 ≡ offset k n.seen
-
--- the slot after the next word's is free too: it has seen enough tails
-abbrev pub Room : Block → Sent → Type 0
-Room k n = n.stored + 2 ≤ n.seen + k.size
-
-pub record Stored (k : Block) (n : Sent) (x6 : ℕ) : Type 0 where
-  pub taken : n.asked ≡ n.stored
-  pub heads : n.headed + 1 ≡ n.stored
-  pub unmarked : n.marked ≡ 0
-  pub next : x6 ≡ offset k n.stored
-
--- the whole list is stored, and the mark is made
-pub record Marked (k : Block) (n : Sent) : Type 0 where
-  pub taken : n.asked ≡ length k.list
-  pub heads : n.headed ≡ length k.list
-  pub mark : n.marked ≡ 1
-
-abbrev pub sender : Outline
-sender = record {
-  Own = Sent;
-  asked = λ n. n.asked;
+abbrev pub lamport_program : Program
+lamport_program = record {
   code = words_of listing.sender;
   over = 0x44;
-  done = λ k n. Marked k n;
+  reads = 0x18;
   rows =
       row 0x00 (λ x. 8) (λ k n r. Between k n × (r.x5 ≡ offset k n.stored)) ∷  -- next: addi x17,x0,1
       row 0x04 (λ x. 7) (λ k n r. Between k n × (r.x5 ≡ offset k n.stored) × (r.x17 ≡ 1)) ∷  -- ecall

@@ -36,29 +36,29 @@ formula_from-steps_of (negation g) rest m n f few enough =
     ap (λ (s : List Step). formula_from m f s) same
     ∙ formula_from-steps_of g (step.Not ∷ rest) m (suc n) f (subst (λ (s : List Step). length s ≤ m) same few) (omega (arith, enough))
 formula_from-steps_of (both g h) rest m n f few enough =
-    let behind : List Step = step.And (length (steps_of h)) ∷ (steps_of h ++ rest) in
-    let same : (steps_of g ++ step.And (length (steps_of h)) ∷ steps_of h) ++ rest ≡ steps_of g ++ behind = append_assoc (steps_of g) (step.And (length (steps_of h)) ∷ steps_of h) rest in
-    let few_there : length (steps_of g ++ behind) ≤ m = subst (λ (s : List Step). length s ≤ m) same few in
-    let few_behind : length (steps_of h ++ rest) ≤ m = omega (arith, few_there, length-append (steps_of g) behind) in
-    let few_right : length (steps_of h ++ []) ≤ m = omega (arith, few_behind, length-append (steps_of h) rest, length-append (steps_of h) []) in
+    let following : List Step = step.And (length (steps_of h)) ∷ (steps_of h ++ rest) in
+    let same : (steps_of g ++ step.And (length (steps_of h)) ∷ steps_of h) ++ rest ≡ steps_of g ++ following = append_assoc (steps_of g) (step.And (length (steps_of h)) ∷ steps_of h) rest in
+    let few_there : length (steps_of g ++ following) ≤ m = subst (λ (s : List Step). length s ≤ m) same few in
+    let few_after : length (steps_of h ++ rest) ≤ m = omega (arith, few_there, length-append (steps_of g) following) in
+    let few_right : length (steps_of h ++ []) ≤ m = omega (arith, few_after, length-append (steps_of h) rest, length-append (steps_of h) []) in
     let right : formula_from m g (take (length (steps_of h)) (steps_of h ++ rest)) ≡ h = ap (λ (s : List Step). formula_from m g s) (take-append_seam (steps_of h) rest ∙ sym (append-nil (steps_of h))) ∙ formula_from-steps_of h [] m zero g few_right (omega arith) in
     ap (λ (s : List Step). formula_from m f s) same
-    ∙ formula_from-steps_of g behind m (suc m) f few_there (omega (arith, few_behind))
+    ∙ formula_from-steps_of g following m (suc m) f few_there (omega (arith, few_after))
     ∙ ap (λ (k : Formula). formula_from m (both g k) (drop (length (steps_of h)) (steps_of h ++ rest))) right
     ∙ ap (λ (s : List Step). formula_from m (both g h) s) (drop-append_seam (steps_of h) rest)
-    ∙ formula_from-enough m n (both g h) rest (omega (arith, few_behind, length-append (steps_of h) rest)) enough
+    ∙ formula_from-enough m n (both g h) rest (omega (arith, few_after, length-append (steps_of h) rest)) enough
 formula_from-steps_of (either g h) rest m n f few enough =
-    let behind : List Step = step.Or (length (steps_of h)) ∷ (steps_of h ++ rest) in
-    let same : (steps_of g ++ step.Or (length (steps_of h)) ∷ steps_of h) ++ rest ≡ steps_of g ++ behind = append_assoc (steps_of g) (step.Or (length (steps_of h)) ∷ steps_of h) rest in
-    let few_there : length (steps_of g ++ behind) ≤ m = subst (λ (s : List Step). length s ≤ m) same few in
-    let few_behind : length (steps_of h ++ rest) ≤ m = omega (arith, few_there, length-append (steps_of g) behind) in
-    let few_right : length (steps_of h ++ []) ≤ m = omega (arith, few_behind, length-append (steps_of h) rest, length-append (steps_of h) []) in
+    let following : List Step = step.Or (length (steps_of h)) ∷ (steps_of h ++ rest) in
+    let same : (steps_of g ++ step.Or (length (steps_of h)) ∷ steps_of h) ++ rest ≡ steps_of g ++ following = append_assoc (steps_of g) (step.Or (length (steps_of h)) ∷ steps_of h) rest in
+    let few_there : length (steps_of g ++ following) ≤ m = subst (λ (s : List Step). length s ≤ m) same few in
+    let few_after : length (steps_of h ++ rest) ≤ m = omega (arith, few_there, length-append (steps_of g) following) in
+    let few_right : length (steps_of h ++ []) ≤ m = omega (arith, few_after, length-append (steps_of h) rest, length-append (steps_of h) []) in
     let right : formula_from m g (take (length (steps_of h)) (steps_of h ++ rest)) ≡ h = ap (λ (s : List Step). formula_from m g s) (take-append_seam (steps_of h) rest ∙ sym (append-nil (steps_of h))) ∙ formula_from-steps_of h [] m zero g few_right (omega arith) in
     ap (λ (s : List Step). formula_from m f s) same
-    ∙ formula_from-steps_of g behind m (suc m) f few_there (omega (arith, few_behind))
+    ∙ formula_from-steps_of g following m (suc m) f few_there (omega (arith, few_after))
     ∙ ap (λ (k : Formula). formula_from m (either g k) (drop (length (steps_of h)) (steps_of h ++ rest))) right
     ∙ ap (λ (s : List Step). formula_from m (either g h) s) (drop-append_seam (steps_of h) rest)
-    ∙ formula_from-enough m n (either g h) rest (omega (arith, few_behind, length-append (steps_of h) rest)) enough
+    ∙ formula_from-enough m n (either g h) rest (omega (arith, few_after, length-append (steps_of h) rest)) enough
 
 pub formula_of-steps_of : (f : Formula) → formula_of (steps_of f) ≡ f
 formula_of-steps_of f =

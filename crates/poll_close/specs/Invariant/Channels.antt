@@ -16,33 +16,33 @@ use Rattle.poll_close.specs.Touching.{AllTouch}
 use Rattle.poll_close.specs.Invariant.Outlines.{Standing}
 use Rattle.poll_close.specs.Invariant.Blocks.{Block, block_of, as_writes, to_block}
 use Rattle.poll_close.specs.Invariant.ReceiverState.{ReceiverRegisters, whole_of, receives, closings_due}
-use Rattle.poll_close.specs.Invariant.BlockMeaning.{BlockMeaning, Count, unsent_of, unread_of, AllReported, ReceiverIs}
+use Rattle.poll_close.specs.Invariant.BlockInvariant.{BlockInvariant, Count, unsent_of, unread_of, AllReported, ReceiverIs}
 
 -- the sender of a block, which is hart h
-pub record SenderPart (m : BlockMeaning) (k : Block) (M h : ℕ) (t : History) (n : Count m) : Type 0 where
+pub record SenderPart (m : BlockInvariant) (k : Block) (M h : ℕ) (t : History) (n : Count m) : Type 0 where
   pub stands : HartState
   pub state : state_of M t h ≡ Some stands
   pub holds : Standing m.sender k n.sender stands
   pub buffer : pending h t.entries ≡ as_writes (unsent_of m k n)
 
-pub record BlockPart (m : BlockMeaning) (k : Block) (M i : ℕ) (t : History) (n : Count m) : Type 0 where
-  pub order : m.Ordered k n
+pub record BlockPart (m : BlockInvariant) (k : Block) (M i : ℕ) (t : History) (n : Count m) : Type 0 where
+  pub order : m.CounterInvariant k n
   pub sender : SenderPart m k M (i + 1) t n
   pub theirs : to_block k (pending 0 t.entries) ≡ as_writes (unread_of m k n)
   pub words : m.Words k n.landed (word_in_memory t.opening t.entries)
 
 -- how many senders are reported closed
-abbrev pub all_closings : (m : BlockMeaning) → (ℕ → Count m) → ℕ → ℕ
+abbrev pub all_closings : (m : BlockInvariant) → (ℕ → Count m) → ℕ → ℕ
 all_closings m f zero = 0
 all_closings m f (suc i) = (f i).receiver.closings + all_closings m f i
 
 -- where the receiver stands, and what holds of the block that it visits or visited last
-pub record ReceiverPart (m : BlockMeaning) (M : ℕ) (S : Layout) (lists : List (List ℕ)) (t : History) (f : ℕ → Count m) : Type 0 where
+pub record ReceiverPart (m : BlockInvariant) (M : ℕ) (S : Layout) (lists : List (List ℕ)) (t : History) (f : ℕ → Count m) : Type 0 where
   pub place : ℕ
   pub noted : ReceiverRegisters
   pub block : ℕ
   pub known : block < length lists
-  pub state : state_of M t 0 ≡ Some (receives m.middle (whole_of (block_of M S lists block) (length lists)) place noted)
+  pub state : state_of M t 0 ≡ Some (receives m.ring_lines (whole_of (block_of M S lists block) (length lists)) place noted)
   pub holds : ReceiverIs m (block_of M S lists block) block place (f block).receiver noted
   pub others : (j : ℕ) → j < length lists → j ≢ block → AllReported m (f j).receiver
   -- the receiver's count and the closed senders make all
@@ -54,11 +54,11 @@ pub record ReportsOf (rs : List Report) (i : ℕ) (list : List ℕ) (took closin
   pub closed : (k : ℕ) → slice_get rs k ≡ Some (report.Closed i) → closings ≡ 1
   pub said : closings ≡ 1 → (k : ℕ) × (slice_get rs k ≡ Some (report.Closed i))
 
-pub record ReportPart (m : BlockMeaning) (lists : List (List ℕ)) (rs : List Report) (f : ℕ → Count m) : Type 0 where
+pub record ReportPart (m : BlockInvariant) (lists : List (List ℕ)) (rs : List Report) (f : ℕ → Count m) : Type 0 where
   pub senders : (j : ℕ) → j < length lists → ReportsOf rs j (slice_index_or lists j []) ((f j).receiver.took) ((f j).receiver.closings)
   pub clean : Clean rs lists
 
-pub record Channel (m : BlockMeaning) (M : ℕ) (S : Layout) (lists : List (List ℕ)) (t : History) : Type 0 where
+pub record Channel (m : BlockInvariant) (M : ℕ) (S : Layout) (lists : List (List ℕ)) (t : History) : Type 0 where
   pub numbers : ℕ → Count m
   pub parts : (i : ℕ) → i < length lists → BlockPart m (block_of M S lists i) M i t (numbers i)
   pub receiver : ReceiverPart m M S lists t numbers
@@ -69,5 +69,5 @@ pub record Channel (m : BlockMeaning) (M : ℕ) (S : Layout) (lists : List (List
   pub written : AllWriteWords t.entries
 
 -- the meaning of a ring, by what it says of one block
-abbrev pub means_by : BlockMeaning → Meaning
+abbrev pub means_by : BlockInvariant → Meaning
 means_by m B M lists l t = Channel m M l lists t

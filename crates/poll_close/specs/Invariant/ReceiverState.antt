@@ -2,10 +2,10 @@
 use Rattle.std.specs.Prelude.{ℕ, ◌+◌, ◌*◌, ◌==◌, if◌then◌else◌, List, [], ◌∷◌}
 use Rattle.hart.specs.State.{HartState}
 use Rattle.hart.specs.declared.status.Status.TheVariants as status
-use Rattle.poll_close.specs.Listing.{Middle, words_of, receiver_with}
+use Rattle.poll_close.specs.Listing.{RingLines, words_of, receiver_with}
 use Rattle.poll_close.specs.Invariant.Blocks.{Block}
 
-abbrev pub receiver_of : Middle → List ℕ
+abbrev pub receiver_of : RingLines → List ℕ
 receiver_of m = words_of (receiver_with m)
 
 -- the registers that the program writes
@@ -34,14 +34,14 @@ abbrev pub receiver_file : ReceiverConstants → ReceiverRegisters → List ℕ
 receiver_file f r = 0 ∷ 0 ∷ 0 ∷ 0 ∷ 0 ∷ r.x5 ∷ r.x6 ∷ r.x7 ∷ r.x8 ∷ f.bytes ∷ r.x10 ∷ r.x11 ∷ 0 ∷ 0 ∷ 0 ∷ 0 ∷ 0
     ∷ r.x17 ∷ f.stride ∷ f.end ∷ r.x20 ∷ f.first ∷ r.x22 ∷ 0 ∷ 0 ∷ 0 ∷ 0 ∷ 0 ∷ r.x28 ∷ 0 ∷ r.x30 ∷ 0 ∷ []
 
-abbrev pub receiving : Middle → ReceiverConstants → ℕ → ReceiverRegisters → HartState
+abbrev pub receiving : RingLines → ReceiverConstants → ℕ → ReceiverRegisters → HartState
 receiving m f pc r = record { code = receiver_of m; words = f.words; registers = receiver_file f r; pc = pc; inbox = []; status = status.Running }
 
-abbrev pub received : Middle → ReceiverConstants → ReceiverRegisters → HartState
+abbrev pub received : RingLines → ReceiverConstants → ReceiverRegisters → HartState
 received m f r = record { code = receiver_of m; words = f.words; registers = receiver_file f r; pc = 0x7C; inbox = []; status = status.Ended }
 
 -- at an offset, where 80 is after its last line
-abbrev pub receives : Middle → ReceiverConstants → ℕ → ReceiverRegisters → HartState
+abbrev pub receives : RingLines → ReceiverConstants → ℕ → ReceiverRegisters → HartState
 receives m f here r = if here == 0x80 then received m f r else receiving m f here r
 
 -- at 60 the sender that was closed last is not counted yet

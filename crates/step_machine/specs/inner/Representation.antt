@@ -1,4 +1,5 @@
--- What the machine holds is what its history says. No public clause names it.
+-- What the machine holds is what its history says. Public clauses carry `IsMachineAt`, as `RepresentsHistory` of
+-- `specs/Standing.antt`, and never open it.
 use Rattle.std.specs.Prelude.{ℕ, ◌≡◌, ◌*◌, ◌<◌, Some, option_map, length, All}
 use Rattle.std.specs.List.{slice_get}
 use Rattle.memory.specs.Words.{opened_words}
@@ -15,7 +16,7 @@ abbrev pub view_state : HartView → HartState
 view_state v = v.state
 
 -- buffers and words are those that the entries leave of the opening's words, with which the memory opened
-pub record Holds (M : ℕ) (t : History) (s : Stored) : Type 0 where
+pub record StoresRepresent (M : ℕ) (t : History) (s : Stored) : Type 0 where
   pub buffers : (h : ℕ) → buffer_of s h ≡ pending h t.entries
   pub in_words : All WritesInWord (landed t.entries)
   pub opens : s.first ≡ opened_words M t.opening.words
@@ -26,7 +27,7 @@ pub record Represents (M : ℕ) (t : History) (c : Config) : Type 0 where
   pub states : (h : ℕ) → option_map view_state (slice_get c.harts h) ≡ state_of M t h
   pub firsts : (h : ℕ) → option_map beginning (slice_get c.harts h) ≡ option_map (opens_as M) (slice_get t.opening.harts h)
   pub reports : (h : ℕ) (v : HartView) → slice_get c.harts h ≡ Some v → v.reports ≡ reported h t.entries
-  pub holds : Holds M t c.stored
+  pub holds : StoresRepresent M t c.stored
 
 -- a history that is kept, and a machine that holds what it says, with room for n more steps
 pub record IsMachineAt (B M : ℕ) (t : History) (c : Config) (n : ℕ) : Type 0 where

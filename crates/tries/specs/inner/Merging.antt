@@ -1,12 +1,12 @@
 -- Two tallies made one: that of the first one's runs and then of the other's.
-use Rattle.std.specs.Prelude.{ℕ, ◌≡◌, ◌+◌, ◌*◌, ◌/◌, ◌-◌, ◌<◌, ◌||◌, length, slice_index_or, IfOk, Result, List}
-use Rattle.std.specs.declared.alloc.AllocError.{AllocError}
+use Rattle.std.specs.Prelude.{ℕ, ◌≡◌, ◌+◌, ◌*◌, ◌-◌, ◌||◌, List}
 use Rattle.rand_core.specs.Stream.{Stream}
 use Rattle.litmus.specs.LitmusTests.{LitmusTest}
 use Rattle.recorder.specs.Drawing.{left_after}
+use Rattle.jumping.specs.Sharing.{first_of}
 use Rattle.tries.specs.declared.trials.tally.Tally.{Tally}
 use Rattle.tries.specs.Trials.{Trial, AreTrials}
-use Rattle.engine_parts.specs.Counting.{counted, counted_both}
+use Rattle.engine_support.specs.Counting.{counted, counted_both}
 use Rattle.tries.specs.inner.Tallies.{IsTallyOf}
 
 -- the runs of a later tally were taken in after those of this one
@@ -36,11 +36,6 @@ pub record IsTallyFrom (source : Source) (first end : ℕ) (tally : Tally) : Typ
   pub are : AreRunsFrom source first (end - first) trials
   pub tallied : IsTallyOf trials tally
 
--- the first run of a job, where there are `jobs` jobs; after the last job all runs end
-abbrev pub first_of : (runs jobs job : ℕ) → ℕ
-first_of runs jobs job = runs * job / jobs
-
--- the tallies of the jobs from this one on, in order
-abbrev pub AreTalliesFrom : Source → (runs jobs job : ℕ) → List (Result Tally AllocError) → Type 0
-AreTalliesFrom source runs jobs job tallies = (k : ℕ) (d : Result Tally AllocError) → k < length tallies
-    → IfOk (slice_index_or tallies k d) (λ tally. IsTallyFrom source (first_of runs jobs (job + k)) (first_of runs jobs (job + k + 1)) tally)
+-- the tally of a job's runs
+abbrev pub IsTallyOfJob : Source → (runs jobs job : ℕ) → Tally → Type 0
+IsTallyOfJob source runs jobs job tally = IsTallyFrom source (first_of runs jobs job) (first_of runs jobs (job + 1)) tally

@@ -2,8 +2,8 @@
 
 ghost use Rattle.std.specs.Prelude.{◌≡◌, ◌++◌, ℕ, List, IfOk};
 ghost use Rattle.std.specs.String.{string_bytes};
-ghost use Rattle.engine_parts.specs.Outcomes.{unfinished_line};
-ghost use Rattle.engine_parts.specs.Counting.{AreLines, counted};
+ghost use Rattle.engine_support.specs.Outcomes.{unfinished_line};
+ghost use Rattle.engine_support.specs.Counting.{AreLines, counted};
 
 use crate::trials::tally::Tally;
 use litmus::Test;

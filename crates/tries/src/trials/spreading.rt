@@ -1,7 +1,8 @@
 //! The runs of a test in rounds, each spread over jobs, and each job in a thread of its own.
 
 ghost use Rattle.std.specs.Prelude.{◌≡◌, ◌≤◌, ◌<◌, ◌+◌, ℕ, List, slice_index_or, IfOk, vec_len};
-ghost use Rattle.tries.specs.inner.Merging.{first_of, IsTallyFrom};
+ghost use Rattle.jumping.specs.Sharing.{first_of};
+ghost use Rattle.tries.specs.inner.Merging.{IsTallyFrom};
 ghost use Rattle.tries.specs.Trials.{Trial, AreTrials};
 ghost use Rattle.tries.specs.inner.Tallies.{IsTallyOf};
 ghost use Rattle.litmus.specs.declared.litmus_test.TheConstants.{MAX_LOCATIONS};
@@ -9,21 +10,10 @@ ghost use Rattle.litmus.specs.declared.litmus_test.TheConstants.{MAX_LOCATIONS};
 use crate::progress::Progress;
 use crate::trials::drawing::tally_of;
 use crate::trials::tally::Tally;
-use jumping::Jump;
+use jumping::{Jump, first_run};
 use litmus::Test;
 use std::alloc::{AllocError, Global};
 use std::thread::{Threads, map_indices};
-
-/// How many runs come before those of a job. No job has more than one run more than another.
-fn first_run(runs: u32, jobs: usize, job: usize) -> u32
-    requires some { 1 ≤ jobs }
-    requires most { jobs ≤ 4294967295 }
-    requires job { job ≤ jobs }
-    ensures place { result ≡ first_of runs jobs job }
-    ensures most { result ≤ runs }
-{
-    (u64::from(runs) * job as u64 / jobs as u64) as u32
-}
 
 /// The tally of one job's runs, by the words that the generator gives after those of the runs before.
 fn tally_of_job<const B: usize, const M: usize, G: Jump + Drop>(
@@ -79,8 +69,8 @@ fn tallies_of<const B: usize, const M: usize, G: Jump + Sync + Drop, T: Threads 
 }
 
 /// The tally of `runs` runs, each by `length` events, spread over `jobs` threads; no job is one. What is
-/// tallied doesn't depend on the jobs. A machine, a schedule and a tally of each job take memory, however
-/// many the runs are.
+/// tallied doesn't depend on the jobs. A machine, its numbered states, a schedule and a tally of each job take
+/// memory, however many the runs are.
 fn tally_by_jobs<const B: usize, const M: usize, G: Jump + Sync + Drop, T: Threads + Sync>(
     rt: &T,
     alloc: Global,

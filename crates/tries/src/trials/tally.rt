@@ -1,19 +1,17 @@
 //! What is kept of a test's runs.
 
-ghost use Rattle.std.specs.Prelude.{◌≡◌, ◌+◌, ◌<◌, ◌≤◌, ℕ, List, [], ◌∷◌, length, IfOk, IfSome, OnOk};
+ghost use Rattle.std.specs.Prelude.{◌≡◌, ◌+◌, ◌<◌, ℕ, List, [], ◌∷◌, length, false, IsTrue, IfOk, IfSome, OnOk};
 ghost use Rattle.std.specs.String.{string_bytes};
-ghost use Rattle.step_machine.specs.History.{History, Start};
+ghost use Rattle.step_machine.specs.History.{History, OpeningValue};
 ghost use Rattle.step_machine.specs.Runs.{Run};
-ghost use Rattle.step_machine.specs.Standing.{StandsAt};
-ghost use Rattle.tries.specs.Trials.{Trial, IsTrial};
+ghost use Rattle.step_machine.specs.Standing.{RepresentsHistory, RepresentsRunFrom};
 ghost use Rattle.tries.specs.Outcomes.{schedule_text as text_of_schedule};
-ghost use Rattle.tries.specs.inner.Openings.{StandsFrom};
-ghost use Rattle.engine_parts.specs.Counting.{counted, counted_both, Counts};
+ghost use Rattle.engine_support.specs.Counting.{counted, counted_both, Counts};
 ghost use Rattle.tries.specs.inner.Tallies.{IsTallyOf, Tallies};
 ghost use Rattle.tries.specs.inner.Merging.{Merges};
 
-use engine_parts::outcomes::Outcomes;
-use litmus::{Test, Verdict};
+use engine_support::outcomes::Outcomes;
+use litmus::Verdict;
 use recorder::push_tokens;
 use std::alloc::{AllocError, Global};
 use step_machine::{Event, MachineState};
@@ -60,11 +58,11 @@ fn count_outcome(
 }
 
 /// Runs these events from the machine's opening, whatever it did before.
-fn run_anew<const B: usize, const M: usize>(
+pub fn run_anew<const B: usize, const M: usize>(
     machine: &mut MachineState<B, M>,
     events: &[Event],
 ) -> Result<(), AllocError>
-    ensures { OnOk result ((o : Start) → StandsFrom B M o machine.old → (u : History) × Run B M o events.now u × StandsAt B M u machine.new × (u.opening ≡ o)) }
+    ensures { OnOk result ((o : OpeningValue) → RepresentsRunFrom B M o machine.old → (u : History) × Run B M o events.now u × RepresentsHistory B M u machine.new × (u.opening ≡ o)) }
 {
     machine.restart();
     match machine.run(events) {
@@ -100,7 +98,7 @@ impl Tally {
     }
 
     /// Takes in one more run, by these events, with this verdict and these last values.
-    fn add(
+    pub fn add(
         &mut self,
         alloc: Global,
         events: &[Event],
@@ -127,26 +125,26 @@ impl Tally {
         }
     }
 
-    /// Takes in the run of these events on a machine of the test's opening, whatever it did before. The
-    /// last values go into `values`, in the place of what it holds.
-    pub fn add_run<const B: usize, const M: usize>(
-        &mut self,
-        alloc: Global,
-        test: &Test,
-        machine: &mut MachineState<B, M>,
-        events: &[Event],
-        values: &mut Vec<u32>,
-    ) -> Result<(), AllocError>
-        requires stands { StandsFrom B M test.now.opening machine.old }
-        requires names { length test.now.names ≤ M }
+    /// Takes in one more run with this verdict and these last values, unless it is the first with a new outcome,
+    /// and answers whether it did.
+    pub fn add_again(&mut self, verdict: Verdict, values: &[u32]) -> bool
         requires counts { (outcome : List ℕ) → IfSome (counted self.old.outcomes outcome) (λ seen. seen.0 < 18446744073709551615) }
         requires unfinished { self.old.unfinished < 4294967295 }
-        ensures trial { OnOk result ((trial : Trial) × (trial.events ≡ events.now) × IsTrial B M test.now trial × Tallies trial self.old self.new) }
-        ensures stands { OnOk result (StandsFrom B M test.now.opening machine.new) }
+        ensures again { IsTrue result → (events : List Event) → Tallies (record { events = events; verdict = verdict; values = values.now }) self.old self.new }
+        ensures none { result ≡ false → self.new ≡ self.old }
     {
-        run_anew(machine, events)?;
-        let verdict = test.verdict(machine);
-        test.values_into(values, machine)?;
-        self.add(alloc, events, verdict, values)
+        if verdict == Verdict::Unfinished {
+            self.unfinished += 1;
+            return true;
+        }
+        if !self.outcomes.count_again(values) {
+            return false;
+        }
+        match verdict {
+            Verdict::Holds => self.some_hold = true,
+            Verdict::Fails => self.some_fail = true,
+            Verdict::Unfinished => {}
+        }
+        true
     }
 }

@@ -3,7 +3,7 @@
 ghost use Rattle.std.specs.Prelude.{◌≡◌, List, IfOk};
 ghost use Rattle.std.specs.List.{AllZip};
 ghost use Rattle.clap.specs.Words.{App, Rule, new_app, with_subcommand};
-ghost use Rattle.ztso.specs.Descriptions.{HasRule, IsDescribed, buffer_option, channel_command, chart_command, check_command, find_command, flag, option_or, option_said, option_wanted, schedule_command, show_command, steps_command, threads_command, try_command, with_rules, word_wanted, ztso_command};
+ghost use Rattle.ztso.specs.Descriptions.{HasRule, IsDescribed, buffer_option, channel_command, chart_command, check_command, find_command, flag, option_or, option_said, option_wanted, ring_command, schedule_command, show_command, steps_command, threads_command, try_command, with_rules, word_wanted, ztso_command};
 
 use clap::{Arg, ArgAction, Command};
 use std::alloc::{AllocError, Global};
@@ -117,6 +117,8 @@ fn channel_command<'a>(alloc: Global) -> Result<Command<'a>, AllocError>
         option_or(alloc, "base", "0"),
         option_said(alloc, "stride"),
         flag(alloc, "finish"),
+        option_said(alloc, "sender"),
+        option_said(alloc, "receiver"),
         buffer_option(alloc),
     ]?;
     command_with(alloc, "channel", args)
@@ -131,6 +133,25 @@ fn threads_command<'a>(alloc: Global) -> Result<Command<'a>, AllocError>
         buffer_option(alloc),
     ]?;
     command_with(alloc, "threads", args)
+}
+
+fn ring_command<'a>(alloc: Global) -> Result<Command<'a>, AllocError>
+    ensures { IfOk result (λ command. IsDescribed command ring_command) }
+{
+    let args = vec![in alloc;
+        word_wanted(alloc, "sender"),
+        word_wanted(alloc, "receiver"),
+        word_wanted(alloc, "ring"),
+        option_wanted(alloc, "seed"),
+        option_wanted(alloc, "runs"),
+        option_wanted(alloc, "length"),
+        option_or(alloc, "skip", "0"),
+        option_or(alloc, "jobs", "1"),
+        option_or(alloc, "base", "0"),
+        option_said(alloc, "stride"),
+        buffer_option(alloc),
+    ]?;
+    command_with(alloc, "ring", args)
 }
 
 /// `chart`, with its flags.
@@ -205,5 +226,6 @@ pub fn ztso_command<'a>(alloc: Global) -> Result<Command<'a>, AllocError>
     let command = and(command, schedule_command(alloc, "debug"));
     let command = and(command, try_command(alloc));
     let command = and(command, channel_command(alloc));
-    and(command, threads_command(alloc))
+    let command = and(command, threads_command(alloc));
+    and(command, ring_command(alloc))
 }

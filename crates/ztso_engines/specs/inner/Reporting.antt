@@ -1,13 +1,13 @@
 -- What a schedule and lists give before it is written.
 use Rattle.std.specs.Prelude.{ℕ, Bool, List, Result, Ok, Err}
 use Rattle.hart.specs.declared.need.Report.{Report}
-use Rattle.recorder.specs.Versions.{Said}
+use Rattle.recorder.specs.Versions.{ScheduleValue}
 use Rattle.poll_close.specs.Layout.{Layout}
 use Rattle.poll_close.specs.Laws.{Ring}
-use Rattle.engine_parts.specs.declared.fault.Refusal.{Refusal}
+use Rattle.engine_support.specs.declared.fault.Refusal.{Refusal}
 use Rattle.ztso_engines.specs.Channels.{IsReported, IsUnreported}
 
 -- the reports, or why there are none
-abbrev pub Reports : (ring : Ring) (B M : ℕ) (l : Layout) (finish : Bool) (said : Said) (lists : List (List ℕ)) → Result (List Report) Refusal → Type 0
+abbrev pub Reports : (ring : Ring) (B M : ℕ) (l : Layout) (finish : Bool) (said : ScheduleValue) (lists : List (List ℕ)) → Result (List Report) Refusal → Type 0
 Reports ring B M l finish said lists (Ok reports) = IsReported ring B M l finish said lists reports
 Reports ring B M l finish said lists (Err refusal) = IsUnreported ring B M l said lists refusal

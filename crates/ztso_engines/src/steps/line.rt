@@ -1,14 +1,14 @@
 //! One line of a steps text.
 
 ghost use Rattle.std.specs.Prelude.{◌≡◌, IfErr, OnErr};
-ghost use Rattle.texts.specs.Results.{Gives, refusal_of};
+ghost use Rattle.texts.specs.Results.{GivesUpToMemory, refusal_of};
 ghost use Rattle.texts.specs.Cutting.{tokens};
 ghost use Rattle.texts.specs.declared.errors.TextError.TheVariants.{Refused};
-ghost use Rattle.engine_parts.specs.LineFaults.{bad_line};
+ghost use Rattle.engine_support.specs.LineFaults.{bad_line};
 ghost use Rattle.ztso_engines.specs.StepsReading.{keyword_named, number_at, two_numbers, three_numbers, with_hart, with_register, with_word, with_steps};
 
 use crate::code::code_of;
-use engine_parts::fault::{BAD, LineFault};
+use engine_support::fault::{BAD, LineFault};
 use recorder::{ScheduleError, push_tokens_of};
 use rv_decode::instruction::MAX_CODE;
 use std::alloc::Global;
@@ -40,7 +40,7 @@ pub fn keyword_of(word: &[u8]) -> Option<Keyword>
 /// The number that the text's first word says, and what follows.
 #[tactic(auto, unfolding(crate::specs::StepsReading::number_at))]
 fn first_number(text: &[u8]) -> Result<(u32, &[u8]), LineFault>
-    ensures exact { Gives refusal_of (λ cut. (cut.0, tokens cut.1.now)) result (number_at (tokens text.now)) }
+    ensures exact { GivesUpToMemory refusal_of (λ cut. (cut.0, tokens cut.1.now)) result (number_at (tokens text.now)) }
     ensures bad { IfErr result (λ fault. fault ≡ Refused bad_line) }
 {
     let (digits, rest) = first_token(text).ok_or(BAD)?;
@@ -51,7 +51,7 @@ fn first_number(text: &[u8]) -> Result<(u32, &[u8]), LineFault>
 /// The two numbers that are the words of the text.
 #[tactic(auto, unfolding(crate::specs::StepsReading::two_numbers))]
 fn two_numbers_of(text: &[u8]) -> Result<(u32, u32), LineFault>
-    ensures exact { Gives refusal_of (λ said. said) result (two_numbers (tokens text.now)) }
+    ensures exact { GivesUpToMemory refusal_of (λ said. said) result (two_numbers (tokens text.now)) }
     ensures bad { IfErr result (λ fault. fault ≡ Refused bad_line) }
 {
     let (a, rest) = first_number(text)?;
@@ -65,7 +65,7 @@ fn two_numbers_of(text: &[u8]) -> Result<(u32, u32), LineFault>
 /// The three numbers that are the words of the text.
 #[tactic(auto, unfolding(crate::specs::StepsReading::three_numbers))]
 fn three_numbers_of(text: &[u8]) -> Result<(u32, u32, u32), LineFault>
-    ensures exact { Gives refusal_of (λ said. said) result (three_numbers (tokens text.now)) }
+    ensures exact { GivesUpToMemory refusal_of (λ said. said) result (three_numbers (tokens text.now)) }
     ensures bad { IfErr result (λ fault. fault ≡ Refused bad_line) }
 {
     let (a, rest) = first_number(text)?;
@@ -76,7 +76,7 @@ fn three_numbers_of(text: &[u8]) -> Result<(u32, u32, u32), LineFault>
 /// Adds the hart of this code.
 #[tactic(auto, unfolding(crate::specs::StepsReading::with_hart))]
 pub fn add_hart(alloc: Global, harts: &mut Vec<HartOpening>, text: &[u8]) -> Result<(), LineFault>
-    ensures exact { Gives refusal_of (λ x. harts.new.items) result (with_hart harts.old.items (tokens text.now)) }
+    ensures exact { GivesUpToMemory refusal_of (λ x. harts.new.items) result (with_hart harts.old.items (tokens text.now)) }
     ensures err { OnErr result (harts.new.items ≡ harts.old.items) }
 {
     let code = code_of(alloc, text)?;
@@ -94,7 +94,7 @@ pub fn add_hart(alloc: Global, harts: &mut Vec<HartOpening>, text: &[u8]) -> Res
 /// Sets a register of a hart above.
 #[tactic(auto, unfolding(crate::specs::StepsReading::with_register))]
 pub fn set_register(harts: &mut Vec<HartOpening>, text: &[u8]) -> Result<(), LineFault>
-    ensures exact { Gives refusal_of (λ x. harts.new.items) result (with_register harts.old.items (tokens text.now)) }
+    ensures exact { GivesUpToMemory refusal_of (λ x. harts.new.items) result (with_register harts.old.items (tokens text.now)) }
     ensures err { OnErr result (harts.new.items ≡ harts.old.items) }
     ensures bad { IfErr result (λ fault. fault ≡ Refused bad_line) }
 {
@@ -111,7 +111,7 @@ pub fn set_register(harts: &mut Vec<HartOpening>, text: &[u8]) -> Result<(), Lin
 /// Sets a word of memory.
 #[tactic(auto, unfolding(crate::specs::StepsReading::with_word))]
 pub fn set_word(words: &mut Vec<u32>, text: &[u8]) -> Result<(), LineFault>
-    ensures exact { Gives refusal_of (λ x. words.new.items) result (with_word words.old.items (tokens text.now)) }
+    ensures exact { GivesUpToMemory refusal_of (λ x. words.new.items) result (with_word words.old.items (tokens text.now)) }
     ensures err { OnErr result (words.new.items ≡ words.old.items) }
     ensures bad { IfErr result (λ fault. fault ≡ Refused bad_line) }
 {
@@ -127,7 +127,7 @@ pub fn set_word(words: &mut Vec<u32>, text: &[u8]) -> Result<(), LineFault>
 /// Appends the events of a text of tokens.
 #[tactic(auto, unfolding(crate::specs::StepsReading::with_steps))]
 pub fn add_steps(events: &mut Vec<Event>, text: &[u8]) -> Result<(), LineFault>
-    ensures exact { Gives refusal_of (λ x. events.new.items) result (with_steps events.old.items text.now) }
+    ensures exact { GivesUpToMemory refusal_of (λ x. events.new.items) result (with_steps events.old.items text.now) }
     ensures err { OnErr result (events.new.items ≡ events.old.items) }
 {
     match push_tokens_of(events, text) {

@@ -2,16 +2,16 @@
 
 ghost use Rattle.std.specs.Prelude.{◌≡◌, Ok, IfOk, OnErr};
 ghost use Rattle.std.specs.Str.Lines.{lines};
-ghost use Rattle.texts.specs.Results.{Gives, refusal_of};
+ghost use Rattle.texts.specs.Results.{GivesUpToMemory, refusal_of};
 ghost use Rattle.step_machine.specs.History.{FitsIn};
-ghost use Rattle.engine_parts.specs.Faults.{Answers};
-ghost use Rattle.engine_parts.specs.LineFaults.{at_line as line_at};
-ghost use Rattle.ztso_engines.specs.Scenario.{Scenario, scenario_of, no_scenario, opening_of};
+ghost use Rattle.engine_support.specs.Faults.{Answers};
+ghost use Rattle.engine_support.specs.LineFaults.{at_line as line_at};
+ghost use Rattle.ztso_engines.specs.ScriptValue.{ScriptValue, script_value, no_script, opening_of};
 ghost use Rattle.ztso_engines.specs.StepsText.{Describes};
 ghost use Rattle.ztso_engines.specs.StepsReading.{after_line, after_lines, script_at};
 
 use crate::steps::line::{Keyword, add_hart, add_steps, keyword_of, set_register, set_word};
-use engine_parts::fault::{BAD, BAD_LINE, Fault, LineFault, Position, at_line};
+use engine_support::fault::{BAD, BAD_LINE, Fault, LineFault, Position, at_line};
 use std::alloc::{AllocError, Global};
 use step_machine::{Event, HartOpening};
 use texts::{first_line, first_token};
@@ -28,7 +28,7 @@ pub struct Script {
 impl Script {
     /// Nothing is said yet of a machine with M words.
     fn new<const M: usize>(alloc: Global) -> Result<Script, AllocError>
-        ensures { IfOk result (λ script. scenario_of script ≡ no_scenario M) }
+        ensures { IfOk result (λ script. script_value script ≡ no_script M) }
     {
         Ok(Script {
             harts: Vec::new(alloc),
@@ -40,8 +40,8 @@ impl Script {
     /// Follows one more line.
     #[tactic(auto, unfolding(crate::specs::StepsReading::after_line))]
     fn add_line(&mut self, alloc: Global, line: &[u8]) -> Result<(), LineFault>
-        ensures exact { Gives refusal_of (λ x. scenario_of self.new) result (after_line (scenario_of self.old) line.now) }
-        ensures err { OnErr result (scenario_of self.new ≡ scenario_of self.old) }
+        ensures exact { GivesUpToMemory refusal_of (λ x. script_value self.new) result (after_line (script_value self.old) line.now) }
+        ensures err { OnErr result (script_value self.new ≡ script_value self.old) }
     {
         let Some((name, rest)) = first_token(line) else {
             return Ok(());
@@ -55,10 +55,10 @@ impl Script {
     }
 
     /// Follows the line of this number.
-    #[tactic(auto, using(engine_parts::proofs::LineFaulted::refused_at_line))]
+    #[tactic(auto, using(engine_support::proofs::LineFaulted::refused_at_line))]
     fn add_line_at(&mut self, alloc: Global, line: &[u8], number: usize) -> Result<(), Fault>
-        ensures exact { Answers (λ x. scenario_of self.new) result (line_at number (after_line (scenario_of self.old) line.now)) }
-        ensures err { OnErr result (scenario_of self.new ≡ scenario_of self.old) }
+        ensures exact { Answers (λ x. script_value self.new) result (line_at number (after_line (script_value self.old) line.now)) }
+        ensures err { OnErr result (script_value self.new ≡ script_value self.old) }
     {
         match self.add_line(alloc, line) {
             Ok(()) => Ok(()),
@@ -69,7 +69,7 @@ impl Script {
     /// Follows all lines of a text.
     #[tactic(auto, unfolding(crate::specs::StepsReading::after_lines))]
     fn add_lines(&mut self, alloc: Global, text: &[u8]) -> Result<(), Fault>
-        ensures { Answers (λ x. scenario_of self.new) result (after_lines (scenario_of self.old) 1 (lines text.now)) }
+        ensures { Answers (λ x. script_value self.new) result (after_lines (script_value self.old) 1 (lines text.now)) }
     {
         let mut rest = text;
         let mut number = 0;
@@ -84,7 +84,7 @@ impl Script {
 
 #[tactic(auto, unfolding(crate::specs::StepsReading::script_at))]
 fn script_of<const M: usize>(alloc: Global, text: &[u8]) -> Result<Script, Fault>
-    ensures { Answers scenario_of result (script_at M text.now) }
+    ensures { Answers script_value result (script_at M text.now) }
 {
     let mut script = Script::new::<M>(alloc)?;
     script.add_lines(alloc, text)?;
@@ -97,13 +97,13 @@ fn script_of<const M: usize>(alloc: Global, text: &[u8]) -> Result<Script, Fault
 /// What a steps text tells of a machine with M words.
 ///
 /// A line that says nothing that may come there is [`BAD_LINE`] at the line, and so is a text without
-/// a hart, at no line; tokens behind `steps` are refused as [`recorder::push_tokens_of`] refuses them, at the
+/// a hart, at no line; tokens after `steps` are refused as [`recorder::push_tokens_of`] refuses them, at the
 /// line. The first faulty line is answered.
 pub fn read_script<const M: usize>(alloc: Global, text: &[u8]) -> Result<Script, Fault>
-    ensures found { IfOk result (λ script. Describes M text.now (scenario_of script)) }
-    ensures only { (scenario : Scenario) → Describes M text.now scenario → Answers scenario_of result (Ok scenario) }
-    ensures exact { Answers scenario_of result (script_at M text.now) }
-    ensures fits { IfOk result (λ script. FitsIn M (opening_of (scenario_of script))) }
+    ensures found { IfOk result (λ script. Describes M text.now (script_value script)) }
+    ensures only { (script : ScriptValue) → Describes M text.now script → Answers script_value result (Ok script) }
+    ensures exact { Answers script_value result (script_at M text.now) }
+    ensures fits { IfOk result (λ script. FitsIn M (opening_of (script_value script))) }
 {
     script_of::<M>(alloc, text)
 }

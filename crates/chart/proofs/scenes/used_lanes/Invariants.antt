@@ -3,4 +3,4 @@ use Rattle.chart.specs.Scenes.{used_after}
 use Rattle.chart.proofs.scenes.used_lanes.Given as goal
 
 abbrev pub invariant-loop-laned : goal.invariant-loop-laned
-invariant-loop-laned l = l.used ≡ used_after 0 (take l.laned-index l.lanes)
+invariant-loop-laned l = l.used ≡ used_after l.least (take l.laned-index l.lanes)

@@ -1,18 +1,21 @@
 use Rattle.std.proofs.Common.{◌==◌, arith, lit<}
 use Rattle.std.specs.String.{string_bytes}
-use Rattle.step_machine.specs.History.{unrun}
-use Rattle.engine_parts.proofs.Endings.{is_handed}
+use Rattle.step_machine.specs.History.{at_opening}
+use Rattle.engine_support.proofs.Endings.{is_handed}
 use Rattle.checking.specs.declared.tally.Tally.{Tally}
 use Rattle.checking.proofs.Answering.{all_checked, all_reported, none_reported}
 use Rattle.checking.proofs.Differences.{ok_more}
-use Rattle.engine_parts.proofs.Written.{end_fails, end_stopped, hands_failure, hands_stop, hands_unwritten, stopped, unwritten, wrote}
+use Rattle.engine_support.proofs.Written.{end_fails, end_stopped, hands_failure, hands_stop, hands_unwritten, stopped, unwritten, wrote}
 use Rattle.checking.proofs.OutcomeLaws.{tabled}
 use Rattle.checking.proofs.check.check_all.Goals as goal
 
 pub judge_all-requires : goal.judge_all-requires
 judge_all-requires g c = (
   lit< tt,
-  ((unrun c.in_ok-opening.opening, c.in_ok-machine.ensures, c.in_ok-opening.ensures.copy), omega (arith, c.in_ok-opening.ensures.fits.names, c.requires.words)),
+  (
+    (at_opening c.in_ok-opening.opening, c.in_ok-machine.ensures, c.in_ok-opening.ensures.copy),
+    omega (arith, c.in_ok-opening.ensures.fits.names, c.requires.words),
+  ),
 )
 
 pub returns-in_err-opening-clause-left : goal.returns-in_err-opening-clause-left

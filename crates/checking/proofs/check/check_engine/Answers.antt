@@ -1,4 +1,4 @@
-use Rattle.engine_parts.proofs.Endings.{is_handed}
+use Rattle.engine_support.proofs.Endings.{is_handed}
 use Rattle.checking.proofs.Answering.{ends_checked, ends_refused, left_checked, nothing_left, unwritten_checked, unwritten_refused}
 use Rattle.checking.proofs.check.check_engine.Goals as goal
 

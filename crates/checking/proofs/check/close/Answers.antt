@@ -1,10 +1,10 @@
 use Rattle.std.proofs.Common.{sym, ◌∙◌, refl}
-use Rattle.engine_parts.proofs.Endings.{is_handed}
+use Rattle.engine_support.proofs.Endings.{is_handed}
 use Rattle.checking.specs.inner.Reporting.Closes.{left_out}
 use Rattle.checking.specs.inner.Tallies.{judged_by}
 use Rattle.checking.proofs.Answering.{closes_by}
 use Rattle.checking.proofs.Differences.{ok_some}
-use Rattle.engine_parts.proofs.Written.{end_fails, end_stopped, hands_no_memory, wrote}
+use Rattle.engine_support.proofs.Written.{end_fails, end_stopped, hands_no_memory, wrote}
 use Rattle.checking.proofs.check.close.Goals as goal
 
 pub returns-then-is_left_out-clause-closed : goal.returns-then-is_left_out-clause-closed

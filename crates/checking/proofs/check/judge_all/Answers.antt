@@ -1,6 +1,6 @@
 use Rattle.std.proofs.Common.{◌≡◌, ℕ, ◌<◌, List, [], ◌∷◌, length, rules, refl, lit<, arith}
-use Rattle.engine_parts.proofs.Endings.{is_handed}
-use Rattle.engine_parts.proofs.Written.{hands_read_failure, keeps_written, stopped, unwritten}
+use Rattle.engine_support.proofs.Endings.{is_handed}
+use Rattle.engine_support.proofs.Written.{hands_read_failure, keeps_written, stopped, unwritten}
 use Rattle.checking.specs.inner.Reporting.{SomeReported}
 use Rattle.checking.proofs.Goings.{going_ended, going_line, going_nothing, going_room, going_so_far}
 use Rattle.checking.proofs.check.judge_all.Goals as goal

@@ -2,23 +2,28 @@ use Rattle.std.proofs.Common.{List, refl, sym, ◌∙◌, subst, true≢false}
 use Rattle.std.proofs.lemmas.List.{take_all}
 use Rattle.recorder.specs.Records.{Step}
 use Rattle.recorder.specs.Replaying.{RecordFrom}
-use Rattle.step_machine.specs.History.{Start, unrun}
-use Rattle.step_machine.specs.Standing.{StandsAt}
+use Rattle.step_machine.specs.History.{OpeningValue, at_opening}
+use Rattle.step_machine.specs.Standing.{RepresentsHistory}
 use Rattle.step_machine.proofs.Running.{opening-happens}
 use Rattle.recorder.proofs.RunRecords.{checked_more}
 use Rattle.checking.proofs.Differences.{differing_here}
 use Rattle.checking.proofs.judging.first_difference.Goals as goal
 
 pub loop-place-init : goal.loop-place-init
-loop-place-init g c = λ o from.
-    (unrun o, refl, subst (λ (s : Start). StandsAt g.row.B g.row.M (unrun s) c.restart.new.self) from.2 (c.restart.ensures from.0 from.1), refl)
+loop-place-init g c = λ o from. (
+  at_opening o,
+  refl,
+  subst (λ (s : OpeningValue). RepresentsHistory g.row.B g.row.M (at_opening s) c.restart.new.self) from.2
+      (c.restart.ensures from.0 from.1),
+  refl,
+)
 
 pub loop-place-preserved : goal.loop-place-preserved
 loop-place-preserved g c = λ o from.
     let so_far = c.loop-place.invariant o from in
     let moved = c.in_ok-found.ensures.ok so_far.0 so_far.2 in (
       moved.0,
-      checked_more g.row.B g.row.M (unrun o) c.args.steps.now c.loop-place.place _ so_far.0 c.in_ok-found.found moved.0
+      checked_more g.row.B g.row.M (at_opening o) c.args.steps.now c.loop-place.place _ so_far.0 c.in_ok-found.found moved.0
           c.loop-place-test.true so_far.1 moved.1 (c.are_same.ensures.0 c.if-not-are_same.false),
       moved.2,
       opening-happens g.row.B g.row.M so_far.0 _ c.in_ok-found.found moved.0 moved.1 ∙ so_far.3,
@@ -36,7 +41,7 @@ pub returns-clause-follows : goal.returns-clause-follows
 returns-clause-follows g c = λ o from.
     let so_far = c.loop-place.invariant o from in (
       so_far.0,
-      subst (λ (front : List Step). RecordFrom g.row.B g.row.M (unrun o) front so_far.0)
+      subst (λ (front : List Step). RecordFrom g.row.B g.row.M (at_opening o) front so_far.0)
           (take_all c.loop-place.place c.args.steps.now c.loop-place-test.false) so_far.1,
       so_far.2,
       so_far.3,

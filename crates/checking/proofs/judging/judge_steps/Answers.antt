@@ -1,5 +1,5 @@
 use Rattle.std.proofs.Common.{◌∙◌, ap, arith, length}
-use Rattle.step_machine.specs.History.{Start}
+use Rattle.step_machine.specs.History.{OpeningValue}
 use Rattle.checking.specs.Judgements.IsSaidOf.{of_run}
 use Rattle.checking.proofs.Differences.{difference_said, ok_any, ok_more}
 use Rattle.checking.proofs.judging.judge_steps.Goals as goal
@@ -7,7 +7,7 @@ use Rattle.checking.proofs.judging.judge_steps.Goals as goal
 pub judge_end-requires : goal.judge_end-requires
 judge_end-requires g c =
     let ran = rw c.in-None.is at (c.in_ok-first_difference.ensures.follows c.args.test.now.opening c.requires.stands) in
-    (omega arith, (ran.2.count ∙ ap (λ (o : Start). length o.harts) ran.3, c.requires.names))
+    (omega arith, (ran.2.count ∙ ap (λ (o : OpeningValue). length o.harts) ran.3, c.requires.names))
 
 pub returns-in-None-clause-said : goal.returns-in-None-clause-said
 returns-in-None-clause-said g c =

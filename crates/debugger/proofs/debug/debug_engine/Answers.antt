@@ -1,4 +1,4 @@
-use Rattle.engine_parts.proofs.Endings.{is_handed}
+use Rattle.engine_support.proofs.Endings.{is_handed}
 use Rattle.debugger.specs.DebuggerStates.{DebuggerState}
 use Rattle.debugger.proofs.TranscriptLaws.{left_begun, left_nothing, not_begun, not_refused, not_unwritten, transcribed, unwritten_begun}
 use Rattle.debugger.proofs.debug.debug_engine.Goals as goal

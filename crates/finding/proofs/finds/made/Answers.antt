@@ -2,8 +2,8 @@ use Rattle.std.proofs.Common.{Ok}
 use Rattle.std.proofs.lemmas.Result.{err_from_is_err_and}
 use Rattle.litmus.specs.LitmusTests.{LitmusTest}
 use Rattle.finding.specs.Find.{IsFoundOf}
-use Rattle.engine_parts.specs.inner.Making.{text_and_value}
-use Rattle.engine_parts.proofs.ThreadRuns.{by_test, by_no_test}
+use Rattle.engine_support.specs.inner.Making.{text_and_value}
+use Rattle.engine_support.proofs.ThreadRuns.{by_test, by_no_test}
 use Rattle.finding.proofs.finds.made.Goals as goal
 
 pub returns-in_err-test : goal.returns-in_err-test

@@ -4,7 +4,7 @@ use Rattle.std.proofs.lemmas.List.{length-map}
 use Rattle.std.proofs.lemmas.Result.{err_from_is_err_and}
 use Rattle.std.specs.Prelude.{map}
 use Rattle.hart.specs.declared.need.Report.{Report}
-use Rattle.step_machine.specs.History.{Start, FitsIn}
+use Rattle.step_machine.specs.History.{OpeningValue, FitsIn}
 use Rattle.poll_close.specs.Places.{layout_of}
 use Rattle.poll_close.specs.Reports.{Clean}
 use Rattle.poll_close.specs.Touching.{AllTouch}
@@ -29,7 +29,7 @@ returns-in_err-record_over-clause-fault g c =
 
 pub returns-clause-record : goal.returns-clause-record
 returns-clause-record g c =
-    subst (λ (o : Start). IsRecord g.row.B g.row.M o c.in_ok-record_over.field-0.0) c.in_ok-opening.ensures.value
+    subst (λ (o : OpeningValue). IsRecord g.row.B g.row.M o c.in_ok-record_over.field-0.0) c.in_ok-opening.ensures.value
     c.in_ok-record_over.ensures.record
 
 pub returns-clause-clean : goal.returns-clause-clean

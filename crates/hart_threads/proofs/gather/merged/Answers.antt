@@ -3,7 +3,7 @@ use Rattle.std.proofs.Common.{◌≡◌, ℕ, List, length, lit<, Option, Some, 
 use Rattle.std.specs.Prelude.{All, IfOk, MatchOption, Result, Ok, Err}
 use Rattle.std.proofs.lemmas.Bool.{MatchBool-at_true}
 use Rattle.step_machine.specs.declared.events.Entry.{Entry}
-use Rattle.step_machine.specs.History.{Start, history_of}
+use Rattle.step_machine.specs.History.{OpeningValue, history_of}
 use Rattle.step_machine.specs.Legal.{WellFormed}
 use Rattle.step_machine.specs.Placing.{placed}
 use Rattle.hart_threads.specs.Seats.{SeatView}
@@ -20,7 +20,7 @@ for_each P N Q S none some (Ok (Some x)) known = some x known
 for_each P N Q S none some (Err e) known = known
 
 -- the entries that are placed
-whole_is : (o : Start) (us es : List Entry) (seats : List SeatView) (n : ℕ) (ds : List (List Entry)) → es ≡ placed ds us → ds ≡ diaries_of n seats → n ≡ length o.harts
+whole_is : (o : OpeningValue) (us es : List Entry) (seats : List SeatView) (n : ℕ) (ds : List (List Entry)) → es ≡ placed ds us → ds ≡ diaries_of n seats → n ≡ length o.harts
     → es ≡ placed (diaries_in o seats) us
 whole_is o us es seats n ds entries diaries harts = entries ∙ ap (λ (xs : List (List Entry)). placed xs us) (diaries ∙ ap (λ k. diaries_of k seats) harts)
 

@@ -2,7 +2,7 @@
 use Rattle.std.proofs.Common.{◌≡◌, List, refl, sym, subst, ap, ap₂, ◌∙◌}
 use Rattle.std.specs.Prelude.{map}
 use Rattle.step_machine.specs.declared.events.Event.{Event}
-use Rattle.step_machine.specs.History.{Start, History, history_of}
+use Rattle.step_machine.specs.History.{OpeningValue, History, history_of}
 use Rattle.step_machine.specs.Runs.{Run, IsOwnRun, event_of}
 use Rattle.hart_threads.specs.inner.RunsAgain.{IsRunAgain}
 use Rattle.hart_threads.proofs.gather.record_of.Goals as goal
@@ -13,7 +13,7 @@ returns g c =
     let whole : History = history_of c.in_ok-start.start c.args.entries.items in
     let stands : c.in-Some.machine.history ≡ whole = known.stands ∙ ap₂ history_of (sym c.in_ok-start.ensures) c.deref.ensures.value in
     let each : c.in-Some.events.items ≡ map event_of c.args.entries.items = known.each ∙ ap (map event_of) c.deref.ensures.value in
-    let own = subst (λ (o : Start). Run g.row.B g.row.M o (map event_of c.args.entries.items) whole) c.in_ok-start.ensures (subst (IsOwnRun g.row.B g.row.M) stands known.own) in (
+    let own = subst (λ (o : OpeningValue). Run g.row.B g.row.M o (map event_of c.args.entries.items) whole) c.in_ok-start.ensures (subst (IsOwnRun g.row.B g.row.M) stands known.own) in (
       record {
         opening = c.in_ok-start.ensures;
         run = subst (λ (evs : List Event). Run g.row.B g.row.M c.args.opening.now evs whole) (sym each) own;

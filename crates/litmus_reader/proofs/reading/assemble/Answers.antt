@@ -1,5 +1,5 @@
 use Rattle.std.proofs.Common.{◌≡◌, ◌-◌, ◌++◌, ℕ, List, length, map, replicate, All, ap, subst, ◌∙◌, arith}
-use Rattle.step_machine.specs.History.{HartStart}
+use Rattle.step_machine.specs.History.{HartOpeningValue}
 use Rattle.litmus.specs.Formulas.{places}
 use Rattle.litmus.specs.LitmusTests.{IsThere}
 use Rattle.litmus_reader.specs.Reading.{hart_content}
@@ -25,7 +25,7 @@ returns-clause-exact c =
     let more : c.count.result - c.len.result ≡ length c.args.locations - length c.args.values.words.items = omega (arith, words, c.count.ensures.count, c.len.ensures) in
     made_content c.new.result _ _ c.new.ensures
     (same_content _ _ _ _ _ _ c.args.final_condition.quantifier c.args.final_condition.condition
-    (ap (λ (hs : List HartStart). map hart_content hs) starts ∙ starts_content c.args.codes.items c.args.values.registers.items)
+    (ap (λ (hs : List HartOpeningValue). map hart_content hs) starts ∙ starts_content c.args.codes.items c.args.values.registers.items)
     (c.in_ok-pad.ensures.padded ∙ ap (λ (n : ℕ). c.args.values.words.items ++ replicate n 0) more)
     c.into_names-names.ensures)
 

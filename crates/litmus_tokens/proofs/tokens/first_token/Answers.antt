@@ -1,6 +1,6 @@
 use Rattle.std.proofs.Common.{◌≡◌, sym, ap, subst, ◌∙◌}
 use Rattle.litmus_tokens.specs.Tokens.{seen, begun, beginning_of, tokens_of, tokens_from, LeavesLess}
-use Rattle.litmus_tokens.proofs.TokenLaws.{leaves_less, tokens_cut}
+use Rattle.litmus_tokens.proofs.TokenLaws.{leaves_less, tokens-cut}
 use Rattle.litmus_tokens.proofs.tokens.first_token.Goals as goal
 
 pub returns : goal.returns
@@ -10,6 +10,6 @@ returns c =
     let exact : seen c.begun.result ≡ beginning_of text = c.begun.ensures ∙ ap begun c.without_leading.ensures in
     record {
       exact = exact;
-      tokens = tokens_cut text ∙ ap (tokens_from tokens_of) (sym exact);
+      tokens = tokens-cut text ∙ ap (tokens_from tokens_of) (sym exact);
       rest = subst (LeavesLess text) (sym exact) (leaves_less text);
     }

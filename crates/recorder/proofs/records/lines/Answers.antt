@@ -4,7 +4,7 @@ use Rattle.texts.proofs.RunLaws.{write-start, turn-same, turn-other, turns-end}
 use Rattle.std.proofs.lemmas.List.Elements.{All-nil}
 use Rattle.recorder.specs.Outcomes.{OutcomeHasWords}
 use Rattle.recorder.specs.Records.{Step, is_same_step, record_line}
-use Rattle.recorder.proofs.RecordLaws.{decides_steps, lines_text, line_first, lines-none, one_line, words_more, no_step, all_words}
+use Rattle.recorder.proofs.RecordLaws.{decides_steps, lines_text, line_first, lines-none, one_line, words-more, no_step, all_words}
 use Rattle.recorder.proofs.records.lines.Goals as goal
 use Rattle.recorder.proofs.records.lines.Goals.{then-goes_on, else-goes_on+in_ok-push_record_line}
 
@@ -27,7 +27,7 @@ loop-next-preserved c =
     elim c.if-goes_on.branch [
       | then-goes_on w ↦ record {
         few = omega arith;
-        words = words_more c.args.steps.now c.loop-next.next-index _ c.loop-next-test.true c.loop-next.invariant.words c.numbers_are_words.ensures;
+        words = words-more c.args.steps.now c.loop-next.next-index _ c.loop-next-test.true c.loop-next.invariant.words c.numbers_are_words.ensures;
         so_far = rw (w.text-is, w.step-is, w.times-is)
             (turn-same is_same_step decides_steps lines_text record_line line_first c.loop-next.step _ c.loop-next.times
             c.loop-next.next-index c.args.steps.now (string_bytes c.loop-next.text) _ c.loop-next-test.true
@@ -35,7 +35,7 @@ loop-next-preserved c =
       }
       | else-goes_on+in_ok-push_record_line w ↦ record {
         few = omega arith;
-        words = words_more c.args.steps.now c.loop-next.next-index _ c.loop-next-test.true c.loop-next.invariant.words c.numbers_are_words.ensures;
+        words = words-more c.args.steps.now c.loop-next.next-index _ c.loop-next-test.true c.loop-next.invariant.words c.numbers_are_words.ensures;
         so_far = rw (w.text-is, w.step-is, w.times-is)
             (turn-other is_same_step decides_steps lines_text record_line line_first c.loop-next.step _
             c.loop-next.times c.loop-next.next-index c.args.steps.now (string_bytes c.loop-next.text) _ _

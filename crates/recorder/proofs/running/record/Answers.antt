@@ -1,10 +1,10 @@
 use Rattle.std.proofs.Common.{refl}
-use Rattle.step_machine.specs.History.{unrun}
+use Rattle.step_machine.specs.History.{at_opening}
 use Rattle.recorder.proofs.RunRecords.{one_recorded}
 use Rattle.recorder.proofs.running.record.Goals as goal
 
 pub loop-event-init : goal.loop-event-init
-loop-event-init g c = rw c.in_ok-steps.ensures.items (record { so_far = (unrun c.args.opening, refl, c.in_ok-machine.ensures); events = refl })
+loop-event-init g c = rw c.in_ok-steps.ensures.items (record { so_far = (at_opening c.args.opening, refl, c.in_ok-machine.ensures); events = refl })
 
 pub loop-event-preserved : goal.loop-event-preserved
 loop-event-preserved g c =

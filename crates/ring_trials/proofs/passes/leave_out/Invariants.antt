@@ -1,13 +1,14 @@
 use Rattle.std.proofs.Common.{◌≡◌, ◌+◌, ◌<◌, ℕ, false, length}
 use Rattle.std.specs.Prelude.{if◌then◌else◌}
+use Rattle.step_machine.specs.Standing.{RepresentsRunFrom}
 use Rattle.ring_trials.specs.Own.{start_of, lists_of}
-use Rattle.ring_trials.specs.Trials.{IsUnclean, StandsFrom}
+use Rattle.ring_trials.specs.Trials.{IsUnclean}
 use Rattle.shrink.specs.Shrinking.{IsPartOf, without}
 use Rattle.ring_trials.proofs.passes.leave_out.Given as goal
 
 abbrev pub invariant-loop-went : goal.invariant-loop-went
 invariant-loop-went g l = record {
-  stands : StandsFrom g.row.B g.row.M (start_of l.own) l.machine;
+  stands : RepresentsRunFrom g.row.B g.row.M (start_of l.own) l.machine;
   count : length l.shares ≡ length (lists_of l.own);
   unclean : IsUnclean g.row.B g.row.M l.own l.events.items;
   part : IsPartOf l.events.items l.fn.events.items;

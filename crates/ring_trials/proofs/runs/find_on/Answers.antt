@@ -5,9 +5,10 @@ use Rattle.poll_close.specs.Breaches.{AreNotes}
 use Rattle.ring_trials.specs.Trials.{AreTotals}
 use Rattle.ring_trials.proofs.runs.find_on.Goals as goal
 use Rattle.std.proofs.Common.{sym, subst, ap, ◌∙◌, arith}
-use Rattle.step_machine.specs.History.{Start}
+use Rattle.step_machine.specs.History.{OpeningValue}
+use Rattle.recorder.proofs.Drawn.{left_after-more}
 use Rattle.ring_trials.specs.Trials.{AreAllClean, IsJudged}
-use Rattle.ring_trials.proofs.RunsLaws.{none_clean, one_clean, one_unclean, few_closed, left_none, left_more, schedule_is, whole_again}
+use Rattle.ring_trials.proofs.RunsLaws.{none_clean, one_clean, one_unclean, few_closed, left_none, schedule_is, whole_again}
 
 -- src/runs.rt:87:5
 pub loop-number-init : goal.loop-number-init
@@ -28,7 +29,7 @@ returns-in-Some g c = (
       (subst (λ evs. IsJudged g.row.B g.row.M c.args.own.now evs c.in_ok-found.found c.judge.new.shares) (c.deref.ensures.value
       ∙ schedule_is (record { B = g.row.B; M = g.row.M; own = c.args.own.now; stream = g.G.Rng.stream c.args.generator.now; size = c.args.size })
       c.loop-number.number c.harts-harts.result _ _ c.in_ok-draw.ensures.drawn
-      (c.harts-harts.ensures.opening c.requires.stands.0 c.requires.stands.1 ∙ ap (λ (o : Start). length o.harts) c.requires.stands.2)
+      (c.harts-harts.ensures.opening c.requires.stands.0 c.requires.stands.1 ∙ ap (λ (o : OpeningValue). length o.harts) c.requires.stands.2)
       c.loop-number.invariant.left) c.in_ok-found.ensures.judged) c.in-Some.is,
 )
 
@@ -61,13 +62,13 @@ loop-number-preserved g c =
           (subst (λ evs. IsJudged g.row.B g.row.M c.args.own.now evs c.in_ok-found.found c.judge.new.shares) (c.deref.ensures.value
           ∙ schedule_is (record { B = g.row.B; M = g.row.M; own = c.args.own.now; stream = g.G.Rng.stream c.args.generator.now; size = c.args.size })
           c.loop-number.number c.harts-harts.result _ _ c.in_ok-draw.ensures.drawn
-          (c.harts-harts.ensures.opening c.requires.stands.0 c.requires.stands.1 ∙ ap (λ (o : Start). length o.harts) c.requires.stands.2)
+          (c.harts-harts.ensures.opening c.requires.stands.0 c.requires.stands.1 ∙ ap (λ (o : OpeningValue). length o.harts) c.requires.stands.2)
           c.loop-number.invariant.left) c.in_ok-found.ensures.judged) c.in-None.is
           (λ ts t are notes. c.take_in.ensures.totals ts t (subst (AreTotals ts) (sym c.deref_mut-in-None.ensures.value) are)
           (subst (AreNotes (reported 0 t.entries)) (sym shares ∙ sym c.deref-in-None.ensures.value) notes))
           (c.take_in.ensures.count ∙ ap length c.deref_mut-in-None.ensures.value));
       stands = c.in_ok-found.ensures.stands;
-      left = left_more c.args.size c.loop-number.number (g.G.Rng.stream c.args.generator.now) (g.G.Rng.stream c.loop-number.generator)
+      left = left_after-more c.args.size c.loop-number.number (g.G.Rng.stream c.args.generator.now) (g.G.Rng.stream c.loop-number.generator)
           (g.G.Rng.stream c.draw.new.generator) c.loop-number.invariant.left c.in_ok-draw.ensures.rest;
       count = ap length shares ∙ c.judge.ensures.count;
     }

@@ -2,7 +2,8 @@ use Rattle.std.proofs.Common.{false}
 use Rattle.ring_trials.proofs.runs.take_in.Goals as goal
 use Rattle.std.proofs.Common.{refl, arith, length-set}
 use Rattle.std.proofs.lemmas.Option.{slice_get-get_or}
-use Rattle.ring_trials.proofs.RunsLaws.{taken_more, totals_more}
+use Rattle.poll_close.specs.declared.clean.Share.{Share}
+use Rattle.ring_trials.proofs.RunsLaws.{OneMore, taken_more, totals_more}
 use Rattle.ring_trials.proofs.runs.take_in.Goals.{then-share, else-share}
 
 -- src/runs.rt:61:17
@@ -14,11 +15,11 @@ overflow_add-totals c =
 -- src/runs.rt:55:5
 pub loop-index-preserved : goal.loop-index-preserved
 loop-index-preserved c =
-    taken_more c.args.totals.now c.args.shares.now c.loop-index.index c.loop-index.totals _ (record { most = c.max.result; closed = c.if-share.totals }) _ _
-    c.loop-index.invariant
+    taken_more Share OneMore c.args.totals.now c.args.shares.now c.loop-index.index c.loop-index.totals _
+    (record { most = c.max.result; closed = c.if-share.totals }) _ _ c.loop-index.invariant
     (slice_get-get_or c.loop-index.totals c.loop-index.index (record { most = 0; closed = 0 }) (omega arith))
     (slice_get-get_or c.args.shares.now c.loop-index.index (record { taken = 0; closed = false }) (omega arith))
-    c.max.ensures (elim c.if-share.branch [ then-share w ↦ grind arith | else-share w ↦ grind arith ]) refl
+    (record { most = c.max.ensures; closed = elim c.if-share.branch [ then-share w ↦ grind arith | else-share w ↦ grind arith ] }) refl
     (length-set c.loop-index.totals c.loop-index.index _)
 
 -- src/runs.rt:48:1

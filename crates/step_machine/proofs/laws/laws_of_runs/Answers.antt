@@ -1,6 +1,6 @@
 use Rattle.std.specs.Prelude.{IsTrue}
-use Rattle.step_machine.specs.History.{History, unrun}
-use Rattle.step_machine.proofs.Running.{kept-unrun, kept-run, run-one, run_induction, opening_kept, of_harts-run}
+use Rattle.step_machine.specs.History.{History, at_opening}
+use Rattle.step_machine.proofs.Running.{kept-at_opening, kept-run, run-one, run_induction, opening_kept, of_harts-run}
 use Rattle.step_machine.proofs.OwnRuns.{own_run}
 use Rattle.step_machine.proofs.Acts.{run_some}
 use Rattle.step_machine.proofs.Landings.{landed-counted}
@@ -11,10 +11,10 @@ pub returns-clause-exists : goal.returns-clause-exists
 returns-clause-exists c = λ B M o evs. run_some B M o evs
 
 pub returns-clause-one : goal.returns-clause-one
-returns-clause-one c = λ B M o evs t u run next. run-one B M (unrun o) evs t u run next
+returns-clause-one c = λ B M o evs t u run next. run-one B M (at_opening o) evs t u run next
 
 pub returns-clause-kept : goal.returns-clause-kept
-returns-clause-kept c = λ B M o evs t run. kept-run B M (unrun o) evs t (kept-unrun B M o) run
+returns-clause-kept c = λ B M o evs t run. kept-run B M (at_opening o) evs t (kept-at_opening B M o) run
 
 pub returns-clause-opening : goal.returns-clause-opening
 returns-clause-opening c = λ B M o evs t run. opening_kept B M o evs t run
@@ -27,7 +27,7 @@ returns-clause-own c = λ B M t kept. own_run B M t kept
 
 pub returns-clause-induction : goal.returns-clause-induction
 returns-clause-induction c = λ B M holds o opens keeps evs t run.
-    run_induction B M (λ (u : History). IsTrue (holds u)) (λ u ev out new kept is happens. keeps u ev out new is happens) (unrun o) evs t (kept-unrun B M o) opens run
+    run_induction B M (λ (u : History). IsTrue (holds u)) (λ u ev out new kept is happens. keeps u ev out new is happens) (at_opening o) evs t (kept-at_opening B M o) opens run
 
 pub returns-clause-landings : goal.returns-clause-landings
 returns-clause-landings c = λ B t l. landed-counted B t l

@@ -2,7 +2,7 @@ use Rattle.std.proofs.Common.{◌<◌, ◌≤◌, Some, None, length, rules, ari
 use Rattle.texts.specs.Pieces.{is_blank}
 use Rattle.texts.specs.Cutting.{fails}
 use Rattle.texts.proofs.CuttingLaws.{length-from_first}
-use Rattle.texts.proofs.TokenLaws.{first_is, tokens_cut}
+use Rattle.texts.proofs.TokenLaws.{first_is, tokens-cut}
 use Rattle.texts.proofs.cutting.first_token.Goals as goal
 
 pub returns-in-Some-clause-cut : goal.returns-in-Some-clause-cut
@@ -11,7 +11,7 @@ returns-in-Some-clause-cut c =
     first_is c.args.line.now c.without_front-line.result.now _ (Some c.in-Some.rest.now) c.without_front-line.ensures some c.cut_at_any.ensures.front (rw c.in-Some.is at c.cut_at_any.ensures.back)
 
 pub returns-in-Some-clause-tokens : goal.returns-in-Some-clause-tokens
-returns-in-Some-clause-tokens c = tokens_cut c.args.line.now _ _ (returns-in-Some-clause-cut c)
+returns-in-Some-clause-tokens c = tokens-cut c.args.line.now _ _ (returns-in-Some-clause-cut c)
 
 pub returns-in-Some-clause-shorter : goal.returns-in-Some-clause-shorter
 returns-in-Some-clause-shorter c =
@@ -25,7 +25,7 @@ returns-in-None-clause-cut c =
     first_is c.args.line.now c.without_front-line.result.now _ None c.without_front-line.ensures some c.cut_at_any.ensures.front (rw c.in-None.is at c.cut_at_any.ensures.back)
 
 pub returns-in-None-clause-tokens : goal.returns-in-None-clause-tokens
-returns-in-None-clause-tokens c = tokens_cut c.args.line.now _ _ (returns-in-None-clause-cut c)
+returns-in-None-clause-tokens c = tokens-cut c.args.line.now _ _ (returns-in-None-clause-cut c)
 
 pub returns-in-Some-clause-within : goal.returns-in-Some-clause-within
 returns-in-Some-clause-within c =

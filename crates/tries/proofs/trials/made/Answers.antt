@@ -3,8 +3,8 @@ use Rattle.std.proofs.lemmas.Result.{err_from_is_err_and}
 use Rattle.litmus.specs.LitmusTests.{LitmusTest}
 use Rattle.recorder.specs.Drawing.{left_after}
 use Rattle.tries.specs.Outcomes.{IsTriedOf}
-use Rattle.engine_parts.specs.inner.Making.{text_and_value}
-use Rattle.engine_parts.proofs.ThreadRuns.{by_test, by_no_test}
+use Rattle.engine_support.specs.inner.Making.{text_and_value}
+use Rattle.engine_support.proofs.ThreadRuns.{by_test, by_no_test}
 use Rattle.tries.proofs.trials.made.Goals as goal
 
 pub returns-in_err-test : goal.returns-in_err-test

@@ -1,6 +1,6 @@
 use Rattle.std.proofs.Common.{◌∙◌, ap, map}
 use Rattle.std.specs.Prelude.{option_and_then}
-use Rattle.ztso.specs.CommandLines.{job_in}
+use Rattle.ztso.specs.CommandLines.{job_at}
 use Rattle.ztso.proofs.Matches.{answers_failed, answers_found}
 use Rattle.ztso.proofs.Spellings.{answers_spelled}
 use Rattle.ztso.proofs.command_line.job_of.Goals as goal
@@ -15,7 +15,7 @@ returns-in_err-matches g c =
 pub returns : goal.returns
 returns g c =
     let words = map g.S.AsStr.text c.args.words.now in
-    let said = answers_found words c.in_ok-matches.ensures.kinds c.job_in.result
-    (c.job_in.ensures ∙ ap (option_and_then job_in) c.in_ok-matches.ensures.subcommand) c.ok_or.result
+    let said = answers_found words c.in_ok-matches.ensures.kinds c.job_at.result
+    (c.job_at.ensures ∙ ap (option_and_then job_at) c.in_ok-matches.ensures.subcommand) c.ok_or.result
     c.ok_or.ensures.value in
     record { said = said; spelled = answers_spelled words c.ok_or.result said }

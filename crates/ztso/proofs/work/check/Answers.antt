@@ -1,5 +1,5 @@
 use Rattle.std.proofs.Common.{ℕ, List, Option, MutBor, subst}
-use Rattle.engine_parts.specs.Engines.{OfInput}
+use Rattle.engine_support.specs.Engines.{OfInput}
 use Rattle.checking.specs.Checking.{IsCheckAnswer}
 use Rattle.debugger.specs.Transcripts.{EndsInteractive}
 use Rattle.ztso.specs.Work.{LeavesReports}

@@ -1,5 +1,5 @@
 use Rattle.std.proofs.Common.{ℕ, List, Option, MutBor, subst}
-use Rattle.engine_parts.specs.Engines.{AnswersBoth}
+use Rattle.engine_support.specs.Engines.{AnswersBoth}
 use Rattle.debugger.specs.Transcripts.{EndsInteractive, IsDebugAnswer}
 use Rattle.ztso.specs.Work.{LeavesFront}
 use Rattle.ztso.proofs.Buffered.{remaining_of}

@@ -2,12 +2,12 @@
 use Rattle.std.proofs.Common.{[], ◌*◌}
 use Rattle.recorder.specs.Drawing.{left_after}
 use Rattle.poll_close.specs.Places.{layout_of}
-use Rattle.engine_parts.specs.Engines.{AnswersBoth, OfInput}
+use Rattle.engine_support.specs.Engines.{AnswersBoth, OfInput}
 use Rattle.debugger.specs.Transcripts.{IsDebugAnswer}
 use Rattle.checking.specs.Checking.{IsCheckAnswer}
-use Rattle.views.specs.Chart.{IsChartAnswer, drawing}
-use Rattle.views.specs.Show.{IsShowAnswer}
-use Rattle.views.specs.Shrink.{IsShrinkAnswer}
+use Rattle.view_engines.specs.Chart.{IsChartAnswer, drawing}
+use Rattle.view_engines.specs.Show.{IsShowAnswer}
+use Rattle.view_engines.specs.Shrink.{IsShrinkAnswer}
 use Rattle.tries.specs.Outcomes.{IsTryAnswer}
 use Rattle.ztso_engines.specs.Channels.{IsChannelAnswer}
 use Rattle.ztso_engines.specs.Move.{IsMoveAnswer}
@@ -103,7 +103,7 @@ returns-in-Try-clause-does g c = rw c.in-Try.is
 pub returns-in-Channel-clause-does : goal.returns-in-Channel-clause-does
 returns-in-Channel-clause-does g c = rw c.in-Channel.is
     (ends_with_status done_status (AnswersBoth
-    (IsChannelAnswer (tables_of c.in-Channel.ring) g.row.B 4096 (layout_of c.in-Channel.place []) c.in-Channel.finish)
+    (IsChannelAnswer (tables_of c.in-Channel.kind) g.row.B 4096 (layout_of c.in-Channel.place []) c.in-Channel.finish)
     (g.F.Read.remaining c.args.first.now) (g.S.Read.remaining c.args.second.now))
     c.run_rings.result g.W.Write.contents c.args.writer.now c.run_rings.new.writer c.run_rings.ensures.ends
     c.after-in-Channel.result c.after-in-Channel.ensures.ended)

@@ -1,4 +1,4 @@
-use Rattle.engine_parts.specs.Engines.{OfInput}
+use Rattle.engine_support.specs.Engines.{OfInput}
 use Rattle.ztso_engines.specs.Asm.{IsAsmAnswer}
 use Rattle.ztso_engines.specs.Dis.{IsDisAnswer}
 use Rattle.ztso.specs.Work.{done_status}

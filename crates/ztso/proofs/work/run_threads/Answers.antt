@@ -1,4 +1,4 @@
-use Rattle.engine_parts.specs.Engines.{OfInput}
+use Rattle.engine_support.specs.Engines.{OfInput}
 use Rattle.ztso_engines.specs.Threads.{IsThreadsAnswer}
 use Rattle.ztso.specs.Work.{verdict_status}
 use Rattle.ztso.proofs.Endings.{ends_with_status}

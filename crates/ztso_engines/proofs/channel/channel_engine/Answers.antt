@@ -1,8 +1,8 @@
 use Rattle.std.proofs.Common.{[]}
 use Rattle.poll_close.specs.Places.{layout_of}
-use Rattle.engine_parts.specs.Engines.{AnswersBoth}
+use Rattle.engine_support.specs.Engines.{AnswersBoth}
 use Rattle.ztso_engines.specs.Channels.{IsChannelAnswer}
-use Rattle.engine_parts.proofs.Endings.{ended}
+use Rattle.engine_support.proofs.Endings.{ended}
 use Rattle.ztso_engines.proofs.channel.channel_engine.Goals as goal
 
 pub returns-clause-ends : goal.returns-clause-ends

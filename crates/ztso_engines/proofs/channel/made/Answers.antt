@@ -2,9 +2,9 @@ use Rattle.std.proofs.Common.{ℕ, List, map, ap, ◌∙◌}
 use Rattle.std.specs.Global.{Vec}
 use Rattle.std.specs.List.{flat_map}
 use Rattle.std.specs.String.{string_bytes}
-use Rattle.engine_parts.proofs.Endings.{is_handed}
+use Rattle.engine_support.proofs.Endings.{is_handed}
 use Rattle.hart.specs.declared.need.Report.{Report}
-use Rattle.recorder.specs.Versions.{Said, said_of}
+use Rattle.recorder.specs.Versions.{ScheduleValue, said_of}
 use Rattle.ztso_engines.specs.Channels.{report_line}
 use Rattle.ztso_engines.proofs.ChannelLaws.{answers_delivered, schedule_fault, lists_fault, reports_fault}
 use Rattle.ztso_engines.proofs.channel.made.Goals as goal
@@ -13,7 +13,7 @@ pub returns-in_err-said-clause-made : goal.returns-in_err-said-clause-made
 returns-in_err-said-clause-made g c =
     schedule_fault g.K.RingKind.ring g.row.B g.row.M c.args.place c.args.finish _ _ _ c.from_residual.result
     c.in_err-said.field-0.0 (is_handed c.from_residual.result _ c.from_residual.ensures.1)
-    (λ (said : Said). said) c.in_err-said.ensures.schedule
+    (λ (said : ScheduleValue). said) c.in_err-said.ensures.schedule
 
 pub returns-in_err-lists-clause-made : goal.returns-in_err-lists-clause-made
 returns-in_err-lists-clause-made g c =

@@ -1,7 +1,7 @@
 use Rattle.std.proofs.Common.{ℕ, true, false, lit<, map, sym, subst}
 use Rattle.std.specs.Global.{Vec}
 use Rattle.hart.specs.declared.need.Report.{Report}
-use Rattle.step_machine.specs.History.{FitsIn, Start}
+use Rattle.step_machine.specs.History.{FitsIn, OpeningValue}
 use Rattle.recorder.specs.Records.{events_in}
 use Rattle.recorder.specs.Replaying.{IsRunRecord}
 use Rattle.ztso_engines.proofs.ChannelLaws.{differs, steps_reported}
@@ -9,13 +9,13 @@ use Rattle.ztso_engines.proofs.channel.reports_of_steps.Goals as goal
 
 pub replay_checked-requires : goal.replay_checked-requires
 replay_checked-requires g c =
-    let fits = subst (λ (o : Start). FitsIn g.row.M o) (sym c.in-Ok.ensures.value) (c.laws_of_channels.ensures.fits g.row.M _ _ c.in-Ok.ensures.accepted) in
+    let fits = subst (λ (o : OpeningValue). FitsIn g.row.M o) (sym c.in-Ok.ensures.value) (c.laws_of_channels.ensures.fits g.row.M _ _ c.in-Ok.ensures.accepted) in
     (lit< tt, (c.requires.some_capacity, (c.requires.capacity, (c.requires.some_word, (c.requires.size, fits)))))
 
 pub whole_reports_of-requires : goal.whole_reports_of-requires
 whole_reports_of-requires g c =
     let t = c.in-Ok-replay_checked.machine.history in
-    let checked = subst (λ (o : Start). IsRunRecord g.row.B g.row.M o c.args.steps.now t) c.in-Ok.ensures.value c.in-Ok-replay_checked.ensures.checked in
+    let checked = subst (λ (o : OpeningValue). IsRunRecord g.row.B g.row.M o c.args.steps.now t) c.in-Ok.ensures.value c.in-Ok-replay_checked.ensures.checked in
     let run = c.records_are_runs.ensures.runs g.row.B g.row.M _ c.args.steps.now t checked in
     let stands = c.laws_of_channels.ensures.stands g.row.B g.row.M _ _ (events_in c.args.steps.now) t c.in-Ok.ensures.accepted run in
     (lit< tt, (c.requires.some_capacity, stands))
@@ -38,13 +38,13 @@ returns-then-finish g c =
 
 pub check_record-requires : goal.check_record-requires
 check_record-requires g c =
-    let fits = subst (λ (o : Start). FitsIn g.row.M o) (sym c.in-Ok.ensures.value) (c.laws_of_channels.ensures.fits g.row.M _ _ c.in-Ok.ensures.accepted) in
+    let fits = subst (λ (o : OpeningValue). FitsIn g.row.M o) (sym c.in-Ok.ensures.value) (c.laws_of_channels.ensures.fits g.row.M _ _ c.in-Ok.ensures.accepted) in
     (lit< tt, (c.requires.capacity, (c.requires.size, fits)))
 
 pub reports_of-requires : goal.reports_of-requires
 reports_of-requires g c =
     let ran = c.in-Ok-check_record.ensures.checked in
-    let checked = subst (λ (o : Start). IsRunRecord g.row.B g.row.M o c.args.steps.now ran.0) c.in-Ok.ensures.value ran.1 in
+    let checked = subst (λ (o : OpeningValue). IsRunRecord g.row.B g.row.M o c.args.steps.now ran.0) c.in-Ok.ensures.value ran.1 in
     let run = c.records_are_runs.ensures.runs g.row.B g.row.M _ c.args.steps.now ran.0 checked in
     let stands = c.laws_of_channels.ensures.stands g.row.B g.row.M _ _ (events_in c.args.steps.now) ran.0 c.in-Ok.ensures.accepted run in
     (lit< tt, (ran.0, ran.2, stands))

@@ -1,7 +1,7 @@
 use Rattle.std.proofs.Common.{◌≡◌}
 use Rattle.std.specs.List.{flat_map}
 use Rattle.std.specs.String.{string_bytes}
-use Rattle.engine_parts.proofs.TextInputs.{answered_value}
+use Rattle.engine_support.proofs.TextInputs.{answered_value}
 use Rattle.ztso_engines.specs.Dis.{SaysCode, instr_line}
 use Rattle.ztso_engines.proofs.CodeTexts.{code_found}
 use Rattle.ztso_engines.proofs.dis.made.Goals as goal

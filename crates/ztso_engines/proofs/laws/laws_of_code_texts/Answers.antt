@@ -1,5 +1,5 @@
 use Rattle.ztso_engines.specs.Dis.{SaysCode, dis_at}
-use Rattle.engine_parts.proofs.Judging.{accepted_well, accepted_judged}
+use Rattle.engine_support.proofs.Judging.{accepted_well, accepted-decoded}
 use Rattle.ztso_engines.proofs.CodeTexts.{code_found, code_read, one_code}
 use Rattle.ztso_engines.proofs.HexTexts.{written_says}
 use Rattle.ztso_engines.proofs.laws.laws_of_code_texts.Goals as goal
@@ -13,7 +13,7 @@ returns-clause-one c = one_code
 pub returns-clause-judged : goal.returns-clause-judged
 returns-clause-judged c = λ input code. (
   accepted_well dis_at SaysCode input code (code_found input code),
-  accepted_judged dis_at SaysCode input code (code_read input code),
+  accepted-decoded dis_at SaysCode input code (code_read input code),
 )
 
 pub returns-clause-again : goal.returns-clause-again

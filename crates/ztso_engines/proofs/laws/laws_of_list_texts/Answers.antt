@@ -1,5 +1,5 @@
 use Rattle.ztso_engines.specs.Lists.{SaysLists, lists_at}
-use Rattle.engine_parts.proofs.Judging.{accepted_well, accepted_judged}
+use Rattle.engine_support.proofs.Judging.{accepted_well, accepted-decoded}
 use Rattle.ztso_engines.proofs.ListTexts.{lists_found, lists_read, one_lists}
 use Rattle.ztso_engines.proofs.laws.laws_of_list_texts.Goals as goal
 
@@ -12,5 +12,5 @@ returns-clause-one c = one_lists
 pub returns-clause-judged : goal.returns-clause-judged
 returns-clause-judged c = λ input lists. (
   accepted_well lists_at SaysLists input lists (lists_found input lists),
-  accepted_judged lists_at SaysLists input lists (lists_read input lists),
+  accepted-decoded lists_at SaysLists input lists (lists_read input lists),
 )

@@ -1,6 +1,8 @@
 use Rattle.std.proofs.Common.{true}
 use Rattle.ztso_engines.proofs.OneAnswer as one
 use Rattle.ztso_engines.proofs.OneChannel.{one_channel, alike_channel}
+use Rattle.ztso_engines.proofs.OneOwn.{one_own}
+use Rattle.ztso_engines.proofs.OneRing.{one_ring}
 use Rattle.ztso_engines.proofs.laws.one_answer.Goals as goal
 
 pub returns-clause-steps : goal.returns-clause-steps
@@ -32,3 +34,9 @@ returns-clause-channel c = one_channel
 
 pub returns-clause-finished : goal.returns-clause-finished
 returns-clause-finished c ring B M l = alike_channel ring B M l true
+
+pub returns-clause-own : goal.returns-clause-own
+returns-clause-own c = one_own
+
+pub returns-clause-ring : goal.returns-clause-ring
+returns-clause-ring c = one_ring

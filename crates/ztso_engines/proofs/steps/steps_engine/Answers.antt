@@ -1,6 +1,6 @@
-use Rattle.engine_parts.specs.Engines.{OfInput}
+use Rattle.engine_support.specs.Engines.{OfInput}
 use Rattle.ztso_engines.specs.Steps.{IsStepsAnswer}
-use Rattle.engine_parts.proofs.Endings.{ended}
+use Rattle.engine_support.proofs.Endings.{ended}
 use Rattle.ztso_engines.proofs.steps.steps_engine.Goals as goal
 
 pub returns : goal.returns

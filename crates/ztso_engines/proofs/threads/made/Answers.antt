@@ -1,8 +1,8 @@
-use Rattle.engine_parts.proofs.Endings.{is_handed}
+use Rattle.engine_support.proofs.Endings.{is_handed}
 use Rattle.litmus.specs.LitmusTests.{LitmusTest}
 use Rattle.ztso_engines.specs.Threads.{IsThreadsGiven}
-use Rattle.engine_parts.specs.inner.Making.{text_and_value}
-use Rattle.engine_parts.proofs.ThreadRuns.{by_test, by_no_test}
+use Rattle.engine_support.specs.inner.Making.{text_and_value}
+use Rattle.engine_support.proofs.ThreadRuns.{by_test, by_no_test}
 use Rattle.ztso_engines.proofs.threads.made.Goals as goal
 
 pub returns : goal.returns

@@ -4,7 +4,7 @@ use Rattle.step_machine.specs.History.{History}
 use Rattle.recorder.specs.Schedule.{OfHarts}
 use Rattle.recorder.specs.Writing.{canon}
 use Rattle.ztso_engines.specs.Run.{IsJudged}
-use Rattle.engine_parts.proofs.ThreadRuns.{of_64, joined}
+use Rattle.engine_support.proofs.ThreadRuns.{of_64, joined}
 use Rattle.ztso_engines.proofs.threads.record_text.Goals as goal
 
 pub write_schedule-requires-clause-harts : goal.write_schedule-requires-clause-harts

@@ -1,5 +1,5 @@
 use Rattle.std.proofs.Common.{[], refl}
-use Rattle.engine_parts.proofs.Counted.{none_added}
+use Rattle.engine_support.proofs.Counted.{none_added}
 use Rattle.debugger.proofs.debug.answers.answer.Goals as goal
 
 pub returns-in_ok-debugger-in-Back : goal.returns-in_ok-debugger-in-Back

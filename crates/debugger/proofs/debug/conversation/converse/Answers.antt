@@ -1,6 +1,6 @@
-use Rattle.engine_parts.proofs.Endings.{is_handed}
+use Rattle.engine_support.proofs.Endings.{is_handed}
 use Rattle.std.proofs.Common.{[], sym, ◌∙◌}
-use Rattle.engine_parts.proofs.Written.{hands_failure, hands_read_failure, hands_unwritten, keeps_written, reads_alone, stopped}
+use Rattle.engine_support.proofs.Written.{hands_failure, hands_read_failure, hands_unwritten, keeps_written, reads_alone, stopped}
 use Rattle.debugger.specs.DebuggerStates.{DebuggerState}
 use Rattle.debugger.proofs.TranscriptLaws.{Printed, talked_enough, talked_nothing, talked_on, talked_so_far, talked_some}
 use Rattle.debugger.specs.Transcripts.{PrintsFront}

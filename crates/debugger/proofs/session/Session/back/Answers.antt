@@ -1,5 +1,5 @@
 use Rattle.std.proofs.Common.{◌≡◌, ◌-◌, length, ap, subst, ◌∙◌, arith, lit<, length-take-le}
-use Rattle.step_machine.specs.History.{Progress}
+use Rattle.step_machine.specs.History.{HistoryWithRoom}
 use Rattle.debugger.specs.Sessions.{Past, GoesBack}
 use Rattle.debugger.proofs.SnapshotLaws.{nearest_left, went_back}
 use Rattle.debugger.proofs.session.Session.back.Goals as goal
@@ -24,7 +24,7 @@ invariant_of-result g c =
     (rw (c.deref.ensures.value, c.truncate-2.ensures.items) at c.latest.ensures.snapshot) c.latest.ensures.rest in
     let back = went_back g.row.B g.row.M c.self.inside.machine.history c.self.inside.events.items c.self.inside.snapshots.items c.args.k _ left
     c.self.invariant.0 c.self.invariant.1 _ _ _ c.run.new.self.history near
-    (ap (λ (q : Progress). q.history) c.back_to.ensures) c.in-Ok.ensures.ok c.run.ensures.opening in
+    (ap (λ (q : HistoryWithRoom). q.history) c.back_to.ensures) c.in-Ok.ensures.ok c.run.ensures.opening in
     let count : c.len-2.result ≡ c.saturating_sub.result =
     omega (
       arith,
@@ -45,6 +45,6 @@ returns-in-Ok g c =
     (rw (c.deref.ensures.value, c.truncate-2.ensures.items) at c.latest.ensures.snapshot) c.latest.ensures.rest in
     let back = went_back g.row.B g.row.M c.self.inside.machine.history c.self.inside.events.items c.self.inside.snapshots.items c.args.k _ left
     c.self.invariant.0 c.self.invariant.1 _ _ _ c.run.new.self.history near
-    (ap (λ (q : Progress). q.history) c.back_to.ensures) c.in-Ok.ensures.ok c.run.ensures.opening in
+    (ap (λ (q : HistoryWithRoom). q.history) c.back_to.ensures) c.in-Ok.ensures.ok c.run.ensures.opening in
     let new : Past = record { opening = c.run.new.self.history.opening; events = c.truncate.new.self.items; history = c.run.new.self.history } in
     subst (λ (q : Past). GoesBack g.row.B g.row.M q c.args.k new) c.self.view_is (rw c.truncate.ensures.items back.0)

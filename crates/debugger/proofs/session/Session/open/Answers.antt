@@ -1,6 +1,6 @@
 -- A session begins with a snapshot of its opening.
 use Rattle.std.proofs.Common.{◌≡◌, ◌<◌, ◌*◌, ℕ, zero, suc, List, [], ◌∷◌, length, take, get_or, refl, sym, subst, arith}
-use Rattle.step_machine.specs.History.{Start, History, unrun}
+use Rattle.step_machine.specs.History.{OpeningValue, History, at_opening}
 use Rattle.step_machine.specs.Runs.{Run}
 use Rattle.step_machine.specs.Snapshots.{Taken, IsTakenAt}
 use Rattle.step_machine.specs.declared.events.Event.{Event}

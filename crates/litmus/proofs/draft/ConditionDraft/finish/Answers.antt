@@ -1,15 +1,15 @@
 use Rattle.std.proofs.Common.{◌≡◌, ◌∙◌, sym, refl, Ok}
 use Rattle.litmus.specs.Drafting.{finished}
-use Rattle.litmus.proofs.StageLaws.{is_within, finished_open, condition_steps, finished_steps}
+use Rattle.litmus.proofs.StageLaws.{is_within, finished-open, condition_steps, finished-steps}
 use Rattle.litmus.proofs.GrammarLaws.{finished_only}
-use Rattle.litmus.proofs.FrontLaws.{finished_found}
+use Rattle.litmus.proofs.FrontLaws.{finished-found}
 use Rattle.litmus.proofs.draft.ConditionDraft.finish.Goals as goal
 
 pub into_steps-requires : goal.into_steps-requires
 into_steps-requires c = is_within c.self.inside.tokens.items c.self.inside.builder c.self.invariant
 
 pub returns-then-not-is_complete-clause-exact : goal.returns-then-not-is_complete-clause-exact
-returns-then-not-is_complete-clause-exact c = rw (← c.self.view_is) (finished_open c.self.inside.tokens.items c.self.inside.builder c.self.invariant (sym c.is_complete.ensures ∙ c.if-not-is_complete.true))
+returns-then-not-is_complete-clause-exact c = rw (← c.self.view_is) (finished-open c.self.inside.tokens.items c.self.inside.builder c.self.invariant (sym c.is_complete.ensures ∙ c.if-not-is_complete.true))
 
 pub returns-then-not-is_complete-clause-only : goal.returns-then-not-is_complete-clause-only
 returns-then-not-is_complete-clause-only c = λ f stands.
@@ -24,10 +24,10 @@ pub of_steps-requires : goal.of_steps-requires
 of_steps-requires c = condition_steps c.self.inside.tokens.items c.self.inside.builder c.into_steps.result.items c.self.invariant (sym c.is_complete.ensures ∙ c.if-not-is_complete.false) c.into_steps.ensures
 
 pub returns-clause-exact : goal.returns-clause-exact
-returns-clause-exact c = rw (← c.self.view_is) (finished_steps c.self.inside.tokens.items c.self.inside.builder c.into_steps.result.items c.of_steps.result c.self.invariant (sym c.is_complete.ensures ∙ c.if-not-is_complete.false) c.into_steps.ensures c.of_steps.ensures)
+returns-clause-exact c = rw (← c.self.view_is) (finished-steps c.self.inside.tokens.items c.self.inside.builder c.into_steps.result.items c.of_steps.result c.self.invariant (sym c.is_complete.ensures ∙ c.if-not-is_complete.false) c.into_steps.ensures c.of_steps.ensures)
 
 pub returns-clause-found : goal.returns-clause-found
-returns-clause-found c = finished_found c.args.self c.of_steps.result (returns-clause-exact c)
+returns-clause-found c = finished-found c.args.self c.of_steps.result (returns-clause-exact c)
 
 pub returns-clause-only : goal.returns-clause-only
 returns-clause-only c = λ f stands.

@@ -4,7 +4,7 @@ use Rattle.std.specs.List.{slice_get, list_any}
 use Rattle.step_machine.specs.Positions.{packed}
 use Rattle.states.specs.inner.Compact.{bytes_of, words_in}
 use Rattle.states.specs.Numbered.{words_of, GetsNextNumber}
-use Rattle.states.proofs.NumberLaws.{has_bytes, words_there, next_is, stay_either}
+use Rattle.states.proofs.NumberLaws.{has_bytes, words-there, next_is, stay_either}
 use Rattle.states.proofs.numbered.States.number.Given.{Over}
 use Rattle.states.proofs.numbered.States.number.Goals as goal
 
@@ -13,7 +13,7 @@ returns-in-Some-clause-numbered g c =
     let words = packed c.args.machine.now in
     let draft : c.as_slice.result.now ≡ bytes_of words = c.as_slice.ensures.value ∙ c.in_ok-position_into.ensures.bytes in
     let read : words_in c.as_slice.result.now ≡ words = ap words_in draft ∙ c.in_ok-position_into.ensures.back in
-    let there = words_there c.self.inside.positions.keys c.as_slice.result.now words c.in-Some.number c.in-Some.ensures.index read in
+    let there = words-there c.self.inside.positions.keys c.as_slice.result.now words c.in-Some.number c.in-Some.ensures.index read in
     inl (record {
       known = subst (λ (ps : List (List ℕ)). slice_get ps c.in-Some.number ≡ Some words) c.self.view_is there;
       kept = c.self.view_is;

@@ -1,7 +1,7 @@
 -- A step of a sound machine is what happens to its history, and leaves a sound machine.
 use Rattle.std.proofs.Common.{◌≡◌, List, ◌∙◌, ap, subst, arith}
 use Rattle.step_machine.specs.declared.events.Entry.{Entry}
-use Rattle.step_machine.specs.History.{History, Progress}
+use Rattle.step_machine.specs.History.{History, HistoryWithRoom}
 use Rattle.step_machine.specs.Runs.{Happens}
 use Rattle.step_machine.specs.inner.Representation.{IsMachineAt}
 use Rattle.step_machine.proofs.Standings.{sound_moved, sound_stepped, happens_stepped}
@@ -32,6 +32,6 @@ returns-clause-happens g c =
     c.self.invariant.0 c.make_room.ensures.items c.make_room.ensures.same c.make_room.ensures.harts in
     let history : History = record { opening = c.self.inside.opening; entries = c.make_room.new.entries.entries } in
     let is : history ≡ c.args.self.now.history =
-    ap (λ (es : List Entry). record { opening = c.self.inside.opening; entries = es }) c.make_room.ensures.items ∙ ap (λ (p : Progress). p.history) c.self.view_is in
+    ap (λ (es : List Entry). record { opening = c.self.inside.opening; entries = es }) c.make_room.ensures.items ∙ ap (λ (p : HistoryWithRoom). p.history) c.self.view_is in
     subst (λ (t : History). Happens g.row.B g.row.M t c.args.event c.happen-outcome.result (record { opening = c.self.inside.opening; entries = c.add_entry.new.entries.entries })) is
     (happens_stepped g.row.B g.row.M c.self.inside.room history c.make_room.new.machine_state c.args.event c.happen-outcome.result c.add_entry.new.entries.entries roomy c.happen-outcome.ensures.outcome c.add_entry.ensures.items)

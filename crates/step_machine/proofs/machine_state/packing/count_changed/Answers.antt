@@ -1,7 +1,7 @@
 use Rattle.std.proofs.Common.{◌≡◌, ℕ, ◌+◌, List, length, get_or, sym, ◌∙◌, ap, arith}
 use Rattle.std.proofs.lemmas.List.{length_push}
 use Rattle.step_machine.specs.Positions.{changed}
-use Rattle.step_machine.proofs.TakingLaws.{changed_same, changed_other, none_changed}
+use Rattle.step_machine.proofs.TakingLaws.{changed-same, changed-other, none_changed}
 use Rattle.step_machine.proofs.machine_state.packing.count_changed.Goals as goal
 use Rattle.step_machine.proofs.machine_state.packing.count_changed.Goals.{then-first-number, else-first-number}
 
@@ -14,11 +14,11 @@ loop-number-preserved c =
     let now = c.args.now.now in
     let n = c.loop-number.number in
     elim c.if-first-number.branch [
-      | then-first-number w ↦ let more = changed_other first now n w.if-first-number.true in (
+      | then-first-number w ↦ let more = changed-other first now n w.if-first-number.true in (
         w.count-is ∙ ap (λ (k : ℕ). k + 1) c.loop-number.invariant.0
             ∙ sym (ap length more ∙ length_push (changed first now n) (n, get_or now n 0)),
         omega arith,
       )
-      | else-first-number w ↦ let more = changed_same first now n w.if-first-number.false in
+      | else-first-number w ↦ let more = changed-same first now n w.if-first-number.false in
           (w.count-is ∙ c.loop-number.invariant.0 ∙ sym (ap length more), omega arith)
     ]

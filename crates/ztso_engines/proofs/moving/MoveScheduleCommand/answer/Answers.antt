@@ -1,13 +1,13 @@
 use Rattle.std.proofs.Common.{◌≤◌, length, sym, ap, subst, arith}
 use Rattle.std.proofs.lemmas.List.{length-map}
 use Rattle.std.specs.Global.{Vec}
-use Rattle.engine_parts.proofs.Endings.{is_handed}
+use Rattle.engine_support.proofs.Endings.{is_handed}
 use Rattle.recorder.specs.Records.{Step}
 use Rattle.recorder.specs.Schedule.{OfHarts}
 use Rattle.recorder.specs.Versions.{said_of}
-use Rattle.engine_parts.specs.Histories.{Records}
-use Rattle.engine_parts.specs.inner.Making.{text_and_value}
-use Rattle.engine_parts.proofs.ScheduleLaws.{stopped_by}
+use Rattle.engine_support.specs.Histories.{Records}
+use Rattle.engine_support.specs.inner.Making.{text_and_value}
+use Rattle.engine_support.proofs.ScheduleLaws.{stopped_by}
 use Rattle.ztso_engines.specs.Move.{IsMoved}
 use Rattle.ztso_engines.proofs.moving.MoveScheduleCommand.answer.Goals as goal
 

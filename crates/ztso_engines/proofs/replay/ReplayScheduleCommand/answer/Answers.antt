@@ -1,12 +1,12 @@
 use Rattle.std.proofs.Common.{ap, ◌∙◌}
 use Rattle.std.specs.List.{flat_map}
-use Rattle.engine_parts.proofs.Endings.{is_handed}
-use Rattle.step_machine.specs.History.{Progress}
+use Rattle.engine_support.proofs.Endings.{is_handed}
+use Rattle.step_machine.specs.History.{HistoryWithRoom}
 use Rattle.recorder.specs.Outcomes.{entry_line}
 use Rattle.recorder.specs.Versions.{said_of}
-use Rattle.engine_parts.specs.Histories.{AnswersRun, Runs}
-use Rattle.engine_parts.specs.inner.Making.{text_and_value}
-use Rattle.engine_parts.proofs.ScheduleLaws.{stopped_by}
+use Rattle.engine_support.specs.Histories.{AnswersRun, Runs}
+use Rattle.engine_support.specs.inner.Making.{text_and_value}
+use Rattle.engine_support.proofs.ScheduleLaws.{stopped_by}
 use Rattle.ztso_engines.specs.Replay.{IsReplay}
 use Rattle.ztso_engines.proofs.replay.ReplayScheduleCommand.answer.Goals as goal
 
@@ -20,6 +20,6 @@ returns g c = record {
 pub returns-in_err-machine : goal.returns-in_err-machine
 returns-in_err-machine g c =
     stopped_by (Runs g.row.B g.row.M c.args.test.now.opening (said_of c.args.said)) (AnswersRun g.row.B g.row.M IsReplay c.args.test.now (said_of c.args.said))
-    (λ (machine : Progress). machine.history) text_and_value c.from_residual.result c.in_err-machine.field-0.0
+    (λ (machine : HistoryWithRoom). machine.history) text_and_value c.from_residual.result c.in_err-machine.field-0.0
     (λ refusal differs. differs) (is_handed c.from_residual.result _ c.from_residual.ensures.1)
     c.in_err-machine.ensures.ran

@@ -1,9 +1,9 @@
-use Rattle.engine_parts.proofs.Endings.{is_handed}
+use Rattle.engine_support.proofs.Endings.{is_handed}
 use Rattle.step_machine.specs.History.{History}
 use Rattle.recorder.specs.Versions.{said_of}
-use Rattle.engine_parts.specs.Histories.{AnswersRun, Runs}
-use Rattle.engine_parts.specs.inner.Making.{text_and_value}
-use Rattle.engine_parts.proofs.ScheduleLaws.{stopped_by}
+use Rattle.engine_support.specs.Histories.{AnswersRun, Runs}
+use Rattle.engine_support.specs.inner.Making.{text_and_value}
+use Rattle.engine_support.proofs.ScheduleLaws.{stopped_by}
 use Rattle.ztso_engines.specs.Run.{IsJudged}
 use Rattle.ztso_engines.proofs.run.RunScheduleCommand.answer.Goals as goal
 

@@ -1,13 +1,13 @@
 use Rattle.std.proofs.Common.{◌≡◌, ◌+◌, ◌≤◌, length}
 use Rattle.std.specs.Str.Lines.{lines}
-use Rattle.ztso_engines.specs.Scenario.{scenario_of}
+use Rattle.ztso_engines.specs.ScriptValue.{script_value}
 use Rattle.ztso_engines.specs.StepsReading.{after_lines}
 use Rattle.ztso_engines.proofs.steps.script.Script.add_lines.Given as goal
 
 -- the lines left, after what was said so far, describe what all lines describe
 abbrev pub invariant-loop-line : goal.invariant-loop-line
 invariant-loop-line l = record {
-  so_far : after_lines (scenario_of l.self) (l.number + 1) (lines l.rest) ≡ after_lines (scenario_of l.fn.self) 1 (lines l.text);
+  so_far : after_lines (script_value l.self) (l.number + 1) (lines l.rest) ≡ after_lines (script_value l.fn.self) 1 (lines l.text);
   few : l.number + length l.rest ≤ length l.text;
 }
 

@@ -1,4 +1,0 @@
-use Rattle.engine_parts.proofs.outcomes.Outcomes.count_first.Goals as goal
-
-pub count_row-requires : goal.count_row-requires
-count_row-requires c = rw c.requires tt

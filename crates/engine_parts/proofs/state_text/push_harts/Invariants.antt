@@ -1,8 +1,0 @@
-use Rattle.std.proofs.Common.{◌≡◌, ◌++◌}
-use Rattle.std.specs.String.{string_bytes}
-use Rattle.step_machine.specs.Standing.{OfEach}
-use Rattle.engine_parts.specs.StateText.{harts_shown}
-use Rattle.engine_parts.proofs.state_text.push_harts.Given as goal
-
-abbrev pub invariant-loop-hart : goal.invariant-loop-hart
-invariant-loop-hart g l = OfEach g.row.B g.row.M l.machine (λ t. string_bytes l.out ≡ string_bytes l.fn.out ++ harts_shown g.row.M t l.hart)

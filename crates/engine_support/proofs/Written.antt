@@ -1,0 +1,125 @@
+-- What was written, and how a part of an engine ends that writes as it reads.
+use Rattle.std.proofs.Common.{arith, ◌≡◌, ℕ, ◌==◌, List, [], ◌∷◌, ◌++◌, Result, Ok, Err, refl, sym, subst, append_assoc, inl, inr}
+use Rattle.std.specs.Prelude.{IfErr, IfOk, Option}
+use Rattle.std.specs.Io.BufRead.{take_through}
+use Rattle.std.specs.String.{string_bytes}
+use Rattle.std.specs.declared.string.String.{String}
+use Rattle.std.specs.Global.{Global}
+use Rattle.std.specs.Io.KnownBytes.{Appends}
+use Rattle.std.proofs.lemmas.Bool.{cases_Bool}
+use Rattle.std.proofs.lemmas.List.{append-nil}
+use Rattle.engine_support.specs.declared.fault.Fault.{Fault}
+use Rattle.engine_support.specs.declared.fault.Fault.TheVariants.{ReadFailed, WriteFailed, NoMemory, Refused}
+use Rattle.engine_support.specs.Interactive.{OnStopped, OnUnwritten}
+use Rattle.engine_support.specs.inner.Failures.{IsFailure, IsReadFailure}
+use Rattle.engine_support.specs.inner.Making.{IsEndOf, text_and_value}
+
+-- ---- what a writer holds, where that is known
+
+pub appends_nothing : (known : Option (List ℕ)) → Appends known known []
+appends_nothing known = grind (arith, append-nil)
+
+pub appends_more : (old mid new : Option (List ℕ)) (xs ys : List ℕ) → Appends old mid xs → Appends mid new ys → Appends old new (xs ++ ys)
+appends_more old mid new xs ys a b = grind (arith, append_assoc)
+
+-- ---- what a reader gives through the next LF
+
+pub no_byte : (bytes : List ℕ) → take_through 10 bytes ≡ [] → bytes ≡ []
+no_byte [] e = refl
+no_byte (byte ∷ bytes) e = elim (cases_Bool (byte == 10)) [
+  | inl is ↦ (let f : byte ∷ [] ≡ [] = rw is at e in cc)
+  | inr other ↦ (let f : byte ∷ take_through 10 bytes ≡ [] = rw other at e in cc)
+]
+
+-- ---- a text was written, or not
+
+module _ {V W : Type 0} (made : String Global × V) (result : Result V Fault) (contents : W → Option (List ℕ)) (old new : W)
+    (end : IsEndOf text_and_value (Ok made) result contents old new) where
+  pub wrote : IfOk result (λ v. (v ≡ made.1) × Appends (contents old) (contents new) (string_bytes made.0))
+  wrote = at result end
+    where
+      at : (r : Result V Fault) → IsEndOf text_and_value (Ok made) r contents old new
+          → IfOk r (λ v. (v ≡ made.1) × Appends (contents old) (contents new) (string_bytes made.0))
+      at (Ok v) is = is
+      at (Err fault) is = tt
+
+  pub end_fails : IfErr result IsFailure
+  end_fails = at result end
+    where
+      at : (r : Result V Fault) → IsEndOf text_and_value (Ok made) r contents old new → IfErr r IsFailure
+      at (Ok v) is = tt
+      at (Err WriteFailed) is = tt
+      at (Err ReadFailed) is = tt
+      at (Err NoMemory) is = tt
+      at (Err (Refused r)) is = absurd is
+
+  pub end_stopped : (P : Type 0) → OnStopped result P
+  end_stopped P = at result end
+    where
+      at : (r : Result V Fault) → IsEndOf text_and_value (Ok made) r contents old new → OnStopped r P
+      at (Ok v) is = tt
+      at (Err WriteFailed) is = tt
+      at (Err ReadFailed) is = absurd is
+      at (Err NoMemory) is = absurd is
+      at (Err (Refused r)) is = tt
+
+-- ---- what is handed on
+
+pub unwritten : {V : Type 0} (result : Result V Fault) (P : Type 0) → P → OnUnwritten result P
+unwritten result P p = grind arith
+
+pub stopped : {V : Type 0} (result : Result V Fault) (P : Type 0) → P → OnStopped result P
+stopped result P p = grind arith
+
+module _ {V : Type 0} (result : Result V Fault) (fault : Fault) (is : result ≡ Err fault) where
+  pub hands_failure : IsFailure fault → IfErr result IsFailure
+  hands_failure fails = rw is fails
+
+  pub hands_read_failure : IsReadFailure fault → IfErr result IsFailure
+  hands_read_failure fails = rw is (at fault fails)
+    where
+      at : (f : Fault) → IsReadFailure f → IsFailure f
+      at ReadFailed x = tt
+      at NoMemory x = tt
+      at WriteFailed x = absurd x
+      at (Refused r) x = absurd x
+
+  -- what only reads fails by no write
+  pub reads_alone : IsReadFailure fault → (P : Type 0) → OnUnwritten result P
+  reads_alone fails P = rw is (at fault fails)
+    where
+      at : (f : Fault) → IsReadFailure f → OnUnwritten {V = V} (Err f) P
+      at ReadFailed x = tt
+      at NoMemory x = tt
+      at WriteFailed x = absurd x
+      at (Refused r) x = tt
+
+  pub hands_no_memory : fault ≡ NoMemory → IfErr result IsFailure
+  hands_no_memory same = rw (is, same) tt
+
+-- what holds where a part stopped, of what was written then
+pub hands_stop : {V : Type 0} (Part : Type 0) (result : Result V Fault) (fault : Fault) → result ≡ Err fault → (P Q : Type 0) → (P → Q)
+    → OnStopped {V = Part} (Err fault) P → OnStopped result Q
+hands_stop {V} Part result fault is P Q more stops = rw is (at fault stops)
+  where
+    at : (f : Fault) → OnStopped {V = Part} (Err f) P → OnStopped {V = V} (Err f) Q
+    at ReadFailed p = more p
+    at NoMemory p = more p
+    at WriteFailed p = tt
+    at (Refused r) p = tt
+
+-- and where a write failed in it
+pub hands_unwritten : {V : Type 0} (Part : Type 0) (result : Result V Fault) (fault : Fault) → result ≡ Err fault → (P Q : Type 0) → (P → Q)
+    → OnUnwritten {V = Part} (Err fault) P → OnUnwritten result Q
+hands_unwritten {V} Part result fault is P Q more written = rw is (at fault written)
+  where
+    at : (f : Fault) → OnUnwritten {V = Part} (Err f) P → OnUnwritten {V = V} (Err f) Q
+    at ReadFailed p = tt
+    at NoMemory p = tt
+    at WriteFailed p = more p
+    at (Refused r) p = tt
+
+-- a part that stopped had written nothing
+pub keeps_written : {V W : Type 0} (Part : Type 0) (result : Result V Fault) (fault : Fault) → result ≡ Err fault → (old new : W) (Q : W → Type 0)
+    → OnStopped {V = Part} (Err fault) (new ≡ old) → Q old → OnStopped result (Q new)
+keeps_written Part result fault is old new Q stops q = hands_stop Part result fault is (new ≡ old) (Q new) (λ same. subst Q (sym same) q) stops

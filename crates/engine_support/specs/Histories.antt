@@ -1,0 +1,79 @@
+-- What answers a litmus text and a schedule of either version: what must hold of both, and what of their history.
+use Rattle.std.specs.Prelude.{ℕ, ◌≡◌, List, Result, Ok, Err}
+use Rattle.step_machine.specs.History.{OpeningValue, History}
+use Rattle.step_machine.specs.Runs.{Run}
+use Rattle.step_machine.specs.declared.events.Event.{Event}
+use Rattle.litmus.specs.LitmusTests.{LitmusTest}
+use Rattle.litmus_reader.specs.Grammar.{IsTestOf}
+use Rattle.recorder.specs.Records.{Step, events_in}
+use Rattle.recorder.specs.Versions.{ScheduleValue, Says, events_said}
+use Rattle.recorder.specs.Versions.ScheduleValue.{plain, recorded}
+use Rattle.recorder.specs.Replaying.{IsRunRecord, DiffersAt}
+use Rattle.recorder.specs.declared.replaying.CheckError.{CheckError}
+use Rattle.recorder.specs.declared.replaying.CheckError.TheVariants as error
+use Rattle.engine_support.specs.declared.fault.Fault.{Fault}
+use Rattle.engine_support.specs.declared.fault.Fault.TheVariants.{NoMemory, Refused}
+use Rattle.engine_support.specs.declared.fault.Refusal.{Refusal}
+use Rattle.engine_support.specs.declared.fault.Position.TheVariants.{Event as AtEvent}
+use Rattle.engine_support.specs.Engines.{Accepted}
+use Rattle.engine_support.specs.Tests.{IsNoTest}
+use Rattle.engine_support.specs.Schedules.{IsNoSchedule}
+
+-- ---- what a schedule makes
+
+-- a record that differs is refused at the first event whose outcome isn't the run's, counted from 0
+abbrev pub differing : (event : ℕ) → Refusal
+differing event = record { number = 38; place = AtEvent event }
+
+-- why a check of a record fails, as a fault
+abbrev pub fault_of_check : CheckError → Fault
+fault_of_check error.NoMemory = NoMemory
+fault_of_check (error.Differs event) = Refused (differing event)
+
+-- What running a schedule from an opening gives: the history of its events, and of a record only where
+-- each outcome is the run's; else the first event whose outcome isn't.
+abbrev pub Runs : (B M : ℕ) → OpeningValue → ScheduleValue → Result History Refusal → Type 0
+Runs B M opening (plain events) (Ok history) = Run B M opening events history
+Runs B M opening (plain events) (Err refusal) = ⊥
+Runs B M opening (recorded steps) (Ok history) = IsRunRecord B M opening steps history
+Runs B M opening (recorded steps) (Err refusal) = (event : ℕ) × DiffersAt B M opening steps event × (refusal ≡ differing event)
+
+-- What noting its outcomes gives: its events, each with its outcome in the run.
+abbrev pub Records : (B M : ℕ) → OpeningValue → ScheduleValue → Result (List Step) Refusal → Type 0
+Records B M opening said (Ok steps) = (events_in steps ≡ events_said said) × ((history : History) × Runs B M opening said (Ok history) × IsRunRecord B M opening steps history)
+Records B M opening said (Err refusal) = Runs B M opening said (Err refusal)
+
+-- ---- what answers both
+
+-- What answers a litmus text and a schedule of either version, where this holds of their test, of what the
+-- schedule says and of the answer. The test is judged first, then the schedule's text.
+pub data BySchedule {A : Type 0} (IsAnswer : LitmusTest → ScheduleValue → Result A Refusal → Type 0) (file schedule : List ℕ) : Result A Refusal → Type 0 where
+  no_test : (refusal : Refusal) → IsNoTest file refusal → BySchedule IsAnswer file schedule (Err refusal)
+  no_schedule : (test : LitmusTest) (refusal : Refusal) → Accepted IsTestOf file test → IsNoSchedule schedule refusal → BySchedule IsAnswer file schedule (Err refusal)
+  both : (test : LitmusTest) (said : ScheduleValue) (answer : Result A Refusal) → Accepted IsTestOf file test → Accepted Says schedule said → IsAnswer test said answer → BySchedule IsAnswer file schedule answer
+
+-- This holds of the history that the schedule makes of the test's opening, over store buffers of B pairs
+-- and a memory of M words.
+pub record IsOfRun {A : Type 0} (B M : ℕ) (IsAnswer : LitmusTest → History → A → Type 0)
+    (test : LitmusTest) (said : ScheduleValue) (answer : A) : Type 0 where
+  pub history : History
+  pub ran : Runs B M test.opening said (Ok history)
+  pub answers : IsAnswer test history answer
+
+-- the same of an answer that a record may be refused with
+abbrev pub AnswersRun : {A : Type 0} → (B M : ℕ) → (LitmusTest → History → A → Type 0) → LitmusTest → ScheduleValue → Result A Refusal → Type 0
+AnswersRun B M IsAnswer test said (Ok answer) = IsOfRun B M IsAnswer test said answer
+AnswersRun B M IsAnswer test said (Err refusal) = Runs B M test.opening said (Err refusal)
+
+-- what answers both, where this holds of their history
+abbrev pub ByRun : {A : Type 0} → (B M : ℕ) → (LitmusTest → History → A → Type 0) → (file schedule : List ℕ) → Result A Refusal → Type 0
+ByRun B M IsAnswer = BySchedule (AnswersRun B M IsAnswer)
+
+-- This holds of the schedule's events, whatever a record says of their outcomes: no record is refused.
+abbrev pub AnswersEvents : {A : Type 0} → (LitmusTest → List Event → A → Type 0) → LitmusTest → ScheduleValue → Result A Refusal → Type 0
+AnswersEvents IsAnswer test said (Ok answer) = IsAnswer test (events_said said) answer
+AnswersEvents IsAnswer test said (Err refusal) = ⊥
+
+-- what answers both, where this holds of their events
+abbrev pub ByEvents : {A : Type 0} → (LitmusTest → List Event → A → Type 0) → (file schedule : List ℕ) → Result A Refusal → Type 0
+ByEvents IsAnswer = BySchedule (AnswersEvents IsAnswer)

@@ -1,0 +1,32 @@
+-- Inputs that are litmus texts.
+use Rattle.std.specs.Prelude.{ℕ, ◌≡◌, List, Option, IsSomeAnd, Result, Err}
+use Rattle.texts.specs.Results.{map_err}
+use Rattle.litmus.specs.LitmusTests.{LitmusTest}
+use Rattle.litmus_reader.specs.declared.faults.LitmusFault.{LitmusFault}
+use Rattle.litmus_reader.specs.Faults.{fault_number}
+use Rattle.litmus_reader.specs.Reading.{Content, test_at}
+use Rattle.litmus_reader.specs.Grammar.{IsTestOf}
+use Rattle.engine_support.specs.declared.fault.Refusal.{Refusal}
+use Rattle.engine_support.specs.Faults.{refused_at}
+use Rattle.engine_support.specs.Engines.{Accepted, decoded}
+
+-- a fault of a litmus text, refused by its number at this line
+abbrev pub refused_test : {V : Type 0} → (line : ℕ) → Result V LitmusFault → Result V Refusal
+refused_test line result = map_err (λ fault. refused_at fault_number (record { fault = fault; line = line })) result
+
+-- what a litmus text has for its test, or its refusal, where its first fault is on this line
+unfoldable pub test_of : (line : ℕ) → List ℕ → Result Content Refusal
+test_of line text = refused_test line (test_at text)
+
+-- This is why the input is no test. Which fault of its text comes first is said, and not on which line.
+abbrev pub IsNoTest : List ℕ → Refusal → Type 0
+IsNoTest input refusal = (line : ℕ) × (decoded (test_of line) input ≡ Err refusal)
+
+-- a reader's bytes are known, and refused as a test
+abbrev pub HasNoTest : (input : Option (List ℕ)) → Type 0
+HasNoTest input = IsSomeAnd input (λ bytes. (refusal : Refusal) × IsNoTest bytes refusal)
+
+-- What answers an input that is to be a test.
+pub data ByTest {A : Type 0} (IsAnswer : LitmusTest → Result A Refusal → Type 0) (input : List ℕ) : Result A Refusal → Type 0 where
+  no_test : (refusal : Refusal) → IsNoTest input refusal → ByTest IsAnswer input (Err refusal)
+  of_test : (test : LitmusTest) (answer : Result A Refusal) → Accepted IsTestOf input test → IsAnswer test answer → ByTest IsAnswer input answer

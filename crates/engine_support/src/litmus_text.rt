@@ -1,0 +1,33 @@
+//! Inputs that are litmus texts.
+
+ghost use Rattle.std.specs.Prelude.{ℕ, IfOk, IsErr};
+ghost use Rattle.litmus_reader.specs.Reading.{content_of};
+ghost use Rattle.litmus_reader.specs.Grammar.{IsTestOf};
+ghost use Rattle.engine_support.specs.Faults.{Answers};
+ghost use Rattle.engine_support.specs.Tests.{test_of, HasNoTest};
+ghost use Rattle.engine_support.specs.inner.Making.{FindsByUpToReads};
+ghost use Rattle.engine_support.specs.inner.Inputs.{IsReadAsTest};
+
+use crate::fault::Fault;
+use crate::input::read_text;
+use litmus::Test;
+use std::alloc::Global;
+use std::io::Read;
+
+/// The test of a text.
+#[tactic(auto, unfolding(crate::specs::Tests::test_of))]
+fn test_of_text(alloc: Global, text: &str) -> Result<Test, Fault>
+    ensures found { IfOk result (λ test. IsTestOf text.now test) }
+    ensures exact { (line : ℕ) × Answers content_of result (test_of line text.now) }
+{
+    Ok(litmus_reader::read(alloc, text)?)
+}
+
+/// The test of the input that a reader gives.
+pub fn read_test<R: Read>(alloc: Global, reader: &mut R) -> Result<Test, Fault>
+    ensures test { FindsByUpToReads IsReadAsTest (λ test. test) (R.remaining reader.old) result }
+    ensures refused { HasNoTest (R.remaining reader.old) → IsErr result }
+{
+    let text = read_text(alloc, reader)?;
+    test_of_text(alloc, &text)
+}

@@ -1,0 +1,79 @@
+-- The numbers of one block, which say everything of its memory and of both harts' stores to it.
+use Rattle.std.proofs.Common.{ℕ, ◌+◌, ◌<◌, ◌≤◌, ◌≡◌, length}
+use Rattle.std.specs.Prelude.{slice_index}
+use Rattle.poll_close.specs.Invariant.Blocks.{Block, offset, slot}
+use Rattle.poll_close.specs.Invariant.BlockInvariant as meaning
+
+-- the sender's own: the words that it got from its inbox; the slots and marks that it stored; the nulls
+-- that had landed when it last read a slot
+pub record Sent : Type 0 where
+  pub asked : ℕ
+  pub stored : ℕ
+  pub marked : ℕ
+  pub seen : ℕ
+
+-- the receiver's own: what it has seen are slots, and the ring counts the nulls that it stored too
+abbrev pub Taken : Type 0
+Taken = meaning.Taken ℕ
+
+abbrev pub nulls : Taken → ℕ
+nulls n = n.own
+
+-- what has landed
+pub record Landed : Type 0 where
+  pub slots : ℕ
+  pub mark : ℕ
+  pub nulls : ℕ
+  pub tails : ℕ
+  pub done : ℕ
+
+abbrev pub Counters : Type 0
+Counters = meaning.Counters Sent ℕ Landed
+
+-- each hart's stores, made and landed
+abbrev pub sent : Sent → ℕ
+sent n = n.stored + n.marked
+
+abbrev pub gone : Landed → ℕ
+gone n = n.slots + n.mark
+
+abbrev pub taken : Taken → ℕ
+taken n = nulls n + n.tails + n.done
+
+abbrev pub freed : Landed → ℕ
+freed n = n.nulls + n.tails + n.done
+
+-- a word is stored where the null before it in the slot has landed, and so at most one store to a slot
+-- is pending in both buffers
+pub record CounterInvariant (k : Block) (n : Counters) : Type 0 where
+  pub seen_nulls : n.sender.seen ≤ n.landed.nulls
+  pub seen_slots : n.receiver.seen ≤ n.landed.slots
+  pub seen_mark : n.receiver.mark ≤ n.landed.mark
+  pub nulls_landed : n.landed.nulls ≤ nulls n.receiver
+  pub nulls_slots : nulls n.receiver ≤ n.landed.slots
+  pub slots_landed : n.landed.slots ≤ n.sender.stored
+  pub room : n.sender.stored ≤ n.landed.nulls + k.size
+  pub stored_all : n.sender.stored ≤ length k.list
+  pub tails_nulls : n.receiver.tails ≤ nulls n.receiver
+  pub nulls_tails : nulls n.receiver ≤ n.receiver.tails + 1
+  pub tail_after : n.landed.tails ≤ n.landed.nulls
+  pub null_before : n.landed.nulls ≤ n.landed.tails + 1
+  pub tails_landed : n.landed.tails ≤ n.receiver.tails
+  pub marked_one : n.sender.marked ≤ 1
+  pub mark_landed : n.landed.mark ≤ n.sender.marked
+  pub marked_all : 0 < n.sender.marked → n.sender.stored ≡ length k.list
+  pub mark_all : 0 < n.landed.mark → n.landed.slots ≡ length k.list
+  pub shut_done : n.receiver.closings ≤ n.receiver.done
+  pub done_one : n.receiver.done ≤ 1
+  pub done_landed : n.landed.done ≤ n.receiver.done
+  pub done_all : 0 < n.receiver.done → n.receiver.tails ≡ length k.list
+  pub all_landed : 0 < n.landed.done → n.landed.tails ≡ length k.list
+
+-- the words of the block in memory: its slots hold the words that are not emptied, and 0 from there
+-- round to them
+pub record Words (k : Block) (n : Landed) (word : ℕ → ℕ) : Type 0 where
+  pub mark : word (k.base + 4) ≡ n.mark
+  pub tail : word (k.base + 8) ≡ offset k n.tails
+  pub done : word (k.base + 12) ≡ n.done
+  pub full : (j : ℕ) → n.nulls ≤ j → j < n.slots → word (slot k.size k.base j) ≡ slice_index k.list j
+  pub empty : (j : ℕ) → n.slots ≤ j → j < n.nulls + k.size → word (slot k.size k.base j) ≡ 0

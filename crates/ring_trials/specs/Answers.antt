@@ -1,0 +1,90 @@
+-- The answer of many runs: where all are clean, each sender's totals; otherwise a short schedule that isn't clean, and its
+-- first breach.
+use Rattle.std.specs.Prelude.{ℕ, ◌≡◌, ◌+◌, ◌<◌, ◌==◌, if◌then◌else◌, Bool, true, false, List, [], ◌∷◌, ◌++◌, length, Some, codes}
+use Rattle.std.specs.Fmt.{decimal}
+use Rattle.hart.specs.Steps.{stop_number}
+use Rattle.step_machine.specs.declared.events.Event.{Event}
+use Rattle.step_machine.specs.History.{History}
+use Rattle.step_machine.specs.Runs.{Run}
+use Rattle.recorder.specs.Writing.{canon}
+use Rattle.poll_close.specs.Breaches.{first_breach}
+use Rattle.poll_close.specs.declared.clean.Breach.{Breach}
+use Rattle.poll_close.specs.declared.clean.Breach.TheVariants as breach
+use Rattle.ring_trials.specs.Own.{lists_of, layout_from, start_of}
+use Rattle.ring_trials.specs.declared.own.Own.{Own}
+use Rattle.ring_trials.specs.declared.runs.Total.{Total}
+use Rattle.ring_trials.specs.Trials.{Source, schedule_of, IsFirstUnclean, AreAllClean, IsShortened}
+
+-- which blocks are a hart's: for the receiver all
+abbrev pub blocks_of : (hart : ℕ) → List ℕ
+blocks_of h = if h == 0 then codes "the blocks" else codes "its block"
+
+-- what a hart did outside its blocks, and where
+abbrev pub outside_text : (hart : ℕ) → (did : List ℕ) → (address : ℕ) → List ℕ
+outside_text h did a = codes "hart " ++ decimal h ++ codes " " ++ did ++ codes " outside " ++ blocks_of h ++ codes " at " ++ decimal a
+
+-- what is broken, in words
+abbrev pub breach_text : Breach → List ℕ
+breach_text (breach.Another i w next) = codes "sender " ++ decimal i ++ codes ": took " ++ decimal w ++ codes " where " ++ decimal next ++ codes " was next"
+breach_text (breach.AfterWhole i w) = codes "sender " ++ decimal i ++ codes ": took " ++ decimal w ++ codes " after its whole list"
+breach_text (breach.AfterClosed i w) = codes "sender " ++ decimal i ++ codes ": took " ++ decimal w ++ codes " after it was closed"
+breach_text (breach.ClosedEarly i took all) =
+    codes "sender " ++ decimal i ++ codes ": closed after " ++ decimal took ++ codes " of " ++ decimal all ++ codes " words"
+breach_text (breach.ClosedAgain i) = codes "sender " ++ decimal i ++ codes ": closed after it was closed"
+breach_text (breach.TookOfNone i w) = codes "sender " ++ decimal i ++ codes ": took " ++ decimal w ++ codes " but there is no such sender"
+breach_text (breach.ClosedNone i) = codes "sender " ++ decimal i ++ codes ": closed but there is no such sender"
+breach_text (breach.Stopped h why) = codes "hart " ++ decimal h ++ codes " stopped " ++ decimal (stop_number why)
+breach_text (breach.LoadedOutside h a) = outside_text h (codes "loaded") a
+breach_text (breach.StoredOutside h a) = outside_text h (codes "stored") a
+breach_text (breach.ExchangedOutside h a) = outside_text h (codes "exchanged") a
+
+abbrev pub breach_line : Breach → List ℕ
+breach_line found = breach_text found ++ 10 ∷ []
+
+-- the line of a sender with this many words
+abbrev pub sender_line : (sender : ℕ) → Total → (words : ℕ) → List ℕ
+sender_line i total words =
+    codes "sender " ++ decimal i ++ codes " took at most " ++ decimal total.most ++ codes " of " ++ decimal words ++ codes " words, closed in "
+    ++ decimal total.closed ++ codes " runs" ++ 10 ∷ []
+
+-- the lines of the senders, from this one on
+abbrev pub sender_lines : (sender : ℕ) → List Total → List (List ℕ) → List ℕ
+sender_lines i [] lists = []
+sender_lines i (total ∷ totals) [] = []
+sender_lines i (total ∷ totals) (list ∷ lists) = sender_line i total (length list) ++ sender_lines (i + 1) totals lists
+
+abbrev pub clean_text : (runs : ℕ) → List Total → List (List ℕ) → List ℕ
+clean_text runs totals lists = codes "clean " ++ decimal runs ++ codes " runs" ++ 10 ∷ sender_lines 0 totals lists
+
+-- the text has this part of a schedule, and what its run breaks first
+pub record IsPartText (B M : ℕ) (own : Own) (part : List Event) (text : List ℕ) : Type 0 where
+  pub history : History
+  pub run : Run B M (start_of own) part history
+  pub breach : Breach
+  pub is_first : first_breach (layout_from own) (lists_of own) history.entries ≡ Some breach
+  pub text_is : text ≡ canon part ++ breach_line breach
+
+-- the text has a schedule made short, and what it breaks
+pub record IsShortText (B M : ℕ) (own : Own) (given : List Event) (text : List ℕ) : Type 0 where
+  pub part : List Event
+  pub shortened : IsShortened B M own given part
+  pub shown : IsPartText B M own part text
+
+-- the first unclean run, made short, and what that breaks
+pub record IsToldUnclean (s : Source) (runs : ℕ) (text : List ℕ) : Type 0 where
+  pub number : ℕ
+  pub within : number < runs
+  pub found : Breach
+  pub first : IsFirstUnclean s number found
+  pub shown : IsShortText s.B s.M s.own (schedule_of s number) text
+
+-- all runs are clean, and the text lists each sender's totals
+pub record IsToldClean (s : Source) (runs : ℕ) (text : List ℕ) : Type 0 where
+  pub totals : List Total
+  pub clean : AreAllClean s runs totals
+  pub text_is : text ≡ clean_text runs totals (lists_of s.own)
+
+-- the text for this number of runs, and whether all are clean
+abbrev pub IsTold : Source → (runs : ℕ) → List ℕ × Bool → Type 0
+IsTold s runs (text, true) = IsToldClean s runs text
+IsTold s runs (text, false) = IsToldUnclean s runs text

@@ -1,0 +1,146 @@
+//! The answer of many runs: that all are clean, or the first one that isn't, made short.
+
+ghost use Rattle.std.specs.Prelude.{◌≡◌, ◌≤◌, ◌<◌, ◌*◌, ◌^◌, IfOk, IfErr, OnOk, length};
+ghost use Rattle.std.specs.String.{string_bytes};
+ghost use Rattle.step_machine.specs.Standing.{RepresentsRunFrom};
+ghost use Rattle.recorder.specs.Drawing.{left_after};
+ghost use Rattle.poll_close.specs.Layout.{base_of};
+ghost use Rattle.poll_close.specs.Laws.{AcceptedAt, AreShort};
+ghost use Rattle.poll_close.specs.Refusals.{RefusesAt};
+ghost use Rattle.ring_trials.specs.Own.{ring_of, lists_of, layout_from, start_of, OpensOver};
+ghost use Rattle.ring_trials.specs.Trials.{Source, schedule_of, IsUnclean};
+ghost use Rattle.ring_trials.specs.Answers.{IsPartText, IsShortText, IsTold};
+
+use crate::judging::judge;
+use crate::own::{Own, open_own, senders};
+use crate::passes::shorten;
+use crate::runs::Found;
+use crate::spreading::find_by_jobs;
+use crate::wording::{clean_text, unclean_text};
+use jumping::{Jump, Runs};
+use poll_close::{RefusedAt, Share, no_shares};
+use recorder::draw;
+use std::alloc::{AllocError, Global};
+use std::thread::Threads;
+use step_machine::laws::laws_of_runs;
+use step_machine::{Event, MachineState, Opening};
+
+/// The text of these events, whose run breaks something.
+fn part_text<const B: usize, const M: usize>(
+    alloc: Global,
+    own: &Own,
+    machine: &mut MachineState<B, M>,
+    shares: &mut [Share],
+    part: &[Event],
+) -> Result<String, AllocError>
+    requires stands { RepresentsRunFrom B M (start_of own.now) machine.old }
+    requires ends { base_of (layout_from own.now) (length (lists_of own.now)) < 2 ^ 32 }
+    requires count { length shares.old ≡ length (lists_of own.now) }
+    requires unclean { IsUnclean B M own.now part.now }
+    ensures { IfOk result (λ text. IsPartText B M own.now part.now (string_bytes text)) }
+{
+    laws_of_runs();
+    match judge(own, machine, shares, part)? {
+        Some(breach) => unclean_text(alloc, part, breach),
+        None => unreachable!(),
+    }
+}
+
+/// The text of the run of this number, which breaks something: its schedule is drawn anew and made short.
+fn short_text<const B: usize, const M: usize, G: Jump + Drop>(
+    alloc: Global,
+    own: &Own,
+    opening: &Opening,
+    generator: &G,
+    number: u32,
+    size: u32,
+) -> Result<String, AllocError>
+    requires capacity { B ≤ 64 }
+    requires memory { M ≤ 65536 }
+    requires opens { OpensOver M own.now opening.now }
+    requires unclean { let s : Source = record { B = B; M = M; own = own.now; stream = G.Rng.stream generator.now; size = size } in
+        IsUnclean B M own.now (schedule_of s number) }
+    ensures { IfOk result (λ text. let s : Source = record { B = B; M = M; own = own.now; stream = G.Rng.stream generator.now; size = size } in
+        IsShortText B M own.now (schedule_of s number) (string_bytes text)) }
+{
+    let mut there = generator.ahead(u64::from(number), size)?;
+    let mut machine = MachineState::<B, M>::open(alloc, opening)?;
+    let mut shares = no_shares(alloc, senders(own))?;
+    let mut events = Vec::new(alloc);
+    let harts = machine.harts();
+    draw(&mut events, &mut there, harts, size)?;
+    let part = shorten(alloc, own, &mut machine, &mut shares, &events)?;
+    part_text(alloc, own, &mut machine, &mut shares, &part)
+}
+
+/// The text for the runs of a channel with this opening, and whether all are clean.
+fn tell<const B: usize, const M: usize, G: Jump + Sync + Drop, T: Threads + Sync>(
+    rt: &T,
+    alloc: Global,
+    own: &Own,
+    opening: &Opening,
+    generator: &G,
+    runs: Runs,
+) -> Result<(String, bool), AllocError>
+    requires capacity { B ≤ 64 }
+    requires memory { M ≤ 65536 }
+    requires opens { OpensOver M own.now opening.now }
+    ensures { IfOk result (λ t. IsTold (record {
+      B = B;
+      M = M;
+      own = own.now;
+      stream = left_after (runs.skip * runs.length) (G.Rng.stream generator.now);
+      size = runs.length;
+    }) runs.number (string_bytes t.0, t.1)) }
+{
+    let start = generator.ahead(runs.skip, runs.length)?;
+    let Runs {
+        number,
+        length,
+        jobs,
+        ..
+    } = runs;
+    let found = find_by_jobs::<B, M, G, T>(rt, alloc, own, opening, &start, number, length, jobs)?;
+    match found {
+        Found::Clean(totals) => Ok((clean_text(alloc, number, &totals, &own.lists)?, true)),
+        Found::Unclean { number, .. } => {
+            let text = short_text::<B, M, G>(alloc, own, opening, &start, number, length)?;
+            Ok((text, false))
+        }
+    }
+}
+
+/// Runs a channel over two programs `runs.number` times from its opening, with store buffers of `B` pairs and `M`
+/// words of memory, each time by `runs.length` events that the generator draws, after the events of the runs that
+/// are passed over. Gives the text of what is found, and whether all runs are clean.
+///
+/// If all are clean, that is their number and a line for each sender. Otherwise it is a schedule and the line of the
+/// first breach of its run: of the first run that isn't clean, from which events were left out until none could go.
+/// The text doesn't depend on the jobs.
+///
+/// The channel is refused as [`open_own`] refuses it.
+pub fn told<const B: usize, const M: usize, G: Jump + Sync + Drop, T: Threads + Sync>(
+    rt: &T,
+    alloc: Global,
+    own: &Own,
+    generator: &G,
+    runs: Runs,
+) -> Result<(String, bool), RefusedAt>
+    requires some_capacity { 1 ≤ B }
+    requires capacity { B ≤ 64 }
+    requires some_word { 1 ≤ M }
+    requires memory { M ≤ 65536 }
+    requires short { AreShort (ring_of own.now) }
+    ensures accepted { OnOk result (AcceptedAt (ring_of own.now) M (lists_of own.now) (layout_from own.now)) }
+    ensures told { IfOk result (λ t. IsTold (record {
+      B = B;
+      M = M;
+      own = own.now;
+      stream = left_after (runs.skip * runs.length) (G.Rng.stream generator.now);
+      size = runs.length;
+    }) runs.number (string_bytes t.0, t.1)) }
+    ensures refused { IfErr result (λ e. RefusesAt (ring_of own.now) M (lists_of own.now) (layout_from own.now) e) }
+{
+    let opening = open_own(alloc, own, M)?;
+    Ok(tell::<B, M, G, T>(rt, alloc, own, &opening, generator, runs)?)
+}

@@ -1,0 +1,129 @@
+//! The texts of what is told.
+
+ghost use Rattle.std.specs.Prelude.{◌≡◌, ◌++◌, ◌∷◌, ◌≤◌, [], IfOk, OnOk, length, map};
+ghost use Rattle.std.specs.String.{string_bytes};
+ghost use Rattle.recorder.specs.Writing.{canon};
+ghost use Rattle.ring_trials.specs.Answers.{blocks_of, outside_text, breach_text, breach_line, sender_line, sender_lines, clean_text};
+
+use crate::runs::Total;
+use poll_close::Breach;
+use recorder::{push_tokens, write_schedule};
+use std::alloc::{AllocError, Global};
+use step_machine::Event;
+
+/// What the blocks of a hart are called.
+fn blocks_of(hart: u32) -> &'static str
+    ensures { result.now ≡ blocks_of hart }
+{
+    if hart == 0 { "the blocks" } else { "its block" }
+}
+
+/// Appends what a hart did outside its blocks, and where.
+fn push_outside(out: &mut String, hart: u32, did: &str, addr: u32) -> Result<(), AllocError>
+    ensures { OnOk result (string_bytes out.new ≡ string_bytes out.old ++ outside_text hart did.now addr) }
+{
+    write!(
+        out,
+        "hart {hart} {did} outside {} at {addr}",
+        blocks_of(hart)
+    )
+}
+
+/// Appends what is broken, in words.
+fn push_breach(out: &mut String, breach: Breach) -> Result<(), AllocError>
+    ensures { OnOk result (string_bytes out.new ≡ string_bytes out.old ++ breach_text breach) }
+{
+    match breach {
+        Breach::Another { sender, word, next } => {
+            write!(out, "sender {sender}: took {word} where {next} was next")
+        }
+        Breach::AfterWhole { sender, word } => {
+            write!(out, "sender {sender}: took {word} after its whole list")
+        }
+        Breach::AfterClosed { sender, word } => {
+            write!(out, "sender {sender}: took {word} after it was closed")
+        }
+        Breach::ClosedEarly { sender, taken, all } => {
+            write!(out, "sender {sender}: closed after {taken} of {all} words")
+        }
+        Breach::ClosedAgain { sender } => {
+            write!(out, "sender {sender}: closed after it was closed")
+        }
+        Breach::TookOfNone { sender, word } => {
+            write!(
+                out,
+                "sender {sender}: took {word} but there is no such sender"
+            )
+        }
+        Breach::ClosedNone { sender } => {
+            write!(out, "sender {sender}: closed but there is no such sender")
+        }
+        Breach::Stopped { hart, why } => write!(out, "hart {hart} stopped {}", why.number()),
+        Breach::LoadedOutside { hart, addr } => push_outside(out, hart, "loaded", addr),
+        Breach::StoredOutside { hart, addr } => push_outside(out, hart, "stored", addr),
+        Breach::ExchangedOutside { hart, addr } => push_outside(out, hart, "exchanged", addr),
+    }
+}
+
+/// Appends the line of a breach.
+fn push_breach_line(out: &mut String, breach: Breach) -> Result<(), AllocError>
+    ensures { OnOk result (string_bytes out.new ≡ string_bytes out.old ++ breach_line breach) }
+{
+    push_breach(out, breach)?;
+    out.push_str("\n")
+}
+
+/// Appends these events to the head line of a schedule.
+fn push_events(out: &mut String, events: &[Event]) -> Result<(), AllocError>
+    ensures { OnOk result (string_bytes out.old ≡ canon [] → string_bytes out.new ≡ canon events.now) }
+{
+    if events.is_empty() {
+        return Ok(());
+    }
+    push_tokens(out, events)?;
+    out.push_str("\n")
+}
+
+/// The text of these events as a schedule, and of what their run breaks.
+pub fn unclean_text(alloc: Global, events: &[Event], breach: Breach) -> Result<String, AllocError>
+    ensures { IfOk result (λ text. string_bytes text ≡ canon events.now ++ breach_line breach) }
+{
+    // a schedule of no events is its head line
+    let mut out = write_schedule(alloc, &[])?;
+    push_events(&mut out, events)?;
+    push_breach_line(&mut out, breach)?;
+    Ok(out)
+}
+
+fn push_sender_line(
+    out: &mut String,
+    sender: usize,
+    total: Total,
+    words: usize,
+) -> Result<(), AllocError>
+    ensures { OnOk result (string_bytes out.new ≡ string_bytes out.old ++ sender_line sender total words) }
+{
+    let Total { most, closed } = total;
+    writeln!(
+        out,
+        "sender {sender} took at most {most} of {words} words, closed in {closed} runs"
+    )
+}
+
+/// The text of this number of runs, all of which are clean.
+pub fn clean_text(
+    alloc: Global,
+    runs: u32,
+    totals: &[Total],
+    lists: &[Vec<u32>],
+) -> Result<String, AllocError>
+    requires { length totals.now ≡ length lists.now }
+    ensures { IfOk result (λ text. string_bytes text ≡ clean_text runs totals.now (map (λ v. v.items) lists.now)) }
+{
+    let mut out = String::new(alloc);
+    writeln!(out, "clean {runs} runs")?;
+    for index in 0..totals.len() {
+        push_sender_line(&mut out, index, totals[index], lists[index].len())?;
+    }
+    Ok(out)
+}

@@ -1,0 +1,24 @@
+use Rattle.std.proofs.Common.{Err, arith, refl}
+use Rattle.step_machine.specs.History.{HistoryWithRoom}
+use Rattle.litmus_reader.specs.Headings.{heading_of}
+use Rattle.recorder.specs.Versions.{said_of}
+use Rattle.engine_support.specs.Histories.{Runs}
+use Rattle.engine_support.specs.inner.Making.{text_and_value}
+use Rattle.engine_support.proofs.RunLaws.{opening_stays}
+use Rattle.engine_support.proofs.ScheduleLaws.{stopped_by}
+use Rattle.view_engines.specs.Chart.{IsChart, differs, drawing}
+use Rattle.view_engines.proofs.charting.picture.Goals as goal
+
+pub picture_of_run-requires : goal.picture_of_run-requires
+picture_of_run-requires g c =
+    let machine = c.in-Ok.machine in
+    let stays = opening_stays g.row.B g.row.M c.args.test.now.opening (said_of c.args.schedule) machine.history c.in-Ok.ensures.ran in
+    (omega arith, (c.requires.size, (stays, (c.requires.locations, c.in-Ok.ensures.names))))
+
+pub returns-in-Err : goal.returns-in-Err
+returns-in-Err g c =
+    let q = c.args.test.now in
+    let said = said_of c.args.schedule in
+    stopped_by (Runs g.row.B g.row.M q.opening said) (IsChart g.row.B g.row.M (drawing c.args.style c.args.selection) (heading_of c.args.heading.now) q said)
+    (λ (machine : HistoryWithRoom). machine.history) text_and_value (Err c.in-Err.fault) c.in-Err.fault (λ refusal differ. differs refusal differ) refl
+    c.in-Err.ensures.ran

@@ -1,0 +1,2 @@
+-- What serves the proofs alone, where a private contract names it.
+pub mod Headings

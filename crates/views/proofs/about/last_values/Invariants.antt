@@ -1,6 +1,0 @@
-use Rattle.std.proofs.Common.{◌≡◌, map, take}
-use Rattle.views.specs.About.{last_value}
-use Rattle.views.proofs.about.last_values.Given as goal
-
-abbrev pub invariant-loop-place : goal.invariant-loop-place
-invariant-loop-place g l = l.values.items ≡ map (last_value g.row.M l.test.names l.machine.history) (take l.place-index l.place-items)

@@ -1,7 +1,0 @@
-pub mod Shrink
-pub mod About
-pub mod Chart
-pub mod Openings
-pub mod TestLines
-pub mod Show
-pub mod inner

@@ -1,0 +1,125 @@
+//! The command `ring`: two programs and the senders' lists in, totals of drawn runs of their channel or a short unclean one out.
+
+ghost use Rattle.std.specs.Prelude.{◌≡◌, ◌≤◌, ◌*◌, ◌⊎◌};
+ghost use Rattle.engine_support.specs.inner.Making.{text_and_value};
+ghost use Rattle.recorder.specs.Drawing.{left_after};
+ghost use Rattle.ztso_engines.specs.Programs.{HasNoProgram};
+ghost use Rattle.ztso_engines.specs.Rings.{EndsRing, IsRingAnswer, OfInputs};
+ghost use Rattle.ztso_engines.specs.inner.ReadPrograms.{FindsAs};
+
+use crate::channel::channel_fault;
+use crate::lists::read_lists;
+use crate::programs::{OwnFault, read_programs};
+use engine_support::output::end_with;
+use jumping::{Jump, Runs};
+use poll_close::Place;
+use ring_trials::own::Own;
+use ring_trials::telling::told;
+use std::alloc::Global;
+use std::io::{Read, Write};
+use std::thread::Threads;
+
+/// What is to be written for the inputs that the readers give, and whether all runs are clean.
+fn made<
+    const B: usize,
+    const M: usize,
+    S: Read,
+    R: Read,
+    L: Read,
+    G: Jump + Sync + Drop,
+    T: Threads + Sync,
+>(
+    rt: &T,
+    alloc: Global,
+    place: Place,
+    sender: &mut S,
+    receiver: &mut R,
+    lists: &mut L,
+    generator: &G,
+    runs: Runs,
+) -> Result<(String, bool), OwnFault>
+    requires some_capacity { 1 ≤ B }
+    requires capacity { B ≤ 64 }
+    requires some_word { 1 ≤ M }
+    requires size { M ≤ 65536 }
+    ensures made { FindsAs (λ whose answer. OfInputs (S.remaining sender.old) (R.remaining receiver.old) (L.remaining lists.old) (λ a b c.
+        IsRingAnswer (record {
+          B = B;
+          M = M;
+          place = place;
+          stream = left_after (runs.skip * runs.length) (G.Rng.stream generator.now);
+          size = runs.length;
+          runs = runs.number;
+        }) a b c whose answer)) text_and_value result }
+    ensures unread { HasNoProgram (S.remaining sender.old) → receiver.new ≡ receiver.old }
+    ensures unread_lists { HasNoProgram (S.remaining sender.old) ⊎ HasNoProgram (R.remaining receiver.old) → lists.new ≡ lists.old }
+{
+    let (sender, receiver) = read_programs(alloc, sender, receiver)?;
+    let lists = read_lists(alloc, lists)?;
+    let own = Own {
+        sender,
+        receiver,
+        lists,
+        place,
+    };
+    match told::<B, M, G, T>(rt, alloc, &own, generator, runs) {
+        Ok(answered) => Ok(answered),
+        Err(why) => Err(OwnFault::Other(channel_fault(why))),
+    }
+}
+
+/// Reads the assembly of the sender and that of the receiver, and then the senders' lists, each to its end: a line of
+/// words in decimal, parted by spaces, for each sender. It runs the channel over these programs and lists at a place
+/// `runs.number` times from its opening with store buffers of `B` pairs and `M` words of memory that open as 0, each
+/// time by `runs.length` events that the generator draws, after the events of the runs that are passed over.
+///
+/// Where all runs are clean it writes how many they are, and a line for each sender: how many of its words a run took
+/// at most, and in how many runs it was reported closed. Else it writes a part of the first unclean run's events that is
+/// unclean itself, and without any one of them isn't, and what that breaks first. It answers whether all runs are clean.
+/// Neither depends on the jobs.
+///
+/// A program is refused as too large ([`engine_support::fault::TOO_LARGE`]), else as no text
+/// ([`engine_support::fault::NOT_TEXT`]), else as [`assembler::assemble`] says, at the line, as this program's. Lists are
+/// refused as [`crate::channel::channel_engine`] refuses them, for a ring of one slot or more. What comes after a refused
+/// input is not read, and nothing was written.
+pub fn ring_engine<
+    const B: usize,
+    const M: usize,
+    S: Read,
+    R: Read,
+    L: Read,
+    G: Jump + Sync + Drop,
+    W: Write,
+    T: Threads + Sync,
+>(
+    rt: &T,
+    alloc: Global,
+    place: Place,
+    sender: &mut S,
+    receiver: &mut R,
+    lists: &mut L,
+    generator: &G,
+    runs: Runs,
+    writer: &mut W,
+) -> Result<bool, OwnFault>
+    requires some_capacity { 1 ≤ B }
+    requires capacity { B ≤ 64 }
+    requires some_word { 1 ≤ M }
+    requires size { M ≤ 65536 }
+    ensures ends { EndsRing (record {
+      B = B;
+      M = M;
+      place = place;
+      stream = left_after (runs.skip * runs.length) (G.Rng.stream generator.now);
+      size = runs.length;
+      runs = runs.number;
+    }) result (S.remaining sender.old) (R.remaining receiver.old) (L.remaining lists.old)
+        W.contents writer.old writer.new }
+    ensures unread { HasNoProgram (S.remaining sender.old) → receiver.new ≡ receiver.old }
+    ensures unread_lists { HasNoProgram (S.remaining sender.old) ⊎ HasNoProgram (R.remaining receiver.old) → lists.new ≡ lists.old }
+{
+    match made::<B, M, S, R, L, G, T>(rt, alloc, place, sender, receiver, lists, generator, runs) {
+        Ok(answered) => Ok(end_with(Ok(answered), writer)?),
+        Err(fault) => Err(fault),
+    }
+}
