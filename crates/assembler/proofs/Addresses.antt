@@ -1,5 +1,6 @@
 -- Addresses and targets: what is read of them is what the grammar says.
-use Rattle.std.proofs.Common.{◌≡◌, ℕ, ◌<◌, ◌^◌, Bool, true, false, not, ◌||◌, eqb, ltb, List, [], ◌∷◌, ◌++◌, length, Option, Some, None, Ok, refl, sym, ap, subst, ◌∙◌, inl, inr, arith, ℤ, pos, append_assoc}
+use Rattle.std.proofs.Common.{◌≡◌, ℕ, ◌<◌, ◌^◌, Bool, true, false, not, ◌||◌, eqb, ltb, List, [], ◌∷◌, ◌++◌, length}
+use Rattle.std.proofs.Common.{Option, Some, None, Ok, refl, sym, ap, subst, ◌∙◌, inl, inr, arith, ℤ, pos, append_assoc}
 use Rattle.std.specs.Prelude.{neg_ℤ, int_lt, unsigned_abs, ◌≤ℤ◌, ◌<ℤ◌}
 use Rattle.std.specs.List.{list_all}
 use Rattle.std.specs.Char.{digit_value}
@@ -16,7 +17,8 @@ use Rattle.rv_decode.specs.Fits.{IsEven}
 use Rattle.rv_decode.specs.declared.instruction.Reg.{Reg}
 use Rattle.assembler.specs.declared.faults.AsmFault.{AsmFault}
 use Rattle.assembler.specs.Names.{is_name, begins_name}
-use Rattle.assembler.specs.Operands.{register_in, Target, bytes, label, is_reached, in_reach, IsReached, target_in, closed, opened, base_in, or_zero, offset_in, address_in}
+use Rattle.assembler.specs.Operands.{register_in, Target, bytes, label, is_reached, in_reach, IsReached, target_in}
+use Rattle.assembler.specs.Operands.{closed, opened, base_in, or_zero, offset_in, address_in}
 use Rattle.texts.specs.Numbers.{IsMagnitude}
 use Rattle.texts.specs.Numbers.IsMagnitude.{decimal, hex}
 use Rattle.assembler.specs.Spelled.{IsNumber, IsRegister, IsOffset, IsAddress, IsTarget}
@@ -24,7 +26,9 @@ use Rattle.assembler.specs.Spelled.IsNumber.{plain, negative}
 use Rattle.assembler.proofs.Rows.{all_below, below_all}
 use Rattle.texts.proofs.CuttingLaws.{before-stop, after-stop, cut_byte}
 use Rattle.texts.proofs.TrimLaws.{trailing_append, stripped-padded, stripped-all, padded_stripped, all-append}
-use Rattle.assembler.proofs.Leaves.{is_word_byte, is_operand_byte, Reads, all_weaker, none_of_all, not_this, word_operand, word_trimmed, register_word, register_found, register_only, digit_low, number_found, number_only, number_word, not_less, IsWithin, from_found, from_only}
+use Rattle.assembler.proofs.Leaves.{is_word_byte, is_operand_byte, Reads, all_weaker, none_of_all, not_this}
+use Rattle.assembler.proofs.Leaves.{word_operand, word_trimmed, register_word, register_found, register_only, digit_low}
+use Rattle.assembler.proofs.Leaves.{number_found, number_only, number_word, not_less, IsWithin, from_found, from_only}
 
 -- ---- names
 
@@ -82,7 +86,12 @@ target_found bound reach t to e = elim (cases_Bool (is_name t)) [
   | inl name ↦ label_is t to bound name (ok_is AsmFault (label t) to (rw name at e))
   | inr other ↦ (
       let r = reached bound (integer_of t) to (rw other at e) in
-      subst (λ (x : Target). IsTarget bound t x) r.is (number_found t r.number r.said (small_reached bound r.number reach r.near.0 r.near.1), r.near.0, r.near.1, r.near.2))
+      subst (λ (x : Target). IsTarget bound t x) r.is (
+        number_found t r.number r.said (small_reached bound r.number reach r.near.0 r.near.1),
+        r.near.0,
+        r.near.1,
+        r.near.2,
+      ))
 ]
 
 less : (a b : ℤ) → a <ℤ b → int_lt a b ≡ true
@@ -111,7 +120,8 @@ record Opened (t : List ℕ) (r : Reg) : Type 0 where
 opened_found : (t : List ℕ) (r : Reg) → base_in t ≡ Ok r → Opened t r
 opened_found t r e = go (after (is_byte 40) t) refl e
   where
-    close : (inner : List ℕ) → after (is_byte 40) t ≡ Some inner → (o : Option (List ℕ)) → after (is_byte 41) inner ≡ o → closed (before (is_byte 41) inner) o ≡ Ok r → Opened t r
+    close : (inner : List ℕ) → after (is_byte 40) t ≡ Some inner → (o : Option (List ℕ))
+        → after (is_byte 41) inner ≡ o → closed (before (is_byte 41) inner) o ≡ Ok r → Opened t r
     close inner is None none f = absurd cc
     close inner is (Some []) last f = record { inner = inner; opens = is; closes = last; named = f }
     close inner is (Some (x ∷ xs)) more f = absurd (let g = rw (ne_eqb (length (x ∷ xs)) 0 (λ z. omega arith)) at f in cc)
@@ -189,7 +199,8 @@ trimmed-address : (a b : List ℕ) → trimmed (a ++ 40 ∷ (b ++ 41 ∷ [])) �
 unfolding stripped
 trimmed-address a b =
     let whole : without_front a ++ 40 ∷ (b ++ 41 ∷ []) ≡ (without_front a ++ 40 ∷ b) ++ 41 ∷ [] = sym (append_assoc (without_front a) (40 ∷ b) (41 ∷ [])) in
-    ap without_end (front_stop a 40 (b ++ 41 ∷ []) refl ∙ whole) ∙ (trailing_append is_blank (without_front a ++ 40 ∷ b) (41 ∷ []) (omega arith) (refl, tt) ∙ sym whole)
+    ap without_end (front_stop a 40 (b ++ 41 ∷ []) refl ∙ whole)
+    ∙ (trailing_append is_blank (without_front a ++ 40 ∷ b) (41 ∷ []) (omega arith) (refl, tt) ∙ sym whole)
 
 offset_only : (low high : ℤ) → IsWithin low high → (t : List ℕ) (z : ℤ) → IsOffset low high t z → or_zero low high (trimmed t) ≡ Ok z
 offset_only low high within t z (inl none) = rw (stripped-all is_blank t none.0) (ap Ok (sym none.1))
@@ -208,14 +219,22 @@ offset_only low high within t z (inr some) =
 spaced_not : (byte : ℕ) → is_spaced_byte byte ≡ false → (t : List ℕ) → list_all is_spaced_byte t ≡ true → NonePass (is_byte byte) t
 spaced_not byte fails t h = none_of_all is_spaced_byte (is_byte byte) (not_this is_spaced_byte byte fails) t h
 
-address_only_at : (low high : ℤ) → IsWithin low high → (a b name : List ℕ) (r : Reg) (z : ℤ) → IsOffset low high a z → IsPadded name b → IsRegister name r → address_in low high (without_front a ++ 40 ∷ (b ++ 41 ∷ [])) ≡ Ok (r, z)
+address_only_at : (low high : ℤ) → IsWithin low high → (a b name : List ℕ) (r : Reg) (z : ℤ) → IsOffset low high a z
+    → IsPadded name b → IsRegister name r → address_in low high (without_front a ++ 40 ∷ (b ++ 41 ∷ [])) ≡ Ok (r, z)
 address_only_at low high within a b name r z offset pad is =
     let front = without_front a in
     let no_open : NonePass (is_byte 40) front = spaced_not 40 refl front (front_all is_spaced_byte a (offset_spaced low high a z offset)) in
     let no_close : NonePass (is_byte 41) b = spaced_not 41 refl b (padded_spaced name b pad (register_word name r is)) in
     let core : trimmed b ≡ name = stripped-padded is_blank name b pad ∙ word_trimmed name (register_word name r is) in
-    let base : base_in (front ++ 40 ∷ (b ++ 41 ∷ [])) ≡ Ok r = rw (after-stop (is_byte 40) front 40 (b ++ 41 ∷ []) no_open refl, before-stop (is_byte 41) b 41 [] no_close refl, after-stop (is_byte 41) b 41 [] no_close refl, core) (register_only name r is) in
-    let number : offset_in low high (front ++ 40 ∷ (b ++ 41 ∷ [])) ≡ Ok z = rw (before-stop (is_byte 40) front 40 (b ++ 41 ∷ []) no_open refl, trimmed-after_front a) (offset_only low high within a z offset) in
+    let base : base_in (front ++ 40 ∷ (b ++ 41 ∷ [])) ≡ Ok r = rw (
+      after-stop (is_byte 40) front 40 (b ++ 41 ∷ []) no_open refl,
+      before-stop (is_byte 41) b 41 [] no_close refl,
+      after-stop (is_byte 41) b 41 [] no_close refl,
+      core,
+    ) (register_only name r is) in
+    let number : offset_in low high (front ++ 40 ∷ (b ++ 41 ∷ [])) ≡ Ok z =
+    rw (before-stop (is_byte 40) front 40 (b ++ 41 ∷ []) no_open refl, trimmed-after_front a)
+    (offset_only low high within a z offset) in
     rw (base, number) refl
 
 address_only : (low high : ℤ) → IsWithin low high → (t : List ℕ) (at : Reg × ℤ) → IsAddress low high t at → address_in low high (trimmed t) ≡ Ok at
@@ -226,8 +245,11 @@ address_only low high within t at is =
 address_bytes : (low high : ℤ) (t : List ℕ) (at : Reg × ℤ) → IsAddress low high t at → list_all is_operand_byte t ≡ true
 address_bytes low high t at is =
     let front = all_weaker is_spaced_byte is_operand_byte spaced_operand is.before (offset_spaced low high is.before at.1 is.offset) in
-    let inner = all_weaker is_spaced_byte is_operand_byte spaced_operand is.inside (padded_spaced is.name is.inside is.padded (register_word is.name at.0 is.named)) in
-    subst (λ (s : List ℕ). list_all is_operand_byte s ≡ true) (sym is.whole) (both_all is_operand_byte is.before (40 ∷ (is.inside ++ 41 ∷ [])) front (both_all is_operand_byte is.inside (41 ∷ []) inner refl))
+    let inner = all_weaker is_spaced_byte is_operand_byte spaced_operand is.inside
+    (padded_spaced is.name is.inside is.padded (register_word is.name at.0 is.named)) in
+    subst (λ (s : List ℕ). list_all is_operand_byte s ≡ true) (sym is.whole)
+    (both_all is_operand_byte is.before (40 ∷ (is.inside ++ 41 ∷ [])) front
+    (both_all is_operand_byte is.inside (41 ∷ []) inner refl))
 
 pub reads_address : (low high : ℤ) → IsWithin low high → Reads (address_in low high) (IsAddress low high)
 reads_address low high within = grind (arith, address_found low high within, address_only low high within, address_bytes low high)

@@ -18,10 +18,22 @@ pub record IsOperand (xs : List ℕ) : Type 0 where
   pub some : 0 < length xs
 
 pub two_between : (a b : List ℕ) → IsOperand a → IsOperand b → between_commas (Some (a ++ 44 ∷ b)) ≡ a ∷ b ∷ []
-two_between a b h k = rw (split_stop (is_byte 44) a 44 b h.commas refl, split_none (is_byte 44) b k.commas, stripped-none is_blank a h.blanks, stripped-none is_blank b k.blanks) refl
+two_between a b h k = rw (
+  split_stop (is_byte 44) a 44 b h.commas refl,
+  split_none (is_byte 44) b k.commas,
+  stripped-none is_blank a h.blanks,
+  stripped-none is_blank b k.blanks,
+) refl
 
 pub three_between : (a b c : List ℕ) → IsOperand a → IsOperand b → IsOperand c → between_commas (Some (a ++ 44 ∷ (b ++ 44 ∷ c))) ≡ a ∷ b ∷ c ∷ []
-three_between a b c h k m = rw (split_stop (is_byte 44) a 44 (b ++ 44 ∷ c) h.commas refl, split_stop (is_byte 44) b 44 c k.commas refl, split_none (is_byte 44) c m.commas, stripped-none is_blank a h.blanks, stripped-none is_blank b k.blanks, stripped-none is_blank c m.blanks) refl
+three_between a b c h k m = rw (
+  split_stop (is_byte 44) a 44 (b ++ 44 ∷ c) h.commas refl,
+  split_stop (is_byte 44) b 44 c k.commas refl,
+  split_none (is_byte 44) c m.commas,
+  stripped-none is_blank a h.blanks,
+  stripped-none is_blank b k.blanks,
+  stripped-none is_blank c m.blanks,
+) refl
 
 -- ---- blanks round the operands
 
@@ -33,7 +45,8 @@ blank_is_no_comma x blank cut = let f : is_blank 44 ≡ true = subst (λ (c : �
 
 listed_join : (part : List ℕ) (parts : List (List ℕ)) → AreListed (join_with_byte 44 (part ∷ parts)) (map trimmed (part ∷ parts))
 listed_join part [] = last part (trimmed part) (padded_stripped is_blank part)
-listed_join part (next ∷ parts) = more part (trimmed part) (join_with_byte 44 (next ∷ parts)) (map trimmed (next ∷ parts)) (padded_stripped is_blank part) (listed_join next parts)
+listed_join part (next ∷ parts) = more part (trimmed part) (join_with_byte 44 (next ∷ parts))
+    (map trimmed (next ∷ parts)) (padded_stripped is_blank part) (listed_join next parts)
 
 pub listed_split : (text : List ℕ) → AreListed text (map trimmed (slice_split comma text))
 listed_split text =
@@ -54,7 +67,9 @@ split_end : (text : List ℕ) → map without_end (slice_split comma (without_en
 split_end [] = refl
 split_end (x ∷ xs) = go (without_end xs) (split_end xs) (is_blank x) refl (comma x) refl
   where
-    go : (w : List ℕ) → map without_end (slice_split comma w) ≡ map without_end (slice_split comma xs) → (b : Bool) → is_blank x ≡ b → (c : Bool) → comma x ≡ c → map without_end (slice_split comma (onto_kept is_blank x w)) ≡ map without_end (slice_split comma (x ∷ xs))
+    go : (w : List ℕ) → map without_end (slice_split comma w) ≡ map without_end (slice_split comma xs) → (b : Bool)
+        → is_blank x ≡ b → (c : Bool) → comma x ≡ c
+        → map without_end (slice_split comma (onto_kept is_blank x w)) ≡ map without_end (slice_split comma (x ∷ xs))
     go w same true blank true cut = absurd (blank_is_no_comma x blank cut)
     go [] same true blank false on = rw (blank, on, ends_onto x (slice_split comma xs), ← same, blank) refl
     go [] same false solid true cut = rw (solid, cut) (ap (λ ps. [] ∷ ps) same)
@@ -100,11 +115,19 @@ blanks_no_comma (x ∷ xs) h = (go (comma x) refl, blanks_no_comma xs h.1)
     go false on = on
 
 padded_no_comma : (core text : List ℕ) → IsPadded core text → NonePass comma core → NonePass comma text
-padded_no_comma core text pad none = subst (λ (t : List ℕ). NonePass comma t) (sym pad.4) (none-append comma pad.0 (core ++ pad.1) (blanks_no_comma pad.0 pad.2) (none-append comma core pad.1 none (blanks_no_comma pad.1 pad.3)))
+padded_no_comma core text pad none = subst (λ (t : List ℕ). NonePass comma t) (sym pad.4)
+    (none-append comma pad.0 (core ++ pad.1) (blanks_no_comma pad.0 pad.2)
+    (none-append comma core pad.1 none (blanks_no_comma pad.1 pad.3)))
 
-pub split_listed : (text : List ℕ) (operands : List (List ℕ)) → AreListed text operands → NoCommas operands → map trimmed (slice_split comma text) ≡ map trimmed operands
-split_listed text operands (last whole operand pad) none = rw (split_none comma whole (padded_no_comma operand whole pad none.0)) (ap (λ o. o ∷ []) (stripped-padded is_blank operand whole pad))
-split_listed text operands (more first operand rest others pad listed) none = rw (split_stop comma first 44 rest (padded_no_comma operand first pad none.0) refl, stripped-padded is_blank operand first pad) (ap (λ os. trimmed operand ∷ os) (split_listed rest others listed none.1))
+pub split_listed : (text : List ℕ) (operands : List (List ℕ)) → AreListed text operands → NoCommas operands
+    → map trimmed (slice_split comma text) ≡ map trimmed operands
+split_listed text operands (last whole operand pad) none =
+    rw (split_none comma whole (padded_no_comma operand whole pad none.0))
+    (ap (λ o. o ∷ []) (stripped-padded is_blank operand whole pad))
+split_listed text operands (more first operand rest others pad listed) none = rw (
+  split_stop comma first 44 rest (padded_no_comma operand first pad none.0) refl,
+  stripped-padded is_blank operand first pad,
+) (ap (λ os. trimmed operand ∷ os) (split_listed rest others listed none.1))
 
 -- ---- the operands of a line, one by one
 
@@ -113,4 +136,5 @@ rest_between None = refl
 rest_between (Some text) = refl
 
 pub first_between : (text : List ℕ) → between_commas (Some text) ≡ trimmed (before (is_byte 44) text) ∷ between_commas (after (is_byte 44) text)
-first_between text = ap (map trimmed) (split_cut (is_byte 44) text) ∙ ap (λ others. trimmed (before (is_byte 44) text) ∷ others) (rest_between (after (is_byte 44) text))
+first_between text = ap (map trimmed) (split_cut (is_byte 44) text)
+    ∙ ap (λ others. trimmed (before (is_byte 44) text) ∷ others) (rest_between (after (is_byte 44) text))

@@ -1,5 +1,6 @@
 -- One more line of a draft, and what is known of all of them.
-use Rattle.std.proofs.Common.{◌≡◌, ℕ, ◌+◌, ◌*◌, ◌<◌, ◌≤◌, true, false, cond, List, [], ◌∷◌, ◌++◌, length, map, Option, Some, None, Ok, Err, refl, sym, ap, subst, ◌∙◌, inl, inr, arith, Bool}
+use Rattle.std.proofs.Common.{◌≡◌, ℕ, ◌+◌, ◌*◌, ◌<◌, ◌≤◌, true, false, cond, List, [], ◌∷◌, ◌++◌, length, map, Option}
+use Rattle.std.proofs.Common.{Some, None, Ok, Err, refl, sym, ap, subst, ◌∙◌, inl, inr, arith, Bool}
 use Rattle.std.specs.Prelude.{IfSome}
 use Rattle.std.specs.Option.{is_some}
 use Rattle.std.proofs.lemmas.Bool.{cases_Bool, lt-ltb, le-ltb, cond-true, cond-false}
@@ -10,7 +11,8 @@ use Rattle.assembler.specs.declared.faults.AsmFault.{AsmFault}
 use Rattle.assembler.specs.declared.faults.AsmFault.TheVariants.{LabelTwice, TooLong}
 use Rattle.assembler.specs.Statements.{Made}
 use Rattle.assembler.specs.Lines.{label_of, statement_text, made_in}
-use Rattle.assembler.specs.Drafts.{Line, size_of, words_of, is_label, place_from, place_of, is_twice, line_below, drafted, placed, all_placed, Fitting, AllFit, over, finished}
+use Rattle.assembler.specs.Drafts.{Line, size_of, words_of, is_label, place_from, place_of, is_twice, line_below}
+use Rattle.assembler.specs.Drafts.{drafted, placed, all_placed, Fitting, AllFit, over, finished}
 use Rattle.assembler.proofs.LabelLaws.{fresh_apart, once-push}
 use Rattle.std.specs.Str.{bytes_eq}
 use Rattle.std.specs.HashMap.{HashMap, UpdatesBy}
@@ -19,15 +21,20 @@ use Rattle.std.specs.declared.alloc.Global.{Global}
 use Rattle.std.specs.Map.{lookup, IsKeyTest, AreApart, KeepsOthers}
 use Rattle.std.proofs.lemmas.Cmp.{nat_list_eq_equiv}
 
-pub drafted_twice : (above : List Line) (text : List ℕ) → is_twice above (label_of text) ≡ true → drafted above text ≡ Err (record { fault = LabelTwice; line = length above + 1 })
+pub drafted_twice : (above : List Line) (text : List ℕ) → is_twice above (label_of text) ≡ true
+    → drafted above text ≡ Err (record { fault = LabelTwice; line = length above + 1 })
 unfolding drafted line_below
 drafted_twice above text twice = rw twice refl
 
-pub drafted_added : (above : List Line) (text : List ℕ) (made : Option Made) → is_twice above (label_of text) ≡ false → made_in (statement_text text) ≡ Ok made → drafted above text ≡ Ok (above ++ (record { label = label_of text; made = made }) ∷ [])
+pub drafted_added : (above : List Line) (text : List ℕ) (made : Option Made)
+    → is_twice above (label_of text) ≡ false → made_in (statement_text text) ≡ Ok made
+    → drafted above text ≡ Ok (above ++ (record { label = label_of text; made = made }) ∷ [])
 unfolding drafted line_below
 drafted_added above text made fresh e = rw (fresh, e) refl
 
-pub drafted_faulty : (above : List Line) (text : List ℕ) (fault : AsmFault) → is_twice above (label_of text) ≡ false → made_in (statement_text text) ≡ Err fault → drafted above text ≡ Err (record { fault = fault; line = length above + 1 })
+pub drafted_faulty : (above : List Line) (text : List ℕ) (fault : AsmFault) → is_twice above (label_of text) ≡ false
+    → made_in (statement_text text) ≡ Err fault
+    → drafted above text ≡ Err (record { fault = fault; line = length above + 1 })
 unfolding drafted line_below
 drafted_faulty above text fault fresh e = rw (fresh, e) refl
 
@@ -37,7 +44,8 @@ abbrev or_else : Option ℕ → Option ℕ → Option ℕ
 or_else None other = other
 or_else (Some place) other = Some place
 
-place_from-push : (name : List ℕ) (at : ℕ) (all : List Line) (line : Line) → place_from name at (all ++ line ∷ []) ≡ or_else (place_from name at all) (cond (is_label name line.label) (Some (at + words_of all)) None)
+place_from-push : (name : List ℕ) (at : ℕ) (all : List Line) (line : Line) → place_from name at (all ++ line ∷ [])
+    ≡ or_else (place_from name at all) (cond (is_label name line.label) (Some (at + words_of all)) None)
 place_from-push name at [] line = let same : at + 0 ≡ at = omega arith in rw same refl
 place_from-push name at (first ∷ rest) line = grind (arith, cases_Bool, place_from-push name (at + size_of first.made) rest line)
 
@@ -46,7 +54,8 @@ place_from-le name at [] = tt
 place_from-le name at (first ∷ rest) = grind (arith, cases_Bool, place_from-le name (at + size_of first.made) rest)
 
 -- no label's place is after the last word
-pub place_within : (all : List Line) (name : List ℕ) (most : ℕ) → words_of all ≤ most → (r : Option ℕ) → r ≡ place_of all name → IfSome r (λ place. place ≤ most)
+pub place_within : (all : List Line) (name : List ℕ) (most : ℕ) → words_of all ≤ most → (r : Option ℕ)
+    → r ≡ place_of all name → IfSome r (λ place. place ≤ most)
 unfolding place_of
 place_within all name most few None e = tt
 place_within all name most few (Some place) e = grind (arith, place_from-le name 0 all)
@@ -71,7 +80,8 @@ fresh_place all name label fresh here = grind (arith, bytes_eq-Decides, none_of_
 or_none : (r : Option ℕ) → or_else r None ≡ r
 or_none r = grind arith
 
-found_last : (all : List Line) (line : Line) (name : List ℕ) → is_label name line.label ≡ true → place_of all name ≡ None → place_of (all ++ line ∷ []) name ≡ Some (words_of all)
+found_last : (all : List Line) (line : Line) (name : List ℕ) → is_label name line.label ≡ true
+    → place_of all name ≡ None → place_of (all ++ line ∷ []) name ≡ Some (words_of all)
 unfolding place_of
 found_last all line name here none = place_from-push name 0 all line ∙ rw (here, none) (ap Some (omega arith))
 
@@ -79,13 +89,17 @@ found_above : (all : List Line) (line : Line) (name : List ℕ) → is_label nam
 unfolding place_of
 found_above all line name other = place_from-push name 0 all line ∙ rw other (or_none (place_from name 0 all))
 
-place_of-push : (all : List Line) (line : Line) (name : List ℕ) → is_twice all line.label ≡ false → cond (is_label name line.label) (Some (words_of all)) (place_of all name) ≡ place_of (all ++ line ∷ []) name
+place_of-push : (all : List Line) (line : Line) (name : List ℕ) → is_twice all line.label ≡ false
+    → cond (is_label name line.label) (Some (words_of all)) (place_of all name) ≡ place_of (all ++ line ∷ []) name
 place_of-push all line name fresh = elim (cases_Bool (is_label name line.label)) [
   | inl here ↦ rw here (sym (found_last all line name here (fresh_place all name line.label fresh here)))
   | inr other ↦ rw other (sym (found_above all line name other))
 ]
 
-pub kept_more : (found after : List ℕ → Option ℕ) (words : ℕ) (all : List Line) (line : Line) → IsKept found words all → ((name : List ℕ) → after name ≡ cond (is_label name line.label) (Some words) (found name)) → is_twice all line.label ≡ false → Fitting line.made → IsKept after (words + size_of line.made) (all ++ line ∷ [])
+pub kept_more : (found after : List ℕ → Option ℕ) (words : ℕ) (all : List Line) (line : Line)
+    → IsKept found words all
+    → ((name : List ℕ) → after name ≡ cond (is_label name line.label) (Some words) (found name))
+    → is_twice all line.label ≡ false → Fitting line.made → IsKept after (words + size_of line.made) (all ++ line ∷ [])
 kept_more found after words all line kept defined fresh fits = grind (arith, place_of-push, words_of-push, AllFit-push, once-push, fresh_apart)
 
 size_le : (made : Option Made) → size_of made ≤ 2
@@ -101,9 +115,11 @@ words_le (first ∷ rest) = let here = size_le first.made in let more = words_le
 placed-same : (f g : List ℕ → Option ℕ) → ((name : List ℕ) → f name ≡ g name) → (at : ℕ) (made : Option Made) → placed f at made ≡ placed g at made
 placed-same f g same at made = grind arith
 
-pub all_placed-same : (f g : List ℕ → Option ℕ) → ((name : List ℕ) → f name ≡ g name) → (at line : ℕ) (all : List Line) → all_placed f at line all ≡ all_placed g at line all
+pub all_placed-same : (f g : List ℕ → Option ℕ) → ((name : List ℕ) → f name ≡ g name)
+    → (at line : ℕ) (all : List Line) → all_placed f at line all ≡ all_placed g at line all
 all_placed-same f g same at line [] = refl
-all_placed-same f g same at line (first ∷ rest) = rw (placed-same f g same at first.made, all_placed-same f g same (at + size_of first.made) (line + 1) rest) refl
+all_placed-same f g same at line (first ∷ rest) =
+    rw (placed-same f g same at first.made, all_placed-same f g same (at + size_of first.made) (line + 1) rest) refl
 
 -- ---- the end of a draft
 
@@ -111,7 +127,8 @@ pub finished-long : (all : List Line) → 4096 < words_of all → finished all �
 unfolding finished
 finished-long all long = rw (lt-ltb 4096 (words_of all) long) refl
 
-pub finished-short : (found : List ℕ → Option ℕ) (all : List Line) → words_of all ≤ 4096 → ((name : List ℕ) → found name ≡ place_of all name) → all_placed found 0 1 all ≡ finished all
+pub finished-short : (found : List ℕ → Option ℕ) (all : List Line) → words_of all ≤ 4096
+    → ((name : List ℕ) → found name ≡ place_of all name) → all_placed found 0 1 all ≡ finished all
 unfolding finished
 finished-short found all few same = rw (le-ltb 4096 (words_of all) few) (all_placed-same found (place_of all) same 0 1 all)
 
@@ -127,12 +144,19 @@ vec_eq x y = bytes_eq x.items y.items
 apart : (bs cs ks : List ℕ) → bytes_eq bs cs ≡ false → bytes_eq bs ks ≡ true → bytes_eq cs ks ≡ false
 apart bs cs ks other same = nat_list_eq_equiv.symm cs ks ∙ sym (nat_list_eq_equiv.congr bs ks cs same) ∙ other
 
-others : (test : Vec ℕ Global → Bool) (old new : List (Vec ℕ Global × ℕ)) → KeepsOthers vec_eq test old new → (other : Vec ℕ Global → Bool) → IsKeyTest vec_eq other → AreApart test other → lookup other new ≡ lookup other old
+others : (test : Vec ℕ Global → Bool) (old new : List (Vec ℕ Global × ℕ)) → KeepsOthers vec_eq test old new
+    → (other : Vec ℕ Global → Bool) → IsKeyTest vec_eq other → AreApart test other → lookup other new ≡ lookup other old
 unfolding KeepsOthers
 others test old new h = h
 
-pub place_after : {S : Type 0} (name : Vec ℕ Global) (old new : HashMap (Vec ℕ Global) ℕ S) (place : ℕ) → UpdatesBy vec_eq (λ key. bytes_eq name.items key.items) old new (Some place) → (other : List ℕ) → place_in new other ≡ cond (bytes_eq name.items other) (Some place) (place_in old other)
+pub place_after : {S : Type 0} (name : Vec ℕ Global) (old new : HashMap (Vec ℕ Global) ℕ S) (place : ℕ)
+    → UpdatesBy vec_eq (λ key. bytes_eq name.items key.items) old new (Some place) → (other : List ℕ)
+    → place_in new other ≡ cond (bytes_eq name.items other) (Some place) (place_in old other)
 place_after name old new place h other = elim (cases_Bool (bytes_eq name.items other)) [
-  | inl same ↦ subst (λ (l : List ℕ). place_in new l ≡ Some place) ((bytes_eq-Decides name.items other).0 same) h.1 ∙ sym (cond-true (bytes_eq name.items other) (Some place) (place_in old other) same)
-  | inr differs ↦ others (λ key. bytes_eq name.items key.items) old.entries new.entries h.3 (λ key. bytes_eq other key.items) (λ x y. nat_list_eq_equiv.congr other x.items y.items) (λ key. apart name.items other key.items differs) ∙ sym (cond-false (bytes_eq name.items other) (Some place) (place_in old other) differs)
+  | inl same ↦ subst (λ (l : List ℕ). place_in new l ≡ Some place) ((bytes_eq-Decides name.items other).0 same) h.1
+      ∙ sym (cond-true (bytes_eq name.items other) (Some place) (place_in old other) same)
+  | inr differs ↦
+      others (λ key. bytes_eq name.items key.items) old.entries new.entries h.3 (λ key. bytes_eq other key.items)
+      (λ x y. nat_list_eq_equiv.congr other x.items y.items) (λ key. apart name.items other key.items differs)
+      ∙ sym (cond-false (bytes_eq name.items other) (Some place) (place_in old other) differs)
 ]

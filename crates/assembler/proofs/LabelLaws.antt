@@ -28,7 +28,8 @@ apart_from name at [] e = tt
 apart_from name at (line ∷ above) e = elim (cases_Bool (is_label name line.label)) [
   | inl here ↦ absurd (let f = rw here at e in cc)
   | inr other ↦ (
-    (λ n is same. (let f : is_label name line.label ≡ true = is_the_label name line.label (is ∙ sym same) in let g : false ≡ true = sym other ∙ f in absurd cc)),
+    (λ n is same. (let f : is_label name line.label ≡ true = is_the_label name line.label (is ∙ sym same) in
+        let g : false ≡ true = sym other ∙ f in absurd cc)),
     apart_from name (at + size_of line.made) above (rw other at e),
   )
 ]
@@ -48,11 +49,13 @@ pub apart_fresh : (above : List Line) (label : Option (List ℕ)) → Apart abov
 unfolding place_of
 apart_fresh above label h = grind (arith, apart_place)
 
-pub apart-append : (above : List Line) (line : Line) (label : Option (List ℕ)) → Apart above label → ((name : List ℕ) → line.label ≡ Some name → label ≢ Some name) → Apart (above ++ line ∷ []) label
+pub apart-append : (above : List Line) (line : Line) (label : Option (List ℕ)) → Apart above label
+    → ((name : List ℕ) → line.label ≡ Some name → label ≢ Some name) → Apart (above ++ line ∷ []) label
 apart-append [] line label h k = (k, tt)
 apart-append (first ∷ above) line label h k = (h.0, apart-append above line label h.1 k)
 
-once_below : (first : Line) (below : List Line) (line : Line) → AllByRecursion (λ other. AreApart first other) below → AreApart first line → AllByRecursion (λ other. AreApart first other) (below ++ line ∷ [])
+once_below : (first : Line) (below : List Line) (line : Line) → AllByRecursion (λ other. AreApart first other) below
+    → AreApart first line → AllByRecursion (λ other. AreApart first other) (below ++ line ∷ [])
 once_below first [] line h k = (k, tt)
 once_below first (next ∷ below) line h k = (h.0, once_below first below line h.1 k)
 

@@ -1,5 +1,6 @@
 -- What a function reads of an operand, and the relation of the grammar that says the same.
-use Rattle.std.proofs.Common.{◌≡◌, ℕ, ◌<◌, ◌≤◌, ◌^◌, Bool, true, false, not, ◌||◌, eqb, ltb, List, [], ◌∷◌, length, Option, Some, None, Result, Ok, refl, sym, ap, subst, inl, inr, arith, ℤ, pos}
+use Rattle.std.proofs.Common.{◌≡◌, ℕ, ◌<◌, ◌≤◌, ◌^◌, Bool, true, false, not, ◌||◌, eqb, ltb, List, [], ◌∷◌, length}
+use Rattle.std.proofs.Common.{Option, Some, None, Result, Ok, refl, sym, ap, subst, inl, inr, arith, ℤ, pos}
 use Rattle.std.specs.Prelude.{◌==◌, neg_ℤ, int_lt, unsigned_abs, option_map, ◌≤ℤ◌, ◌<ℤ◌, slice_index, drop}
 use Rattle.std.specs.List.{Contains, list_all}
 use Rattle.std.specs.Char.{digit_value}
@@ -151,7 +152,9 @@ all_digit_test = refl
 
 digit_word : (c : ℕ) → digit_value c < 16 → is_word_byte c ≡ true
 unfolding digit_test
-digit_word c small = (let f : (not (ltb (digit_value c) 16) || is_word_byte c) ≡ true = below_all 123 digit_test all_digit_test c (digit_low c small) in let g : ltb (digit_value c) 16 ≡ true = lt-ltb (digit_value c) 16 small in rw g at f)
+digit_word c small = (let f : (not (ltb (digit_value c) 16) || is_word_byte c) ≡ true =
+    below_all 123 digit_test all_digit_test c (digit_low c small) in
+    let g : ltb (digit_value c) 16 ≡ true = lt-ltb (digit_value c) 16 small in rw g at f)
 
 digits_word : (radix : ℕ) → radix ≤ 16 → (digits : List ℕ) → AllDigits radix digits → list_all is_word_byte digits ≡ true
 digits_word radix most [] h = refl
@@ -169,7 +172,8 @@ magnitude_first byte other t n (decimal digits m says) = first digits says.0.0 s
     first : (ds : List ℕ) → 0 < length ds → AllDigits 10 ds → eqb (slice_index ds 0) byte ≡ false
     first [] some h = absurd (omega arith)
     first (c ∷ ds) some h = ne_eqb c byte (λ is. (let f : digit_value byte < 10 = subst (λ (d : ℕ). digit_value d < 10) is h.0 in omega arith))
-magnitude_first byte other t n (hex digits m says) = ne_eqb 48 byte (λ is. (let f : 10 ≤ digit_value 48 = subst (λ (d : ℕ). 10 ≤ digit_value d) (sym is) other in omega arith))
+magnitude_first byte other t n (hex digits m says) = ne_eqb 48 byte
+    (λ is. (let f : 10 ≤ digit_value 48 = subst (λ (d : ℕ). 10 ≤ digit_value d) (sym is) other in omega arith))
 
 -- ---- numbers
 
@@ -185,7 +189,9 @@ number_found t z e small = elim (cases_Bool (is_negative t)) [
   | inl is ↦ (
       let said = mapped (λ n. neg_ℤ (pos n)) (magnitude_of (drop 1 t)) z (rw is at e) in
       let few : said.0 < 2 ^ 32 = below_negative said.0 z said.2 small in
-      subst (λ (s : List ℕ). IsNumber s z) (sym (negative_text t is)) (subst (λ (y : ℤ). IsNumber (45 ∷ drop 1 t) y) said.2 (negative (drop 1 t) said.0 (magnitude_found (drop 1 t) said.0 said.1 few))))
+      subst (λ (s : List ℕ). IsNumber s z) (sym (negative_text t is))
+      (subst (λ (y : ℤ). IsNumber (45 ∷ drop 1 t) y) said.2
+      (negative (drop 1 t) said.0 (magnitude_found (drop 1 t) said.0 said.1 few))))
   | inr other ↦ (
       let said = mapped pos (magnitude_of t) z (rw other at e) in
       let few : said.0 < 2 ^ 32 = below_positive said.0 z said.2 small in
@@ -242,7 +248,8 @@ natural_found : (most : ℕ) → most < 2 ^ 32 → (t : List ℕ) (n : ℕ) → 
 natural_found most small t n e = grind (arith, bind_ok, from_found, natural_within, ok_is, ints)
 
 natural_only : (most : ℕ) → most < 2 ^ 32 → (t : List ℕ) (n : ℕ) → IsNumberUpTo most t n → natural_in most t ≡ Ok n
-natural_only most small t n is = rw (from_only (pos 0) (pos most) (natural_within most small) t (pos n) (is.0, omega (arith, ints), omega (arith, ints, is.1))) refl
+natural_only most small t n is = rw (from_only (pos 0) (pos most) (natural_within most small) t (pos n)
+    (is.0, omega (arith, ints), omega (arith, ints, is.1))) refl
 
 pub reads_natural : (most : ℕ) → most < 2 ^ 32 → Reads (natural_in most) (IsNumberUpTo most)
 reads_natural most small = grind (arith, natural_found, word_trimmed, number_word, natural_only, word_operand)

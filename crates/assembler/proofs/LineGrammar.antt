@@ -27,15 +27,19 @@ line_with label made = record { label = label; made = made }
 code_found : (text : List ℕ) (made : Option Made) → made_in (trimmed (parts_of text).1) ≡ Ok made → IsUncommented text (line_with (parts_of text).0 made)
 code_found text made e = go (after (is_byte 58) text) refl e
   where
-    go : (o : Option (List ℕ)) → after (is_byte 58) text ≡ o → made_in (trimmed (label_and_rest text (without_front (before (is_byte 58) text)) o).1) ≡ Ok made → IsUncommented text (line_with (label_and_rest text (without_front (before (is_byte 58) text)) o).0 made)
+    go : (o : Option (List ℕ)) → after (is_byte 58) text ≡ o
+        → made_in (trimmed (label_and_rest text (without_front (before (is_byte 58) text)) o).1) ≡ Ok made
+        → IsUncommented text (line_with (label_and_rest text (without_front (before (is_byte 58) text)) o).0 made)
     go None none f = bare text made (body_found text made f)
     go (Some rest) cut f = elim (cases_Bool (is_name (without_front (before (is_byte 58) text)))) [
       | inl name ↦ (
           let split = leading_split is_blank (before (is_byte 58) text) in
           let front = without_front (before (is_byte 58) text) in
           let body : made_in (trimmed rest) ≡ Ok made = rw name at f in
-          let whole : text ≡ split.0 ++ (front ++ 58 ∷ rest) = cut_byte 58 text rest cut ∙ (ap (λ b. b ++ 58 ∷ rest) split.2 ∙ append_assoc split.0 front (58 ∷ rest)) in
-          rw name (subst (λ (t : List ℕ). IsUncommented t (line_with (Some front) made)) (sym whole) (labelled split.0 front rest made split.1 name (body_found rest made body))))
+          let whole : text ≡ split.0 ++ (front ++ 58 ∷ rest) =
+          cut_byte 58 text rest cut ∙ (ap (λ b. b ++ 58 ∷ rest) split.2 ∙ append_assoc split.0 front (58 ∷ rest)) in
+          rw name (subst (λ (t : List ℕ). IsUncommented t (line_with (Some front) made)) (sym whole)
+          (labelled split.0 front rest made split.1 name (body_found rest made body))))
       | inr other ↦ (
           let body : made_in (trimmed text) ≡ Ok made = rw other at f in
           rw other (bare text made (body_found text made body)))
@@ -51,12 +55,15 @@ no_byte byte fails text h = none_of_all is_code_byte (is_byte byte) (not_this is
 no_byte_name : (byte : ℕ) → is_word_byte byte ≡ false → (name : List ℕ) → is_name name ≡ true → NonePass (is_byte byte) name
 no_byte_name byte fails name is = none_of_all is_word_byte (is_byte byte) (not_this is_word_byte byte fails) name (name_word name is)
 
-labelled_parts : (blanks name text : List ℕ) (made : Option Made) → AreBlanks blanks → is_name name ≡ true → IsBody text made → Parts ((blanks ++ name) ++ 58 ∷ text) (line_with (Some name) made)
+labelled_parts : (blanks name text : List ℕ) (made : Option Made) → AreBlanks blanks → is_name name ≡ true
+    → IsBody text made → Parts ((blanks ++ name) ++ 58 ∷ text) (line_with (Some name) made)
 labelled_parts blanks name text made are is body =
-    let none : NonePass (is_byte 58) (blanks ++ name) = none-append (is_byte 58) blanks name (no_byte 58 refl blanks (blanks_code blanks are)) (no_byte_name 58 refl name is) in
+    let none : NonePass (is_byte 58) (blanks ++ name) = none-append (is_byte 58) blanks name
+    (no_byte 58 refl blanks (blanks_code blanks are)) (no_byte_name 58 refl name is) in
     let first = before-stop (is_byte 58) (blanks ++ name) 58 text none refl in
     let rest = after-stop (is_byte 58) (blanks ++ name) 58 text none refl in
-    let front : without_front (blanks ++ name) ≡ name = leading_past is_blank blanks name are ∙ leading_none is_blank name (word_solid name (name_word name is)) in
+    let front : without_front (blanks ++ name) ≡ name =
+    leading_past is_blank blanks name are ∙ leading_none is_blank name (word_solid name (name_word name is)) in
     record {
       label = rw (first, rest, front, is) refl;
       made = rw (first, rest, front, is) (body_only text made body);
@@ -83,9 +90,14 @@ pub line-found : (text : List ℕ) (made : Option Made) → made_in (statement_t
 unfolding label_of statement_text
 line-found text made e = go (after (is_byte 35) text) refl (code_found (code_of text) made e)
   where
-    go : (o : Option (List ℕ)) → after (is_byte 35) text ≡ o → IsUncommented (code_of text) (line_with (parts_of (code_of text)).0 made) → IsLine text (line_with (parts_of (code_of text)).0 made)
-    go None none is = subst (λ (t : List ℕ). IsLine t (line_with (parts_of (code_of text)).0 made)) (uncut (is_byte 35) text none) (code (code_of text) (line_with (parts_of (code_of text)).0 made) is)
-    go (Some comment) cut is = subst (λ (t : List ℕ). IsLine t (line_with (parts_of (code_of text)).0 made)) (sym (cut_byte 35 text comment cut)) (commented (code_of text) comment (line_with (parts_of (code_of text)).0 made) is)
+    go : (o : Option (List ℕ)) → after (is_byte 35) text ≡ o
+        → IsUncommented (code_of text) (line_with (parts_of (code_of text)).0 made)
+        → IsLine text (line_with (parts_of (code_of text)).0 made)
+    go None none is = subst (λ (t : List ℕ). IsLine t (line_with (parts_of (code_of text)).0 made))
+        (uncut (is_byte 35) text none) (code (code_of text) (line_with (parts_of (code_of text)).0 made) is)
+    go (Some comment) cut is = subst (λ (t : List ℕ). IsLine t (line_with (parts_of (code_of text)).0 made))
+        (sym (cut_byte 35 text comment cut))
+        (commented (code_of text) comment (line_with (parts_of (code_of text)).0 made) is)
 
 pub record Reading (text : List ℕ) (line : Line) : Type 0 where
   pub label : label_of text ≡ line.label
@@ -97,7 +109,8 @@ reading text inner line same is = grind (arith, parts)
 
 pub line-only : (text : List ℕ) (line : Line) → IsLine text line → Reading text line
 line-only text line (code whole said is) = reading whole whole said (before-none (is_byte 35) whole (no_hash whole said is)) is
-line-only text line (commented whole comment said is) = reading (whole ++ 35 ∷ comment) whole said (before-stop (is_byte 35) whole 35 comment (no_hash whole said is) refl) is
+line-only text line (commented whole comment said is) = reading (whole ++ 35 ∷ comment) whole said
+    (before-stop (is_byte 35) whole 35 comment (no_hash whole said is) refl) is
 
 same_line : (a b : Line) → a.label ≡ b.label → a.made ≡ b.made → a ≡ b
 same_line a b label made = ap (λ l. line_with l a.made) label ∙ ap (λ m. line_with b.label m) made

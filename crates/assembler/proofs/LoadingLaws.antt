@@ -72,7 +72,9 @@ puts rd n v is same = elim (cases_Bool (is_short v)) [
 ]
   where
     signed : is_short v ≡ true → IsSigned 11 v
-    signed fits = (let tests = and_parts (not (int_lt v (negsuc 2047))) (int_lt v (pos 2048)) fits in let above = not-true (int_lt v (negsuc 2047)) tests.0 in (omega (arith, ints, above), omega (arith, ints, tests.1)))
+    signed fits = (let tests = and_parts (not (int_lt v (negsuc 2047))) (int_lt v (pos 2048)) fits in
+        let above = not-true (int_lt v (negsuc 2047)) tests.0 in
+        (omega (arith, ints, above), omega (arith, ints, tests.1)))
 
 pub number_put : (rd : Reg) (n : ℤ) → negsuc 2147483647 ≤ℤ n → n ≤ℤ pos 4294967295 → Puts rd n (loaded rd (wrapped n))
 number_put rd n low high = let word = wrapped-word n low high in puts rd n (wrapped n) word.0 word.1

@@ -66,13 +66,15 @@ kinds_found (kind ∷ kinds) make (a ∷ rest) made e =
     (a, rest, x.0, refl, (reads_kind kind).found a x.0 x.1, kinds_found kinds (make x.0) rest made x.2)
 kinds_found x make y made e = absurd cc
 
-kinds_only : (kinds : List Kind) (make : Maker kinds) (list : List (List ℕ)) (made : Made) → AreSpelled kinds make list made → reads kinds make (map trimmed list) ≡ Ok made
+kinds_only : (kinds : List Kind) (make : Maker kinds) (list : List (List ℕ)) (made : Made)
+    → AreSpelled kinds make list made → reads kinds make (map trimmed list) ≡ Ok made
 kinds_only [] make list made is = subst (λ (os : List (List ℕ)). reads [] make (map trimmed os) ≡ Ok made) (sym is.0) (ap Ok (sym is.1))
 kinds_only (kind ∷ kinds) make list made is = grind (arith, reads_kind, kinds_only kinds (make is.2) is.1 made is.5)
 
 kinds_bytes : (kinds : List Kind) (make : Maker kinds) (list : List (List ℕ)) (made : Made) → AreSpelled kinds make list made → OperandBytes list
 kinds_bytes [] make list made is = subst OperandBytes (sym is.0) tt
-kinds_bytes (kind ∷ kinds) make list made is = subst OperandBytes (sym is.3) ((reads_kind kind).bytes is.0 is.2 is.4, kinds_bytes kinds (make is.2) is.1 made is.5)
+kinds_bytes (kind ∷ kinds) make list made is =
+    subst OperandBytes (sym is.3) ((reads_kind kind).bytes is.0 is.2 is.4, kinds_bytes kinds (make is.2) is.1 made is.5)
 
 kinds_some : (kinds : List Kind) (make : Maker kinds) (made : Made) → reads kinds make ([] ∷ []) ≡ Ok made → ⊥
 kinds_some [] make made e = cc
@@ -113,16 +115,21 @@ pub fence_alone : (list : List (List ℕ)) → list ≡ [] → statement_of Fenc
 unfolding row
 fence_alone list e = subst (λ (l : List (List ℕ)). statement_of Fence l ≡ Ok (one (instr.Fence 15 15))) (sym e) refl
 
-pub fence_sets : (list : List (List ℕ)) (a : List ℕ) (others : List (List ℕ)) → list ≡ a ∷ others → statement_of Fence list ≡ reads (set ∷ set ∷ []) (λ pred succ. one (instr.Fence pred succ)) list
+pub fence_sets : (list : List (List ℕ)) (a : List ℕ) (others : List (List ℕ)) → list ≡ a ∷ others
+    → statement_of Fence list ≡ reads (set ∷ set ∷ []) (λ pred succ. one (instr.Fence pred succ)) list
 unfolding row
-fence_sets list a others e = subst (λ (l : List (List ℕ)). statement_of Fence l ≡ reads (set ∷ set ∷ []) (λ pred succ. one (instr.Fence pred succ)) l) (sym e) refl
+fence_sets list a others e = subst
+    (λ (l : List (List ℕ)). statement_of Fence l ≡ reads (set ∷ set ∷ []) (λ pred succ. one (instr.Fence pred succ)) l)
+    (sym e) refl
 
-pub jalr_pair : (list : List (List ℕ)) → is_pair list ≡ true → statement_of Jalr list ≡ reads (register ∷ address ∷ []) (λ rd at. one (instr.Jalr rd at.0 at.1)) list
+pub jalr_pair : (list : List (List ℕ)) → is_pair list ≡ true
+    → statement_of Jalr list ≡ reads (register ∷ address ∷ []) (λ rd at. one (instr.Jalr rd at.0 at.1)) list
 unfolding row
 jalr_pair (a ∷ b ∷ []) e = refl
 jalr_pair x e = absurd cc
 
-pub jalr_other : (list : List (List ℕ)) → is_pair list ≡ false → statement_of Jalr list ≡ reads (register ∷ register ∷ short ∷ []) (λ rd rs1 n. one (instr.Jalr rd rs1 n)) list
+pub jalr_other : (list : List (List ℕ)) → is_pair list ≡ false
+    → statement_of Jalr list ≡ reads (register ∷ register ∷ short ∷ []) (λ rd rs1 n. one (instr.Jalr rd rs1 n)) list
 unfolding row
 jalr_other (a ∷ b ∷ []) e = absurd cc
 jalr_other x e = refl

@@ -1,5 +1,7 @@
 -- The instructions of a text are those of the program that the grammar says it is.
-use Rattle.std.proofs.Common.{◌≡◌, ℕ, ◌+◌, ◌≤◌, Bool, true, false, ltb, List, [], ◌∷◌, ◌++◌, map, Option, Some, None, Result, Ok, Err, refl, sym, ap, subst, ◌∙◌, inl, inr, arith, ℤ, pos, append_assoc, append-nil}
+use Rattle.std.proofs.Common.{◌≡◌, ℕ, ◌+◌, ◌≤◌, Bool, true, false, ltb, List, [], ◌∷◌, ◌++◌, map, Option, Some, None}
+use Rattle.std.proofs.Common.{Result, Ok, Err, refl, sym, ap, subst, ◌∙◌, inl, inr, arith, ℤ, pos, append_assoc}
+use Rattle.std.proofs.Common.{append-nil}
 use Rattle.std.specs.Prelude.{◌≢◌}
 use Rattle.std.specs.Str.Lines.{lines}
 use Rattle.std.specs.List.{AllByRecursion}
@@ -19,7 +21,8 @@ use Rattle.rv_decode.proofs.Meanings.{meaning_iff}
 use Rattle.assembler.specs.Operands.{bytes, is_reached, IsReached}
 use Rattle.assembler.specs.Statements.{Made, one, two, jump, branch}
 use Rattle.assembler.specs.Lines.{label_of, statement_text, made_in}
-use Rattle.assembler.specs.Drafts.{Line, size_of, words_of, is_label, place_from, place_of, is_twice, at_line, drafted, all_drafted, in_bytes, distance, placed, onto, all_placed, finished, assembled}
+use Rattle.assembler.specs.Drafts.{Line, size_of, words_of, is_label, place_from, place_of, is_twice, at_line, drafted}
+use Rattle.assembler.specs.Drafts.{all_drafted, in_bytes, distance, placed, onto, all_placed, finished, assembled}
 use Rattle.assembler.specs.Grammar.{IsLine}
 use Rattle.assembler.specs.Program.{AreLines, AreApart, EachOnce, IsFresh, Defines, IsPlaced, ArePlaced, AreInstrs, IsProgram, AreWordsOf}
 use Rattle.assembler.specs.Program.IsPlaced.{nothing, single, double, jumping, branching}
@@ -60,7 +63,8 @@ apart-front : (above : List Line) (line : Line) (label : Option (List ℕ)) → 
 apart-front [] line label h = tt
 apart-front (first ∷ above) line label h = (h.0, apart-front above line label h.1)
 
-apart-end : (above : List Line) (line : Line) (label : Option (List ℕ)) → Apart (above ++ line ∷ []) label → (name : List ℕ) → line.label ≡ Some name → label ≢ Some name
+apart-end : (above : List Line) (line : Line) (label : Option (List ℕ)) → Apart (above ++ line ∷ []) label
+    → (name : List ℕ) → line.label ≡ Some name → label ≢ Some name
 apart-end [] line label h = h.0
 apart-end (first ∷ above) line label h = apart-end above line label h.1
 
@@ -72,7 +76,8 @@ all_ends : (above : List Line) (line : Line) (below : List Line) → AllApart (a
 all_ends above line [] h = tt
 all_ends above line (next ∷ below) h = (apart-end above line next.label h.0, all_ends above line below h.1)
 
-all_more : (above : List Line) (line : Line) (below : List Line) → AllApart above below → AllByRecursion (λ other. AreApart line other) below → AllApart (above ++ line ∷ []) below
+all_more : (above : List Line) (line : Line) (below : List Line) → AllApart above below
+    → AllByRecursion (λ other. AreApart line other) below → AllApart (above ++ line ∷ []) below
 all_more above line [] h k = tt
 all_more above line (next ∷ below) h k = (apart-append above line next.label h.0 k.0, all_more above line below h.1 k.1)
 
@@ -97,7 +102,8 @@ all_found above (text ∷ texts) all e =
       apart = (first.apart, all_fronts above first.line rest.below rest.apart);
     }
 
-pub all_only : (above : List Line) (texts : List (List ℕ)) (below : List Line) → AreLines texts below → EachOnce below → AllApart above below → all_drafted above texts ≡ Ok (above ++ below)
+pub all_only : (above : List Line) (texts : List (List ℕ)) (below : List Line) → AreLines texts below
+    → EachOnce below → AllApart above below → all_drafted above texts ≡ Ok (above ++ below)
 all_only above [] below written once apart = ap Ok (sym (append-nil above) ∙ ap (λ more. above ++ more) (sym written))
 all_only above (text ∷ texts) [] written once apart = absurd (let f = written.2 in cc)
 all_only above (text ∷ texts) (first ∷ below) written once apart =
@@ -127,21 +133,40 @@ some_place a b e = cc
 defines_from : (name : List ℕ) (at : ℕ) (all : List Line) (place : ℕ) → place_from name at all ≡ Some place → DefinesFrom at all name place
 defines_from name at [] place e = absurd cc
 defines_from name at (line ∷ all) place e = elim (cases_Bool (is_label name line.label)) [
-  | inl here ↦ (let same : at ≡ place = some_place at place (rw here at e) in record { above = []; line = line; below = all; whole = refl; defined = label_is name line.label here; counted = omega arith })
+  | inl here ↦ (let same : at ≡ place = some_place at place (rw here at e) in record {
+    above = [];
+    line = line;
+    below = all;
+    whole = refl;
+    defined = label_is name line.label here;
+    counted = omega arith;
+  })
   | inr other ↦ (
       let rest = defines_from name (at + size_of line.made) all place (rw other at e) in
-      record { above = line ∷ rest.above; line = rest.line; below = rest.below; whole = ap (λ ls. line ∷ ls) rest.whole; defined = rest.defined; counted = omega (arith, rest.counted) })
+      record {
+        above = line ∷ rest.above;
+        line = rest.line;
+        below = rest.below;
+        whole = ap (λ ls. line ∷ ls)
+            rest.whole;
+        defined =
+            rest.defined;
+        counted =
+            omega (arith, rest.counted);
+      })
 ]
 
 place_found : (all : List Line) (name : List ℕ) (place : ℕ) → place_of all name ≡ Some place → Defines all name place
 unfolding place_of
 place_found all name place e = grind (arith, defines_from name 0 all place e)
 
-apart_in : (first : Line) (above : List Line) (line : Line) (below : List Line) → AllByRecursion (λ other. AreApart first other) (above ++ line ∷ below) → AreApart first line
+apart_in : (first : Line) (above : List Line) (line : Line) (below : List Line)
+    → AllByRecursion (λ other. AreApart first other) (above ++ line ∷ below) → AreApart first line
 apart_in first [] line below h = h.0
 apart_in first (next ∷ above) line below h = apart_in first above line below h.1
 
-place_at : (name : List ℕ) (at : ℕ) (above : List Line) (line : Line) (below : List Line) → line.label ≡ Some name → EachOnce (above ++ line ∷ below) → place_from name at (above ++ line ∷ below) ≡ Some (at + words_of above)
+place_at : (name : List ℕ) (at : ℕ) (above : List Line) (line : Line) (below : List Line) → line.label ≡ Some name
+    → EachOnce (above ++ line ∷ below) → place_from name at (above ++ line ∷ below) ≡ Some (at + words_of above)
 place_at name at [] line below defined once = let same : at ≡ at + 0 = omega arith in rw (is_the_label name line.label defined) (ap Some same)
 place_at name at (first ∷ above) line below defined once = elim (cases_Bool (is_label name first.label)) [
   | inl here ↦ absurd (apart_in first above line below once.0 name (label_is name first.label here) defined)
@@ -171,32 +196,51 @@ distance-found all bound at name n e = go (place_of all name) refl e
     go : (o : Option ℕ) → place_of all name ≡ o → distance bound at o ≡ Ok n → Reaches all bound at name n
     go None none f = absurd cc
     go (Some place) is f = elim (cases_Bool (is_reached bound (in_bytes at place))) [
-      | inl near ↦ record { place = place; defined = place_found all name place is; near = reached_true bound (in_bytes at place) near; is = ok_is AsmFault (in_bytes at place) n (rw near at f) }
+      | inl near ↦ record {
+        place = place;
+        defined = place_found all name place is;
+        near = reached_true bound (in_bytes at place) near;
+        is = ok_is AsmFault (in_bytes at place) n (rw near at f);
+      }
       | inr far ↦ absurd (let g = rw far at f in cc)
     ]
 
-distance-only : (all : List Line) (bound : ℤ) (at : ℕ) (name : List ℕ) (place : ℕ) → EachOnce all → Defines all name place → IsReached bound (bytes (in_bytes at place)) → distance bound at (place_of all name) ≡ Ok (in_bytes at place)
-distance-only all bound at name place once defined near = rw (place_only all name place once defined, is_reached-only bound (in_bytes at place) near.0 near.1 near.2) refl
+distance-only : (all : List Line) (bound : ℤ) (at : ℕ) (name : List ℕ) (place : ℕ) → EachOnce all
+    → Defines all name place → IsReached bound (bytes (in_bytes at place))
+    → distance bound at (place_of all name) ≡ Ok (in_bytes at place)
+distance-only all bound at name place once defined near =
+    rw (place_only all name place once defined, is_reached-only bound (in_bytes at place) near.0 near.1 near.2) refl
 
 record Placing (all : List Line) (at : ℕ) (made : Option Made) (front : List (Option Instr)) : Type 0 where
   instrs : List Instr
   is : IsPlaced all at made instrs
   same : map some_instr instrs ≡ front
 
-placed-found : (all : List Line) (at : ℕ) (made : Option Made) (front : List (Option Instr)) → placed (place_of all) at made ≡ Ok front → Placing all at made front
+placed-found : (all : List Line) (at : ℕ) (made : Option Made) (front : List (Option Instr))
+    → placed (place_of all) at made ≡ Ok front → Placing all at made front
 placed-found all at None front e = record { instrs = []; is = nothing; same = ok_is AsmFault [] front e }
 placed-found all at (Some (one i)) front e = record { instrs = i ∷ []; is = single i; same = ok_is AsmFault (Some i ∷ []) front e }
 placed-found all at (Some (two i j)) front e = record { instrs = i ∷ j ∷ []; is = double i j; same = ok_is AsmFault (Some i ∷ Some j ∷ []) front e }
 placed-found all at (Some (jump rd name)) front e =
     let n = bind_ok (distance (pos 1048576) at (place_of all name)) (λ n. Ok (Some (instr.Jal rd n) ∷ [])) front e in
     let r = distance-found all (pos 1048576) at name n.0 n.1 in
-    record { instrs = instr.Jal rd (in_bytes at r.place) ∷ []; is = jumping rd name r.place r.defined r.near; same = ap (λ m. Some (instr.Jal rd m) ∷ []) r.is ∙ ok_is AsmFault (Some (instr.Jal rd n.0) ∷ []) front n.2 }
+    record {
+      instrs = instr.Jal rd (in_bytes at r.place) ∷ [];
+      is = jumping rd name r.place r.defined r.near;
+      same = ap (λ m. Some (instr.Jal rd m) ∷ []) r.is ∙ ok_is AsmFault (Some (instr.Jal rd n.0) ∷ []) front n.2;
+    }
 placed-found all at (Some (branch op rs1 rs2 name)) front e =
     let n = bind_ok (distance (pos 4096) at (place_of all name)) (λ n. Ok (Some (instr.Branch op rs1 rs2 n) ∷ [])) front e in
     let r = distance-found all (pos 4096) at name n.0 n.1 in
-    record { instrs = instr.Branch op rs1 rs2 (in_bytes at r.place) ∷ []; is = branching op rs1 rs2 name r.place r.defined r.near; same = ap (λ m. Some (instr.Branch op rs1 rs2 m) ∷ []) r.is ∙ ok_is AsmFault (Some (instr.Branch op rs1 rs2 n.0) ∷ []) front n.2 }
+    record {
+      instrs = instr.Branch op rs1 rs2 (in_bytes at r.place) ∷ [];
+      is = branching op rs1 rs2 name r.place r.defined r.near;
+      same = ap (λ m. Some (instr.Branch op rs1 rs2 m) ∷ []) r.is
+          ∙ ok_is AsmFault (Some (instr.Branch op rs1 rs2 n.0) ∷ []) front n.2;
+    }
 
-placed-only : (all : List Line) (at : ℕ) (made : Option Made) (instrs : List Instr) → EachOnce all → IsPlaced all at made instrs → placed (place_of all) at made ≡ Ok (map some_instr instrs)
+placed-only : (all : List Line) (at : ℕ) (made : Option Made) (instrs : List Instr) → EachOnce all
+    → IsPlaced all at made instrs → placed (place_of all) at made ≡ Ok (map some_instr instrs)
 placed-only all at made instrs once h5 = grind (arith, distance-only)
 
 record AllPlacing (all : List Line) (at : ℕ) (below : List Line) (answers : List (Option Instr)) : Type 0 where
@@ -207,10 +251,12 @@ record AllPlacing (all : List Line) (at : ℕ) (below : List Line) (answers : Li
 at_line-ok : {A : Type 0} (line : ℕ) (r : Result A AsmFault) (x : A) → at_line line r ≡ Ok x → r ≡ Ok x
 at_line-ok line r x e = grind (arith, ok_is)
 
-all_placed-found : (all : List Line) (at line : ℕ) (below : List Line) (answers : List (Option Instr)) → all_placed (place_of all) at line below ≡ Ok answers → AllPlacing all at below answers
+all_placed-found : (all : List Line) (at line : ℕ) (below : List Line) (answers : List (Option Instr))
+    → all_placed (place_of all) at line below ≡ Ok answers → AllPlacing all at below answers
 all_placed-found all at line [] answers e = record { instrs = []; are = refl; same = ok_is Refusal [] answers e }
 all_placed-found all at line (first ∷ below) answers e =
-    let step = bind_ok (at_line line (placed (place_of all) at first.made)) (λ front. onto front (all_placed (place_of all) (at + size_of first.made) (line + 1) below)) answers e in
+    let step = bind_ok (at_line line (placed (place_of all) at first.made))
+    (λ front. onto front (all_placed (place_of all) (at + size_of first.made) (line + 1) below)) answers e in
     let front = placed-found all at first.made step.0 (at_line-ok line (placed (place_of all) at first.made) step.0 step.1) in
     let more = bind_ok (all_placed (place_of all) (at + size_of first.made) (line + 1) below) (λ more. Ok (step.0 ++ more)) answers step.2 in
     let rest = all_placed-found all (at + size_of first.made) (line + 1) below more.0 more.1 in
@@ -220,7 +266,8 @@ all_placed-found all at line (first ∷ below) answers e =
       same = map-append some_instr front.instrs rest.instrs ∙ (rw (front.same, rest.same) (ok_is Refusal (step.0 ++ more.0) answers more.2));
     }
 
-all_placed-only : (all : List Line) (at line : ℕ) (below : List Line) (instrs : List Instr) → EachOnce all → ArePlaced all at below instrs → all_placed (place_of all) at line below ≡ Ok (map some_instr instrs)
+all_placed-only : (all : List Line) (at line : ℕ) (below : List Line) (instrs : List Instr) → EachOnce all
+    → ArePlaced all at below instrs → all_placed (place_of all) at line below ≡ Ok (map some_instr instrs)
 all_placed-only all at line [] instrs once are = ap (λ is. Ok (map some_instr is)) (sym are)
 all_placed-only all at line (first ∷ below) instrs once are =
     rw (placed-only all at first.made are.0 once are.3, all_placed-only all (at + size_of first.made) (line + 1) below are.1 once are.4)
@@ -309,27 +356,46 @@ Words = Vec ℕ Global
 abbrev meanings : Words → List (Option Instr)
 meanings words = map meaning words.items
 
-pub found_program : {E : Type 0} (refusal_of : E → Option Refusal) (text : List ℕ) (result : Result Words E) → GivesUpToMemory refusal_of meanings result (assembled text) → IfOk result (λ words. (instrs : List Instr) × IsProgram text instrs × AreWordsOf words.items instrs)
-found_program refusal_of text (Ok words) e = let made = program_found text (meanings words) e in (made.instrs, made.is, words-of_instrs words.items made.instrs made.same)
+pub found_program : {E : Type 0} (refusal_of : E → Option Refusal) (text : List ℕ) (result : Result Words E)
+    → GivesUpToMemory refusal_of meanings result (assembled text)
+    → IfOk result (λ words. (instrs : List Instr) × IsProgram text instrs × AreWordsOf words.items instrs)
+found_program refusal_of text (Ok words) e = let made = program_found text (meanings words) e in
+    (made.instrs, made.is, words-of_instrs words.items made.instrs made.same)
 found_program refusal_of text (Err error) e = tt
 
-pub only_program : {E : Type 0} (refusal_of : E → Option Refusal) (text : List ℕ) (instrs : List Instr) (result : Result Words E) → GivesUpToMemory refusal_of meanings result (assembled text) → IsProgram text instrs → GivesUpToMemory refusal_of meanings result (Ok (map some_instr instrs))
-only_program refusal_of text instrs result e is = subst (λ (answer : Result (List (Option Instr)) Refusal). GivesUpToMemory refusal_of meanings result answer) (program_only text instrs is) e
+pub only_program : {E : Type 0} (refusal_of : E → Option Refusal) (text : List ℕ) (instrs : List Instr)
+    (result : Result Words E) → GivesUpToMemory refusal_of meanings result (assembled text) → IsProgram text instrs
+    → GivesUpToMemory refusal_of meanings result (Ok (map some_instr instrs))
+only_program refusal_of text instrs result e is =
+    subst (λ (answer : Result (List (Option Instr)) Refusal). GivesUpToMemory refusal_of meanings result answer)
+    (program_only text instrs is) e
 
 -- ---- a draft's line and its end
 
-pub found_line : {X E : Type 0} (refusal_of : E → Option Refusal) (above new : List Line) (text : List ℕ) (result : Result X E) → GivesUpToMemory refusal_of (λ x. new) result (drafted above text) → OnOk result ((more : Line) × IsLine text more × IsFresh above more × (new ≡ above ++ more ∷ []))
+pub found_line : {X E : Type 0} (refusal_of : E → Option Refusal) (above new : List Line) (text : List ℕ)
+    (result : Result X E) → GivesUpToMemory refusal_of (λ x. new) result (drafted above text)
+    → OnOk result ((more : Line) × IsLine text more × IsFresh above more × (new ≡ above ++ more ∷ []))
 found_line refusal_of above new text (Ok x) e = let first = drafted-found above text new e in (first.line, first.is, first.apart, first.whole)
 found_line refusal_of above new text (Err error) e = tt
 
-pub only_line : {X E : Type 0} (refusal_of : E → Option Refusal) (above new : List Line) (text : List ℕ) (result : Result X E) → GivesUpToMemory refusal_of (λ x. new) result (drafted above text) → (more : Line) → IsLine text more → IsFresh above more → GivesUpToMemory refusal_of (λ x. new) result (Ok (above ++ more ∷ []))
-only_line refusal_of above new text result e more is fresh = subst (λ (answer : Result (List Line) Refusal). GivesUpToMemory refusal_of (λ x. new) result answer) (drafted-only above text more is fresh) e
+pub only_line : {X E : Type 0} (refusal_of : E → Option Refusal) (above new : List Line) (text : List ℕ)
+    (result : Result X E) → GivesUpToMemory refusal_of (λ x. new) result (drafted above text) → (more : Line)
+    → IsLine text more → IsFresh above more → GivesUpToMemory refusal_of (λ x. new) result (Ok (above ++ more ∷ []))
+only_line refusal_of above new text result e more is fresh =
+    subst (λ (answer : Result (List Line) Refusal). GivesUpToMemory refusal_of (λ x. new) result answer)
+    (drafted-only above text more is fresh) e
 
-pub found_instrs : {E : Type 0} (refusal_of : E → Option Refusal) (all : List Line) (result : Result Words E) → EachOnce all → GivesUpToMemory refusal_of meanings result (finished all) → IfOk result (λ words. (instrs : List Instr) × AreInstrs all instrs × AreWordsOf words.items instrs)
+pub found_instrs : {E : Type 0} (refusal_of : E → Option Refusal) (all : List Line) (result : Result Words E)
+    → EachOnce all → GivesUpToMemory refusal_of meanings result (finished all)
+    → IfOk result (λ words. (instrs : List Instr) × AreInstrs all instrs × AreWordsOf words.items instrs)
 found_instrs refusal_of all (Ok words) once e =
     let answer = finished-found all (meanings words) e in
     (answer.instrs, record { once = once; few = answer.few; placed = answer.placed }, words-of_instrs words.items answer.instrs answer.same)
 found_instrs refusal_of all (Err error) once e = tt
 
-pub only_instrs : {E : Type 0} (refusal_of : E → Option Refusal) (all : List Line) (instrs : List Instr) (result : Result Words E) → GivesUpToMemory refusal_of meanings result (finished all) → AreInstrs all instrs → GivesUpToMemory refusal_of meanings result (Ok (map some_instr instrs))
-only_instrs refusal_of all instrs result e are = subst (λ (answer : Result (List (Option Instr)) Refusal). GivesUpToMemory refusal_of meanings result answer) (finished_only all instrs are) e
+pub only_instrs : {E : Type 0} (refusal_of : E → Option Refusal) (all : List Line) (instrs : List Instr)
+    (result : Result Words E) → GivesUpToMemory refusal_of meanings result (finished all) → AreInstrs all instrs
+    → GivesUpToMemory refusal_of meanings result (Ok (map some_instr instrs))
+only_instrs refusal_of all instrs result e are =
+    subst (λ (answer : Result (List (Option Instr)) Refusal). GivesUpToMemory refusal_of meanings result answer)
+    (finished_only all instrs are) e

@@ -1,5 +1,6 @@
 -- The operands that an instruction's text is made of are spelled as the grammar asks.
-use Rattle.std.proofs.Common.{◌≡◌, ℕ, suc, ◌+◌, ◌^◌, ◌<◌, ◌≤◌, Bool, true, false, [], ◌∷◌, ◌++◌, length, Option, Some, None, refl, arith, inl, inr, ℤ, pos, negsuc}
+use Rattle.std.proofs.Common.{◌≡◌, ℕ, suc, ◌+◌, ◌^◌, ◌<◌, ◌≤◌, Bool, true, false, [], ◌∷◌, ◌++◌, length, Option, Some}
+use Rattle.std.proofs.Common.{None, refl, arith, inl, inr, ℤ, pos, negsuc}
 use Rattle.std.specs.Prelude.{nat_eq}
 use Rattle.std.specs.Fmt.{digits, decimal, signed_decimal}
 use Rattle.std.proofs.lemmas.Bool.{eqb-true}
@@ -35,7 +36,9 @@ unfolding digits
 all_numbered = refl
 
 pub register_spelled : (r : Reg) → IsRegister (register_text r) r
-register_spelled r = member_of_row register_names (register_text r) r.number (is_number_of (numbered r.number) r.number (below_all 32 (λ n. is_number (numbered n) n) all_numbered r.number (omega arith)))
+register_spelled r =
+    member_of_row register_names (register_text r) r.number (is_number_of (numbered r.number) r.number
+    (below_all 32 (λ n. is_number (numbered n) n) all_numbered r.number (omega arith)))
 
 is_read_set : ℕ → Bool
 is_read_set n = is_number (found_in set_names (set_text n)) n
@@ -83,4 +86,12 @@ address_spelled z r short fits = record {
 
 -- `(rs1)`
 pub pointer_spelled : (r : Reg) → IsAddress (pos 0) (pos 0) (40 ∷ (register_text r ++ 41 ∷ [])) (r, pos 0)
-pointer_spelled r = record { before = []; inside = register_text r; name = register_text r; whole = refl; offset = inl (tt, refl); padded = padded_self (register_text r); named = register_spelled r }
+pointer_spelled r = record {
+  before = [];
+  inside = register_text r;
+  name = register_text r;
+  whole = refl;
+  offset = inl (tt, refl);
+  padded = padded_self (register_text r);
+  named = register_spelled r;
+}

@@ -20,14 +20,18 @@ use Rattle.assembler.specs.Statements.{one, row, statement_of}
 use Rattle.assembler.specs.Spelled.{IsSpelled}
 use Rattle.assembler.specs.Lines.{label_of, statement_text, made_in, made_for, between_commas, some_text}
 use Rattle.assembler.specs.Drafts.{assembled, drafted, line_below, finished}
-use Rattle.assembler.specs.Writing.{register_text, address_text, set_text, branch_name, load_name, store_name, immediate_name, shift_name, register_name, amo_name, order_name, with_two, with_three, text_of}
-use Rattle.texts.proofs.CuttingLaws.{none-append, before-none, after-none, before-stop, after-stop, one_line, decimal_none, not_byte, not_low_byte, digit_no_blank}
+use Rattle.assembler.specs.Writing.{register_text, address_text, set_text, branch_name, load_name, store_name}
+use Rattle.assembler.specs.Writing.{immediate_name, shift_name, register_name, amo_name, order_name, with_two}
+use Rattle.assembler.specs.Writing.{with_three, text_of}
+use Rattle.texts.proofs.CuttingLaws.{none-append, before-none, after-none, before-stop, after-stop, one_line}
+use Rattle.texts.proofs.CuttingLaws.{decimal_none, not_byte, not_low_byte, digit_no_blank}
 use Rattle.texts.proofs.TrimLaws.{stripped-none, stripped-ends}
 use Rattle.assembler.proofs.Commas.{IsOperand, two_between, three_between}
 use Rattle.assembler.proofs.Named.{is_plain, is_word, IsNameOf, branch_named, load_named, store_named, immediate_named, shift_named, register_named, amo_named}
 use Rattle.assembler.proofs.Rows.{all_below, below_all}
 use Rattle.assembler.proofs.OperandTable.{reads_kind}
-use Rattle.assembler.proofs.ReadAgain.{register_spelled, set_spelled, signed_spelled, short_spelled, natural_spelled, address_spelled, pointer_spelled, signed_none, signed_some}
+use Rattle.assembler.proofs.ReadAgain.{register_spelled, set_spelled, signed_spelled, short_spelled, natural_spelled}
+use Rattle.assembler.proofs.ReadAgain.{address_spelled, pointer_spelled, signed_none, signed_some}
 
 -- a text that parts no line
 pub record IsWord (xs : List ℕ) : Type 0 where
@@ -80,18 +84,28 @@ some_ops ops some = rw (ne_eqb (length ops) 0 (omega arith)) refl
 made_text : (name ops : List ℕ) → IsWord name → IsWord ops → made_in (name ++ 32 ∷ ops) ≡ made_for (form_named name) (between_commas (Some ops))
 unfolding made_in
 made_text name ops h k =
-    rw (ne_eqb (length (name ++ 32 ∷ ops)) 0 (long name), before-stop is_blank name 32 ops h.blanks refl, after-stop is_blank name 32 ops h.blanks refl, stripped-none is_blank ops k.blanks, some_ops ops k.some) refl
+    rw (
+      ne_eqb (length (name ++ 32 ∷ ops)) 0 (long name),
+      before-stop is_blank name 32 ops h.blanks refl,
+      after-stop is_blank name 32 ops h.blanks refl,
+      stripped-none is_blank ops k.blanks,
+      some_ops ops k.some,
+    ) refl
   where
     long : (xs : List ℕ) → length (xs ++ 32 ∷ ops) ≡ 0 → ⊥
     long [] e = absurd (omega arith)
     long (x ∷ xs) e = absurd (omega arith)
 
 -- a text of one statement, which makes one instruction
-assembled-one : (text : List ℕ) (i : Instr) → 0 < length text → NonePass (is_byte 10) text → NonePass (is_byte 35) text → NonePass (is_byte 58) text → trimmed text ≡ text → made_in text ≡ Ok (Some (one i)) → assembled text ≡ Ok (Some i ∷ [])
+assembled-one : (text : List ℕ) (i : Instr) → 0 < length text → NonePass (is_byte 10) text
+    → NonePass (is_byte 35) text → NonePass (is_byte 58) text → trimmed text ≡ text → made_in text ≡ Ok (Some (one i))
+    → assembled text ≡ Ok (Some i ∷ [])
 unfolding assembled drafted line_below label_of statement_text finished
 assembled-one text i some feeds hashes colons same made = grind (arith, before-none, after-none, one_line)
 
-assembled-text : (name ops : List ℕ) (i : Instr) → IsWord name → IsWord ops → made_for (form_named name) (between_commas (Some ops)) ≡ Ok (Some (one i)) → assembled (name ++ 32 ∷ ops) ≡ Ok (Some i ∷ [])
+assembled-text : (name ops : List ℕ) (i : Instr) → IsWord name → IsWord ops
+    → made_for (form_named name) (between_commas (Some ops)) ≡ Ok (Some (one i))
+    → assembled (name ++ 32 ∷ ops) ≡ Ok (Some i ∷ [])
 assembled-text name ops i h k made = assembled-one (name ++ 32 ∷ ops) i (long name)
     (none-append (is_byte 10) name (32 ∷ ops) h.feeds (refl, k.feeds))
     (none-append (is_byte 35) name (32 ∷ ops) h.hashes (refl, k.hashes))
@@ -122,12 +136,16 @@ word_of_test xs e =
 comma_between : (xs ys : List ℕ) → IsWord xs → IsWord ys → IsWord (xs ++ 44 ∷ ys)
 comma_between xs ys h k = word-append xs (44 ∷ ys) h (word-append (44 ∷ []) ys comma_word k)
 
-made_three : (name : List ℕ) (f : Form) (a b c : List ℕ) (i : Instr) → IsNameOf name f → IsWord a → IsWord b → IsWord c → IsOperand a → IsOperand b → IsOperand c → statement_of f (a ∷ b ∷ c ∷ []) ≡ Ok (one i) → assembled (with_three name a b c) ≡ Ok (Some i ∷ [])
+made_three : (name : List ℕ) (f : Form) (a b c : List ℕ) (i : Instr) → IsNameOf name f → IsWord a → IsWord b
+    → IsWord c → IsOperand a → IsOperand b → IsOperand c → statement_of f (a ∷ b ∷ c ∷ []) ≡ Ok (one i)
+    → assembled (with_three name a b c) ≡ Ok (Some i ∷ [])
 made_three name f a b c i named wa wb wc h k m e =
     assembled-text name (a ++ 44 ∷ (b ++ 44 ∷ c)) i (word_of_test name named.0) (comma_between a (b ++ 44 ∷ c) wa (comma_between b c wb wc))
     (rw (named.1, three_between a b c h k m, e) refl)
 
-made_two : (name : List ℕ) (f : Form) (a b : List ℕ) (i : Instr) → IsNameOf name f → IsWord a → IsWord b → IsOperand a → IsOperand b → statement_of f (a ∷ b ∷ []) ≡ Ok (one i) → assembled (with_two name a b) ≡ Ok (Some i ∷ [])
+made_two : (name : List ℕ) (f : Form) (a b : List ℕ) (i : Instr) → IsNameOf name f → IsWord a → IsWord b
+    → IsOperand a → IsOperand b → statement_of f (a ∷ b ∷ []) ≡ Ok (one i)
+    → assembled (with_two name a b) ≡ Ok (Some i ∷ [])
 made_two name f a b i named wa wb h k e =
     assembled-text name (a ++ 44 ∷ b) i (word_of_test name named.0) (comma_between a b wa wb)
     (rw (named.1, two_between a b h k, e) refl)
@@ -172,7 +190,9 @@ address_word : (z : ℤ) (r : Reg) → IsSigned 31 z → IsWord (address_text z 
 address_word z r fits = word-append (signed_decimal z) (40 ∷ (register_text r ++ 41 ∷ [])) (signed_word z fits) (base_word r)
 
 address_operand : (z : ℤ) (r : Reg) → IsSigned 31 z → IsOperand (address_text z r)
-address_operand z r fits = operand_of (address_text z r) (address_word z r fits) (none-append (is_byte 44) (signed_decimal z) (40 ∷ (register_text r ++ 41 ∷ [])) (signed_commas z fits) (base_commas r))
+address_operand z r fits = operand_of (address_text z r) (address_word z r fits)
+    (none-append (is_byte 44) (signed_decimal z) (40 ∷ (register_text r ++ 41 ∷ [])) (signed_commas z fits)
+    (base_commas r))
 
 no_comma_none : (xs : List ℕ) → list_all (λ c. not (is_byte 44 c)) xs ≡ true → NonePass (is_byte 44) xs
 no_comma_none [] e = tt
@@ -188,7 +208,8 @@ set_word : (n : ℕ) → n < 16 → IsWord (set_text n)
 set_word n lt = word_of_test (set_text n) (below_all 16 (λ m. is_word (set_text m)) set_words n lt)
 
 set_operand : (n : ℕ) → n < 16 → IsOperand (set_text n)
-set_operand n lt = operand_of (set_text n) (set_word n lt) (no_comma_none (set_text n) (below_all 16 (λ m. list_all (λ c. not (is_byte 44 c)) (set_text m)) set_commas n lt))
+set_operand n lt = operand_of (set_text n) (set_word n lt)
+    (no_comma_none (set_text n) (below_all 16 (λ m. list_all (λ c. not (is_byte 44 c)) (set_text m)) set_commas n lt))
 
 short_wide : (z : ℤ) → IsSigned 11 z → IsSigned 31 z
 short_wide z h = (omega (arith, ints), omega (arith, ints))
@@ -228,47 +249,70 @@ address-read z r fits = read address (address_text z r) (r, z) (address_word z r
 pub read_again : (i : Instr) → Fits i → assembled (text_of i) ≡ Ok (Some i ∷ [])
 unfolding text_of row form_named
 read_again (instr.Lui rd n) fits =
-    made_two (codes "lui") form.Lui (register_text rd) (decimal n) (instr.Lui rd n) (refl, refl) (register_word rd) (decimal_word n (omega arith)) (register_operand rd) (decimal_operand n (omega arith))
+    made_two (codes "lui") form.Lui (register_text rd) (decimal n) (instr.Lui rd n) (refl, refl) (register_word rd)
+    (decimal_word n (omega arith)) (register_operand rd) (decimal_operand n (omega arith))
     (rw (register_read rd, upper_read n (omega arith)) refl)
 read_again (instr.Auipc rd n) fits =
-    made_two (codes "auipc") form.Auipc (register_text rd) (decimal n) (instr.Auipc rd n) (refl, refl) (register_word rd) (decimal_word n (omega arith)) (register_operand rd) (decimal_operand n (omega arith))
+    made_two (codes "auipc") form.Auipc (register_text rd) (decimal n) (instr.Auipc rd n) (refl, refl)
+    (register_word rd) (decimal_word n (omega arith)) (register_operand rd) (decimal_operand n (omega arith))
     (rw (register_read rd, upper_read n (omega arith)) refl)
 read_again (instr.Jal rd z) fits =
     let wide = jump_wide z fits.0 in
-    made_two (codes "jal") form.Jal (register_text rd) (signed_decimal z) (instr.Jal rd z) (refl, refl) (register_word rd) (signed_word z wide) (register_operand rd) (signed_operand z wide)
+    made_two (codes "jal") form.Jal (register_text rd) (signed_decimal z) (instr.Jal rd z) (refl, refl)
+    (register_word rd) (signed_word z wide) (register_operand rd) (signed_operand z wide)
     (rw (register_read rd, read far (signed_decimal z) (bytes z) (signed_word z wide) (signed_spelled z wide, fits.0.0, fits.0.1, fits.1)) refl)
 read_again (instr.Jalr rd rs1 z) fits =
     let wide = short_wide z fits in
-    made_two (codes "jalr") form.Jalr (register_text rd) (address_text z rs1) (instr.Jalr rd rs1 z) (refl, refl) (register_word rd) (address_word z rs1 wide) (register_operand rd) (address_operand z rs1 wide)
+    made_two (codes "jalr") form.Jalr (register_text rd) (address_text z rs1) (instr.Jalr rd rs1 z) (refl, refl)
+    (register_word rd) (address_word z rs1 wide) (register_operand rd) (address_operand z rs1 wide)
     (rw (register_read rd, address-read z rs1 fits) refl)
 read_again (instr.Branch op rs1 rs2 z) fits =
     let wide = branch_wide z fits.0 in
-    made_three (branch_name op) (form.Branch op) (register_text rs1) (register_text rs2) (signed_decimal z) (instr.Branch op rs1 rs2 z) (branch_named op) (register_word rs1) (register_word rs2) (signed_word z wide) (register_operand rs1) (register_operand rs2) (signed_operand z wide)
-    (rw (register_read rs1, register_read rs2, read near (signed_decimal z) (bytes z) (signed_word z wide) (signed_spelled z wide, fits.0.0, fits.0.1, fits.1)) refl)
+    made_three (branch_name op) (form.Branch op) (register_text rs1) (register_text rs2) (signed_decimal z)
+    (instr.Branch op rs1 rs2 z) (branch_named op) (register_word rs1) (register_word rs2) (signed_word z wide)
+    (register_operand rs1) (register_operand rs2) (signed_operand z wide)
+    (rw (
+      register_read rs1,
+      register_read rs2,
+      read near (signed_decimal z) (bytes z) (signed_word z wide)
+          (signed_spelled z wide, fits.0.0, fits.0.1, fits.1),
+    ) refl)
 read_again (instr.Load op rd rs1 z) fits =
     let wide = short_wide z fits in
-    made_two (load_name op) (form.Load op) (register_text rd) (address_text z rs1) (instr.Load op rd rs1 z) (load_named op) (register_word rd) (address_word z rs1 wide) (register_operand rd) (address_operand z rs1 wide)
+    made_two (load_name op) (form.Load op) (register_text rd) (address_text z rs1) (instr.Load op rd rs1 z)
+    (load_named op) (register_word rd) (address_word z rs1 wide) (register_operand rd) (address_operand z rs1 wide)
     (rw (register_read rd, address-read z rs1 fits) refl)
 read_again (instr.Store op rs1 rs2 z) fits =
     let wide = short_wide z fits in
-    made_two (store_name op) (form.Store op) (register_text rs2) (address_text z rs1) (instr.Store op rs1 rs2 z) (store_named op) (register_word rs2) (address_word z rs1 wide) (register_operand rs2) (address_operand z rs1 wide)
+    made_two (store_name op) (form.Store op) (register_text rs2) (address_text z rs1) (instr.Store op rs1 rs2 z)
+    (store_named op) (register_word rs2) (address_word z rs1 wide) (register_operand rs2)
+    (address_operand z rs1 wide)
     (rw (register_read rs2, address-read z rs1 fits) refl)
 read_again (instr.Immediate op rd rs1 z) fits =
     let wide = short_wide z fits in
-    made_three (immediate_name op) (form.Immediate op) (register_text rd) (register_text rs1) (signed_decimal z) (instr.Immediate op rd rs1 z) (immediate_named op) (register_word rd) (register_word rs1) (signed_word z wide) (register_operand rd) (register_operand rs1) (signed_operand z wide)
+    made_three (immediate_name op) (form.Immediate op) (register_text rd) (register_text rs1) (signed_decimal z)
+    (instr.Immediate op rd rs1 z) (immediate_named op) (register_word rd) (register_word rs1) (signed_word z wide)
+    (register_operand rd) (register_operand rs1) (signed_operand z wide)
     (rw (register_read rd, register_read rs1, read short (signed_decimal z) z (signed_word z wide) (short_spelled z fits wide)) refl)
 read_again (instr.Shift op rd rs1 n) fits =
-    made_three (shift_name op) (form.Shift op) (register_text rd) (register_text rs1) (decimal n) (instr.Shift op rd rs1 n) (shift_named op) (register_word rd) (register_word rs1) (decimal_word n (omega arith)) (register_operand rd) (register_operand rs1) (decimal_operand n (omega arith))
+    made_three (shift_name op) (form.Shift op) (register_text rd) (register_text rs1) (decimal n)
+    (instr.Shift op rd rs1 n) (shift_named op) (register_word rd) (register_word rs1) (decimal_word n (omega arith))
+    (register_operand rd) (register_operand rs1) (decimal_operand n (omega arith))
     (rw (register_read rd, register_read rs1, read amount (decimal n) n (decimal_word n (omega arith)) (natural_spelled 31 n (omega arith) (omega arith))) refl)
 read_again (instr.Register op rd rs1 rs2) fits =
-    made_three (register_name op) (form.Register op) (register_text rd) (register_text rs1) (register_text rs2) (instr.Register op rd rs1 rs2) (register_named op) (register_word rd) (register_word rs1) (register_word rs2) (register_operand rd) (register_operand rs1) (register_operand rs2)
+    made_three (register_name op) (form.Register op) (register_text rd) (register_text rs1) (register_text rs2)
+    (instr.Register op rd rs1 rs2) (register_named op) (register_word rd) (register_word rs1) (register_word rs2)
+    (register_operand rd) (register_operand rs1) (register_operand rs2)
     (rw (register_read rd, register_read rs1, register_read rs2) refl)
 read_again (instr.Fence pred succ) fits =
-    made_two (codes "fence") form.Fence (set_text pred) (set_text succ) (instr.Fence pred succ) (refl, refl) (set_word pred fits.0) (set_word succ fits.1) (set_operand pred fits.0) (set_operand succ fits.1)
+    made_two (codes "fence") form.Fence (set_text pred) (set_text succ) (instr.Fence pred succ) (refl, refl)
+    (set_word pred fits.0) (set_word succ fits.1) (set_operand pred fits.0) (set_operand succ fits.1)
     (rw (set_read pred fits.0, set_read succ fits.1) refl)
 read_again instr.FenceTso fits = alone_read (codes "fence.tso") form.FenceTso instr.FenceTso (refl, refl) refl
 read_again instr.Ecall fits = alone_read (codes "ecall") form.Ecall instr.Ecall (refl, refl) refl
 read_again instr.Ebreak fits = alone_read (codes "ebreak") form.Ebreak instr.Ebreak (refl, refl) refl
 read_again (instr.Amo op rd rs1 rs2 aq rl) fits =
-    made_three (amo_name op ++ order_name aq rl) (form.Amo op aq rl) (register_text rd) (register_text rs2) (40 ∷ (register_text rs1 ++ 41 ∷ [])) (instr.Amo op rd rs1 rs2 aq rl) (amo_named op aq rl) (register_word rd) (register_word rs2) (base_word rs1) (register_operand rd) (register_operand rs2) (base_operand rs1)
+    made_three (amo_name op ++ order_name aq rl) (form.Amo op aq rl) (register_text rd) (register_text rs2)
+    (40 ∷ (register_text rs1 ++ 41 ∷ [])) (instr.Amo op rd rs1 rs2 aq rl) (amo_named op aq rl) (register_word rd)
+    (register_word rs2) (base_word rs1) (register_operand rd) (register_operand rs2) (base_operand rs1)
     (rw (register_read rd, register_read rs2, read pointer (40 ∷ (register_text rs1 ++ 41 ∷ [])) (rs1, pos 0) (base_word rs1) (pointer_spelled rs1)) refl)

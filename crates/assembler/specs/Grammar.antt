@@ -16,7 +16,8 @@ use Rattle.assembler.specs.Spelled.{AreListed, IsSpelled}
 
 abbrev pub AreSpelled : (kinds : List Kind) → Maker kinds → List (List ℕ) → Made → Type 0
 AreSpelled [] result operands made = (operands ≡ []) × (made ≡ result)
-AreSpelled (kind ∷ kinds) make operands made = (operand : List ℕ) × (others : List (List ℕ)) × (x : Value kind) × (operands ≡ operand ∷ others) × IsSpelled kind operand x × AreSpelled kinds (make x) others made
+AreSpelled (kind ∷ kinds) make operands made = (operand : List ℕ) × (others : List (List ℕ)) × (x : Value kind)
+    × (operands ≡ operand ∷ others) × IsSpelled kind operand x × AreSpelled kinds (make x) others made
 
 -- what each mnemonic makes of its operands
 abbrev pub Makes : Form → List (List ℕ) → Made → Type 0
@@ -25,7 +26,9 @@ Makes form operands made = AreSpelled (row form (length operands)).kinds (row fo
 -- A statement: a mnemonic alone, or one with a blank and its operands.
 pub data IsStatement : List ℕ → Made → Type 0 where
   alone : (name : List ℕ) (form : Form) (made : Made) → Contains mnemonics (name, form) → Makes form [] made → IsStatement name made
-  applied : (name : List ℕ) (blank : ℕ) (text : List ℕ) (form : Form) (operands : List (List ℕ)) (made : Made) → Contains mnemonics (name, form) → is_blank blank ≡ true → AreListed text operands → Makes form operands made → IsStatement (name ++ blank ∷ text) made
+  applied : (name : List ℕ) (blank : ℕ) (text : List ℕ) (form : Form) (operands : List (List ℕ)) (made : Made)
+      → Contains mnemonics (name, form) → is_blank blank ≡ true → AreListed text operands → Makes form operands made
+      → IsStatement (name ++ blank ∷ text) made
 
 -- ---- lines
 
@@ -37,7 +40,8 @@ pub data IsBody : List ℕ → Option Made → Type 0 where
 -- a body, or a label with its colon (58) and then a body
 pub data IsUncommented : List ℕ → Line → Type 0 where
   bare : (text : List ℕ) (made : Option Made) → IsBody text made → IsUncommented text (record { label = None; made = made })
-  labelled : (blanks name text : List ℕ) (made : Option Made) → AreBlanks blanks → is_name name ≡ true → IsBody text made → IsUncommented (blanks ++ (name ++ 58 ∷ text)) (record { label = Some name; made = made })
+  labelled : (blanks name text : List ℕ) (made : Option Made) → AreBlanks blanks → is_name name ≡ true
+      → IsBody text made → IsUncommented (blanks ++ (name ++ 58 ∷ text)) (record { label = Some name; made = made })
 
 -- code, and no comment or one from `#` (35) to the line's end
 pub data IsLine : List ℕ → Line → Type 0 where

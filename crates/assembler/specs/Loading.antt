@@ -15,4 +15,5 @@ IsSameWord a b = (a ≡ b) ⊎ ((a ≡ b +ℤ pos (2 ^ 32)) ⊎ (b ≡ a +ℤ po
 pub data Puts (rd : Reg) (n : ℤ) : Made → Type 0 where
   short : (low : ℤ) → IsSigned 11 low → IsSameWord n low → Puts rd n (one (instr.Immediate immediate.Add rd (reg_of 0) low))
   upper : (high : ℕ) → high < 2 ^ 20 → IsSameWord n (pos (4096 * high)) → Puts rd n (one (instr.Lui rd high))
-  both : (high : ℕ) (low : ℤ) → high < 2 ^ 20 → IsSigned 11 low → IsSameWord n (pos (4096 * high) +ℤ low) → Puts rd n (two (instr.Lui rd high) (instr.Immediate immediate.Add rd rd low))
+  both : (high : ℕ) (low : ℤ) → high < 2 ^ 20 → IsSigned 11 low → IsSameWord n (pos (4096 * high) +ℤ low)
+      → Puts rd n (two (instr.Lui rd high) (instr.Immediate immediate.Add rd rd low))

@@ -6,7 +6,10 @@ use Rattle.rv_decode.specs.declared.instruction.AmoOp.{AmoOp}
 use Rattle.assembler.specs.Writing.{branch_name, load_name, store_name, immediate_name, shift_name, register_name, amo_name}
 use Rattle.rv_decode.specs.declared.instruction.AmoOp.TheVariants as amo
 use Rattle.assembler.specs.declared.form.Form.{Form}
-use Rattle.assembler.specs.declared.form.Form.TheVariants.{Lui, Auipc, Jal, Jalr, Branch, Load, Store, Immediate, Shift, Register, Fence, FenceTso, Ecall, Ebreak, Amo, Nop, Move, Invert, Negate, IsZero, IsNotZero, BranchZero, Jump, Return, LoadImmediate}
+use Rattle.assembler.specs.declared.form.Form.TheVariants.{Lui, Auipc, Jal, Jalr, Branch, Load, Store, Immediate, Shift}
+use Rattle.assembler.specs.declared.form.Form.TheVariants.{Register, Fence, FenceTso, Ecall, Ebreak, Amo, Nop, Move}
+use Rattle.assembler.specs.declared.form.Form.TheVariants.{Invert, Negate, IsZero, IsNotZero, BranchZero, Jump, Return}
+use Rattle.assembler.specs.declared.form.Form.TheVariants.{LoadImmediate}
 use Rattle.rv_decode.specs.Tables.{row_of}
 
 -- a mnemonic for each operation
@@ -39,7 +42,8 @@ mnemonics =
     (codes "fence.tso", FenceTso) ∷
     (codes "ecall", Ecall) ∷
     (codes "ebreak", Ebreak) ∷
-    (ordered amo.Swap ++ (ordered amo.Add ++ (ordered amo.Xor ++ (ordered amo.And ++ (ordered amo.Or ++ (ordered amo.Min ++ (ordered amo.Max ++ (ordered amo.MinUnsigned ++ (ordered amo.MaxUnsigned ++
+    (ordered amo.Swap ++ (ordered amo.Add ++ (ordered amo.Xor ++ (ordered amo.And ++ (ordered amo.Or ++
+    (ordered amo.Min ++ (ordered amo.Max ++ (ordered amo.MinUnsigned ++ (ordered amo.MaxUnsigned ++
     (codes "nop", Nop) ∷
     (codes "mv", Move) ∷
     (codes "not", Invert) ∷

@@ -1,5 +1,6 @@
 -- What an operand says, and what is wrong with it where it says nothing that its place asks for.
-use Rattle.std.specs.Prelude.{◌≡◌, ◌≤ℤ◌, ◌<ℤ◌, ℕ, ℤ, pos, negsuc, neg_ℤ, int_lt, unsigned_abs, ◌==◌, ◌%◌, Bool, ◌&&◌, ◌||◌, not, List, length, Option, Some, None, Result, Ok, Err, if◌then◌else◌}
+use Rattle.std.specs.Prelude.{◌≡◌, ◌≤ℤ◌, ◌<ℤ◌, ℕ, ℤ, pos, negsuc, neg_ℤ, int_lt, unsigned_abs, ◌==◌, ◌%◌, Bool, ◌&&◌}
+use Rattle.std.specs.Prelude.{◌||◌, not, List, length, Option, Some, None, Result, Ok, Err, if◌then◌else◌}
 use Rattle.texts.specs.Cutting.{before, after, is_byte, trimmed}
 use Rattle.texts.specs.Numbers.{integer_of}
 use Rattle.texts.specs.Results.{◌>>=◌}

@@ -46,13 +46,18 @@ pub data IsPlaced (all : List Line) (at : ℕ) : Option Made → List Instr → 
   nothing : IsPlaced all at None []
   single : (i : Instr) → IsPlaced all at (Some (one i)) (i ∷ [])
   double : (i j : Instr) → IsPlaced all at (Some (two i j)) (i ∷ j ∷ [])
-  jumping : (rd : Reg) (name : List ℕ) (place : ℕ) → Defines all name place → IsReached (pos 1048576) (bytes (in_bytes at place)) → IsPlaced all at (Some (jump rd name)) (instr.Jal rd (in_bytes at place) ∷ [])
-  branching : (op : BranchOp) (rs1 rs2 : Reg) (name : List ℕ) (place : ℕ) → Defines all name place → IsReached (pos 4096) (bytes (in_bytes at place)) → IsPlaced all at (Some (branch op rs1 rs2 name)) (instr.Branch op rs1 rs2 (in_bytes at place) ∷ [])
+  jumping : (rd : Reg) (name : List ℕ) (place : ℕ) → Defines all name place
+      → IsReached (pos 1048576) (bytes (in_bytes at place))
+      → IsPlaced all at (Some (jump rd name)) (instr.Jal rd (in_bytes at place) ∷ [])
+  branching : (op : BranchOp) (rs1 rs2 : Reg) (name : List ℕ) (place : ℕ) → Defines all name place
+      → IsReached (pos 4096) (bytes (in_bytes at place))
+      → IsPlaced all at (Some (branch op rs1 rs2 name)) (instr.Branch op rs1 rs2 (in_bytes at place) ∷ [])
 
 -- the instructions of lines, the first of which has `at` words before it
 abbrev pub ArePlaced : (all : List Line) (at : ℕ) → List Line → List Instr → Type 0
 ArePlaced all at [] instrs = instrs ≡ []
-ArePlaced all at (line ∷ below) instrs = (front : List Instr) × (rest : List Instr) × (instrs ≡ front ++ rest) × IsPlaced all at line.made front × ArePlaced all (at + size_of line.made) below rest
+ArePlaced all at (line ∷ below) instrs = (front : List Instr) × (rest : List Instr) × (instrs ≡ front ++ rest)
+    × IsPlaced all at line.made front × ArePlaced all (at + size_of line.made) below rest
 
 -- The instructions of all lines, where no label is defined twice and no more than 4,096 words are made.
 pub record AreInstrs (all : List Line) (instrs : List Instr) : Type 0 where

@@ -14,7 +14,8 @@ pub use Rattle.texts.specs.Cutting.{AreBlanks, IsPadded}
 -- Operands, parted by commas (44), with blanks round each.
 pub data AreListed : List ℕ → List (List ℕ) → Type 0 where
   last : (text operand : List ℕ) → IsPadded operand text → AreListed text (operand ∷ [])
-  more : (text operand rest : List ℕ) (operands : List (List ℕ)) → IsPadded operand text → AreListed rest operands → AreListed (text ++ 44 ∷ rest) (operand ∷ operands)
+  more : (text operand rest : List ℕ) (operands : List (List ℕ)) → IsPadded operand text → AreListed rest operands
+      → AreListed (text ++ 44 ∷ rest) (operand ∷ operands)
 
 -- ---- numbers
 

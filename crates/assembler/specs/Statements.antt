@@ -1,6 +1,7 @@
 -- What a statement makes of its operands: a row for each instruction of the manual's assembly syntax, and
 -- for each pseudoinstruction.
-use Rattle.std.specs.Prelude.{ℕ, zero, suc, ℤ, pos, negsuc, ◌+ℤ◌, ◌-ℤ◌, int_lt, unsigned_abs, ◌==◌, ◌^◌, Bool, ◌&&◌, not, List, [], ◌∷◌, length, Result, Ok, Err, if◌then◌else◌}
+use Rattle.std.specs.Prelude.{ℕ, zero, suc, ℤ, pos, negsuc, ◌+ℤ◌, ◌-ℤ◌, int_lt, unsigned_abs, ◌==◌, ◌^◌, Bool, ◌&&◌}
+use Rattle.std.specs.Prelude.{not, List, [], ◌∷◌, length, Result, Ok, Err, if◌then◌else◌}
 use Rattle.std.specs.Int.{int_rem_euclid, int_div_euclid}
 use Rattle.texts.specs.Results.{◌>>=◌}
 use Rattle.rv_decode.specs.Fits.{Fits}
@@ -14,7 +15,10 @@ use Rattle.rv_decode.specs.declared.instruction.Instr.TheVariants as instr
 use Rattle.assembler.specs.declared.faults.AsmFault.{AsmFault}
 use Rattle.assembler.specs.declared.faults.AsmFault.TheVariants.{BadOperand}
 use Rattle.assembler.specs.declared.form.Form.{Form}
-use Rattle.assembler.specs.declared.form.Form.TheVariants.{Lui, Auipc, Jal, Jalr, Branch, Load, Store, Immediate, Shift, Register, Fence, FenceTso, Ecall, Ebreak, Amo, Nop, Move, Invert, Negate, IsZero, IsNotZero, BranchZero, Jump, Return, LoadImmediate}
+use Rattle.assembler.specs.declared.form.Form.TheVariants.{Lui, Auipc, Jal, Jalr, Branch, Load, Store, Immediate, Shift}
+use Rattle.assembler.specs.declared.form.Form.TheVariants.{Register, Fence, FenceTso, Ecall, Ebreak, Amo, Nop, Move}
+use Rattle.assembler.specs.declared.form.Form.TheVariants.{Invert, Negate, IsZero, IsNotZero, BranchZero, Jump, Return}
+use Rattle.assembler.specs.declared.form.Form.TheVariants.{LoadImmediate}
 use Rattle.assembler.specs.declared.statement.Statement.{Statement}
 use Rattle.assembler.specs.declared.statement.Statement.TheVariants as statement
 use Rattle.assembler.specs.Operands.{Target, bytes, label, Kind, register, upper, amount, short, word, address, pointer, near, far, set, Value, value_in}

@@ -18,7 +18,9 @@ use Rattle.rv_decode.specs.declared.instruction.RegisterOp.TheVariants as regist
 use Rattle.rv_decode.specs.declared.instruction.AmoOp.{AmoOp}
 use Rattle.rv_decode.specs.declared.instruction.AmoOp.TheVariants as amo
 use Rattle.rv_decode.specs.declared.instruction.Instr.{Instr}
-use Rattle.rv_decode.specs.declared.instruction.Instr.TheVariants.{Lui, Auipc, Jal, Jalr, Branch, Load, Store, Immediate, Shift, Register, Fence, FenceTso, Ecall, Ebreak, Amo}
+use Rattle.rv_decode.specs.declared.instruction.Instr.TheVariants.{Lui, Auipc, Jal, Jalr, Branch, Load, Store}
+use Rattle.rv_decode.specs.declared.instruction.Instr.TheVariants.{Immediate, Shift, Register, Fence, FenceTso, Ecall}
+use Rattle.rv_decode.specs.declared.instruction.Instr.TheVariants.{Ebreak, Amo}
 
 abbrev pub branch_name : BranchOp → List ℕ
 branch_name branch.Equal = codes "beq"
@@ -119,4 +121,5 @@ text_of (Fence pred succ) = with_two (codes "fence") (set_text pred) (set_text s
 text_of FenceTso = codes "fence.tso"
 text_of Ecall = codes "ecall"
 text_of Ebreak = codes "ebreak"
-text_of (Amo op rd rs1 rs2 aq rl) = with_three (amo_name op ++ order_name aq rl) (register_text rd) (register_text rs2) (codes "(" ++ (register_text rs1 ++ codes ")"))
+text_of (Amo op rd rs1 rs2 aq rl) = with_three (amo_name op ++ order_name aq rl) (register_text rd)
+    (register_text rs2) (codes "(" ++ (register_text rs1 ++ codes ")"))

@@ -34,7 +34,8 @@ fn words_of(alloc: Global, text: &str) -> Result<Vec<u32>, AsmError>
 #[tactic(auto, using(crate::proofs::ProgramGrammar::found_program, crate::proofs::ProgramGrammar::only_program))]
 pub fn assemble(alloc: Global, text: &str) -> Result<Vec<u32>, AsmError>
     ensures found { IfOk result (λ words. (instrs : List Instr) × IsProgram text.now instrs × AreWordsOf words.items instrs) }
-    ensures only { (instrs : List Instr) → IsProgram text.now instrs → GivesUpToMemory refusal_of (λ words. map meaning words.items) result (Ok (map (λ i. Some i) instrs)) }
+    ensures only { (instrs : List Instr) → IsProgram text.now instrs
+        → GivesUpToMemory refusal_of (λ words. map meaning words.items) result (Ok (map (λ i. Some i) instrs)) }
     ensures exact { GivesUpToMemory refusal_of (λ words. map meaning words.items) result (assembled text.now) }
     ensures plain { IfOk result (λ words. AllPlain words.items) }
 {

@@ -74,7 +74,8 @@ impl Draft {
     /// `NoMemory`.
     pub fn line(&mut self, line: &str) -> Result<(), AsmError>
         ensures found { OnOk result ((more : TextLine) × IsLine line.now more × IsFresh self.old more × (self.new ≡ self.old ++ more ∷ [])) }
-        ensures only { (more : TextLine) → IsLine line.now more → IsFresh self.old more → GivesUpToMemory refusal_of (λ _. self.new) result (Ok (self.old ++ more ∷ [])) }
+        ensures only { (more : TextLine) → IsLine line.now more → IsFresh self.old more
+            → GivesUpToMemory refusal_of (λ _. self.new) result (Ok (self.old ++ more ∷ [])) }
         ensures exact { GivesUpToMemory refusal_of (λ _. self.new) result (drafted self.old line.now) }
         ensures refused { IfErr (drafted self.old line.now) (λ refusal. result ≡ Err (Refused refusal)) }
         ensures kept { OnErr result (self.new ≡ self.old) }
@@ -85,7 +86,8 @@ impl Draft {
     /// [`Draft::line`] of a line's bytes.
     pub fn read(&mut self, line: &[u8]) -> Result<(), AsmError>
         ensures found { OnOk result ((more : TextLine) × IsLine line.now more × IsFresh self.old more × (self.new ≡ self.old ++ more ∷ [])) }
-        ensures only { (more : TextLine) → IsLine line.now more → IsFresh self.old more → GivesUpToMemory refusal_of (λ _. self.new) result (Ok (self.old ++ more ∷ [])) }
+        ensures only { (more : TextLine) → IsLine line.now more → IsFresh self.old more
+            → GivesUpToMemory refusal_of (λ _. self.new) result (Ok (self.old ++ more ∷ [])) }
         ensures exact { GivesUpToMemory refusal_of (λ _. self.new) result (drafted self.old line.now) }
         ensures refused { IfErr (drafted self.old line.now) (λ refusal. result ≡ Err (Refused refusal)) }
         ensures kept { OnErr result (self.new ≡ self.old) }
@@ -158,7 +160,8 @@ impl Draft {
     #[tactic(auto, using(crate::proofs::ProgramGrammar::found_instrs, crate::proofs::ProgramGrammar::only_instrs))]
     pub fn finish(self) -> Result<Vec<u32>, AsmError>
         ensures found { IfOk result (λ words. (instrs : List Instr) × AreInstrs self instrs × AreWordsOf words.items instrs) }
-        ensures only { (instrs : List Instr) → AreInstrs self instrs → GivesUpToMemory refusal_of (λ words. map meaning words.items) result (Ok (map (λ i. Some i) instrs)) }
+        ensures only { (instrs : List Instr) → AreInstrs self instrs
+            → GivesUpToMemory refusal_of (λ words. map meaning words.items) result (Ok (map (λ i. Some i) instrs)) }
         ensures exact { GivesUpToMemory refusal_of (λ words. map meaning words.items) result (finished self) }
         ensures too_long { MAX_CODE < words_of self → result ≡ Err (Refused (record { fault = TooLong; line = over 0 1 self })) }
         ensures plain { IfOk result (λ words. AllPlain words.items) }

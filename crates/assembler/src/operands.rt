@@ -3,7 +3,9 @@
 ghost use Rattle.std.specs.Prelude.{◌≡◌, ◌<◌, ◌^◌, ◌<ℤ◌, ◌≤ℤ◌, pos, negsuc, neg_ℤ, IfOk, IsTrue, ◌≤◌, option_map, IfSome};
 ghost use Rattle.std.specs.Option.{option_copied};
 ghost use Rattle.rv_decode.specs.Fits.{IsSigned};
-ghost use Rattle.assembler.specs.Operands.{register_in, in_range, number_in, natural_in, base_in, offset_in, address_in, address_of, target_of, in_reach, target_in, or_zero, IsReached, is_reached, bytes, Tells, set_in};
+ghost use Rattle.assembler.specs.Operands.{register_in, in_range, number_in, natural_in, base_in, offset_in};
+ghost use Rattle.assembler.specs.Operands.{address_in, address_of, target_of, in_reach, target_in, or_zero, IsReached};
+ghost use Rattle.assembler.specs.Operands.{is_reached, bytes, Tells, set_in};
 
 use crate::faults::AsmFault;
 use crate::names::is_name;

@@ -42,7 +42,8 @@ pub fn define_label(
     label: Option<&[u8]>,
     place: usize,
 ) -> Result<(), AllocError>
-    ensures defined { OnOk result ((name : List ℕ) → place_in places.new name ≡ cond (is_label name (option_copied label.entry)) (Some place) (place_in places.old name)) }
+    ensures defined { OnOk result ((name : List ℕ) → place_in places.new name
+        ≡ cond (is_label name (option_copied label.entry)) (Some place) (place_in places.old name)) }
     ensures kept { OnErr result ((name : List ℕ) → place_in places.new name ≡ place_in places.old name) }
 {
     match label {

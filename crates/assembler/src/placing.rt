@@ -81,7 +81,9 @@ fn push_words(
     requires near { (name : List ℕ) → IfSome (found places.now name) (λ place. place ≤ MAX_CODE) }
     requires word { vec_len words.old ≤ MAX_CODE }
     requires fits { MadeFits (kept_made statement.now) }
-    ensures exact { GivesUpToMemory refusal_of (λ _. map meaning words.new.items) result (onto (map meaning words.old.items) (at_line line (placed (found places.now) (vec_len words.old) (Some (kept_made statement.now))))) }
+    ensures exact { GivesUpToMemory refusal_of (λ _. map meaning words.new.items) result
+        (onto (map meaning words.old.items)
+        (at_line line (placed (found places.now) (vec_len words.old) (Some (kept_made statement.now))))) }
     ensures plain { OnOk result (AllPlain words.old.items → AllPlain words.new.items) }
     ensures len { OnOk result (vec_len words.new ≡ vec_len words.old + size_of (Some (kept_made statement.now))) }
 {

@@ -88,7 +88,9 @@ fn amo_form(
     rs2: Reg,
     rs1: Reg,
 ) -> Result<String, AllocError>
-    ensures { IfOk result (λ text. string_bytes text ≡ with_three (name.now ++ order.now) (register_text rd) (register_text rs2) (codes "(" ++ (register_text rs1 ++ codes ")"))) }
+    ensures { IfOk result
+        (λ text. string_bytes text ≡ with_three (name.now ++ order.now) (register_text rd) (register_text rs2)
+        (codes "(" ++ (register_text rs1 ++ codes ")"))) }
 {
     format!(in alloc;
         "{name}{order} x{},x{},(x{})",

@@ -5,7 +5,10 @@ ghost use Rattle.std.specs.List.{slice_get};
 ghost use Rattle.std.specs.String.{string_bytes};
 ghost use Rattle.chart.specs.Sources.{pending_by_row as pending_of_rows};
 ghost use Rattle.chart.specs.Svg.{chart_svg as svg_of_chart};
-ghost use Rattle.chart.specs.Layout.{pending_line as line_of_pending, pending_text, pending_of_hart, pending_of_run, value_text, value_line as line_of_value, verdict_text, verdict_line as line_of_verdict, head_of, foot_of, layout as layout_of_run, chart_text as text_of_chart};
+ghost use Rattle.chart.specs.Layout.{pending_line as line_of_pending, pending_text, pending_of_hart, pending_of_run};
+ghost use Rattle.chart.specs.Layout.{value_text, value_line as line_of_value, verdict_text};
+ghost use Rattle.chart.specs.Layout.{verdict_line as line_of_verdict, head_of, foot_of, layout as layout_of_run};
+ghost use Rattle.chart.specs.Layout.{chart_text as text_of_chart};
 
 use crate::layout::picture_of;
 pub use crate::least_widths::LeastWidths;
@@ -59,7 +62,16 @@ impl Model for About {
 
     ghost Value = { AboutOf };
 
-    ghost view = { λ a. record { name = string_bytes a.name; harts = a.harts; least = a.least; names = map string_bytes a.names.items; instructions = map string_bytes a.instructions.items; values = a.values.items; verdict = string_bytes a.verdict; condition = string_bytes a.condition } };
+    ghost view = { λ a. record {
+      name = string_bytes a.name;
+      harts = a.harts;
+      least = a.least;
+      names = map string_bytes a.names.items;
+      instructions = map string_bytes a.instructions.items;
+      values = a.values.items;
+      verdict = string_bytes a.verdict;
+      condition = string_bytes a.condition;
+    } };
 }
 
 fn pending_line(
@@ -120,7 +132,8 @@ fn push_pending(
     entries: &[Entry],
     hart: u32,
 ) -> Result<(), AllocError>
-    ensures { OnOk result (map string_bytes out.new.items ≡ map string_bytes out.old.items ++ pending_of_hart about.now hart (pending_of_rows hart entries.now)) }
+    ensures { OnOk result (map string_bytes out.new.items ≡ map string_bytes out.old.items
+        ++ pending_of_hart about.now hart (pending_of_rows hart entries.now)) }
 {
     let pending = pending_by_row(alloc, entries, hart)?;
     push_each(alloc, out, about, hart, &pending)

@@ -1,7 +1,9 @@
 //! Lanes: the vertical lines of pending stores.
 
 ghost use Rattle.std.specs.Prelude.{◌≡◌, ◌+◌, ◌<◌, ◌^◌, ◌++◌, length, option_to_list, IfOk, OnOk};
-ghost use Rattle.chart.specs.Lanes.{column_of, is_held, first_free, in_lane, taken, held_by, held_by_landed, others, without_landed, laned_row, held_after, own_line, passing_lines, held_after_entry, lanes_of as lanes_of_rows, held_at_end as held_after_rows};
+ghost use Rattle.chart.specs.Lanes.{column_of, is_held, first_free, in_lane, taken, held_by, held_by_landed, others};
+ghost use Rattle.chart.specs.Lanes.{without_landed, laned_row, held_after, own_line, passing_lines, held_after_entry};
+ghost use Rattle.chart.specs.Lanes.{lanes_of as lanes_of_rows, held_at_end as held_after_rows};
 
 use crate::rows::Row;
 use std::alloc::{AllocError, Global};

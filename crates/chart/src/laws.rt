@@ -22,9 +22,16 @@ ghost use Rattle.chart.specs.Layout.{AboutOf, FitsColumns, layout, scene_of_run}
 #[tactic(auto, using(crate::proofs::Given::byte_given, crate::proofs::Given::load_given, crate::proofs::Given::amo_given, crate::proofs::RowLaws::entries_of_rows))]
 pub fn laws_of_sources()
     ensures bytes { (o : OpeningValue) (es : List Entry) (h a : ℕ) → read_byte o es h a ≡ byte_from o es h a (source_of es h a) }
-    ensures loads { (B : ℕ) (o : OpeningValue) (before : List Entry) (h a width v : ℕ) → Allowed B o before (entry.Load h a width v) → v ≡ joined (λ i. byte_from o before h (a + i) (source_of before h (a + i))) width }
-    ensures amos { (B : ℕ) (o : OpeningValue) (before : List Entry) (h a old new : ℕ) → Allowed B o before (entry.Amo h a old new) → old ≡ joined (λ i. byte_from o before h (a + i) (source_of before h (a + i))) 4 }
-    ensures landings { (B : ℕ) (o : OpeningValue) (before : List Entry) (h : ℕ) → Allowed B o before (entry.Land h) → (row : ℕ) × (landed_store before (entry.Land h) ≡ Some row) × (write_of before (entry.Land h) ≡ stored_at h before row) }
+    ensures loads { (B : ℕ) (o : OpeningValue) (before : List Entry) (h a width v : ℕ)
+        → Allowed B o before (entry.Load h a width v)
+        → v ≡ joined (λ i. byte_from o before h (a + i) (source_of before h (a + i))) width }
+    ensures amos { (B : ℕ) (o : OpeningValue) (before : List Entry) (h a old new : ℕ)
+        → Allowed B o before (entry.Amo h a old new)
+        → old ≡ joined (λ i. byte_from o before h (a + i) (source_of before h (a + i))) 4 }
+    ensures landings { (B : ℕ) (o : OpeningValue) (before : List Entry) (h : ℕ)
+        → Allowed B o before (entry.Land h)
+        → (row : ℕ) × (landed_store before (entry.Land h) ≡ Some row)
+        × (write_of before (entry.Land h) ≡ stored_at h before row) }
     ensures entries { (es : List Entry) → map (λ r. r.entry) (rows_of es) ≡ es }
 {}
 
@@ -38,7 +45,8 @@ pub fn laws_of_lanes()
 /// and the rows' numbers have at most seven digits; and no head of a column stands on another one. It does
 /// nothing.
 pub fn laws_of_texts()
-    ensures rows { (selection : Selection) (about : AboutOf) (es : List Entry) → about.harts ≤ 255 → All (λ e. hart_of e < about.harts) es → length es < 10 ^ 7 → All IsClear (layout selection about es).body }
+    ensures rows { (selection : Selection) (about : AboutOf) (es : List Entry) → about.harts ≤ 255
+        → All (λ e. hart_of e < about.harts) es → length es < 10 ^ 7 → All IsClear (layout selection about es).body }
     ensures heads { (selection : Selection) (about : AboutOf) (es : List Entry) → about.harts ≤ 255 → IsClear (layout selection about es).heads }
 {}
 
@@ -46,6 +54,10 @@ pub fn laws_of_texts()
 /// columns at the same cells, where no row of either takes more than columns have whatever the run. It does
 /// nothing.
 pub fn laws_of_columns()
-    ensures heads { (s t : Selection) (a b : AboutOf) (es fs : List Entry) → a.harts ≡ b.harts → a.least ≡ b.least → ((form : Form) → FitsColumns (scene_of_run s a es) form) → ((form : Form) → FitsColumns (scene_of_run t b fs) form) → (layout s a es).heads ≡ (layout t b fs).heads }
-    ensures width { (s t : Selection) (a b : AboutOf) (es fs : List Entry) → a.harts ≡ b.harts → a.least ≡ b.least → ((form : Form) → FitsColumns (scene_of_run s a es) form) → ((form : Form) → FitsColumns (scene_of_run t b fs) form) → (layout s a es).width ≡ (layout t b fs).width }
+    ensures heads { (s t : Selection) (a b : AboutOf) (es fs : List Entry) → a.harts ≡ b.harts → a.least ≡ b.least
+        → ((form : Form) → FitsColumns (scene_of_run s a es) form)
+        → ((form : Form) → FitsColumns (scene_of_run t b fs) form) → (layout s a es).heads ≡ (layout t b fs).heads }
+    ensures width { (s t : Selection) (a b : AboutOf) (es fs : List Entry) → a.harts ≡ b.harts → a.least ≡ b.least
+        → ((form : Form) → FitsColumns (scene_of_run s a es) form)
+        → ((form : Form) → FitsColumns (scene_of_run t b fs) form) → (layout s a es).width ≡ (layout t b fs).width }
 {}

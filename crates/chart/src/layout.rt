@@ -5,8 +5,12 @@ ghost use Rattle.std.specs.List.{slice_get};
 ghost use Rattle.std.specs.String.{string_bytes};
 ghost use Rattle.chart.specs.declared.scenes.TheConstants.{LONGEST_TEXT};
 ghost use Rattle.chart.specs.declared.pictures.Weight.TheVariants.{Bold};
-ghost use Rattle.chart.specs.Lines.{text_at, number_mark as mark_of_number, row_line as line_of_row, empty_line, line_with, laned_line, line_at, is_without_line, drawn_at, row_lines as lines_of_rows, open_stroke, open_lines, head_mark, head_marks as marks_of_heads, hart_marks, heads_line as line_of_heads};
-ghost use Rattle.chart.specs.Layout.{width_of as width_in, limit as limit_of, form_of as form_for, picture_in as picture_in_form, picture_of as picture_of_scene};
+ghost use Rattle.chart.specs.Lines.{text_at, number_mark as mark_of_number, row_line as line_of_row, empty_line};
+ghost use Rattle.chart.specs.Lines.{line_with, laned_line, line_at, is_without_line, drawn_at};
+ghost use Rattle.chart.specs.Lines.{row_lines as lines_of_rows, open_stroke, open_lines, head_mark};
+ghost use Rattle.chart.specs.Lines.{head_marks as marks_of_heads, hart_marks, heads_line as line_of_heads};
+ghost use Rattle.chart.specs.Layout.{width_of as width_in, limit as limit_of, form_of as form_for};
+ghost use Rattle.chart.specs.Layout.{picture_in as picture_in_form, picture_of as picture_of_scene};
 
 use crate::lanes::{Held, Laned, held_at_end, lanes_of};
 use crate::pictures::{Line, Mark, Picture, Sign, Stroke, Weight};

@@ -103,7 +103,13 @@ impl Model for Picture {
 
     ghost Value = { PictureOf };
 
-    ghost view = { λ p. record { head = map string_bytes p.head.items; heads = p.heads; body = p.body.items; foot = map string_bytes p.foot.items; width = p.width } };
+    ghost view = { λ p. record {
+      head = map string_bytes p.head.items;
+      heads = p.heads;
+      body = p.body.items;
+      foot = map string_bytes p.foot.items;
+      width = p.width;
+    } };
 }
 
 impl Sign {

@@ -3,7 +3,11 @@
 ghost use Rattle.std.specs.Prelude.{◌≡◌, ◌≤◌, ◌<◌, ◌+◌, ◌^◌, ◌++◌, length, codes, map, IfOk, OnOk};
 ghost use Rattle.std.specs.String.{string_bytes};
 ghost use Rattle.chart.specs.declared.scenes.TheConstants.{LONGEST_TEXT};
-ghost use Rattle.chart.specs.Scenes.{is_left_out, scene_of, beside, caller, shown_instruction, shortened as short_text, said as said_by, of_row, instruction_at as instruction_of, said_at as said_of_row, kept_at as kept_of_row, caller_cells as cells_of_caller, least_own, least_said as least_of_rows, said_cells, kept_cells, least_lanes, lanes_in, lanes_to, lanes_at as lanes_of_line, used_after, shape_of, places_of as places_in};
+ghost use Rattle.chart.specs.Scenes.{is_left_out, scene_of, beside, caller, shown_instruction, shortened as short_text};
+ghost use Rattle.chart.specs.Scenes.{said as said_by, of_row, instruction_at as instruction_of, said_at as said_of_row};
+ghost use Rattle.chart.specs.Scenes.{kept_at as kept_of_row, caller_cells as cells_of_caller, least_own};
+ghost use Rattle.chart.specs.Scenes.{least_said as least_of_rows, said_cells, kept_cells, least_lanes, lanes_in};
+ghost use Rattle.chart.specs.Scenes.{lanes_to, lanes_at as lanes_of_line, used_after, shape_of, places_of as places_in};
 
 use crate::lanes::{Held, Laned, Shape};
 use crate::least_widths::LeastWidths;
@@ -55,7 +59,15 @@ impl Model for Scene {
 
     ghost Value = { SceneOf };
 
-    ghost view = { λ s. record { selection = s.selection; names = map string_bytes s.names.items; instructions = map string_bytes s.instructions.items; entries = s.entries.items; rows = s.rows.items; harts = s.harts; least = s.least } };
+    ghost view = { λ s. record {
+      selection = s.selection;
+      names = map string_bytes s.names.items;
+      instructions = map string_bytes s.instructions.items;
+      entries = s.entries.items;
+      rows = s.rows.items;
+      harts = s.harts;
+      least = s.least;
+    } };
 }
 
 /// The rows of a run of `harts` harts.

@@ -3,7 +3,9 @@
 ghost use Rattle.std.specs.Prelude.{◌≡◌, ◌++◌, map, option_map, IfOk, OnOk};
 ghost use Rattle.std.specs.List.{flat_map};
 ghost use Rattle.chart.specs.Places.{lane_cell};
-ghost use Rattle.chart.specs.Lines.{sign_at as stroke_at, across as stroke_across, store_strokes, land_strokes, amo_strokes, own_strokes, is_own, is_read, read_strokes, passing_stroke, row_strokes as strokes_of_row};
+ghost use Rattle.chart.specs.Lines.{sign_at as stroke_at, across as stroke_across, store_strokes, land_strokes};
+ghost use Rattle.chart.specs.Lines.{amo_strokes, own_strokes, is_own, is_read, read_strokes, passing_stroke};
+ghost use Rattle.chart.specs.Lines.{row_strokes as strokes_of_row};
 
 use crate::lanes::{Held, Laned};
 use crate::pictures::{Sign, Stroke};

@@ -3,7 +3,14 @@
 ghost use Rattle.std.specs.Prelude.{◌≡◌, ◌++◌, ◌+◌, ◌<◌, ◌^◌, codes, map, IfOk, OnOk};
 ghost use Rattle.std.specs.List.{flat_map};
 ghost use Rattle.std.specs.String.{string_bytes};
-ghost use Rattle.chart.specs.Svg.{x_of as x_of_cell, y_of as y_of_line, baseline as baseline_of, escaped, text_open, text_place, text_with, text_svg, row_id, mark_svg, path_svg, hart_class as class_with_hart, hart_path, level_path as level_path_of, level_svg, hart_level, open_svg, above_by_sign, stroke_svg, line_svg, widest as widest_of, width_svg, height_svg, said_line, style_svg, size_svg, root_start, root_svg, title_start, title_svg, counts_svg, desc_svg, back_start, back_svg, group_start, rule_svg, heads_group, body_group, foot_group, texts_svg, lines_svg, front_svg, inside_svg, picture_svg};
+ghost use Rattle.chart.specs.Svg.{x_of as x_of_cell, y_of as y_of_line, baseline as baseline_of, escaped, text_open};
+ghost use Rattle.chart.specs.Svg.{text_place, text_with, text_svg, row_id, mark_svg, path_svg};
+ghost use Rattle.chart.specs.Svg.{hart_class as class_with_hart, hart_path, level_path as level_path_of, level_svg};
+ghost use Rattle.chart.specs.Svg.{hart_level, open_svg, above_by_sign, stroke_svg, line_svg, widest as widest_of};
+ghost use Rattle.chart.specs.Svg.{width_svg, height_svg, said_line, style_svg, size_svg, root_start, root_svg};
+ghost use Rattle.chart.specs.Svg.{title_start, title_svg, counts_svg, desc_svg, back_start, back_svg, group_start};
+ghost use Rattle.chart.specs.Svg.{rule_svg, heads_group, body_group, foot_group, texts_svg, lines_svg, front_svg};
+ghost use Rattle.chart.specs.Svg.{inside_svg, picture_svg};
 
 use crate::pictures::{Line, Mark, Picture, Sign, Stroke, Weight};
 use crate::text::{push_byte, shown};

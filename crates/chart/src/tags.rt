@@ -3,7 +3,8 @@
 ghost use Rattle.std.specs.List.{list_any};
 ghost use Rattle.std.specs.Prelude.{◌≡◌, ◌==◌, ◌∷◌, [], ◌++◌, OnOk, IfOk};
 ghost use Rattle.std.specs.String.{string_bytes};
-ghost use Rattle.chart.specs.Tags.{with_row, with_source, named_by as named_by_sources, none_named, spaced, with_rows, with_part, inside, tag_text as text_of_tag};
+ghost use Rattle.chart.specs.Tags.{with_row, with_source, named_by as named_by_sources, none_named, spaced, with_rows};
+ghost use Rattle.chart.specs.Tags.{with_part, inside, tag_text as text_of_tag};
 
 use crate::sources::Source;
 use std::alloc::{AllocError, Global};

@@ -3,7 +3,9 @@
 ghost use Rattle.std.specs.Prelude.{◌≡◌, ◌==◌, ◌+◌, ◌^◌, ◌<◌, if◌then◌else◌, ◌∷◌, [], ◌++◌, map, IfOk, OnOk};
 ghost use Rattle.std.specs.List.{flat_map};
 ghost use Rattle.std.specs.String.{string_bytes};
-ghost use Rattle.chart.specs.Pictures.{sign_byte, strikes, struck as struck_by, byte_of_mark as byte_in_mark, marked as marked_by, shown as shown_byte, cell_of as shown_cell, end_of as end_of_line, cells_of, line_text, plain_line, picture_text};
+ghost use Rattle.chart.specs.Pictures.{sign_byte, strikes, struck as struck_by, byte_of_mark as byte_in_mark};
+ghost use Rattle.chart.specs.Pictures.{marked as marked_by, shown as shown_byte, cell_of as shown_cell};
+ghost use Rattle.chart.specs.Pictures.{end_of as end_of_line, cells_of, line_text, plain_line, picture_text};
 
 use crate::pictures::{Line, Mark, Picture, Stroke};
 use std::alloc::{AllocError, Global};

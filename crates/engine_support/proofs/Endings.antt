@@ -18,12 +18,15 @@ use Rattle.engine_support.specs.inner.Making.{FindsUpToReads, IsEndOf}
 some_longer : (n : ℕ) → (bytes : List ℕ) × (n < length bytes)
 some_longer n = (replicate (n + 1) 0, omega (arith, length-replicate {A = ℕ} (n + 1) 0))
 
-pub too_large-found : (known : Option (List ℕ)) (fault : Fault) → fault ≡ Refused too_large → IfSome known (λ bytes. 1048576 < length bytes) → OfInput known (λ bytes. IsInput bytes (Err fault))
+pub too_large-found : (known : Option (List ℕ)) (fault : Fault) → fault ≡ Refused too_large
+    → IfSome known (λ bytes. 1048576 < length bytes) → OfInput known (λ bytes. IsInput bytes (Err fault))
 too_large-found None fault is many = let large = some_longer 1048576 in (large.0, rw is (refl, large.1))
 too_large-found (Some bytes) fault is many = rw is (refl, many)
 
 -- what was read and this chunk are too many
-pub too_many : (known left after : Option (List ℕ)) (before chunk : List ℕ) (count : ℕ) → Consumes known left before → Consumes left after (take count chunk) → count ≤ length chunk → 1048576 < length before + count → IfSome known (λ bytes. 1048576 < length bytes)
+pub too_many : (known left after : Option (List ℕ)) (before chunk : List ℕ) (count : ℕ) → Consumes known left before
+    → Consumes left after (take count chunk) → count ≤ length chunk → 1048576 < length before + count
+    → IfSome known (λ bytes. 1048576 < length bytes)
 too_many known left after before chunk count was is within many = grind (arith, length-append, length-take)
 
 -- what holds of the bytes more weakly
@@ -49,7 +52,8 @@ handed_on P Q view seen result fault more is finds = grind arith
 
 -- ---- the end
 
-pub ended : {X V W : Type 0} (IsAnswer : Result (List ℕ × V) Refusal → Type 0) (view : X → List ℕ × V) (made : Result X Fault) (result : Result V Fault) (contents : W → Option (List ℕ)) (old new : W)
+pub ended : {X V W : Type 0} (IsAnswer : Result (List ℕ × V) Refusal → Type 0) (view : X → List ℕ × V)
+    (made : Result X Fault) (result : Result V Fault) (contents : W → Option (List ℕ)) (old new : W)
     → FindsUpToReads IsAnswer view made → IsEndOf view made result contents old new → Ends IsAnswer result contents old new
 ended IsAnswer view (Ok x) (Ok v) contents old new finds end = ((view x).0, subst (λ w. IsAnswer (Ok ((view x).0, w))) (sym end.0) finds, end.1)
 ended IsAnswer view (Ok x) (Err WriteFailed) contents old new finds end = (view x, finds)

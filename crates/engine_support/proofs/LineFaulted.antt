@@ -16,5 +16,7 @@ at_line-ok {A = A} number (Err refused) x e = absurd cc
 abbrev RefusedAs : {X Y : Type 0} → (X → Y) → Fault → Result Y Refusal → Type 0
 RefusedAs {X = X} view fault answer = Answers {X = X} view (Err fault) answer
 
-pub refused_at_line : {X Y : Type 0} (view : X → Y) (number : ℕ) (fault : TextError ℕ) (made : Fault) (answer : Result Y ℕ) → made ≡ fault_at number fault → IfSome (refusal_of fault) (λ n. answer ≡ Err n) → RefusedAs view made (at_line number answer)
+pub refused_at_line : {X Y : Type 0} (view : X → Y) (number : ℕ) (fault : TextError ℕ) (made : Fault)
+    (answer : Result Y ℕ) → made ≡ fault_at number fault → IfSome (refusal_of fault) (λ n. answer ≡ Err n)
+    → RefusedAs view made (at_line number answer)
 refused_at_line view number fault made answer is holds = grind arith

@@ -50,7 +50,8 @@ value_or_refusal value_at IsValue input v r only is refused = let read : decoded
 pub said-or_refusal : (input : List ℕ) (said : ScheduleValue) (r : Refusal) → Accepted Says input said → IsNoSchedule input r → ⊥
 unfolding schedule_of
 said-or_refusal input said r =
-    value_or_refusal schedule_of Says input said r (λ says. let found = settled_only (Says input) (said_at input) said (said_settles input) says in rw found refl)
+    value_or_refusal schedule_of Says input said r
+    (λ says. let found = settled_only (Says input) (said_at input) said (said_settles input) says in rw found refl)
 
 pub one_refusal : {V : Type 0} (judgement : Result V Refusal) (r s : Refusal) → judgement ≡ Err r → judgement ≡ Err s → r ≡ s
 one_refusal judgement r s e f = cc
@@ -58,7 +59,8 @@ one_refusal judgement r s e f = cc
 -- ---- what is answered by a value
 
 module _ {V W : Type 0} (IsValue : List ℕ → V → Type 0) (value_at : List ℕ → Result W Refusal) (Makes : V → Output → Type 0) (input : List ℕ)
-    (one : (v w : V) → IsValue input v → IsValue input w → v ≡ w) (never : (v : V) (r : Refusal) → Accepted IsValue input v → decoded value_at input ≡ Err r → ⊥)
+    (one : (v w : V) → IsValue input v → IsValue input w → v ≡ w)
+    (never : (v : V) (r : Refusal) → Accepted IsValue input v → decoded value_at input ≡ Err r → ⊥)
     (same : (v : V) (a b : Output) → Makes v a → Makes v b → a ≡ b) where
   pub one_by_value : (a b : Result Output Refusal) → ByValue IsValue value_at Makes input a → ByValue IsValue value_at Makes input b → a ≡ b
   one_by_value (Ok a) (Ok b) (v, is, makes) (w, also, other) =

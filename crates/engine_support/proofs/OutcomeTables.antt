@@ -77,12 +77,14 @@ module _ {X : Type 0} (gave : (outcome : List ℕ) → X → Bool) (end_of : (ou
   unfolding seen_of
   seen_both front back outcome later first =
       let p : X → Bool = gave outcome in
-      ap₂ (λ (b : Bool) (n : ℕ). cond b (Some (n, end_of outcome (front ++ back))) None) (list_any-append p front back) (sum_by-append (λ y. cond (p y) 1 0) front back)
+      ap₂ (λ (b : Bool) (n : ℕ). cond b (Some (n, end_of outcome (front ++ back))) None)
+      (list_any-append p front back) (sum_by-append (λ y. cond (p y) 1 0) front back)
       ∙ twice (list_any p front) (list_any p back) (count_by p front) (count_by p back) (end_of outcome front) (end_of outcome back)
       (end_of outcome (front ++ back)) (none_counted p front) (none_counted p back) later first
 
   -- no count is above the number of runs
-  pub seen_few : (runs : List X) (outcome : List ℕ) (most : ℕ) → length runs < most → IfSome {T = Counted} (seen_of gave end_of runs outcome) (λ seen. seen.0 < most)
+  pub seen_few : (runs : List X) (outcome : List ℕ) (most : ℕ) → length runs < most
+      → IfSome {T = Counted} (seen_of gave end_of runs outcome) (λ seen. seen.0 < most)
   unfolding seen_of
   seen_few runs outcome most few =
       let less = count_by-le-length (gave outcome) runs in

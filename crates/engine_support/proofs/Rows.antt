@@ -27,44 +27,68 @@ same_itself xs = is_eq-slice_cmp xs xs ∙ (bytes_eq-Decides xs xs).1 refl
 one_test : {X : Type 0} (b c : Bool) (v w : X) (o : Option X) → c ≡ b → cond c (Some v) o ≡ cond b (Some v) (cond c (Some w) o)
 one_test b c v w o e = grind arith
 
-two_tests : {X : Type 0} (b c : Bool) (v w : X) (o : Option X) → (c ≡ true → b ≡ true → ⊥) → cond c (Some w) (cond b (Some v) o) ≡ cond b (Some v) (cond c (Some w) o)
+two_tests : {X : Type 0} (b c : Bool) (v w : X) (o : Option X) → (c ≡ true → b ≡ true → ⊥)
+    → cond c (Some w) (cond b (Some v) o) ≡ cond b (Some v) (cond c (Some w) o)
 two_tests b c v w o apart = grind arith
 
 either : {X : Type 0} (b : Bool) (x : X) → x ≡ cond b x x
 either b x = grind arith
 
 -- another value for the key that is found
-lookup_set : {X : Type 0} (key other : List ℕ) (value : X) (rows : List (Vec ℕ × X)) → lookup (is_key other) (set_value (is_key key) rows value) ≡ cond (is_eq (slice_cmp nat_cmp other key)) (option_map (λ (old : X). value) (lookup (is_key key) rows)) (lookup (is_key other) rows)
+lookup_set : {X : Type 0} (key other : List ℕ) (value : X) (rows : List (Vec ℕ × X))
+    → lookup (is_key other) (set_value (is_key key) rows value)
+    ≡ cond (is_eq (slice_cmp nat_cmp other key)) (option_map (λ (old : X). value) (lookup (is_key key) rows))
+    (lookup (is_key other) rows)
 lookup_set key other value [] = either (is_eq (slice_cmp nat_cmp other key)) None
 lookup_set {X} key other value (e ∷ rows) = by (is_key key e.0) refl (lookup_set key other value rows)
   where
-    by : (b : Bool) → is_key key e.0 ≡ b → lookup (is_key other) (set_value (is_key key) rows value) ≡ cond (is_eq (slice_cmp nat_cmp other key)) (option_map (λ (old : X). value) (lookup (is_key key) rows)) (lookup (is_key other) rows)
-        → lookup (is_key other) (cond b ((e.0, value) ∷ rows) (e ∷ set_value (is_key key) rows value)) ≡ cond (is_eq (slice_cmp nat_cmp other key)) (option_map (λ (old : X). value) (cond b (Some e.1) (lookup (is_key key) rows))) (cond (is_key other e.0) (Some e.1) (lookup (is_key other) rows))
-    by true is rest = subst (λ (k : List ℕ). cond (is_key other e.0) (Some value) (lookup (is_key other) rows) ≡ cond (is_eq (slice_cmp nat_cmp other k)) (Some value) (cond (is_key other e.0) (Some e.1) (lookup (is_key other) rows))) (sym (same_is key e.0.items is)) (one_test (is_key other e.0) (is_key other e.0) value e.1 (lookup (is_key other) rows) refl)
+    by : (b : Bool) → is_key key e.0 ≡ b → lookup (is_key other) (set_value (is_key key) rows value)
+        ≡ cond (is_eq (slice_cmp nat_cmp other key)) (option_map (λ (old : X). value) (lookup (is_key key) rows))
+        (lookup (is_key other) rows)
+        → lookup (is_key other) (cond b ((e.0, value) ∷ rows) (e ∷ set_value (is_key key) rows value))
+        ≡ cond (is_eq (slice_cmp nat_cmp other key))
+        (option_map (λ (old : X). value) (cond b (Some e.1) (lookup (is_key key) rows)))
+        (cond (is_key other e.0) (Some e.1) (lookup (is_key other) rows))
+    by true is rest = subst (λ (k : List ℕ). cond (is_key other e.0) (Some value) (lookup (is_key other) rows)
+        ≡ cond (is_eq (slice_cmp nat_cmp other k)) (Some value)
+        (cond (is_key other e.0) (Some e.1) (lookup (is_key other) rows))) (sym (same_is key e.0.items is))
+        (one_test (is_key other e.0) (is_key other e.0) value e.1 (lookup (is_key other) rows) refl)
     by false is rest = at (is_eq (slice_cmp nat_cmp other key)) refl rest
       where
-        at : (b : Bool) → is_eq (slice_cmp nat_cmp other key) ≡ b → lookup (is_key other) (set_value (is_key key) rows value) ≡ cond b (option_map (λ (old : X). value) (lookup (is_key key) rows)) (lookup (is_key other) rows)
-            → cond (is_key other e.0) (Some e.1) (lookup (is_key other) (set_value (is_key key) rows value)) ≡ cond b (option_map (λ (old : X). value) (lookup (is_key key) rows)) (cond (is_key other e.0) (Some e.1) (lookup (is_key other) rows))
+        at : (b : Bool) → is_eq (slice_cmp nat_cmp other key) ≡ b
+            → lookup (is_key other) (set_value (is_key key) rows value)
+            ≡ cond b (option_map (λ (old : X). value) (lookup (is_key key) rows)) (lookup (is_key other) rows)
+            → cond (is_key other e.0) (Some e.1) (lookup (is_key other) (set_value (is_key key) rows value))
+            ≡ cond b (option_map (λ (old : X). value) (lookup (is_key key) rows))
+            (cond (is_key other e.0) (Some e.1) (lookup (is_key other) rows))
         at true same rest =
             let none : is_key other e.0 ≡ false = subst (λ (k : List ℕ). is_eq (slice_cmp nat_cmp k e.0.items) ≡ false) (sym (same_is other key same)) is in
             ap (λ (b : Bool). cond b (Some e.1) (lookup (is_key other) (set_value (is_key key) rows value))) none ∙ rest
         at false apart rest = ap (λ (o : Option X). cond (is_key other e.0) (Some e.1) o) rest
 
-lookup_inserted : {X : Type 0} (key : Vec ℕ) (value : X) (other : List ℕ) (rows : List (Vec ℕ × X)) → lookup (is_key other) (insert_entry order rows key value) ≡ cond (is_key other key) (Some value) (lookup (is_key other) rows)
+lookup_inserted : {X : Type 0} (key : Vec ℕ) (value : X) (other : List ℕ) (rows : List (Vec ℕ × X))
+    → lookup (is_key other) (insert_entry order rows key value)
+    ≡ cond (is_key other key) (Some value) (lookup (is_key other) rows)
 lookup_inserted key value other [] = refl
 lookup_inserted {X} key value other (e ∷ rows) = by (order key e.0) refl (lookup_inserted key value other rows)
   where
-    by : (o : Ordering) → order key e.0 ≡ o → lookup (is_key other) (insert_entry order rows key value) ≡ cond (is_key other key) (Some value) (lookup (is_key other) rows)
-        → lookup (is_key other) (match_ordering o ((key, value) ∷ e ∷ rows) ((e.0, value) ∷ rows) (e ∷ insert_entry order rows key value)) ≡ cond (is_key other key) (Some value) (cond (is_key other e.0) (Some e.1) (lookup (is_key other) rows))
+    by : (o : Ordering) → order key e.0 ≡ o → lookup (is_key other) (insert_entry order rows key value)
+        ≡ cond (is_key other key) (Some value) (lookup (is_key other) rows)
+        → lookup (is_key other)
+        (match_ordering o ((key, value) ∷ e ∷ rows) ((e.0, value) ∷ rows) (e ∷ insert_entry order rows key value))
+        ≡ cond (is_key other key) (Some value) (cond (is_key other e.0) (Some e.1) (lookup (is_key other) rows))
     by Less is rest = refl
     by Equal is rest =
         let same : e.0.items ≡ key.items = sym (same_is key.items e.0.items (ap is_eq is)) in
         one_test (is_key other key) (is_key other e.0) value e.1 (lookup (is_key other) rows) (ap (λ (k : List ℕ). is_eq (slice_cmp nat_cmp other k)) same)
     by Greater is rest =
         let apart : is_key other e.0 ≡ true → is_key other key ≡ true → ⊥ = λ at_e at_key.
-        let same : is_eq (order key e.0) ≡ true = subst (λ (k : List ℕ). is_eq (slice_cmp nat_cmp key.items k) ≡ true) (sym (same_is other key.items at_key) ∙ same_is other e.0.items at_e) (same_itself key.items) in
+        let same : is_eq (order key e.0) ≡ true =
+        subst (λ (k : List ℕ). is_eq (slice_cmp nat_cmp key.items k) ≡ true)
+        (sym (same_is other key.items at_key) ∙ same_is other e.0.items at_e) (same_itself key.items) in
         let none : is_eq (order key e.0) ≡ false = ap is_eq is in cc in
-        ap (λ (o : Option X). cond (is_key other e.0) (Some e.1) o) rest ∙ two_tests (is_key other key) (is_key other e.0) value e.1 (lookup (is_key other) rows) apart
+        ap (λ (o : Option X). cond (is_key other e.0) (Some e.1) o) rest
+        ∙ two_tests (is_key other key) (is_key other e.0) value e.1 (lookup (is_key other) rows) apart
 
 -- what was counted of the outcome, as the keys tell it
 by_keys : (key : List ℕ) (later : Counted) (old new : (outcome : List ℕ) → Option Counted)
@@ -76,12 +100,15 @@ by_keys key later old new counts = λ other.
 pub row-again : (later : Counted) (old : List (Vec ℕ × Row)) (key : List ℕ) (row : Row) → Some row ≡ lookup (is_key key) old
     → Counts key later (counted_of old) (counted_of (set_value (is_key key) old (record row { count = row.count + later.0 })))
 unfolding counted_of
-row-again later old key row found = by_keys key later (counted_of old) (counted_of (set_value (is_key key) old (record row { count = row.count + later.0 }))) (λ other.
+row-again later old key row found = by_keys key later (counted_of old)
+    (counted_of (set_value (is_key key) old (record row { count = row.count + later.0 }))) (λ other.
     ap (option_map counted_by) (lookup_set key other (record row { count = row.count + later.0 }) old)
     ∙ by other (is_eq (slice_cmp nat_cmp other key)) refl)
   where
     by : (other : List ℕ) (b : Bool) → is_eq (slice_cmp nat_cmp other key) ≡ b
-        → option_map counted_by (cond b (option_map (λ (old : Row). record row { count = row.count + later.0 }) (lookup (is_key key) old)) (lookup (is_key other) old))
+        → option_map counted_by
+        (cond b (option_map (λ (old : Row). record row { count = row.count + later.0 }) (lookup (is_key key) old))
+        (lookup (is_key other) old))
         ≡ cond b (counted_both (counted_of old other) (Some later)) (counted_of old other)
     by other true same =
         let here : Some row ≡ lookup (is_key other) old = found ∙ ap (λ (k : List ℕ). lookup (is_key k) old) (sym (same_is other key same)) in
@@ -96,7 +123,8 @@ row-first old key row none = by_keys key.items (counted_by row) (counted_of old)
     ap (option_map counted_by) (lookup_inserted key row other old) ∙ by other (is_key other key) refl)
   where
     by : (other : List ℕ) (b : Bool) → is_key other key ≡ b
-        → option_map counted_by (cond b (Some row) (lookup (is_key other) old)) ≡ cond b (counted_both (counted_of old other) (Some (counted_by row))) (counted_of old other)
+        → option_map counted_by (cond b (Some row) (lookup (is_key other) old))
+        ≡ cond b (counted_both (counted_of old other) (Some (counted_by row))) (counted_of old other)
     by other true same =
         let here : None ≡ lookup (is_key other) old = none ∙ ap (λ (k : List ℕ). lookup (is_key k) old) (sym (same_is other key.items same)) in
         rw (← here) refl
@@ -113,7 +141,9 @@ unfolding counted_of
 nothing_there rows outcome none = rw none refl
 
 -- the row that is found is one that something is counted of
-pub found-row : (Small : ℕ → Type 0) (rows : List (Vec ℕ × Row)) (outcome : List ℕ) (found : Option Row) → found ≡ lookup (is_key outcome) rows → IfSome (counted_of rows outcome) (λ seen. Small seen.0) → IfSome found (λ row. Small row.count)
+pub found-row : (Small : ℕ → Type 0) (rows : List (Vec ℕ × Row)) (outcome : List ℕ) (found : Option Row)
+    → found ≡ lookup (is_key outcome) rows → IfSome (counted_of rows outcome) (λ seen. Small seen.0)
+    → IfSome found (λ row. Small row.count)
 unfolding counted_of
 found-row Small rows outcome found is small = grind arith
 
@@ -134,7 +164,9 @@ IsLeft now left both = (other : List ℕ) → counted_both (counted_of now other
 
 -- a row was taken in of those that are left
 pub row_taken : (key : Vec ℕ) (later : Row) (left rest now new : List (Vec ℕ × Row)) (both : List ℕ → Option Counted) → left ≡ (key, later) ∷ rest
-    → IsStrictlySortedBy order (keys_of left) → Counts key.items (counted_by later) (counted_of now) (counted_of new) → IsLeft now left both → IsLeft new rest both
+    → IsStrictlySortedBy order (keys_of left)
+    → Counts key.items (counted_by later) (counted_of now) (counted_of new) → IsLeft now left both
+    → IsLeft new rest both
 unfolding counted_of
 row_taken key later left rest now new both is sorted counts so_far other = grind (arith, option_map, none_later, sorted_head, both_none, is_eq-slice_cmp)
 

@@ -45,13 +45,16 @@ pub one_run : (B M : ℕ) (o : OpeningValue) (said : ScheduleValue) (a b : Resul
 one_run B M o (plain events) (Ok t) (Ok u) is other = ap (λ (h : History). Ok h) (run-one B M (at_opening o) events t u is other)
 one_run B M o (plain events) (Ok t) (Err r) is never = absurd never
 one_run B M o (plain events) (Err r) b never other = absurd never
-one_run B M o (recorded steps) (Ok t) (Ok u) is other = ap (λ (h : History). Ok h) (run-one B M (at_opening o) (events_in steps) t u (record_runs B M o steps t is) (record_runs B M o steps u other))
+one_run B M o (recorded steps) (Ok t) (Ok u) is other = ap (λ (h : History). Ok h)
+    (run-one B M (at_opening o) (events_in steps) t u (record_runs B M o steps t is) (record_runs B M o steps u other))
 one_run B M o (recorded steps) (Ok t) (Err r) is (event, differs, named) = absurd (no_other B M o steps t event is differs)
 one_run B M o (recorded steps) (Err r) (Ok u) (event, differs, named) is = absurd (no_other B M o steps u event is differs)
-one_run B M o (recorded steps) (Err r) (Err s) (i, first, named) (j, other, also) = ap (λ (x : Refusal). Err x) (named ∙ ap differing (one_place B M o steps i j first other) ∙ sym also)
+one_run B M o (recorded steps) (Err r) (Err s) (i, first, named) (j, other, also) =
+    ap (λ (x : Refusal). Err x) (named ∙ ap differing (one_place B M o steps i j first other) ∙ sym also)
 
 -- the outcomes of some events
-same_outcomes : (B M : ℕ) (t : History) (steps others : List Step) (new last : History) → RecordFrom B M t steps new → RecordFrom B M t others last → events_in steps ≡ events_in others → steps ≡ others
+same_outcomes : (B M : ℕ) (t : History) (steps others : List Step) (new last : History) → RecordFrom B M t steps new
+    → RecordFrom B M t others last → events_in steps ≡ events_in others → steps ≡ others
 same_outcomes B M t [] [] new last is other same = refl
 same_outcomes B M t ((event, outcome) ∷ steps) ((again, result) ∷ others) new last is other same =
     let events : event ≡ again = cc in
@@ -80,5 +83,8 @@ opening_stays B M o (plain events) t ran = opening_kept B M o events t ran
 opening_stays B M o (recorded steps) t ran = opening_kept B M o (events_in steps) t (record_runs B M o steps t ran)
 
 -- the record of a run of events alone
-pub noted : (B M : ℕ) (o : OpeningValue) (steps : List Step) (events : List Event) (said : ScheduleValue) → said ≡ plain events → events_in steps ≡ events → (h : History) × IsRunRecord B M o steps h → Records B M o said (Ok steps)
-noted B M o steps events said is same ran = subst (λ (s : ScheduleValue). Records B M o s (Ok steps)) (sym is) (same, (ran.0, subst (λ (es : List Event). Run B M o es ran.0) same (record_runs B M o steps ran.0 ran.1), ran.1))
+pub noted : (B M : ℕ) (o : OpeningValue) (steps : List Step) (events : List Event) (said : ScheduleValue)
+    → said ≡ plain events → events_in steps ≡ events → (h : History) × IsRunRecord B M o steps h
+    → Records B M o said (Ok steps)
+noted B M o steps events said is same ran = subst (λ (s : ScheduleValue). Records B M o s (Ok steps)) (sym is)
+    (same, (ran.0, subst (λ (es : List Event). Run B M o es ran.0) same (record_runs B M o steps ran.0 ran.1), ran.1))

@@ -15,8 +15,10 @@ use Rattle.engine_support.specs.inner.Inputs.{IsReadAsTest, IsReadAsSchedule, Ar
 use Rattle.engine_support.proofs.Endings.{answered_by, handed_on, weaker}
 
 -- what is given_test of both, in other words
-pub by_schedule_as : {A C : Type 0} (P : LitmusTest → ScheduleValue → Result A Refusal → Type 0) (Q : LitmusTest → ScheduleValue → Result C Refusal → Type 0) (refusal : Refusal)
-    → ((test : LitmusTest) (said : ScheduleValue) → P test said (Err refusal) → Q test said (Err refusal)) → (file schedule : List ℕ) → BySchedule P file schedule (Err refusal) → BySchedule Q file schedule (Err refusal)
+pub by_schedule_as : {A C : Type 0} (P : LitmusTest → ScheduleValue → Result A Refusal → Type 0)
+    (Q : LitmusTest → ScheduleValue → Result C Refusal → Type 0) (refusal : Refusal)
+    → ((test : LitmusTest) (said : ScheduleValue) → P test said (Err refusal) → Q test said (Err refusal))
+    → (file schedule : List ℕ) → BySchedule P file schedule (Err refusal) → BySchedule Q file schedule (Err refusal)
 by_schedule_as P Q refusal more file schedule (no_test r bad) = no_test r bad
 by_schedule_as P Q refusal more file schedule (no_schedule test r is_test bad) = no_schedule test r is_test bad
 by_schedule_as P Q refusal more file schedule (both test said answer is_test read holds) = both test said (Err refusal) is_test read (more test said holds)
@@ -38,8 +40,11 @@ module _ (first second : Option (List ℕ)) where
     Answers = AnswersBoth (BySchedule IsAnswer) first second
 
     -- both were read
-    pub both_read : (test : LitmusTest) (said : ScheduleValue) (answer : Result A Refusal) → OfInput first (λ bytes. IsReadAsTest bytes (Ok test)) → OfInput second (λ bytes. IsReadAsSchedule bytes (Ok said)) → IsAnswer test said answer → Answers answer
-    both_read test said answer is_test schedule holds = weaker first _ _ (λ file is. weaker second _ _ (λ text says. both test said answer is says holds) schedule) is_test
+    pub both_read : (test : LitmusTest) (said : ScheduleValue) (answer : Result A Refusal)
+        → OfInput first (λ bytes. IsReadAsTest bytes (Ok test))
+        → OfInput second (λ bytes. IsReadAsSchedule bytes (Ok said)) → IsAnswer test said answer → Answers answer
+    both_read test said answer is_test schedule holds = weaker first _ _
+        (λ file is. weaker second _ _ (λ text says. both test said answer is says holds) schedule) is_test
 
     -- the first was refused
     first_refused : (refusal : Refusal) → OfInput first (λ bytes. IsNoTest bytes refusal) → Answers (Err refusal)
@@ -50,17 +55,24 @@ module _ (first second : Option (List ℕ)) where
         any (Some text) file bad = no_test refusal bad
 
     -- the second was
-    second_refused : (test : LitmusTest) (refusal : Refusal) → OfInput first (λ bytes. IsReadAsTest bytes (Ok test)) → OfInput second (λ bytes. IsReadAsSchedule bytes (Err refusal)) → Answers (Err refusal)
+    second_refused : (test : LitmusTest) (refusal : Refusal) → OfInput first (λ bytes. IsReadAsTest bytes (Ok test))
+        → OfInput second (λ bytes. IsReadAsSchedule bytes (Err refusal)) → Answers (Err refusal)
     second_refused test refusal is_test none = weaker first _ _ (λ file is. weaker second _ _ (λ text bad. no_schedule test refusal is bad) none) is_test
 
     -- a fault in reading the first or the second, or in what is made of them
     module _ {X : Type 0} (seen : X → A) (result : Result X Fault) where
-      pub test_fault : {Y : Type 0} (view : Y → LitmusTest) (fault : Fault) → result ≡ Err fault → FindsByUpToReads IsReadAsTest view first (Err fault) → FindsUpToReads Answers seen result
-      test_fault view fault = handed_on (λ (a : Result LitmusTest Refusal). OfInput first (λ bytes. IsReadAsTest bytes a)) Answers view seen result fault first_refused
+      pub test_fault : {Y : Type 0} (view : Y → LitmusTest) (fault : Fault) → result ≡ Err fault
+          → FindsByUpToReads IsReadAsTest view first (Err fault) → FindsUpToReads Answers seen result
+      test_fault view fault =
+          handed_on (λ (a : Result LitmusTest Refusal). OfInput first (λ bytes. IsReadAsTest bytes a)) Answers view seen
+          result fault first_refused
 
-      pub schedule_fault : {Y : Type 0} (view : Y → ScheduleValue) (test : LitmusTest) (fault : Fault) → result ≡ Err fault → OfInput first (λ bytes. IsReadAsTest bytes (Ok test)) → FindsByUpToReads IsReadAsSchedule view second (Err fault) → FindsUpToReads Answers seen result
+      pub schedule_fault : {Y : Type 0} (view : Y → ScheduleValue) (test : LitmusTest) (fault : Fault)
+          → result ≡ Err fault → OfInput first (λ bytes. IsReadAsTest bytes (Ok test))
+          → FindsByUpToReads IsReadAsSchedule view second (Err fault) → FindsUpToReads Answers seen result
       schedule_fault view test fault is is_test =
-          handed_on (λ (a : Result ScheduleValue Refusal). OfInput second (λ bytes. IsReadAsSchedule bytes a)) Answers view seen result fault (λ r. second_refused test r is_test) is
+          handed_on (λ (a : Result ScheduleValue Refusal). OfInput second (λ bytes. IsReadAsSchedule bytes a))
+          Answers view seen result fault (λ r. second_refused test r is_test) is
 
   -- what is made of what was read answers both
   module _ {A X : Type 0} (IsAnswer : LitmusTest → ScheduleValue → Result A Refusal → Type 0) (seen : X → A) (result : Result X Fault) where
@@ -73,11 +85,15 @@ module _ (first second : Option (List ℕ)) where
             both given_test given_said answer is_test says (subst (λ (read : LitmusTest × ScheduleValue). IsAnswer read.0 read.1 answer) is holds)
 
     pub made_of_read : (test : LitmusTest) (said : ScheduleValue) (made : Result X Fault) → result ≡ made
-        → AnswersBoth (BySchedule AreRead) first second (Ok (test, said)) → AnswersAs (IsAnswer test said) seen made → FindsUpToReads (AnswersBoth (BySchedule IsAnswer) first second) seen result
-    made_of_read test said made is read answers = rw is (answered_by (IsAnswer test said) _ seen made (λ answer holds. answered test said answer holds read) answers)
+        → AnswersBoth (BySchedule AreRead) first second (Ok (test, said)) → AnswersAs (IsAnswer test said) seen made
+        → FindsUpToReads (AnswersBoth (BySchedule IsAnswer) first second) seen result
+    made_of_read test said made is read answers = rw is
+        (answered_by (IsAnswer test said) _ seen made (λ answer holds. answered test said answer holds read) answers)
 
     -- and so does a fault in reading them
-    pub read_fault : (fault : Fault) → result ≡ Err fault → FindsUpToReads (AnswersBoth (BySchedule AreRead) first second) test_and_said (Err fault) → FindsUpToReads (AnswersBoth (BySchedule IsAnswer) first second) seen result
+    pub read_fault : (fault : Fault) → result ≡ Err fault
+        → FindsUpToReads (AnswersBoth (BySchedule AreRead) first second) test_and_said (Err fault)
+        → FindsUpToReads (AnswersBoth (BySchedule IsAnswer) first second) seen result
     read_fault fault =
         handed_on (AnswersBoth (BySchedule AreRead) first second) (AnswersBoth (BySchedule IsAnswer) first second) test_and_said seen result fault
         (λ r. weaker_both (BySchedule AreRead) (BySchedule IsAnswer) (Err r) (Err r) (by_schedule_as AreRead IsAnswer r (λ test said never. absurd never)))

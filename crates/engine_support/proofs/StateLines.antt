@@ -12,11 +12,14 @@ pub registers_shown-none : (o : Option HartState) → registers_shown o 0 ≡ []
 unfolding registers_shown
 registers_shown-none o = grind arith
 
-pub registers_shown-more : (o : Option HartState) (n v : ℕ) → option_map (λ (s : HartState). get_or s.registers n 0) o ≡ Some v → registers_shown o (n + 1) ≡ registers_shown o n ++ register_line n v
+pub registers_shown-more : (o : Option HartState) (n v : ℕ)
+    → option_map (λ (s : HartState). get_or s.registers n 0) o ≡ Some v
+    → registers_shown o (n + 1) ≡ registers_shown o n ++ register_line n v
 unfolding registers_shown
 registers_shown-more o n v e = grind (arith, flat_map_counted, get_or, some_is)
 
-pub hart_text-is : (h count pc : ℕ) (status : Status) (o : Option HartState) → option_map (λ (s : HartState). s.status) o ≡ Some status → option_map (λ (s : HartState). s.pc) o ≡ Some pc
+pub hart_text-is : (h count pc : ℕ) (status : Status) (o : Option HartState)
+    → option_map (λ (s : HartState). s.status) o ≡ Some status → option_map (λ (s : HartState). s.pc) o ≡ Some pc
     → hart_text h o count ≡ hart_line h status pc count ++ registers_shown o 32
 unfolding hart_text
 hart_text-is h count pc status o e f = grind (arith, some_is)

@@ -16,16 +16,20 @@ use Rattle.engine_support.specs.inner.Inputs.{IsReadAsText}
 use Rattle.engine_support.proofs.Judging.{decoded-as_text, decoded-text, decoded-well}
 
 -- an error tells the fault at some line
-pub answered_refusal : {X : Type 0} (view : X → Content) (text : List ℕ) (e : TextError (AtLine LitmusFault)) → IfSome (fault_of e) (λ f. test_at text ≡ Err f) → (line : ℕ) × Answers view (Err (fault_for (refused_at fault_number) e)) (test_of line text)
+pub answered_refusal : {X : Type 0} (view : X → Content) (text : List ℕ) (e : TextError (AtLine LitmusFault))
+    → IfSome (fault_of e) (λ f. test_at text ≡ Err f)
+    → (line : ℕ) × Answers view (Err (fault_for (refused_at fault_number) e)) (test_of line text)
 unfolding test_of
 answered_refusal view text error.NoMemory is = (0, tt)
 answered_refusal view text (error.Refused refusal) is = (refusal.line, rw is refl)
 
 -- an input that has a test isn't refused, at whichever line
-well_or_refused : (r : Result Content LitmusFault) (line other : ℕ) (test : Content) (refusal : Refusal) → refused_test line r ≡ Ok test → refused_test other r ≡ Err refusal → ⊥
+well_or_refused : (r : Result Content LitmusFault) (line other : ℕ) (test : Content) (refusal : Refusal)
+    → refused_test line r ≡ Ok test → refused_test other r ≡ Err refusal → ⊥
 well_or_refused r line other test refusal e f = grind arith
 
-pub test_or_none : (input : List ℕ) (line other : ℕ) (test : Content) (refusal : Refusal) → decoded (test_of line) input ≡ Ok test → decoded (test_of other) input ≡ Err refusal → ⊥
+pub test_or_none : (input : List ℕ) (line other : ℕ) (test : Content) (refusal : Refusal)
+    → decoded (test_of line) input ≡ Ok test → decoded (test_of other) input ≡ Err refusal → ⊥
 unfolding test_of
 test_or_none input line other test refusal e f = grind (arith, decoded-well, well_or_refused, decoded-text)
 

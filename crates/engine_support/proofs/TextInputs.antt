@@ -25,8 +25,11 @@ module _ (known : Option (List ℕ)) (input : List ℕ) (read : OfInput known (�
   no_text_read none = weaker known _ _ (λ bytes e. rw (← e) (decoded-no_text (λ b. Ok b) input few none)) read
 
 -- what answers the text that was read answers the input
-pub answered_text : {X Y : Type 0} (IsAnswer : List ℕ → Result Y Refusal → Type 0) (view : X → Y) (known : Option (List ℕ)) (text : List ℕ) (result : Result X Fault)
-    → OfInput known (λ bytes. IsReadAsText bytes (Ok text)) → (length text ≤ 1048576 → IsUtf8 text → AnswersAs (IsAnswer text) view result) → FindsByUpToReads IsAnswer view known result
+pub answered_text : {X Y : Type 0} (IsAnswer : List ℕ → Result Y Refusal → Type 0) (view : X → Y)
+    (known : Option (List ℕ)) (text : List ℕ) (result : Result X Fault)
+    → OfInput known (λ bytes. IsReadAsText bytes (Ok text))
+    → (length text ≤ 1048576 → IsUtf8 text → AnswersAs (IsAnswer text) view result)
+    → FindsByUpToReads IsAnswer view known result
 answered_text IsAnswer view known text result read answers =
     let (bytes, is) = some_bytes known _ read in
     let text_is = decoded-as_text bytes text is in
@@ -35,10 +38,12 @@ answered_text IsAnswer view known text result read answers =
     (answers text_is.1 text_is.2)
 
 -- and so does what its value makes
-pub answered_value : {V : Type 0} (IsValue : List ℕ → V → Type 0) (Makes : V → Output → Type 0) (known : Option (List ℕ)) (text : List ℕ) (value : V) (answer : Output)
+pub answered_value : {V : Type 0} (IsValue : List ℕ → V → Type 0) (Makes : V → Output → Type 0)
+    (known : Option (List ℕ)) (text : List ℕ) (value : V) (answer : Output)
     → OfInput known (λ bytes. IsReadAsText bytes (Ok text)) → IsValue text value → Makes value answer
     → OfInput known (λ bytes. (v : V) × Accepted IsValue bytes v × Makes v answer)
-answered_value IsValue Makes known text value answer read is makes = weaker known _ _ (λ bytes e. (value, accepted bytes (decoded-as_text bytes text e), makes)) read
+answered_value IsValue Makes known text value answer read is makes =
+    weaker known _ _ (λ bytes e. (value, accepted bytes (decoded-as_text bytes text e), makes)) read
   where
     accepted : (bytes : List ℕ) → (bytes ≡ text) × (length text ≤ 1048576) × IsUtf8 text → Accepted IsValue bytes value
     accepted bytes (same, few, is_text) = subst (λ (xs : List ℕ). Accepted IsValue xs value) (sym same) (record { few = few; text = is_text; value_is = is })

@@ -29,19 +29,25 @@ pub of_64 : (o : OpeningValue) (evs : List Event) (es : List Entry) → evs ≡ 
 of_64 o evs es each of few =
     subst OfHarts (sym each)
     (All-map (λ (ev : Event). hart_of ev < 64) event_of es
-    (All-weaker (IsOfHarts o) (λ (e : Entry). hart_of (event_of e) < 64) (λ e lt. (let same : hart_of (event_of e) ≡ entries.hart_of e = event_hart e in omega arith)) es of))
+    (All-weaker (IsOfHarts o) (λ (e : Entry). hart_of (event_of e) < 64)
+    (λ e lt. (let same : hart_of (event_of e) ≡ entries.hart_of e = event_hart e in omega arith)) es of))
 
 module _ {X A : Type 0} (IsAnswer : LitmusTest → Result A Refusal → Type 0) (view : X → A) (known : Option (List ℕ)) where
   -- what answers the test that was read
-  pub by_test : (test : LitmusTest) (result : Result X Fault) → OfInput known (λ bytes. Accepted IsTestOf bytes test) → AnswersAs (IsAnswer test) view result → FindsByUpToReads (ByTest IsAnswer) view known result
+  pub by_test : (test : LitmusTest) (result : Result X Fault)
+      → OfInput known (λ bytes. Accepted IsTestOf bytes test) → AnswersAs (IsAnswer test) view result
+      → FindsByUpToReads (ByTest IsAnswer) view known result
   by_test test result read =
       answered_by (IsAnswer test) (λ answer. OfInput known (λ bytes. ByTest IsAnswer bytes answer)) view result
       (λ answer holds. weaker known _ (λ bytes. ByTest IsAnswer bytes answer) (λ bytes accepted. of_test test answer accepted holds) read)
 
   -- no test was read
-  pub by_no_test : {Y : Type 0} (seen : Y → LitmusTest) (result : Result X Fault) (fault : Fault) → result ≡ Err fault → FindsByUpToReads IsReadAsTest seen known (Err fault) → FindsByUpToReads (ByTest IsAnswer) view known result
+  pub by_no_test : {Y : Type 0} (seen : Y → LitmusTest) (result : Result X Fault) (fault : Fault)
+      → result ≡ Err fault → FindsByUpToReads IsReadAsTest seen known (Err fault)
+      → FindsByUpToReads (ByTest IsAnswer) view known result
   by_no_test seen result fault =
-      handed_on (λ (a : Result LitmusTest Refusal). OfInput known (λ bytes. IsReadAsTest bytes a)) (λ answer. OfInput known (λ bytes. ByTest IsAnswer bytes answer)) seen view
+      handed_on (λ (a : Result LitmusTest Refusal). OfInput known (λ bytes. IsReadAsTest bytes a))
+      (λ answer. OfInput known (λ bytes. ByTest IsAnswer bytes answer)) seen view
       result fault (λ r. weaker known _ _ (λ bytes bad. no_test r bad))
 
 pub joined : (all text more a b : List ℕ) → all ≡ text ++ more → text ≡ a → more ≡ b → all ≡ a ++ b

@@ -24,7 +24,8 @@ decoded value_at input = if nat_lt INPUT_BYTES (length input) then Err too_large
 
 -- What answers an input: what this value of it makes, where it is a text within the limit that has one, else
 -- the refusal for its first fault.
-abbrev pub ByValue : {V W : Type 0} → (IsValue : List ℕ → V → Type 0) → (value_at : List ℕ → Result W Refusal) → (V → Output → Type 0) → List ℕ → Result Output Refusal → Type 0
+abbrev pub ByValue : {V W : Type 0} → (IsValue : List ℕ → V → Type 0) → (value_at : List ℕ → Result W Refusal)
+    → (V → Output → Type 0) → List ℕ → Result Output Refusal → Type 0
 ByValue {V = V} IsValue value_at Makes input (Ok answer) = (value : V) × Accepted IsValue input value × Makes value answer
 ByValue IsValue value_at Makes input (Err refusal) = decoded value_at input ≡ Err refusal
 
@@ -45,7 +46,8 @@ Ends IsAnswer (Err NoMemory) contents old new = new ≡ old
 Ends {V = V} IsAnswer (Err WriteFailed) contents old new = (answer : List ℕ × V) × IsAnswer (Ok answer)
 
 -- how an engine with one input ends
-abbrev pub EndsBy : {V W : Type 0} → (List ℕ → Result (List ℕ × V) Refusal → Type 0) → Result V Fault → (input : Option (List ℕ)) → (contents : W → Option (List ℕ)) → (old new : W) → Type 0
+abbrev pub EndsBy : {V W : Type 0} → (List ℕ → Result (List ℕ × V) Refusal → Type 0) → Result V Fault
+    → (input : Option (List ℕ)) → (contents : W → Option (List ℕ)) → (old new : W) → Type 0
 EndsBy IsAnswer result input contents old new = Ends (λ answer. OfInput input (λ bytes. IsAnswer bytes answer)) result contents old new
 
 -- what answers two inputs
@@ -53,7 +55,8 @@ abbrev pub AnswersBoth : {A : Type 0} → (List ℕ → List ℕ → A → Type 
 AnswersBoth IsAnswer first second answer = OfInput first (λ a. OfInput second (λ b. IsAnswer a b answer))
 
 -- how an engine with two inputs ends
-abbrev pub EndsByBoth : {V W : Type 0} → (List ℕ → List ℕ → Result (List ℕ × V) Refusal → Type 0) → Result V Fault → (first second : Option (List ℕ)) → (contents : W → Option (List ℕ)) → (old new : W) → Type 0
+abbrev pub EndsByBoth : {V W : Type 0} → (List ℕ → List ℕ → Result (List ℕ × V) Refusal → Type 0) → Result V Fault
+    → (first second : Option (List ℕ)) → (contents : W → Option (List ℕ)) → (old new : W) → Type 0
 EndsByBoth IsAnswer result first second contents old new = Ends (AnswersBoth IsAnswer first second) result contents old new
 
 -- Two answers are both outputs, or one refusal.

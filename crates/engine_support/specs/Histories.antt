@@ -40,7 +40,8 @@ Runs B M opening (recorded steps) (Err refusal) = (event : ℕ) × DiffersAt B M
 
 -- What noting its outcomes gives: its events, each with its outcome in the run.
 abbrev pub Records : (B M : ℕ) → OpeningValue → ScheduleValue → Result (List Step) Refusal → Type 0
-Records B M opening said (Ok steps) = (events_in steps ≡ events_said said) × ((history : History) × Runs B M opening said (Ok history) × IsRunRecord B M opening steps history)
+Records B M opening said (Ok steps) = (events_in steps ≡ events_said said)
+    × ((history : History) × Runs B M opening said (Ok history) × IsRunRecord B M opening steps history)
 Records B M opening said (Err refusal) = Runs B M opening said (Err refusal)
 
 -- ---- what answers both
@@ -49,8 +50,10 @@ Records B M opening said (Err refusal) = Runs B M opening said (Err refusal)
 -- schedule says and of the answer. The test is judged first, then the schedule's text.
 pub data BySchedule {A : Type 0} (IsAnswer : LitmusTest → ScheduleValue → Result A Refusal → Type 0) (file schedule : List ℕ) : Result A Refusal → Type 0 where
   no_test : (refusal : Refusal) → IsNoTest file refusal → BySchedule IsAnswer file schedule (Err refusal)
-  no_schedule : (test : LitmusTest) (refusal : Refusal) → Accepted IsTestOf file test → IsNoSchedule schedule refusal → BySchedule IsAnswer file schedule (Err refusal)
-  both : (test : LitmusTest) (said : ScheduleValue) (answer : Result A Refusal) → Accepted IsTestOf file test → Accepted Says schedule said → IsAnswer test said answer → BySchedule IsAnswer file schedule answer
+  no_schedule : (test : LitmusTest) (refusal : Refusal) → Accepted IsTestOf file test
+      → IsNoSchedule schedule refusal → BySchedule IsAnswer file schedule (Err refusal)
+  both : (test : LitmusTest) (said : ScheduleValue) (answer : Result A Refusal) → Accepted IsTestOf file test
+      → Accepted Says schedule said → IsAnswer test said answer → BySchedule IsAnswer file schedule answer
 
 -- This holds of the history that the schedule makes of the test's opening, over store buffers of B pairs
 -- and a memory of M words.

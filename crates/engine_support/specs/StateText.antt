@@ -18,7 +18,8 @@ status_text (Stopped why) = codes "stopped " ++ decimal (stop_number why)
 
 -- a hart's line: its number, its status, its pc, and how many of its stores are pending
 abbrev pub hart_line : (hart : ℕ) → Status → (pc count : ℕ) → List ℕ
-hart_line hart status pc count = codes "hart " ++ decimal hart ++ codes " " ++ status_text status ++ codes " pc " ++ decimal pc ++ codes " pending " ++ decimal count ++ 10 ∷ []
+hart_line hart status pc count = codes "hart " ++ decimal hart ++ codes " " ++ status_text status ++ codes " pc "
+    ++ decimal pc ++ codes " pending " ++ decimal count ++ 10 ∷ []
 
 -- a register's line; a register that is 0 has none
 abbrev pub register_line : (number value : ℕ) → List ℕ

@@ -28,7 +28,7 @@ use Rattle.fastforward.specs.Invariant.Stores.{null_store, sender_stores, receiv
 use Rattle.fastforward.specs.Invariant.Counters.{Counters, sent, gone, taken, freed, CounterInvariant, Words}
 use Rattle.fastforward.specs.Invariant.Sender.{Marked, sender}
 use Rattle.fastforward.proofs.Sender.{fastforward_sender}
-use Rattle.fastforward.proofs.FastForwardLaws.{fastforward_laws, reasons}
+use Rattle.fastforward.proofs.FastForwardLaws.{laws, reasons}
 
 -- where nothing is pending all that was stored has landed
 module _ (k : Block) (n : Counters) (order : CounterInvariant k n) where
@@ -101,7 +101,7 @@ fastforward_progress = record {
 }
 
 pub fastforward_falls : Decreases fastforward fastforward_means (rank_of fastforward_ranking) (next_by fastforward_ranking)
-fastforward_falls = falls fastforward_blocks fastforward_laws 1 (lit≤ tt) fastforward_progress
+fastforward_falls = falls fastforward_blocks laws 1 (lit≤ tt) fastforward_progress
 
 -- the address of its slot
 pub address : (M : ℕ) (t : History) (h : ℕ) (d : Sender fastforward_blocks M t h) (pc v : ℕ)

@@ -70,8 +70,8 @@ reasons k n word v r is order words =
     (and_intro (row.keeps_at_34 k n word v r is order words)
     (and_intro (row.keeps_at_38 k n word v r is order words) tt))))))))))))))
 
-pub fastforward_laws : BlockLaws fastforward_blocks
-fastforward_laws = record {
+pub laws : BlockLaws fastforward_blocks
+laws = record {
   decodes = receiver_decoded;
   none = nothing;
   begins = begins;
@@ -101,20 +101,13 @@ fastforward_laws = record {
       (and_intro (between.keeps_at_24 k i count n word r v is order words) tt)));
 }
 
-pub fastforward_short : AreShort fastforward
-fastforward_short = (lit≤ tt, lit≤ tt)
-
-pub fastforward_opens : Opens fastforward fastforward_means
-fastforward_opens = opens fastforward_blocks fastforward_laws 1 (lit≤ tt)
-
-pub fastforward_keeps : Keeps fastforward fastforward_means
-fastforward_keeps = keeps fastforward_blocks fastforward_laws 1 (lit≤ tt)
-
-pub fastforward_cleans : Cleans fastforward fastforward_means
-fastforward_cleans = cleans fastforward_blocks fastforward_laws 1 (lit≤ tt)
-
-pub fastforward_goes : Goes fastforward fastforward_means
-fastforward_goes = goes fastforward_blocks fastforward_laws 1 (lit≤ tt)
-
-pub fastforward_stays : Stays fastforward fastforward_means
-fastforward_stays = stays fastforward_blocks fastforward_laws 1 (lit≤ tt)
+pub fastforward_laws : AreShort fastforward × Opens fastforward fastforward_means × Keeps fastforward fastforward_means
+    × Cleans fastforward fastforward_means × Goes fastforward fastforward_means × Stays fastforward fastforward_means
+fastforward_laws = (
+  (lit≤ tt, lit≤ tt),
+  opens fastforward_blocks laws 1 (lit≤ tt),
+  keeps fastforward_blocks laws 1 (lit≤ tt),
+  cleans fastforward_blocks laws 1 (lit≤ tt),
+  goes fastforward_blocks laws 1 (lit≤ tt),
+  stays fastforward_blocks laws 1 (lit≤ tt),
+)

@@ -44,7 +44,7 @@ impl RingKind for FastForward {
         1
     }
 
-    #[tactic(auto, using(crate::proofs::FastForwardLaws::fastforward_short, crate::proofs::FastForwardLaws::fastforward_opens, crate::proofs::FastForwardLaws::fastforward_keeps, crate::proofs::FastForwardLaws::fastforward_cleans, crate::proofs::FastForwardLaws::fastforward_goes, crate::proofs::FastForwardLaws::fastforward_stays))]
+    #[tactic(auto, using(crate::proofs::FastForwardLaws::fastforward_laws))]
     fn laws() {}
 }
 

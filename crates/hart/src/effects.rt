@@ -2,7 +2,9 @@
 
 ghost use Rattle.std.specs.Prelude.{◌≡◌, ◌<◌, ◌*◌, ◌/◌};
 ghost use Rattle.rv_decode.specs.Fits.{Fits};
-ghost use Rattle.hart.specs.Effects.{load_width, store_width, sign_extended, extended, stored, updated, computed, with_immediate, shifted, is_taken, read, written, next_pc, address, registers_after, pc_after};
+ghost use Rattle.hart.specs.Effects.{load_width, store_width, sign_extended, extended, stored, updated, computed};
+ghost use Rattle.hart.specs.Effects.{with_immediate, shifted, is_taken, read, written, next_pc, address};
+ghost use Rattle.hart.specs.Effects.{registers_after, pc_after};
 
 use rv_decode::instruction::{
     AmoOp, BranchOp, ImmediateOp, Instr, LoadOp, Reg, RegisterOp, ShiftOp, StoreOp,

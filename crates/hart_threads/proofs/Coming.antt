@@ -1,5 +1,6 @@
 -- Seats that come back with perhaps more in their diaries, and what is known of them by those given.
-use Rattle.std.proofs.Common.{arith, inl, inr, ◌≡◌, ℕ, ◌+◌, ◌<◌, Bool, true, not, ◌&&◌, eqb, cond, List, [], ◌∷◌, ◌++◌, length, get_or, refl, sym, ◌∙◌, ap, subst, append_assoc}
+use Rattle.std.proofs.Common.{arith, inl, inr, ◌≡◌, ℕ, ◌+◌, ◌<◌, Bool, true, not, ◌&&◌, eqb, cond, List, [], ◌∷◌, ◌++◌}
+use Rattle.std.proofs.Common.{length, get_or, refl, sym, ◌∙◌, ap, subst, append_assoc}
 use Rattle.std.specs.Prelude.{map, fold, count_by, All}
 use Rattle.std.specs.List.{AllZip, list_any, Contains}
 use Rattle.std.proofs.lemmas.Bool.{cases_lt, eq-eqb, true≢false}
@@ -20,25 +21,30 @@ use Rattle.hart_threads.proofs.FirstMissing.{missing_past}
 
 -- ---- two lists, element by element
 
-pub zip_left : {A B : Type 0} (R : A → B → Type 0) (P : B → Type 0) (Q : A → Type 0) → ((x : A) (y : B) → R x y → P y → Q x) → (xs : List A) (ys : List B) → AllZip R xs ys → All P ys → All Q xs
+pub zip_left : {A B : Type 0} (R : A → B → Type 0) (P : B → Type 0) (Q : A → Type 0)
+    → ((x : A) (y : B) → R x y → P y → Q x) → (xs : List A) (ys : List B) → AllZip R xs ys → All P ys → All Q xs
 zip_left R P Q step [] [] zip all = All-nil Q
 zip_left R P Q step (x ∷ xs) (y ∷ ys) (here, more) all =
     All-cons Q x xs (step x y here (All-head P y ys all)) (zip_left R P Q step xs ys more (All-tail P y ys all))
 zip_left R P Q step z other zip all = absurd zip
 
-pub zip_right : {A B : Type 0} (R : A → B → Type 0) (P : A → Type 0) (Q : B → Type 0) → ((x : A) (y : B) → R x y → P x → Q y) → (xs : List A) (ys : List B) → AllZip R xs ys → All P xs → All Q ys
+pub zip_right : {A B : Type 0} (R : A → B → Type 0) (P : A → Type 0) (Q : B → Type 0)
+    → ((x : A) (y : B) → R x y → P x → Q y) → (xs : List A) (ys : List B) → AllZip R xs ys → All P xs → All Q ys
 zip_right R P Q step [] [] zip all = All-nil Q
 zip_right R P Q step (x ∷ xs) (y ∷ ys) (here, more) all =
     All-cons Q y ys (step x y here (All-head P x xs all)) (zip_right R P Q step xs ys more (All-tail P x xs all))
 zip_right R P Q step z other zip all = absurd zip
 
 -- the same of what the elements of one list show
-pub zip_before : {A B C : Type 0} (R : A → B → Type 0) (S : C → B → Type 0) (P : A → Type 0) (f : A → C) → ((x : A) (y : B) → R x y → P x → S (f x) y) → (xs : List A) (ys : List B) → AllZip R xs ys → All P xs → AllZip S (map f xs) ys
+pub zip_before : {A B C : Type 0} (R : A → B → Type 0) (S : C → B → Type 0) (P : A → Type 0) (f : A → C)
+    → ((x : A) (y : B) → R x y → P x → S (f x) y) → (xs : List A) (ys : List B) → AllZip R xs ys → All P xs
+    → AllZip S (map f xs) ys
 zip_before R S P f step [] [] zip all = tt
 zip_before R S P f step (x ∷ xs) (y ∷ ys) (here, more) all = (step x y here (All-head P x xs all), zip_before R S P f step xs ys more (All-tail P x xs all))
 zip_before R S P f step z other zip all = absurd zip
 
-pub zip_after : {A B C : Type 0} (R : A → B → Type 0) (S : A → C → Type 0) (f : B → C) → ((x : A) (y : B) → R x y → S x (f y)) → (xs : List A) (ys : List B) → AllZip R xs ys → AllZip S xs (map f ys)
+pub zip_after : {A B C : Type 0} (R : A → B → Type 0) (S : A → C → Type 0) (f : B → C)
+    → ((x : A) (y : B) → R x y → S x (f y)) → (xs : List A) (ys : List B) → AllZip R xs ys → AllZip S xs (map f ys)
 zip_after R S f step [] [] zip = tt
 zip_after R S f step (x ∷ xs) (y ∷ ys) (here, more) = (step x y here, zip_after R S f step xs ys more)
 zip_after R S f step z other zip = absurd zip
@@ -49,7 +55,8 @@ pub record Joined {A B : Type 0} (R : A → B → Type 0) (whole out : List A) (
   pub split : whole ≡ front ++ out
   pub zip : AllZip R front came
 
-pub joined_more : {A B : Type 0} (R : A → B → Type 0) (whole out later : List A) (came grown : List B) (x : A) (y : B) → Joined R whole out came → out ≡ x ∷ later → R x y → grown ≡ came ++ y ∷ [] → Joined R whole later grown
+pub joined_more : {A B : Type 0} (R : A → B → Type 0) (whole out later : List A) (came grown : List B) (x : A)
+    (y : B) → Joined R whole out came → out ≡ x ∷ later → R x y → grown ≡ came ++ y ∷ [] → Joined R whole later grown
 joined_more {A = A} {B = B} R whole out later came grown x y joined next here is = grind (arith, append_assoc, all_zipped_more)
 
 -- ---- roles
@@ -71,7 +78,8 @@ same_roles n (s ∷ given) (t ∷ back) (on, come) =
 same_roles n x y come = absurd come
 
 -- a test of roles counts alike
-same_fold : (p : Role → Bool) (n : ℕ) (xs ys : List SeatView) → map role_of xs ≡ map role_of ys → fold (λ a s. a + cond (p (role_of s)) 1 0) n xs ≡ fold (λ a s. a + cond (p (role_of s)) 1 0) n ys
+same_fold : (p : Role → Bool) (n : ℕ) (xs ys : List SeatView) → map role_of xs ≡ map role_of ys
+    → fold (λ a s. a + cond (p (role_of s)) 1 0) n xs ≡ fold (λ a s. a + cond (p (role_of s)) 1 0) n ys
 same_fold p n [] [] is = refl
 same_fold p n (x ∷ xs) (y ∷ ys) is =
     let head : role_of x ≡ role_of y = cc in
@@ -109,7 +117,8 @@ none_is_first n h seats complete first = true≢false (sym first.here ∙ comple
 pub harts_within : (n : ℕ) (seats : List SeatView) → IsComplete n seats → All (λ (s : SeatView). s.hart < n) seats
 harts_within n seats complete k d lt = elim (cases_lt (get_or seats k d).hart n) [
   | inl low ↦ low
-  | inr past ↦ absurd (true≢false (sym (found (get_or seats k d) (Contains-get_or seats k d lt)) ∙ sym (missing_past n (get_or seats k d).hart seats past) ∙ complete (get_or seats k d).hart))
+  | inr past ↦ absurd (true≢false (sym (found (get_or seats k d) (Contains-get_or seats k d lt))
+      ∙ sym (missing_past n (get_or seats k d).hart seats past) ∙ complete (get_or seats k d).hart))
 ]
   where
     found : (s : SeatView) → Contains seats s → list_any (sits_at s.hart) seats ≡ true
@@ -120,11 +129,18 @@ harts_within n seats complete k d lt = elim (cases_lt (get_or seats k d).hart n)
 grown : (n : ℕ) (es : List Entry) (s t : SeatView) → Continues n s t → Fits es t → GrowsInto n es s
 grown n es s t on fits = grind arith
 
-pub merged_from : (n : ℕ) (o : OpeningValue) (es : List Entry) (given back : List SeatView) → IsComplete (length o.harts) given → AllZip (Continues n) given back → Merge (length o.harts) es back → IsMerged n o es given
-merged_from n o es given back complete come merge = record { complete = complete; parts = zip_left (Continues n) (Fits es) (GrowsInto n es) (grown n es) given back come merge.fit }
+pub merged_from : (n : ℕ) (o : OpeningValue) (es : List Entry) (given back : List SeatView)
+    → IsComplete (length o.harts) given → AllZip (Continues n) given back → Merge (length o.harts) es back
+    → IsMerged n o es given
+merged_from n o es given back complete come merge = record {
+  complete = complete;
+  parts = zip_left (Continues n) (Fits es) (GrowsInto n es) (grown n es) given back come merge.fit;
+}
 
 -- a refusal to gather the seats that come back
-pub fails_from : (B M n : ℕ) (o : OpeningValue) (given back : List SeatView) (e : Gather) → IsComplete (length o.harts) given → AllZip (Continues n) given back → Refuses B M o back e → Fails B M n o given (fault_of e)
+pub fails_from : (B M n : ℕ) (o : OpeningValue) (given back : List SeatView) (e : Gather)
+    → IsComplete (length o.harts) given → AllZip (Continues n) given back → Refuses B M o back e
+    → Fails B M n o given (fault_of e)
 fails_from B M n o given back gather.NoMemory complete come why = complete
 fails_from B M n o given back (gather.Missing h) complete come why =
     absurd (true≢false (sym why.here ∙ same_missing n (length o.harts) h given back come ∙ complete h))

@@ -1,5 +1,6 @@
 -- A diary against its part of the entries, entry by entry.
-use Rattle.std.proofs.Common.{◌≡◌, ℕ, ◌+◌, ◌<◌, Bool, true, false, not, cond, List, [], ◌∷◌, ◌++◌, length, get_or, take, drop, Option, Some, None, refl, sym, ◌∙◌, ap, arith, append-nil, append_assoc}
+use Rattle.std.proofs.Common.{◌≡◌, ℕ, ◌+◌, ◌<◌, Bool, true, false, not, cond, List, [], ◌∷◌, ◌++◌, length, get_or, take}
+use Rattle.std.proofs.Common.{drop, Option, Some, None, refl, sym, ◌∙◌, ap, arith, append-nil, append_assoc}
 use Rattle.std.specs.Prelude.{MatchBool, All, is_some}
 use Rattle.std.specs.List.{filter, slice_get}
 use Rattle.std.proofs.Math.Seq.{get_or-append_seam, take-length}
@@ -20,10 +21,12 @@ pub part-filter : (s : SeatView) (es : List Entry) → part_of s es ≡ filter (
 part-filter s es = grind (arith, own-filter)
 
 -- what passes, at a place where the entry passes
-filter_at : (p : Entry → Bool) (es : List Entry) (i : ℕ) (d : Entry) → i < length es → p (get_or es i d) ≡ true → filter p es ≡ filter p (take i es) ++ get_or es i d ∷ filter p (drop (i + 1) es)
+filter_at : (p : Entry → Bool) (es : List Entry) (i : ℕ) (d : Entry) → i < length es → p (get_or es i d) ≡ true
+    → filter p es ≡ filter p (take i es) ++ get_or es i d ∷ filter p (drop (i + 1) es)
 filter_at p es i d within passes =
     ap (filter p) (sym (take-append-drop (i + 1) es)) ∙ filter-append p (take (i + 1) es) (drop (i + 1) es)
-    ∙ ap (λ (xs : List Entry). xs ++ filter p (drop (i + 1) es)) (filter_more p es i d within ∙ ap (λ (b : Bool). filter p (take i es) ++ cond b (get_or es i d ∷ []) []) passes)
+    ∙ ap (λ (xs : List Entry). xs ++ filter p (drop (i + 1) es))
+    (filter_more p es i d within ∙ ap (λ (b : Bool). filter p (take i es) ++ cond b (get_or es i d ∷ []) []) passes)
     ∙ append_assoc (filter p (take i es)) (get_or es i d ∷ []) (filter p (drop (i + 1) es))
 
 none_left : (xs : List Entry) → slice_get xs 0 ≡ None → length xs ≡ 0
@@ -34,39 +37,52 @@ pub first_left : (xs : List Entry) (x : Entry) → slice_get xs 0 ≡ Some x →
 first_left xs x is = grind arith
 
 -- the diary is at its end and an entry more passes
-pub too_short : (s : SeatView) (es : List Entry) (i : ℕ) (d : Entry) (rest : List Entry) → i < length es → keeps s (get_or es i d) ≡ true → slice_get rest 0 ≡ None → s.diary ≡ filter (keeps s) (take i es) ++ rest → Fits es s → ⊥
+pub too_short : (s : SeatView) (es : List Entry) (i : ℕ) (d : Entry) (rest : List Entry) → i < length es
+    → keeps s (get_or es i d) ≡ true → slice_get rest 0 ≡ None → s.diary ≡ filter (keeps s) (take i es) ++ rest
+    → Fits es s → ⊥
 too_short s es i d rest within passes none so_far fits =
-    let whole : s.diary ≡ filter (keeps s) (take i es) ++ get_or es i d ∷ filter (keeps s) (drop (i + 1) es) = fits ∙ part-filter s es ∙ filter_at (keeps s) es i d within passes in
+    let whole : s.diary ≡ filter (keeps s) (take i es) ++ get_or es i d ∷ filter (keeps s) (drop (i + 1) es) =
+    fits ∙ part-filter s es ∙ filter_at (keeps s) es i d within passes in
     let nothing : length rest ≡ 0 = none_left rest none in
     let a : length s.diary ≡ length (filter (keeps s) (take i es)) + length rest = ap length so_far ∙ length-append (filter (keeps s) (take i es)) rest in
-    let b : length s.diary ≡ length (filter (keeps s) (take i es)) + length (get_or es i d ∷ filter (keeps s) (drop (i + 1) es)) = ap length whole ∙ length-append (filter (keeps s) (take i es)) (get_or es i d ∷ filter (keeps s) (drop (i + 1) es)) in
+    let b : length s.diary
+    ≡ length (filter (keeps s) (take i es)) + length (get_or es i d ∷ filter (keeps s) (drop (i + 1) es)) =
+    ap length whole
+    ∙ length-append (filter (keeps s) (take i es)) (get_or es i d ∷ filter (keeps s) (drop (i + 1) es)) in
     omega arith
 
 -- the diary has another entry where one passes
-pub another : (s : SeatView) (es : List Entry) (i : ℕ) (d first : Entry) (later : List Entry) → i < length es → keeps s (get_or es i d) ≡ true → (first ≡ get_or es i d → ⊥) → s.diary ≡ filter (keeps s) (take i es) ++ first ∷ later → Fits es s → ⊥
+pub another : (s : SeatView) (es : List Entry) (i : ℕ) (d first : Entry) (later : List Entry) → i < length es
+    → keeps s (get_or es i d) ≡ true → (first ≡ get_or es i d → ⊥)
+    → s.diary ≡ filter (keeps s) (take i es) ++ first ∷ later → Fits es s → ⊥
 another s es i d first later within passes differs so_far fits =
-    let whole : s.diary ≡ filter (keeps s) (take i es) ++ get_or es i d ∷ filter (keeps s) (drop (i + 1) es) = fits ∙ part-filter s es ∙ filter_at (keeps s) es i d within passes in
+    let whole : s.diary ≡ filter (keeps s) (take i es) ++ get_or es i d ∷ filter (keeps s) (drop (i + 1) es) =
+    fits ∙ part-filter s es ∙ filter_at (keeps s) es i d within passes in
     differs (
     sym (get_or-append_seam (filter (keeps s) (take i es)) first later d)
     ∙ ap (λ (xs : List Entry). get_or xs (length (filter (keeps s) (take i es))) d) (sym so_far ∙ whole)
     ∙ get_or-append_seam (filter (keeps s) (take i es)) (get_or es i d) (filter (keeps s) (drop (i + 1) es)) d)
 
-pub at_the_end : (s : SeatView) (es : List Entry) (i : ℕ) (rest : List Entry) (o : Option Entry) (b : Bool) → i ≡ length es → o ≡ slice_get rest 0 → is_some o ≡ not b → s.diary ≡ filter (keeps s) (take i es) ++ rest
+pub at_the_end : (s : SeatView) (es : List Entry) (i : ℕ) (rest : List Entry) (o : Option Entry) (b : Bool)
+    → i ≡ length es → o ≡ slice_get rest 0 → is_some o ≡ not b → s.diary ≡ filter (keeps s) (take i es) ++ rest
     → MatchBool b (Fits es s) (Fits es s → ⊥)
 at_the_end s es i rest o b end first some so_far =
     at rest b
-    (so_far ∙ ap (λ (xs : List Entry). filter (keeps s) xs ++ rest) (ap (λ (n : ℕ). take n es) end ∙ take-length es) ∙ ap (λ (xs : List Entry). xs ++ rest) (sym (part-filter s es)))
+    (so_far ∙ ap (λ (xs : List Entry). filter (keeps s) xs ++ rest) (ap (λ (n : ℕ). take n es) end ∙ take-length es)
+    ∙ ap (λ (xs : List Entry). xs ++ rest) (sym (part-filter s es)))
     (sym (ap is_some first) ∙ some)
   where
     at : (xs : List Entry) (c : Bool) → s.diary ≡ part_of s es ++ xs → is_some (slice_get xs 0) ≡ not c → MatchBool c (Fits es s) (Fits es s → ⊥)
     at [] true all is = all ∙ append-nil (part_of s es)
     at [] false all is = absurd (cc)
     at (x ∷ xs) true all is = absurd (cc)
-    at (x ∷ xs) false all is = λ fits. (let a : length s.diary ≡ length (part_of s es) + length (x ∷ xs) = ap length all ∙ length-append (part_of s es) (x ∷ xs) in
+    at (x ∷ xs) false all is = λ fits. (let a : length s.diary ≡ length (part_of s es) + length (x ∷ xs) =
+        ap length all ∙ length-append (part_of s es) (x ∷ xs) in
         let b : length s.diary ≡ length (part_of s es) = ap length fits in
         omega arith)
 
 -- what counts of a seat's diary decides whether it has its part
-pub part_has : (us : List Entry) (s : SeatView) (b : Bool) → (s.acts ≡ true → All (IsOwn s.hart) s.diary) → MatchBool b (counted s.acts s.diary ≡ part_of s us) (counted s.acts s.diary ≡ part_of s us → ⊥)
+pub part_has : (us : List Entry) (s : SeatView) (b : Bool) → (s.acts ≡ true → All (IsOwn s.hart) s.diary)
+    → MatchBool b (counted s.acts s.diary ≡ part_of s us) (counted s.acts s.diary ≡ part_of s us → ⊥)
     → MatchBool b (HasPart us s) (HasPart us s → ⊥)
 part_has us s b mine known = grind arith

@@ -20,7 +20,8 @@ acting_below : (M : ℕ) (o : OpeningValue) (n h : ℕ) → h < n → Contains (
 acting_below M o zero h lt = absurd (omega arith)
 acting_below M o (suc n) h lt = elim (later h n lt) [
   | inl less ↦ Contains-append_left (seats_below M o n) (acting_seat M o n ∷ landing_seat n ∷ []) (acting_seat M o h) (acting_below M o n h less)
-  | inr is ↦ Contains-append_right (seats_below M o n) (acting_seat M o n ∷ landing_seat n ∷ []) (acting_seat M o h) (0, omega arith, ap (acting_seat M o) (sym is))
+  | inr is ↦ Contains-append_right (seats_below M o n) (acting_seat M o n ∷ landing_seat n ∷ []) (acting_seat M o h)
+      (0, omega arith, ap (acting_seat M o) (sym is))
 ]
 
 landing_below : (M : ℕ) (o : OpeningValue) (n h : ℕ) → h < n → Contains (seats_below M o n) (landing_seat h)
@@ -35,12 +36,17 @@ landing_below M o (suc n) h lt = elim (later h n lt) [
 short : (n : ℕ) (es : List Entry) (s : SeatView) → s.diary ≡ [] → GrowsInto n es s → length (part_of s es) ≤ n
 short n es s none grows = grind arith
 
-pub fresh_few : (n M : ℕ) (o : OpeningValue) (seats : List SeatView) (t : History) → seats ≡ seats_of M o → t.opening ≡ o → IsMerged n o t.entries seats → AtMost n t
+pub fresh_few : (n M : ℕ) (o : OpeningValue) (seats : List SeatView) (t : History) → seats ≡ seats_of M o
+    → t.opening ≡ o → IsMerged n o t.entries seats → AtMost n t
 fresh_few n M o seats t fresh opening merge h lt =
     let low : h < length o.harts = subst (λ (x : OpeningValue). h < length x.harts) opening lt in
     let all : All (GrowsInto n t.entries) (seats_of M o) = subst (All (GrowsInto n t.entries)) fresh merge.parts in (
-      short n t.entries (acting_seat M o h) refl (All-contains (GrowsInto n t.entries) (seats_of M o) (acting_seat M o h) all (acting_below M o (length o.harts) h low)),
-      short n t.entries (landing_seat h) refl (All-contains (GrowsInto n t.entries) (seats_of M o) (landing_seat h) all (landing_below M o (length o.harts) h low)),
+      short n t.entries (acting_seat M o h) refl
+          (All-contains (GrowsInto n t.entries) (seats_of M o) (acting_seat M o h) all
+          (acting_below M o (length o.harts) h low)),
+      short n t.entries (landing_seat h) refl
+          (All-contains (GrowsInto n t.entries) (seats_of M o) (landing_seat h) all
+          (landing_below M o (length o.harts) h low)),
     )
 
 -- ---- and each acting one opens as its hart

@@ -13,14 +13,18 @@ use Rattle.step_machine.proofs.OwnRuns.{kept-front, added}
 use Rattle.step_machine.proofs.Running.{happens-one}
 
 -- each of its entries can follow those before it
-follows : (B M : ℕ) (o : OpeningValue) (es : List Entry) (i : ℕ) (d : Entry) → i < length es → WellFormed B M (history_of o es) → CanFollow B M (history_of o (take i es)) (get_or es i d)
+follows : (B M : ℕ) (o : OpeningValue) (es : List Entry) (i : ℕ) (d : Entry) → i < length es
+    → WellFormed B M (history_of o es) → CanFollow B M (history_of o (take i es)) (get_or es i d)
 follows B M o es i d within kept =
     let front : WellFormed B M (history_of o (take (i + 1) es)) =
-    kept-front B M o (take (i + 1) es) (drop (i + 1) es) (subst (λ (xs : List Entry). WellFormed B M (history_of o xs)) (sym (take-append-drop (i + 1) es)) kept) in
-    let here : WellFormed B M (history_of o (take i es ++ get_or es i d ∷ [])) = subst (λ (xs : List Entry). WellFormed B M (history_of o xs)) (take_more es i d within) front in
+    kept-front B M o (take (i + 1) es) (drop (i + 1) es)
+    (subst (λ (xs : List Entry). WellFormed B M (history_of o xs)) (sym (take-append-drop (i + 1) es)) kept) in
+    let here : WellFormed B M (history_of o (take i es ++ get_or es i d ∷ [])) =
+    subst (λ (xs : List Entry). WellFormed B M (history_of o xs)) (take_more es i d within) front in
     record { legal = here.legal; path = here.paths (hart_of (get_or es i d)) (kept.of_harts i d within) }
 
 -- so an event that makes another one, or none, is of no kept history
-pub other_made : (B M : ℕ) (o : OpeningValue) (es : List Entry) (i : ℕ) (d : Entry) (t new : History) (ev : Event) (out : Outcome) → i < length es → t ≡ history_of o (take i es) → ev ≡ event_of (get_or es i d)
+pub other_made : (B M : ℕ) (o : OpeningValue) (es : List Entry) (i : ℕ) (d : Entry) (t new : History) (ev : Event)
+    (out : Outcome) → i < length es → t ≡ history_of o (take i es) → ev ≡ event_of (get_or es i d)
     → Happens B M t ev out new → (out ≡ outcome.Did (get_or es i d) → ⊥) → WellFormed B M (history_of o es) → ⊥
 other_made B M o es i d t new ev out within is next happens other kept = grind (arith, get_or, happens-one, added, follows)

@@ -63,7 +63,9 @@ module _ (M : ℕ) (t : History) (h : ℕ) (s : SeatView) (acts : s.acts ≡ tru
       at (slice_get t.opening.harts h) (subst (λ (f : Option HartState). IsSomeAnd (option_map (λ s. after_entries s es) f) P)
       (into.0 acts ∙ ap (λ k. option_map (opens_as M) (slice_get t.opening.harts k)) hart) some)
     where
-      at : (so : Option HartOpeningValue) → IsSomeAnd (option_map (λ f. after_entries f es) (option_map (opens_as M) so)) P → IsSomeAnd (option_map (λ o. after_entries (opens_as M o) es) so) P
+      at : (so : Option HartOpeningValue)
+          → IsSomeAnd (option_map (λ f. after_entries f es) (option_map (opens_as M) so)) P
+          → IsSomeAnd (option_map (λ o. after_entries (opens_as M o) es) so) P
       at None some = some
       at (Some o) some = some
 
@@ -73,14 +75,21 @@ module _ (M : ℕ) (t : History) (h : ℕ) (s : SeatView) (acts : s.acts ≡ tru
   gets_on : (n : ℕ) → GotThere n s → GetsOn n M t h
   gets_on n (inl is_over) = over (in_state _ is_over)
   gets_on n (inr (inl more)) = goes (subst (λ (es : List Entry). n ≤ length es) its_diary more)
-  gets_on n (inr (inr waited)) = waits (record { front = waited.front; rest = waited.rest; whole = sym its_diary ∙ waited.whole; there = by_seat waited.front _ waited.there })
+  gets_on n (inr (inr waited)) = waits (record {
+    front = waited.front;
+    rest = waited.rest;
+    whole = sym its_diary ∙ waited.whole;
+    there = by_seat waited.front _ waited.there;
+  })
 
 -- ---- all seats
 
 contains_map : {X Y : Type 0} (f : X → Y) (xs : List X) (x : X) → Contains xs x → Contains (map f xs) (f x)
 contains_map f xs x (k, low, is) = (k, subst (λ n. k < n) (sym (length-map xs f)) low, get_or-map f xs k x (f x) low ∙ ap f is)
 
-module _ {R : Type 0} (seat : R → SeatView) (ending_of : R → Ending) (calls_of : R → Calls) (unheld : Type 0) (n : ℕ) (given : List SeatView) (back : List R) (ran : AllZip (λ s r. Ran unheld n s (ending_of r) (calls_of r) (seat r)) given back) where
+module _ {R : Type 0} (seat : R → SeatView) (ending_of : R → Ending) (calls_of : R → Calls) (unheld : Type 0)
+    (n : ℕ) (given : List SeatView) (back : List R)
+    (ran : AllZip (λ s r. Ran unheld n s (ending_of r) (calls_of r) (seat r)) given back) where
   pub came : AllZip (Continues n) given (map seat back)
   came = zip_after (λ (s : SeatView) (r : R). Ran unheld n s (ending_of r) (calls_of r) (seat r)) (Continues n) seat (λ s r made. made.on) given back ran
 
@@ -95,10 +104,12 @@ module _ {R : Type 0} (seat : R → SeatView) (ending_of : R → Ending) (calls_
   all_into : (M : ℕ) (o : OpeningValue) (t : History) → t.opening ≡ o → All (OpensAs M o) given → Merge (length o.harts) t.entries (map seat back)
       → All (OpensInto M t.opening t.entries) (map seat back)
   all_into M o t opening opens merge k d low =
-      let all : All (OpensAs M o) (map seat back) = zip_right (Continues n) (OpensAs M o) (OpensAs M o) (λ s t on. subst (OpensAs M o) (sym on.is)) given (map seat back) came opens in
+      let all : All (OpensAs M o) (map seat back) = zip_right (Continues n) (OpensAs M o) (OpensAs M o)
+      (λ s t on. subst (OpensAs M o) (sym on.is)) given (map seat back) came opens in
       (subst (λ (x : OpeningValue). OpensAs M x (get_or (map seat back) k d)) (sym opening) (all k d low), merge.fit k d low)
 
-  pub all_get_on : (M : ℕ) (o : OpeningValue) (t : History) → t.opening ≡ o → unheld → All (OpensAs M o) given → All (λ r. ending_of r ≡ ending.NoMemory → ⊥) back
+  pub all_get_on : (M : ℕ) (o : OpeningValue) (t : History) → t.opening ≡ o → unheld → All (OpensAs M o) given
+      → All (λ r. ending_of r ≡ ending.NoMemory → ⊥) back
       → All (λ r. (seat r).acts ≡ true → ending_of r ≡ ending.NoHart → ⊥) back → Merge (length o.harts) t.entries (map seat back) → AllGetOn n M t
   all_get_on M o t opening is_open opens found served merge h lt =
       at (its_acting (WentInto n M t) (length o.harts) h (map seat back) merge.complete (subst (λ (x : OpeningValue). h < length x.harts) opening lt) both)

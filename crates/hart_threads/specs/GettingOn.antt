@@ -16,7 +16,8 @@ pub record ComesToWait (M : ℕ) (t : History) (h : ℕ) : Type 0 where
   pub front : List Entry
   pub rest : List Entry
   pub whole : own h t.entries ≡ front ++ rest
-  pub there : IsSomeAnd (option_map (λ o. after_entries (opens_as M o) front) (slice_get t.opening.harts h)) (λ s. (s.status ≡ status.Running) × (may_wait (need_of s) ≡ true))
+  pub there : IsSomeAnd (option_map (λ o. after_entries (opens_as M o) front) (slice_get t.opening.harts h))
+      (λ s. (s.status ≡ status.Running) × (may_wait (need_of s) ≡ true))
 
 -- hart h has ended or stopped, has n entries of its own or more, or came to what may have to wait
 pub data GetsOn (n M : ℕ) (t : History) (h : ℕ) : Type 0 where

@@ -5,7 +5,8 @@ use Rattle.litmus.specs.declared.symbols.Symbol.{Symbol}
 use Rattle.litmus.specs.declared.symbols.Symbol.TheVariants as symbol
 use Rattle.litmus.specs.Formulas.{Formula, is}
 use Rattle.litmus.specs.Grammar.{Begins}
-use Rattle.litmus.specs.Drafting.{Group, Stage, awaits, has, empty_group, disjunction_of, negated_by, all_taken, stage_after, formula_at, or_misplaced, with_symbol, symbol_added, finished}
+use Rattle.litmus.specs.Drafting.{Group, Stage, awaits, has, empty_group, disjunction_of, negated_by, all_taken}
+use Rattle.litmus.specs.Drafting.{stage_after, formula_at, or_misplaced, with_symbol, symbol_added, finished}
 use Rattle.litmus.specs.inner.Building.{Build, build_at}
 use Rattle.litmus.proofs.StageLaws.{all_taken-append}
 use Rattle.litmus.proofs.GrammarLaws.{finished_only}
@@ -20,7 +21,8 @@ abbrev rest_at : Stage → List Symbol
 rest_at (awaits around here) = symbol.Is (place.Word 0) 0 ∷ closes around
 rest_at (has around here f) = closes around
 
-closes-finishes : (around : List Group) (here : Group) (f : Formula) → (g : Formula) × (or_misplaced (formula_at (all_taken (Some (has around here f)) (closes around))) ≡ Ok g)
+closes-finishes : (around : List Group) (here : Group) (f : Formula)
+    → (g : Formula) × (or_misplaced (formula_at (all_taken (Some (has around here f)) (closes around))) ≡ Ok g)
 closes-finishes [] here f = (disjunction_of here f, refl)
 closes-finishes (g ∷ around) here f = closes-finishes around (record g { negations = 0 }) (negated_by g.negations (disjunction_of here f))
 

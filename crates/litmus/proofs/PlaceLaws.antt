@@ -16,14 +16,20 @@ places_in-append (symbol.Or ∷ left) right = places_in-append left right
 places_in-append (symbol.Open ∷ left) right = places_in-append left right
 places_in-append (symbol.Close ∷ left) right = places_in-append left right
 
-both-sides : (left right : List Symbol) (f g : Formula) → places f ≡ places_in left → places g ≡ places_in right → places f ++ places g ≡ places_in left ++ places_in right
+both-sides : (left right : List Symbol) (f g : Formula) → places f ≡ places_in left → places g ≡ places_in right
+    → places f ++ places g ≡ places_in left ++ places_in right
 both-sides left right f g same same_too = ap (λ (ps : List Place). ps ++ places g) same ∙ ap (λ (ps : List Place). places_in left ++ ps) same_too
 
 pub places-symbols : (level : Level) (symbols : List Symbol) (f : Formula) → Stands level symbols f → places f ≡ places_in symbols
 places-symbols level symbols f (atom p value) = refl
 places-symbols level symbols f (negated inner g stands) = places-symbols _ inner g stands
-places-symbols level symbols f (enclosed inner g stands) = places-symbols _ inner g stands ∙ sym (places_in-append inner (symbol.Close ∷ []) ∙ append-nil (places_in inner))
+places-symbols level symbols f (enclosed inner g stands) =
+    places-symbols _ inner g stands ∙ sym (places_in-append inner (symbol.Close ∷ []) ∙ append-nil (places_in inner))
 places-symbols level symbols f (one_operand inner g stands) = places-symbols _ inner g stands
-places-symbols level symbols f (joined left right g h stands stands_too) = both-sides left right g h (places-symbols _ left g stands) (places-symbols _ right h stands_too) ∙ sym (places_in-append left (symbol.And ∷ right))
+places-symbols level symbols f (joined left right g h stands stands_too) =
+    both-sides left right g h (places-symbols _ left g stands) (places-symbols _ right h stands_too)
+    ∙ sym (places_in-append left (symbol.And ∷ right))
 places-symbols level symbols f (one_conjunction inner g stands) = places-symbols _ inner g stands
-places-symbols level symbols f (parted left right g h stands stands_too) = both-sides left right g h (places-symbols _ left g stands) (places-symbols _ right h stands_too) ∙ sym (places_in-append left (symbol.Or ∷ right))
+places-symbols level symbols f (parted left right g h stands stands_too) =
+    both-sides left right g h (places-symbols _ left g stands) (places-symbols _ right h stands_too)
+    ∙ sym (places_in-append left (symbol.Or ∷ right))

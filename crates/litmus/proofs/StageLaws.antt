@@ -1,5 +1,6 @@
 -- One more symbol, and the end of the symbols: stages against what is built.
-use Rattle.std.proofs.Common.{◌≡◌, ◌∙◌, ◌≤◌, ◌<◌, ◌+◌, sym, ap, subst, ℕ, true, false, List, [], ◌∷◌, ◌++◌, length, Option, Some, None, Ok, Err, IfSome, refl, arith, length-append}
+use Rattle.std.proofs.Common.{◌≡◌, ◌∙◌, ◌≤◌, ◌<◌, ◌+◌, sym, ap, subst, ℕ, true, false, List, [], ◌∷◌, ◌++◌, length}
+use Rattle.std.proofs.Common.{Option, Some, None, Ok, Err, IfSome, refl, arith, length-append}
 use Rattle.litmus.specs.declared.symbols.Symbol.{Symbol}
 use Rattle.litmus.specs.declared.symbols.Step.{Step}
 use Rattle.litmus.specs.declared.symbols.Frame.{Frame}
@@ -8,8 +9,10 @@ use Rattle.litmus.specs.Formulas.{Formula}
 use Rattle.litmus.specs.Steps.{steps_of, formula_of}
 use Rattle.litmus.specs.inner.StepLaws.{formula_of-steps_of}
 use Rattle.litmus.specs.Faults.{fault_of}
-use Rattle.litmus.specs.Drafting.{Group, Stage, awaits, has, empty_group, disjunction_of, enclosed, taken, taken_from, all_taken, stage_after, formula_at, or_misplaced, with_symbol, symbol_added, finished}
-use Rattle.litmus.specs.inner.Building.{Build, all_closed, built, is_empty, is_finished, IsWithin, or_steps, and_steps, steps_around, end_of, mark_of, marks_around, build_of, build_at}
+use Rattle.litmus.specs.Drafting.{Group, Stage, awaits, has, empty_group, disjunction_of, enclosed, taken, taken_from}
+use Rattle.litmus.specs.Drafting.{all_taken, stage_after, formula_at, or_misplaced, with_symbol, symbol_added, finished}
+use Rattle.litmus.specs.inner.Building.{Build, all_closed, built, is_empty, is_finished, IsWithin, or_steps, and_steps}
+use Rattle.litmus.specs.inner.Building.{steps_around, end_of, mark_of, marks_around, build_of, build_at}
 use Rattle.litmus.proofs.BuildLaws.{built-law, all_closed-law}
 
 pub all_taken-append : (stage : Option Stage) (left right : List Symbol) → all_taken stage (left ++ right) ≡ all_taken (all_taken stage left) right
@@ -32,25 +35,31 @@ err_none o same = grind arith
 built-at : (o : Option Stage) (next : Symbol) (b : Build) → build_at o ≡ Some b → build_at (taken_from o next) ≡ built b next
 built-at o next b same = grind (arith, built-law, some_same)
 
-pub built-push : (symbols : List Symbol) (next : Symbol) (b : Build) → build_at (stage_after symbols) ≡ Some b → build_at (stage_after (symbols ++ next ∷ [])) ≡ built b next
+pub built-push : (symbols : List Symbol) (next : Symbol) (b : Build) → build_at (stage_after symbols) ≡ Some b
+    → build_at (stage_after (symbols ++ next ∷ [])) ≡ built b next
 built-push symbols next b same = ap (λ (o : Option Stage). build_at o) (stage_after-push symbols next) ∙ built-at (stage_after symbols) next b same
 
-added-at : (symbols : List Symbol) (next : Symbol) (o : Option Stage) (b : Build) → build_at o ≡ Some b → or_misplaced (with_symbol symbols next o) ≡ Ok (symbols ++ next ∷ [])
+added-at : (symbols : List Symbol) (next : Symbol) (o : Option Stage) (b : Build) → build_at o ≡ Some b
+    → or_misplaced (with_symbol symbols next o) ≡ Ok (symbols ++ next ∷ [])
 added-at symbols next o b same = grind arith
 
 refused-at : (symbols : List Symbol) (next : Symbol) (o : Option Stage) → build_at o ≡ None → or_misplaced (with_symbol symbols next o) ≡ Err tt
 refused-at symbols next o same = grind arith
 
 -- a symbol that is built on is recorded
-pub push_laid : (symbols : List Symbol) (next : Symbol) (b new : Build) → build_at (stage_after symbols) ≡ Some b → or_misplaced (built b next) ≡ Ok new → build_at (stage_after (symbols ++ next ∷ [])) ≡ Some new
+pub push_laid : (symbols : List Symbol) (next : Symbol) (b new : Build) → build_at (stage_after symbols) ≡ Some b
+    → or_misplaced (built b next) ≡ Ok new → build_at (stage_after (symbols ++ next ∷ [])) ≡ Some new
 push_laid symbols next b new same done = built-push symbols next b same ∙ ok_some (built b next) new done
 
-pub push_added : (symbols : List Symbol) (next : Symbol) (b new : Build) → build_at (stage_after symbols) ≡ Some b → or_misplaced (built b next) ≡ Ok new → symbol_added symbols next ≡ Ok (symbols ++ next ∷ [])
+pub push_added : (symbols : List Symbol) (next : Symbol) (b new : Build) → build_at (stage_after symbols) ≡ Some b
+    → or_misplaced (built b next) ≡ Ok new → symbol_added symbols next ≡ Ok (symbols ++ next ∷ [])
 unfolding symbol_added
 push_added symbols next b new same done = added-at symbols next (stage_after (symbols ++ next ∷ [])) new (push_laid symbols next b new same done)
 
 -- and one that isn't is refused
-pub push_refused : (symbols : List Symbol) (next : Symbol) (b : Build) (e : ConditionError) → build_at (stage_after symbols) ≡ Some b → IfSome (fault_of e) (λ fault. or_misplaced (built b next) ≡ Err fault) → IfSome (fault_of e) (λ fault. symbol_added symbols next ≡ Err fault)
+pub push_refused : (symbols : List Symbol) (next : Symbol) (b : Build) (e : ConditionError)
+    → build_at (stage_after symbols) ≡ Some b → IfSome (fault_of e) (λ fault. or_misplaced (built b next) ≡ Err fault)
+    → IfSome (fault_of e) (λ fault. symbol_added symbols next ≡ Err fault)
 unfolding symbol_added
 push_refused symbols next b e same refused = grind (arith, refused-at, built-push, err_none)
 
@@ -128,7 +137,10 @@ pub record Ends (o : Option Stage) (b : Build) : Type 0 where
 ends-at : (stage : Stage) → is_finished (build_of stage) ≡ true → Ends (Some stage) (build_of stage)
 ends-at (awaits around here) complete = absurd (cc)
 ends-at (has [] here f) complete = record { formula = disjunction_of here f; found = refl; steps = all_closed-law [] here f }
-ends-at (has (g ∷ around) here f) complete = let open_still : is_empty (marks_around (g ∷ around)) ≡ false = last_not_empty (marks_around around) (mark_of (steps_around around) g) in absurd (cc)
+ends-at (has (g ∷ around) here f) complete =
+    let open_still : is_empty (marks_around (g ∷ around)) ≡ false =
+    last_not_empty (marks_around around) (mark_of (steps_around around) g) in
+    absurd (cc)
 
 open-at : (stage : Stage) → is_finished (build_of stage) ≡ false → or_misplaced (formula_at (Some stage)) ≡ Err tt
 open-at stage incomplete = grind arith
@@ -147,9 +159,13 @@ steps_again steps f same = subst (λ (s : List Step). steps_of (formula_of s) �
 pub formula_again : (steps : List Step) (f : Formula) → steps ≡ steps_of f → formula_of steps ≡ f
 formula_again steps f same = ap formula_of same ∙ formula_of-steps_of f
 
-pub condition_steps : (symbols : List Symbol) (b : Build) (steps : List Step) → build_at (stage_after symbols) ≡ Some b → is_finished b ≡ true → steps ≡ all_closed b.here b.steps → steps_of (formula_of steps) ≡ steps
+pub condition_steps : (symbols : List Symbol) (b : Build) (steps : List Step)
+    → build_at (stage_after symbols) ≡ Some b → is_finished b ≡ true → steps ≡ all_closed b.here b.steps
+    → steps_of (formula_of steps) ≡ steps
 condition_steps symbols b steps same complete closed = grind (arith, finished_complete symbols b same complete, steps_again steps)
 
-pub finished-steps : (symbols : List Symbol) (b : Build) (steps : List Step) (f : Formula) → build_at (stage_after symbols) ≡ Some b → is_finished b ≡ true → steps ≡ all_closed b.here b.steps → f ≡ formula_of steps → finished symbols ≡ Ok f
+pub finished-steps : (symbols : List Symbol) (b : Build) (steps : List Step) (f : Formula)
+    → build_at (stage_after symbols) ≡ Some b → is_finished b ≡ true → steps ≡ all_closed b.here b.steps
+    → f ≡ formula_of steps → finished symbols ≡ Ok f
 unfolding finished
 finished-steps symbols b steps f same complete closed answer = grind (arith, finished_complete symbols b same complete, formula_again steps)

@@ -12,15 +12,22 @@ use Rattle.litmus.proofs.SeenLaws.{firsts-all}
 pub steps_there : (q : LitmusTest) (steps : List Step) → IsTest q → steps ≡ steps_of q.condition → All (AsksThere 64 1024) steps
 steps_there q steps test same =
     subst (λ (s : List Step). All (AsksThere 64 1024) s) (sym same)
-    (AsksThere-steps_of 64 1024 q.condition (AreThere-more (length q.opening.harts) 64 (length q.names) 1024 (places q.condition) test.opening.harts test.names test.places))
+    (AsksThere-steps_of 64 1024 q.condition
+    (AreThere-more (length q.opening.harts) 64 (length q.names) 1024 (places q.condition) test.opening.harts
+    test.names test.places))
 
 pub left_sides-steps : (f : Formula) (steps : List Step) (lefts : List Place) → steps ≡ steps_of f → lefts ≡ firsts (step_places steps) → lefts ≡ left_sides f
 left_sides-steps f steps lefts same found = found ∙ ap firsts (ap step_places same ∙ step_places-steps_of f)
 
 -- in a machine with this number of harts and words
-pub condition_there : (q other : LitmusTest) (harts M : ℕ) → IsTest q → q ≡ other → harts ≡ length other.opening.harts → length other.names ≤ M → All (IsThere harts M) (places q.condition)
+pub condition_there : (q other : LitmusTest) (harts M : ℕ) → IsTest q → q ≡ other
+    → harts ≡ length other.opening.harts → length other.names ≤ M → All (IsThere harts M) (places q.condition)
 condition_there q other harts M test same harts_same names_few = grind (arith, AreThere-more)
 
-pub lefts_there : (q other : LitmusTest) (harts M : ℕ) (lefts : List Place) → IsTest q → q ≡ other → harts ≡ length other.opening.harts → length other.names ≤ M → lefts ≡ left_sides q.condition → All (IsThere harts M) lefts
+pub lefts_there : (q other : LitmusTest) (harts M : ℕ) (lefts : List Place) → IsTest q → q ≡ other
+    → harts ≡ length other.opening.harts → length other.names ≤ M → lefts ≡ left_sides q.condition
+    → All (IsThere harts M) lefts
 lefts_there q other harts M lefts test same harts_same names_few are =
-    subst (λ (ps : List Place). All (IsThere harts M) ps) (sym are) (firsts-all (IsThere harts M) (places q.condition) (condition_there q other harts M test same harts_same names_few))
+    subst (λ (ps : List Place). All (IsThere harts M) ps) (sym are)
+    (firsts-all (IsThere harts M) (places q.condition)
+    (condition_there q other harts M test same harts_same names_few))

@@ -17,9 +17,11 @@ pub data Stands : Level → List Symbol → Formula → Type 0 where
   negated : (symbols : List Symbol) (f : Formula) → Stands operand symbols f → Stands operand (symbol.Not ∷ symbols) (negation f)
   enclosed : (symbols : List Symbol) (f : Formula) → Stands disjunction symbols f → Stands operand (symbol.Open ∷ (symbols ++ symbol.Close ∷ [])) f
   one_operand : (symbols : List Symbol) (f : Formula) → Stands operand symbols f → Stands conjunction symbols f
-  joined : (left right : List Symbol) (f g : Formula) → Stands conjunction left f → Stands operand right g → Stands conjunction (left ++ symbol.And ∷ right) (both f g)
+  joined : (left right : List Symbol) (f g : Formula) → Stands conjunction left f → Stands operand right g
+      → Stands conjunction (left ++ symbol.And ∷ right) (both f g)
   one_conjunction : (symbols : List Symbol) (f : Formula) → Stands conjunction symbols f → Stands disjunction symbols f
-  parted : (left right : List Symbol) (f g : Formula) → Stands disjunction left f → Stands conjunction right g → Stands disjunction (left ++ symbol.Or ∷ right) (either f g)
+  parted : (left right : List Symbol) (f g : Formula) → Stands disjunction left f → Stands conjunction right g
+      → Stands disjunction (left ++ symbol.Or ∷ right) (either f g)
 
 -- these symbols are a condition, and this formula is what it says
 abbrev pub IsConditionOf : List Symbol → Formula → Type 0

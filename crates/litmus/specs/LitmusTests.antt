@@ -42,4 +42,10 @@ abbrev pub left_sides : Formula → List Place
 left_sides f = firsts (places f)
 
 abbrev pub litmus_test_of : List HartOpeningValue → List ℕ → List (List ℕ) → Quantifier → Formula → LitmusTest
-litmus_test_of harts words names quantifier condition = record { opening = record { harts = harts; words = words }; names = names; quantifier = quantifier; condition = condition }
+litmus_test_of harts words names quantifier condition = record {
+  opening =
+      record { harts = harts; words = words };
+  names = names;
+  quantifier = quantifier;
+  condition = condition;
+}

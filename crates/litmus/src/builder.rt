@@ -208,7 +208,8 @@ impl Builder {
     fn close_group(&mut self) -> Result<(), ConditionError>
         requires within { IsWithin (length self.old.steps) self.old.here }
         requires after { self.old.has_operand ≡ true }
-        ensures exact { GivesUpToMemory fault_of (λ _. self.new) result (or_misplaced (with_close self.old (slice_get self.old.around (length self.old.around - 1)))) }
+        ensures exact { GivesUpToMemory fault_of (λ _. self.new) result
+            (or_misplaced (with_close self.old (slice_get self.old.around (length self.old.around - 1)))) }
         ensures kept { OnErr result (self.new ≡ self.old) }
     {
         match innermost(&self.around) {
@@ -222,7 +223,8 @@ impl Builder {
         requires within { IsWithin (length self.old.steps) self.old.here }
         requires after { self.old.has_operand ≡ true }
         requires some { 0 < length self.old.around }
-        ensures closed { OnOk result (self.new ≡ with_operand (all_closed self.old.here self.old.steps) (take (length self.old.around - 1) self.old.around) outer) }
+        ensures closed { OnOk result (self.new ≡ with_operand (all_closed self.old.here self.old.steps)
+            (take (length self.old.around - 1) self.old.around) outer) }
         ensures kept { OnErr result (self.new ≡ self.old) }
     {
         self.steps.reserve(outer.negations)?;

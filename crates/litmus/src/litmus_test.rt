@@ -38,7 +38,12 @@ impl Model for Test {
 
     ghost view = { λ t. record { opening = t.opening; names = map string_bytes t.names.items; quantifier = t.quantifier; condition = t.condition } };
 
-    ghost invariant = { λ t. IsTest (record { opening = t.opening; names = map string_bytes t.names.items; quantifier = t.quantifier; condition = t.condition }) × (t.lefts.items ≡ left_sides t.condition) };
+    ghost invariant = { λ t. IsTest (record {
+      opening = t.opening;
+      names = map string_bytes t.names.items;
+      quantifier = t.quantifier;
+      condition = t.condition;
+    }) × (t.lefts.items ≡ left_sides t.condition) };
 }
 
 impl Test {

@@ -1,5 +1,6 @@
 -- The columns of a table, and the rows that their cells stand in.
-use Rattle.std.proofs.Common.{◌≡◌, ℕ, suc, zero, ◌+◌, ◌≤◌, List, [], ◌∷◌, ◌++◌, length, replicate, Option, Some, None, Result, Ok, refl, sym, ap, subst, ◌∙◌, inl, inr, ◌⊎◌, arith}
+use Rattle.std.proofs.Common.{◌≡◌, ℕ, suc, zero, ◌+◌, ◌≤◌, List, [], ◌∷◌, ◌++◌, length, replicate, Option, Some, None}
+use Rattle.std.proofs.Common.{Result, Ok, refl, sym, ap, subst, ◌∙◌, inl, inr, ◌⊎◌, arith}
 use Rattle.std.specs.Prelude.{unwrap_or}
 use Rattle.std.specs.List.{slice_index_or, AllByRecursion}
 use Rattle.std.proofs.lemmas.Bool.{cases_Bool, le-ltb, eq-eqb, eqb-true}
@@ -49,7 +50,8 @@ cell_only column cell more e few = rw (e, le-ltb 4096 (words_of more) few) refl
 -- each column with its cells of these rows, the first with those of this hart
 abbrev AreEnds : List Cells → ℕ → List Column → List Column → Type 0
 AreEnds rows hart [] ends = ends ≡ []
-AreEnds rows hart (column ∷ columns) ends = (end : Column) × (others : List Column) × (ends ≡ end ∷ others) × (all_drafted column (column_of hart rows) ≡ Ok end) × AreEnds rows (hart + 1) columns others
+AreEnds rows hart (column ∷ columns) ends = (end : Column) × (others : List Column) × (ends ≡ end ∷ others)
+    × (all_drafted column (column_of hart rows) ≡ Ok end) × AreEnds rows (hart + 1) columns others
 
 abbrev AreFew : List Column → Type 0
 AreFew ends = AllByRecursion (λ end. words_of end ≤ 4096) ends
@@ -76,7 +78,9 @@ ends_count rows hart [] ends are = ap length are
 ends_count rows hart (column ∷ columns) ends are = ap length are.2 ∙ ap suc (ends_count rows (hart + 1) columns are.1 are.4)
 
 -- a row more at the top
-ends_more : (rows : List Cells) (cells : Cells) (hart : ℕ) (columns : List Column) (here : Cells) (more ends : List Column) → AreFrom hart cells here → length here ≡ length columns → cells_added columns here ≡ Ok more → AreEnds rows hart more ends → AreEnds (cells ∷ rows) hart columns ends
+ends_more : (rows : List Cells) (cells : Cells) (hart : ℕ) (columns : List Column) (here : Cells)
+    (more ends : List Column) → AreFrom hart cells here → length here ≡ length columns
+    → cells_added columns here ≡ Ok more → AreEnds rows hart more ends → AreEnds (cells ∷ rows) hart columns ends
 ends_more rows cells hart [] here more ends at count e are = subst (λ (m : List Column). AreEnds rows hart m ends) (sym (ok_is LitmusFault [] more e)) are
 ends_more rows cells hart (column ∷ columns) [] more ends at count e are = absurd (omega (arith, count))
 ends_more rows cells hart (column ∷ columns) (cell ∷ here) more ends at count e are =
@@ -90,10 +94,12 @@ ends_more rows cells hart (column ∷ columns) (cell ∷ here) more ends at coun
       ends_more rows cells (hart + 1) columns here rest.0 below.1 (from_next hart cells cell here at) (omega (arith, count)) rest.1 below.4,
     )
 
-cells_found : (rows : List Cells) (cells : Cells) (columns more ends : List Column) → length cells ≡ length columns → cells_added columns cells ≡ Ok more → AreEnds rows 0 more ends → AreEnds (cells ∷ rows) 0 columns ends
+cells_found : (rows : List Cells) (cells : Cells) (columns more ends : List Column) → length cells ≡ length columns
+    → cells_added columns cells ≡ Ok more → AreEnds rows 0 more ends → AreEnds (cells ∷ rows) 0 columns ends
 cells_found rows cells columns more ends count e are = ends_more rows cells 0 columns cells more ends (from_start cells) count e are
 
-cells_count : (columns : List Column) (cells : Cells) (more : List Column) → length cells ≡ length columns → cells_added columns cells ≡ Ok more → length more ≡ length columns
+cells_count : (columns : List Column) (cells : Cells) (more : List Column) → length cells ≡ length columns
+    → cells_added columns cells ≡ Ok more → length more ≡ length columns
 cells_count columns cells more count e = ends_count (cells ∷ []) 0 columns more (cells_found [] cells columns more more count e (ends_none 0 more))
 
 -- the columns with their first cells
@@ -102,7 +108,9 @@ record Fronts (rows : List Cells) (hart : ℕ) (columns : List Column) (here : C
   shown : cells_added columns here ≡ Ok more
   below : AreEnds rows hart more ends
 
-fronts : (rows : List Cells) (cells : Cells) (hart : ℕ) (columns : List Column) (here : Cells) (ends : List Column) → AreFrom hart cells here → length here ≡ length columns → AreEnds (cells ∷ rows) hart columns ends → AreFew ends → Fronts rows hart columns here ends
+fronts : (rows : List Cells) (cells : Cells) (hart : ℕ) (columns : List Column) (here : Cells) (ends : List Column)
+    → AreFrom hart cells here → length here ≡ length columns → AreEnds (cells ∷ rows) hart columns ends → AreFew ends
+    → Fronts rows hart columns here ends
 fronts rows cells hart [] here ends at count are few = record { more = []; shown = refl; below = are }
 fronts rows cells hart (column ∷ columns) [] ends at count are few = absurd (omega (arith, count))
 fronts rows cells hart (column ∷ columns) (cell ∷ here) ends at count are few =
@@ -123,7 +131,8 @@ record CellsAdded (rows : List Cells) (cells : Cells) (columns ends : List Colum
   count : length more ≡ length columns
   below : AreEnds rows 0 more ends
 
-cells_only : (rows : List Cells) (cells : Cells) (columns ends : List Column) → length cells ≡ length columns → AreEnds (cells ∷ rows) 0 columns ends → AreFew ends → CellsAdded rows cells columns ends
+cells_only : (rows : List Cells) (cells : Cells) (columns ends : List Column) → length cells ≡ length columns
+    → AreEnds (cells ∷ rows) 0 columns ends → AreFew ends → CellsAdded rows cells columns ends
 cells_only rows cells columns ends count are few =
     let front = fronts rows cells 0 columns cells ends (from_start cells) count are few in
     record { more = front.more; shown = front.shown; count = cells_count columns cells front.more count front.shown; below = front.below }
@@ -138,7 +147,9 @@ AreCodes rows hart (code ∷ codes) = IsColumnCode (column_of hart rows) code ×
 code_found : (cells : List (List ℕ)) (end : Column) (code : Code) → all_drafted [] cells ≡ Ok end → finished end ≡ Ok code → IsColumnCode cells code
 code_found cells end code e done = grind (arith, all_found [] cells end e, finished-found end code done)
 
-codes_found : (rows : List Cells) (hart harts : ℕ) (ends : List Column) (codes : List Code) → AreEnds rows hart (replicate harts []) ends → codes_of ends ≡ Ok codes → AreCodes rows hart codes × (length codes ≡ harts)
+codes_found : (rows : List Cells) (hart harts : ℕ) (ends : List Column) (codes : List Code)
+    → AreEnds rows hart (replicate harts []) ends → codes_of ends ≡ Ok codes
+    → AreCodes rows hart codes × (length codes ≡ harts)
 codes_found rows hart zero ends codes are e = grind (arith, ok_is)
 codes_found rows hart (suc harts) ends codes are e =
     let all : codes_of (are.0 ∷ are.1) ≡ Ok codes = ap codes_of (sym are.2) ∙ e in
@@ -174,11 +185,13 @@ record IsLineOf (columns : List Column) (line : List ℕ) (more : List Column) :
   count : length cells ≡ length columns
   shown : cells_added columns cells ≡ Ok more
 
-line-found : (columns : List Column) (line : List ℕ) (more : List Column) → line_added columns line ≡ Ok more → (AreBlanks line × (columns ≡ more)) ⊎ IsLineOf columns line more
+line-found : (columns : List Column) (line : List ℕ) (more : List Column) → line_added columns line ≡ Ok more
+    → (AreBlanks line × (columns ≡ more)) ⊎ IsLineOf columns line more
 unfolding line_added
 line-found columns line more e = grind (arith, cases_Bool, blank_found, ok_is, row_found, eqb-true)
 
-line-only : (columns : List Column) (line : List ℕ) (cells : Cells) → IsRow line cells → length cells ≡ length columns → line_added columns line ≡ cells_added columns cells
+line-only : (columns : List Column) (line : List ℕ) (cells : Cells) → IsRow line cells
+    → length cells ≡ length columns → line_added columns line ≡ cells_added columns cells
 unfolding line_added
 line-only columns line cells is count = grind (arith, row_only line cells is, eq-eqb (length cells) (length columns) count)
 
@@ -188,7 +201,12 @@ record Rows (columns : List Column) (lines : List (List ℕ)) (ends : List Colum
   ended : AreEnds rows 0 columns ends
 
 lines_found : (columns : List Column) (lines : List (List ℕ)) (ends : List Column) → lines_added columns lines ≡ Ok ends → Rows columns lines ends
-lines_found columns [] ends e = record { rows = []; are = none; ended = subst (λ (es : List Column). AreEnds [] 0 columns es) (ok_is LitmusFault columns ends e) (ends_none 0 columns) }
+lines_found columns [] ends e = record {
+  rows = [];
+  are = none;
+  ended =
+      subst (λ (es : List Column). AreEnds [] 0 columns es) (ok_is LitmusFault columns ends e) (ends_none 0 columns);
+}
 lines_found columns (line ∷ lines) ends e =
     let step = bind_ok (line_added columns line) (λ (more : List Column). lines_added more lines) ends e in
     let rest = lines_found step.0 lines ends step.2 in
@@ -200,7 +218,9 @@ lines_found columns (line ∷ lines) ends e =
       }
       | inr first ↦ record {
         rows = first.cells ∷ rest.rows;
-        are = row line lines first.cells rest.rows first.is first.count (subst (λ (n : ℕ). AreRows n lines rest.rows) (cells_count columns first.cells step.0 first.count first.shown) rest.are);
+        are =
+            row line lines first.cells rest.rows first.is first.count (subst (λ (n : ℕ). AreRows n lines rest.rows)
+            (cells_count columns first.cells step.0 first.count first.shown) rest.are);
         ended = cells_found rest.rows first.cells columns step.0 ends first.count first.shown rest.ended;
       }
     ]
@@ -209,35 +229,45 @@ ends_of_none : (hart : ℕ) (columns ends : List Column) → AreEnds [] hart col
 ends_of_none hart [] ends are = sym are
 ends_of_none hart (column ∷ columns) ends are = rw (are.2, ok_is Refusal column are.0 are.3, ends_of_none (hart + 1) columns are.1 are.4) refl
 
-lines_only : (harts : ℕ) (columns : List Column) (lines : List (List ℕ)) (rows : List Cells) (ends : List Column) → length columns ≡ harts → AreRows harts lines rows → AreEnds rows 0 columns ends → AreFew ends → lines_added columns lines ≡ Ok ends
+lines_only : (harts : ℕ) (columns : List Column) (lines : List (List ℕ)) (rows : List Cells) (ends : List Column)
+    → length columns ≡ harts → AreRows harts lines rows → AreEnds rows 0 columns ends → AreFew ends
+    → lines_added columns lines ≡ Ok ends
 unfolding line_added
 lines_only harts columns lines rows ends count none are few = ap Ok (ends_of_none 0 columns ends are)
-lines_only harts columns lines rows ends count (blank line below others empty written) are few = rw (blank_only line empty) (lines_only harts columns below others ends count written are few)
+lines_only harts columns lines rows ends count (blank line below others empty written) are few =
+    rw (blank_only line empty) (lines_only harts columns below others ends count written are few)
 lines_only harts columns lines rows ends count (row line below cells others is full written) are few =
     let same : length cells ≡ length columns = full ∙ sym count in
     let front = cells_only others cells columns ends same are few in
     line_first columns front.more line below ends (line-only columns line cells is same ∙ front.shown)
     (lines_only harts front.more below others ends (front.count ∙ count) written front.below few)
   where
-    line_first : (columns more : List Column) (line : List ℕ) (below : List (List ℕ)) (ends : List Column) → line_added columns line ≡ Ok more → lines_added more below ≡ Ok ends → lines_added columns (line ∷ below) ≡ Ok ends
+    line_first : (columns more : List Column) (line : List ℕ) (below : List (List ℕ)) (ends : List Column)
+        → line_added columns line ≡ Ok more → lines_added more below ≡ Ok ends
+        → lines_added columns (line ∷ below) ≡ Ok ends
     line_first columns more line below ends first rest = rw first rest
 
 -- ---- the table
 
 -- where nothing follows the first row, nothing is read
-below_same : (columns : List Column) (o : Option (List ℕ)) → lines_added columns (pieces (Byte 10) (unwrap_or o [])) ≡ lines_added columns (pieces_after (Byte 10) o)
+below_same : (columns : List Column) (o : Option (List ℕ))
+    → lines_added columns (pieces (Byte 10) (unwrap_or o [])) ≡ lines_added columns (pieces_after (Byte 10) o)
 unfolding line_added
 below_same columns o = grind arith
 
-pub table_found : (table : List ℕ) (columns : List Column) (codes : List Code) → table_at table ≡ Ok columns → codes_of columns ≡ Ok codes → (rows : List Cells) × IsTable table (length codes) rows × AreCodes rows 0 codes
+pub table_found : (table : List ℕ) (columns : List Column) (codes : List Code) → table_at table ≡ Ok columns
+    → codes_of columns ≡ Ok codes → (rows : List Cells) × IsTable table (length codes) rows × AreCodes rows 0 codes
 unfolding table_at
 table_found table columns codes e done = go (from_line mark.Visible table) refl e
   where
-    go : (o : Option (List ℕ)) → from_line mark.Visible table ≡ o → table_from o ≡ Ok columns → (rows : List Cells) × IsTable table (length codes) rows × AreCodes rows 0 codes
+    go : (o : Option (List ℕ)) → from_line mark.Visible table ≡ o → table_from o ≡ Ok columns
+        → (rows : List Cells) × IsTable table (length codes) rows × AreCodes rows 0 codes
     go None nowhere f = absurd cc
     go (Some from) at f =
         let below = unwrap_or (after (is_byte 10) from) [] in
-        let step = bind_ok (harts_in (before (is_byte 10) from)) (λ (harts : ℕ). lines_added (replicate harts []) (pieces_after (Byte 10) (after (is_byte 10) from))) columns f in
+        let step = bind_ok (harts_in (before (is_byte 10) from))
+        (λ (harts : ℕ). lines_added (replicate harts []) (pieces_after (Byte 10) (after (is_byte 10) from))) columns
+        f in
         let first = first_row_found (before (is_byte 10) from) step.0 step.1 in
         let lines = lines_found (replicate step.0 []) (pieces (Byte 10) below) columns (below_same (replicate step.0 []) (after (is_byte 10) from) ∙ step.2) in
         let coded = codes_found lines.rows 0 step.0 columns codes lines.ended done in (
@@ -261,14 +291,16 @@ table_found table columns codes e done = go (from_line mark.Visible table) refl 
           coded.0,
         )
 
-pub table_only : (table : List ℕ) (rows : List Cells) (codes : List Code) → IsTable table (length codes) rows → AreCodes rows 0 codes → (columns : List Column) × (table_at table ≡ Ok columns) × (codes_of columns ≡ Ok codes)
+pub table_only : (table : List ℕ) (rows : List Cells) (codes : List Code) → IsTable table (length codes) rows
+    → AreCodes rows 0 codes → (columns : List Column) × (table_at table ≡ Ok columns) × (codes_of columns ≡ Ok codes)
 unfolding table_at
 table_only table rows codes is are =
     let coded = codes_only rows 0 codes are in
     let begun = first_only mark.Visible IsVisible visible_matches table is.blank_lines is.from is.begins in
     let cut = cut_only is.from is.first is.below is.cut in
     let first = first_row_only is.first (length codes) (record { names = is.names; row = is.row; named = is.named; counted = is.counted; few = is.few }) in
-    let lines = lines_only (length codes) (replicate (length codes) []) is.lines rows coded.ends (length-replicate (length codes) []) is.written coded.are coded.few in
+    let lines = lines_only (length codes) (replicate (length codes) []) is.lines rows coded.ends
+    (length-replicate (length codes) []) is.written coded.are coded.few in
     let shown : lines_added (replicate (length codes) []) (pieces (Byte 10) is.below) ≡ Ok coded.ends = rw (parts_only 10 is.below is.lines is.parted) lines in
     let below = sym (below_same (replicate (length codes) []) (after (is_byte 10) is.from)) ∙ rw cut.1 shown in
     (coded.ends, rw (begun.1, cut.0, first) below, coded.shown)

@@ -1,5 +1,6 @@
 -- The condition: what is read of it is what its text asks, and what the text asks is read.
-use Rattle.std.proofs.Common.{◌≡◌, ◌∙◌, ℕ, ◌*◌, ◌≤◌, Bool, true, false, List, [], ◌∷◌, ◌++◌, length, drop, Option, Some, None, Result, Ok, Err, refl, sym, ap, subst, append_assoc, ltb-true, lt-ltb, arith}
+use Rattle.std.proofs.Common.{◌≡◌, ◌∙◌, ℕ, ◌*◌, ◌≤◌, Bool, true, false, List, [], ◌∷◌, ◌++◌, length, drop, Option, Some}
+use Rattle.std.proofs.Common.{None, Result, Ok, Err, refl, sym, ap, subst, append_assoc, ltb-true, lt-ltb, arith}
 use Rattle.std.specs.Prelude.{nat_lt, if◌then◌else◌, codes}
 use Rattle.std.proofs.lemmas.List.{append-nil}
 use Rattle.texts.specs.Cutting.{without_front, AreBlanks}
@@ -28,7 +29,9 @@ use Rattle.litmus_reader.specs.declared.faults.LitmusFault.TheVariants.{BadCondi
 use Rattle.litmus_reader.specs.declared.marks.Mark.TheVariants.{Unread}
 use Rattle.litmus_reader.specs.Marks.{has_token, before_line, from_line}
 use Rattle.litmus_reader.specs.Locations.{Names, resolved, value_resolved}
-use Rattle.litmus_reader.specs.Condition.{Quantified, ConditionSoFar, Condition, quantifier_of, quantifier_in, place_resolved, atom_resolved, token_resolved, as_condition, tokens_added, none_unread, after_quantifier, condition_in}
+use Rattle.litmus_reader.specs.Condition.{Quantified, ConditionSoFar, Condition, quantifier_of, quantifier_in}
+use Rattle.litmus_reader.specs.Condition.{place_resolved, atom_resolved, token_resolved, as_condition, tokens_added}
+use Rattle.litmus_reader.specs.Condition.{none_unread, after_quantifier, condition_in}
 use Rattle.litmus_reader.specs.Shapes.{NoneBegins}
 use Rattle.litmus_reader.specs.Layout.{BeginsUnread}
 use Rattle.litmus_reader.specs.Openings.{names_in, name_of_place, name_of_value, each_once, IsWorth}
@@ -48,7 +51,8 @@ quantifier_cut line quantified e = go (has_token (codes "exists") line) refl (ha
     is : (q : Quantifier) (rest : List ℕ) → line ≡ token_for q ++ rest → (q, rest) ≡ quantified → line ≡ token_for quantified.0 ++ quantified.1
     is q rest cut same = subst (λ (one : Quantified). line ≡ token_for one.0 ++ one.1) same cut
 
-    go : (a : Bool) → has_token (codes "exists") line ≡ a → (b : Bool) → has_token (codes "~exists") line ≡ b → (c : Bool) → has_token (codes "forall") line ≡ c → line ≡ token_for quantified.0 ++ quantified.1
+    go : (a : Bool) → has_token (codes "exists") line ≡ a → (b : Bool) → has_token (codes "~exists") line ≡ b
+        → (c : Bool) → has_token (codes "forall") line ≡ c → line ≡ token_for quantified.0 ++ quantified.1
     go true e1 b e2 c e3 = (let shown = rw e1 at e in is Exists (drop 6 line) (token_cut (codes "exists") line e1) cc)
     go false e1 true e2 c e3 = (let shown = rw (e1, e2) at e in is NotExists (drop 7 line) (token_cut (codes "~exists") line e2) cc)
     go false e1 false e2 true e3 = (let shown = rw (e1, e2, e3) at e in is ForAll (drop 6 line) (token_cut (codes "forall") line e3) cc)
@@ -61,13 +65,16 @@ quantifier_found text quantified e = grind (arith, leading_split is_blank text, 
 quantifier_first : (quantifier : Quantifier) (rest : List ℕ) → quantifier_of (without_front (token_for quantifier ++ rest)) ≡ Some (quantifier, rest)
 quantifier_first quantifier rest = grind arith
 
-quantifier_only : (blanks rest : List ℕ) (quantifier : Quantifier) → AreBlanks blanks → quantifier_in (blanks ++ (token_for quantifier ++ rest)) ≡ Some (quantifier, rest)
+quantifier_only : (blanks rest : List ℕ) (quantifier : Quantifier) → AreBlanks blanks
+    → quantifier_in (blanks ++ (token_for quantifier ++ rest)) ≡ Some (quantifier, rest)
 unfolding quantifier_in
-quantifier_only blanks rest quantifier all = ap quantifier_of (leading_past is_blank blanks (token_for quantifier ++ rest) all) ∙ quantifier_first quantifier rest
+quantifier_only blanks rest quantifier all = ap quantifier_of
+    (leading_past is_blank blanks (token_for quantifier ++ rest) all) ∙ quantifier_first quantifier rest
 
 -- ---- symbols that may stand after others
 
-with_symbol-found : (words : List Symbol) (next : Symbol) (o : Option Stage) (more : List Symbol) → as_condition (or_misplaced (with_symbol words next o)) ≡ Ok more → words ++ next ∷ [] ≡ more
+with_symbol-found : (words : List Symbol) (next : Symbol) (o : Option Stage) (more : List Symbol)
+    → as_condition (or_misplaced (with_symbol words next o)) ≡ Ok more → words ++ next ∷ [] ≡ more
 with_symbol-found words next o more e = grind arith
 
 symbol_found : (words : List Symbol) (next : Symbol) (more : List Symbol) → as_condition (symbol_added words next) ≡ Ok more → words ++ next ∷ [] ≡ more
@@ -90,10 +97,15 @@ record PlaceFound (harts : ℕ) (ms : Names) (spot : setting.NamedPlace) (found 
   few : length found.1 ≤ 1024
   at : IsPlaceOf harts found.1 spot found.0
 
-register_found : (harts hart : ℕ) (ms : Names) (register : Reg) (b : Bool) (found : Place × Names) → nat_lt hart harts ≡ b → length (each_once ms) ≤ 1024 → (if b then Ok (place.Register hart register.number, each_once ms) else Err BadCondition) ≡ Ok found → PlaceFound harts ms (setting.NamedPlace.in_register hart register) found
+register_found : (harts hart : ℕ) (ms : Names) (register : Reg) (b : Bool) (found : Place × Names)
+    → nat_lt hart harts ≡ b → length (each_once ms) ≤ 1024
+    → (if b then Ok (place.Register hart register.number, each_once ms) else Err BadCondition) ≡ Ok found
+    → PlaceFound harts ms (setting.NamedPlace.in_register hart register) found
 register_found harts hart ms register b found within few e = grind (arith, ok_is, append-nil, ltb-true)
 
-place_found : (harts : ℕ) (ms : Names) (spot : setting.NamedPlace) (found : Place × Names) → length (each_once ms) ≤ 1024 → place_resolved harts (each_once ms) spot ≡ Ok found → PlaceFound harts ms spot found
+place_found : (harts : ℕ) (ms : Names) (spot : setting.NamedPlace) (found : Place × Names)
+    → length (each_once ms) ≤ 1024 → place_resolved harts (each_once ms) spot ≡ Ok found
+    → PlaceFound harts ms spot found
 unfolding place_resolved
 place_found harts ms (setting.NamedPlace.in_register hart register) found few e = register_found harts hart ms register (nat_lt hart harts) found refl few e
 place_found harts ms (setting.NamedPlace.at_location name) found few e =
@@ -102,13 +114,18 @@ place_found harts ms (setting.NamedPlace.at_location name) found few e =
     subst (PlaceFound harts ms (setting.NamedPlace.at_location name)) (ok_is LitmusFault (place.Word (4 * first.0.0), first.0.1) found first.2)
     (record { names = shown.0; few = shown.2 few; at = (first.0.0, shown.1, refl) })
 
-place_later : (harts : ℕ) (ms more : Names) (spot : setting.NamedPlace) (at : Place) → IsPlaceOf harts (each_once ms) spot at → IsPlaceOf harts (each_once (ms ++ more)) spot at
+place_later : (harts : ℕ) (ms more : Names) (spot : setting.NamedPlace) (at : Place)
+    → IsPlaceOf harts (each_once ms) spot at → IsPlaceOf harts (each_once (ms ++ more)) spot at
 place_later harts ms more spot at is = grind (arith, at_later)
 
 -- the names may be followed by others, of what comes later
-place_only : (harts : ℕ) (ms more : Names) (spot : setting.NamedPlace) (at : Place) → length (each_once (ms ++ name_of_place spot)) ≤ 1024 → IsPlaceOf harts (each_once ((ms ++ name_of_place spot) ++ more)) spot at → place_resolved harts (each_once ms) spot ≡ Ok (at, each_once (ms ++ name_of_place spot))
+place_only : (harts : ℕ) (ms more : Names) (spot : setting.NamedPlace) (at : Place)
+    → length (each_once (ms ++ name_of_place spot)) ≤ 1024
+    → IsPlaceOf harts (each_once ((ms ++ name_of_place spot) ++ more)) spot at
+    → place_resolved harts (each_once ms) spot ≡ Ok (at, each_once (ms ++ name_of_place spot))
 unfolding place_resolved
-place_only harts ms more (setting.NamedPlace.in_register hart register) at few is = rw (lt-ltb hart harts is.0, append-nil ms) (ap (λ (p : Place). Ok (p, each_once ms)) (sym is.1))
+place_only harts ms more (setting.NamedPlace.in_register hart register) at few is =
+    rw (lt-ltb hart harts is.0, append-nil ms) (ap (λ (p : Place). Ok (p, each_once ms)) (sym is.1))
 place_only harts ms more (setting.NamedPlace.at_location name) at few is =
     let shown = resolved-only ms name few in
     let same : shown.0 ≡ is.0 = one_index ((ms ++ name ∷ []) ++ more) name shown.0 is.0 (at_later (ms ++ name ∷ []) more name shown.0 shown.2) is.1 in
@@ -121,19 +138,26 @@ record TokenFound (harts : ℕ) (ms : Names) (first : token.Token) (found : Symb
   few : length found.1 ≤ 1024
   known : IsKnown harts found.1 first found.0
 
-both_names : (ms : Names) (equation : setting.Equation) → (ms ++ name_of_place equation.0) ++ name_of_value equation.1 ≡ ms ++ names_of (token.Token.atom equation)
-both_names ms equation = append_assoc ms (name_of_place equation.0) (name_of_value equation.1) ∙ ap (λ (ns : Names). ms ++ (name_of_place equation.0 ++ ns)) (sym (append-nil (name_of_value equation.1)))
+both_names : (ms : Names) (equation : setting.Equation)
+    → (ms ++ name_of_place equation.0) ++ name_of_value equation.1 ≡ ms ++ names_of (token.Token.atom equation)
+both_names ms equation = append_assoc ms (name_of_place equation.0) (name_of_value equation.1)
+    ∙ ap (λ (ns : Names). ms ++ (name_of_place equation.0 ++ ns)) (sym (append-nil (name_of_value equation.1)))
 
-atom_found : (harts : ℕ) (ms : Names) (equation : setting.Equation) (found : Symbol × Names) → length (each_once ms) ≤ 1024 → atom_resolved harts (each_once ms) equation ≡ Ok found → TokenFound harts ms (token.Token.atom equation) found
+atom_found : (harts : ℕ) (ms : Names) (equation : setting.Equation) (found : Symbol × Names)
+    → length (each_once ms) ≤ 1024 → atom_resolved harts (each_once ms) equation ≡ Ok found
+    → TokenFound harts ms (token.Token.atom equation) found
 unfolding atom_resolved
 atom_found harts ms equation found few e =
     let here = ms ++ name_of_place equation.0 in
-    let spot = bind_ok (place_resolved harts (each_once ms) equation.0) (λ spot. value_resolved spot.1 equation.1 >>= λ value. Ok (symbol.Is spot.0 value.0, value.1)) found e in
+    let spot = bind_ok (place_resolved harts (each_once ms) equation.0)
+    (λ spot. value_resolved spot.1 equation.1 >>= λ value. Ok (symbol.Is spot.0 value.0, value.1)) found e in
     let at = place_found harts ms equation.0 spot.0 few spot.1 in
     let value = bind_ok (value_resolved spot.0.1 equation.1) (λ value. Ok (symbol.Is spot.0.0 value.0, value.1)) found spot.2 in
     let worth = value_found here equation.1 value.0 (subst (λ (names : Names). value_resolved names equation.1 ≡ Ok value.0) at.names value.1) in
     let at_here : IsPlaceOf harts (each_once here) equation.0 spot.0.0 = subst (λ (names : Names). IsPlaceOf harts names equation.0 spot.0.0) at.names at.at in
-    let at_end : IsPlaceOf harts value.0.1 equation.0 spot.0.0 = subst (λ (names : Names). IsPlaceOf harts names equation.0 spot.0.0) (sym worth.0) (place_later harts here (name_of_value equation.1) equation.0 spot.0.0 at_here) in
+    let at_end : IsPlaceOf harts value.0.1 equation.0 spot.0.0 =
+    subst (λ (names : Names). IsPlaceOf harts names equation.0 spot.0.0) (sym worth.0)
+    (place_later harts here (name_of_value equation.1) equation.0 spot.0.0 at_here) in
     subst (TokenFound harts ms (token.Token.atom equation)) (ok_is LitmusFault (symbol.Is spot.0.0 value.0.0, value.0.1) found value.2)
     (record {
       names = worth.0 ∙ ap each_once (both_names ms equation);
@@ -144,10 +168,13 @@ atom_found harts ms equation found few e =
 abbrev answered : Symbol → Names → Result (Symbol × Names) LitmusFault
 answered known names = Ok (known, names)
 
-plain_found : (harts : ℕ) (ms : Names) (first : token.Token) (known : Symbol) (found : Symbol × Names) → ms ++ names_of first ≡ ms ++ [] → ((names : Names) → IsKnown harts names first known) → length (each_once ms) ≤ 1024 → answered known (each_once ms) ≡ Ok found → TokenFound harts ms first found
+plain_found : (harts : ℕ) (ms : Names) (first : token.Token) (known : Symbol) (found : Symbol × Names)
+    → ms ++ names_of first ≡ ms ++ [] → ((names : Names) → IsKnown harts names first known)
+    → length (each_once ms) ≤ 1024 → answered known (each_once ms) ≡ Ok found → TokenFound harts ms first found
 plain_found harts ms first known found none is few e = grind (arith, ok_is, append-nil)
 
-token_found : (harts : ℕ) (ms : Names) (first : token.Token) (found : Symbol × Names) → length (each_once ms) ≤ 1024 → token_resolved harts (each_once ms) first ≡ Ok found → TokenFound harts ms first found
+token_found : (harts : ℕ) (ms : Names) (first : token.Token) (found : Symbol × Names) → length (each_once ms) ≤ 1024
+    → token_resolved harts (each_once ms) first ≡ Ok found → TokenFound harts ms first found
 unfolding token_resolved
 token_found harts ms (token.Token.atom equation) found few e = atom_found harts ms equation found few e
 token_found harts ms token.Token.negation found few e = plain_found harts ms token.Token.negation symbol.Not found refl (λ names. refl) few e
@@ -156,27 +183,44 @@ token_found harts ms token.Token.disjunction found few e = plain_found harts ms 
 token_found harts ms token.Token.opening found few e = plain_found harts ms token.Token.opening symbol.Open found refl (λ names. refl) few e
 token_found harts ms token.Token.closing found few e = plain_found harts ms token.Token.closing symbol.Close found refl (λ names. refl) few e
 
-known_later : (harts : ℕ) (ms more : Names) (first : token.Token) (known : Symbol) → IsKnown harts (each_once ms) first known → IsKnown harts (each_once (ms ++ more)) first known
+known_later : (harts : ℕ) (ms more : Names) (first : token.Token) (known : Symbol)
+    → IsKnown harts (each_once ms) first known → IsKnown harts (each_once (ms ++ more)) first known
 known_later harts ms more first known is = grind (arith, place_later, worth_later)
 
-atom_only : (harts : ℕ) (ms more : Names) (equation : setting.Equation) (at : Place) (value : ℕ) → length (each_once (ms ++ names_of (token.Token.atom equation))) ≤ 1024 → IsPlaceOf harts (each_once ((ms ++ names_of (token.Token.atom equation)) ++ more)) equation.0 at → IsWorth (each_once ((ms ++ names_of (token.Token.atom equation)) ++ more)) equation.1 value → atom_resolved harts (each_once ms) equation ≡ Ok (symbol.Is at value, each_once (ms ++ names_of (token.Token.atom equation)))
+atom_only : (harts : ℕ) (ms more : Names) (equation : setting.Equation) (at : Place) (value : ℕ)
+    → length (each_once (ms ++ names_of (token.Token.atom equation))) ≤ 1024
+    → IsPlaceOf harts (each_once ((ms ++ names_of (token.Token.atom equation)) ++ more)) equation.0 at
+    → IsWorth (each_once ((ms ++ names_of (token.Token.atom equation)) ++ more)) equation.1 value
+    → atom_resolved harts (each_once ms) equation
+    ≡ Ok (symbol.Is at value, each_once (ms ++ names_of (token.Token.atom equation)))
 unfolding atom_resolved
 atom_only harts ms more equation at value few is worth =
     let here = ms ++ name_of_place equation.0 in
     let split = both_names ms equation in
     let few_here : length (each_once (here ++ name_of_value equation.1)) ≤ 1024 = rw split few in
-    let following : (ms ++ names_of (token.Token.atom equation)) ++ more ≡ here ++ (name_of_value equation.1 ++ more) = ap (λ (ns : Names). ns ++ more) (sym split) ∙ append_assoc here (name_of_value equation.1) more in
-    let placed = place_only harts ms (name_of_value equation.1 ++ more) equation.0 at (omega (arith, fewer here (name_of_value equation.1), few_here)) (subst (λ (ns : Names). IsPlaceOf harts (each_once ns) equation.0 at) following is) in
+    let following : (ms ++ names_of (token.Token.atom equation)) ++ more ≡ here
+    ++ (name_of_value equation.1 ++ more) =
+    ap (λ (ns : Names). ns ++ more) (sym split) ∙ append_assoc here (name_of_value equation.1) more in
+    let placed = place_only harts ms (name_of_value equation.1 ++ more) equation.0 at
+    (omega (arith, fewer here (name_of_value equation.1), few_here))
+    (subst (λ (ns : Names). IsPlaceOf harts (each_once ns) equation.0 at) following is) in
     let shown = value_only here equation.1 few_here in
-    let same : shown.0 ≡ value = one_worth ((here ++ name_of_value equation.1) ++ more) equation.1 shown.0 value (worth_later (here ++ name_of_value equation.1) more equation.1 shown.0 shown.2) (subst (λ (ns : Names). IsWorth (each_once (ns ++ more)) equation.1 value) (sym split) worth) in
-    rw (placed, shown.1) (ap (λ (ns : Names). Ok (symbol.Is at shown.0, each_once ns)) split ∙ ap (λ (w : ℕ). Ok (symbol.Is at w, each_once (ms ++ names_of (token.Token.atom equation)))) same)
+    let same : shown.0 ≡ value = one_worth ((here ++ name_of_value equation.1) ++ more) equation.1 shown.0 value
+    (worth_later (here ++ name_of_value equation.1) more equation.1 shown.0 shown.2)
+    (subst (λ (ns : Names). IsWorth (each_once (ns ++ more)) equation.1 value) (sym split) worth) in
+    rw (placed, shown.1) (ap (λ (ns : Names). Ok (symbol.Is at shown.0, each_once ns)) split
+    ∙ ap (λ (w : ℕ). Ok (symbol.Is at w, each_once (ms ++ names_of (token.Token.atom equation)))) same)
 
 plain_only : (ms : Names) (known : Symbol) (is : Symbol) → is ≡ known → answered known (each_once ms) ≡ answered is (each_once (ms ++ []))
 plain_only ms known is same = rw (append-nil ms) (ap (λ (t : Symbol). Ok (t, each_once ms)) (sym same))
 
-token_only : (harts : ℕ) (ms more : Names) (first : token.Token) (known : Symbol) → length (each_once (ms ++ names_of first)) ≤ 1024 → IsKnown harts (each_once ((ms ++ names_of first) ++ more)) first known → token_resolved harts (each_once ms) first ≡ Ok (known, each_once (ms ++ names_of first))
+token_only : (harts : ℕ) (ms more : Names) (first : token.Token) (known : Symbol)
+    → length (each_once (ms ++ names_of first)) ≤ 1024
+    → IsKnown harts (each_once ((ms ++ names_of first) ++ more)) first known
+    → token_resolved harts (each_once ms) first ≡ Ok (known, each_once (ms ++ names_of first))
 unfolding token_resolved
-token_only harts ms more (token.Token.atom equation) known few is = atom_only harts ms more equation is.0 is.1 few is.2 is.3 ∙ ap (λ (t : Symbol). Ok (t, each_once (ms ++ names_of (token.Token.atom equation)))) (sym is.4)
+token_only harts ms more (token.Token.atom equation) known few is = atom_only harts ms more equation is.0 is.1 few
+    is.2 is.3 ∙ ap (λ (t : Symbol). Ok (t, each_once (ms ++ names_of (token.Token.atom equation)))) (sym is.4)
 token_only harts ms more token.Token.negation known few is = plain_only ms symbol.Not known is
 token_only harts ms more token.Token.conjunction known few is = plain_only ms symbol.And known is
 token_only harts ms more token.Token.disjunction known few is = plain_only ms symbol.Or known is
@@ -188,7 +232,8 @@ token_only harts ms more token.Token.closing known few is = plain_only ms symbol
 names-more : (first : token.Token) (words : List token.Token) → names_in (atoms_in (first ∷ words)) ≡ names_of first ++ names_in (atoms_in words)
 names-more first words = grind (arith, append_assoc)
 
-names-after : (ms : Names) (first : token.Token) (words : List token.Token) → (ms ++ names_of first) ++ names_in (atoms_in words) ≡ ms ++ names_in (atoms_in (first ∷ words))
+names-after : (ms : Names) (first : token.Token) (words : List token.Token)
+    → (ms ++ names_of first) ++ names_in (atoms_in words) ≡ ms ++ names_in (atoms_in (first ∷ words))
 names-after ms first words = append_assoc ms (names_of first) (names_in (atoms_in words)) ∙ ap (λ (ns : Names). ms ++ ns) (sym (names-more first words))
 
 record TokensFound (harts : ℕ) (ms : Names) (so_far : List Symbol) (text : Tokens) (gathered : ConditionSoFar) : Type 0 where
@@ -200,7 +245,11 @@ record TokensFound (harts : ℕ) (ms : Names) (so_far : List Symbol) (text : Tok
   few : length gathered.1 ≤ 1024
   all : AreKnown harts gathered.1 words known
 
-token_taken : (harts : ℕ) (ms : Names) (so_far more : List Symbol) (first : token.Token) (others : Tokens) (gathered : ConditionSoFar) (known : Symbol) → so_far ++ known ∷ [] ≡ more → IsKnown harts (each_once (ms ++ names_of first)) first known → TokensFound harts (ms ++ names_of first) more others gathered → TokensFound harts ms so_far (token.Tokens.goes_on first others) gathered
+token_taken : (harts : ℕ) (ms : Names) (so_far more : List Symbol) (first : token.Token) (others : Tokens)
+    (gathered : ConditionSoFar) (known : Symbol) → so_far ++ known ∷ [] ≡ more
+    → IsKnown harts (each_once (ms ++ names_of first)) first known
+    → TokensFound harts (ms ++ names_of first) more others gathered
+    → TokensFound harts ms so_far (token.Tokens.goes_on first others) gathered
 token_taken harts ms so_far more first others gathered known taken is rest =
     record {
       words = first ∷ rest.words;
@@ -209,22 +258,41 @@ token_taken harts ms so_far more first others gathered known taken is rest =
       following = rest.following ∙ ap (λ (ws : List Symbol). ws ++ rest.known) (sym taken) ∙ append_assoc so_far (known ∷ []) rest.known;
       names = rest.names ∙ ap each_once (names-after ms first rest.words);
       few = rest.few;
-      all = (known, rest.known, refl, subst (λ (names : Names). IsKnown harts names first known) (sym rest.names) (known_later harts (ms ++ names_of first) (names_in (atoms_in rest.words)) first known is), rest.all);
+      all = (
+        known,
+        rest.known,
+        refl,
+        subst (λ (names : Names). IsKnown harts names first known) (sym rest.names)
+            (known_later harts (ms ++ names_of first) (names_in (atoms_in rest.words)) first known is),
+        rest.all,
+      );
     }
 
-tokens_found : (harts : ℕ) (ms : Names) (so_far : List Symbol) (text : Tokens) (gathered : ConditionSoFar) → length (each_once ms) ≤ 1024 → tokens_added harts (so_far, each_once ms) text ≡ Ok gathered → TokensFound harts ms so_far text gathered
+tokens_found : (harts : ℕ) (ms : Names) (so_far : List Symbol) (text : Tokens) (gathered : ConditionSoFar)
+    → length (each_once ms) ≤ 1024 → tokens_added harts (so_far, each_once ms) text ≡ Ok gathered
+    → TokensFound harts ms so_far text gathered
 tokens_found harts ms so_far token.Tokens.ended gathered few e = grind (arith, ok_is, append-nil)
 tokens_found harts ms so_far token.Tokens.broken gathered few e = absurd cc
 tokens_found harts ms so_far (token.Tokens.goes_on first others) gathered few e =
-    let known = bind_ok (token_resolved harts (each_once ms) first) (λ known. as_condition (symbol_added so_far known.0) >>= λ more. tokens_added harts (more, known.1) others) gathered e in
+    let known = bind_ok (token_resolved harts (each_once ms) first)
+    (λ known. as_condition (symbol_added so_far known.0) >>= λ more. tokens_added harts (more, known.1) others)
+    gathered e in
     let more = bind_ok (as_condition (symbol_added so_far known.0.0)) (λ more. tokens_added harts (more, known.0.1) others) gathered known.2 in
     let one = token_found harts ms first known.0 few known.1 in
     token_taken harts ms so_far more.0 first others gathered known.0.0 (symbol_found so_far known.0.0 more.0 more.1)
     (subst (λ (names : Names). IsKnown harts names first known.0.0) one.names one.known)
-    (tokens_found harts (ms ++ names_of first) more.0 others gathered (subst (λ (names : Names). length names ≤ 1024) one.names one.few) (subst (λ (names : Names). tokens_added harts (more.0, names) others ≡ Ok gathered) one.names more.2))
+    (tokens_found harts (ms ++ names_of first) more.0 others gathered
+    (subst (λ (names : Names). length names ≤ 1024) one.names one.few)
+    (subst (λ (names : Names). tokens_added harts (more.0, names) others ≡ Ok gathered) one.names more.2))
 
-tokens_only : (harts : ℕ) (ms : Names) (so_far : List Symbol) (words : List token.Token) (known : List Symbol) (formula : Formula) → length (each_once (ms ++ names_in (atoms_in words))) ≤ 1024 → AreKnown harts (each_once (ms ++ names_in (atoms_in words))) words known → IsConditionOf (so_far ++ known) formula → tokens_added harts (so_far, each_once ms) (listed words) ≡ Ok (so_far ++ known, each_once (ms ++ names_in (atoms_in words)))
-tokens_only harts ms so_far [] known formula few all stands = rw (append-nil ms) (ap (λ (ws : List Symbol). Ok (ws, each_once ms)) (sym (append-nil so_far) ∙ ap (λ (ws : List Symbol). so_far ++ ws) (sym all)))
+tokens_only : (harts : ℕ) (ms : Names) (so_far : List Symbol) (words : List token.Token) (known : List Symbol)
+    (formula : Formula) → length (each_once (ms ++ names_in (atoms_in words))) ≤ 1024
+    → AreKnown harts (each_once (ms ++ names_in (atoms_in words))) words known → IsConditionOf (so_far ++ known) formula
+    → tokens_added harts (so_far, each_once ms) (listed words)
+    ≡ Ok (so_far ++ known, each_once (ms ++ names_in (atoms_in words)))
+tokens_only harts ms so_far [] known formula few all stands =
+    rw (append-nil ms) (ap (λ (ws : List Symbol). Ok (ws, each_once ms))
+    (sym (append-nil so_far) ∙ ap (λ (ws : List Symbol). so_far ++ ws) (sym all)))
 tokens_only harts ms so_far (first ∷ words) known formula few all stands =
     let here = ms ++ names_of first in
     let more = names_in (atoms_in words) in
@@ -233,7 +301,8 @@ tokens_only harts ms so_far (first ∷ words) known formula few all stands =
     let few_here : length (each_once here) ≤ 1024 = omega (arith, fewer here more, few_more) in
     let first_known : IsKnown harts (each_once (here ++ more)) first all.0 = rw split all.3 in
     let rest_known : AreKnown harts (each_once (here ++ more)) words all.1 = rw split all.4 in
-    let whole : so_far ++ known ≡ (so_far ++ all.0 ∷ []) ++ all.1 = ap (λ (ws : List Symbol). so_far ++ ws) all.2 ∙ sym (append_assoc so_far (all.0 ∷ []) all.1) in
+    let whole : so_far ++ known ≡ (so_far ++ all.0 ∷ []) ++ all.1 =
+    ap (λ (ws : List Symbol). so_far ++ ws) all.2 ∙ sym (append_assoc so_far (all.0 ∷ []) all.1) in
     let stands_here : IsConditionOf ((so_far ++ all.0 ∷ []) ++ all.1) formula = subst (λ (ws : List Symbol). IsConditionOf ws formula) whole stands in
     rw (token_only harts ms more first all.0 few_here first_known, symbol_begins so_far all.0 (all.1, formula, stands_here))
     (tokens_only harts here (so_far ++ all.0 ∷ []) words all.1 formula few_more rest_known stands_here
@@ -250,34 +319,61 @@ condition_so quantifier formula names = Ok (record { quantifier = quantifier; fo
 
 -- what is read of a condition, where the names of the init part are these
 abbrev pub IsConditionFound : (harts : ℕ) → Names → List ℕ → Condition → Type 0
-IsConditionFound harts ms text condition = (words : List token.Token) × (known : List Symbol) × IsFinalCondition text condition.quantifier words × (condition.names ≡ each_once (ms ++ names_in (atoms_in words))) × (length condition.names ≤ 1024) × AreKnown harts condition.names words known × IsConditionOf known condition.formula
+IsConditionFound harts ms text condition =
+    (words : List token.Token) × (known : List Symbol) × IsFinalCondition text condition.quantifier words
+    × (condition.names ≡ each_once (ms ++ names_in (atoms_in words))) × (length condition.names ≤ 1024)
+    × AreKnown harts condition.names words known × IsConditionOf known condition.formula
 
-finished-condition : (harts : ℕ) (ms : Names) (text : List ℕ) (quantified : Quantified) (gathered : ConditionSoFar) (condition : Condition) → IsQuantified text quantified → NoneBegins BeginsUnread text → TokensFound harts ms [] (tokens_of quantified.1) gathered → (as_condition (finished gathered.0) >>= λ formula. condition_so quantified.0 formula gathered.1) ≡ Ok condition → IsConditionFound harts ms text condition
+finished-condition : (harts : ℕ) (ms : Names) (text : List ℕ) (quantified : Quantified) (gathered : ConditionSoFar)
+    (condition : Condition) → IsQuantified text quantified → NoneBegins BeginsUnread text
+    → TokensFound harts ms [] (tokens_of quantified.1) gathered
+    → (as_condition (finished gathered.0) >>= λ formula. condition_so quantified.0 formula gathered.1) ≡ Ok condition
+    → IsConditionFound harts ms text condition
 finished-condition harts ms text quantified gathered condition front none walk e =
     let formula = bind_ok (as_condition (finished gathered.0)) (λ formula. condition_so quantified.0 formula gathered.1) condition e in
     let spelled : AreTokens quantified.1 walk.words = are_tokens walk.words quantified.1 walk.whole in
-    let stands : IsConditionOf walk.known formula.0 = finished-found walk.known formula.0 (subst (λ (ws : List Symbol). finished ws ≡ Ok formula.0) walk.following (finished-ok gathered.0 formula.0 formula.1)) in
-    subst (IsConditionFound harts ms text) (ok_is LitmusFault (record { quantifier = quantified.0; formula = formula.0; names = gathered.1 }) condition formula.2)
+    let stands : IsConditionOf walk.known formula.0 =
+    finished-found walk.known formula.0 (subst (λ (ws : List Symbol). finished ws ≡ Ok formula.0) walk.following
+    (finished-ok gathered.0 formula.0 formula.1)) in
+    subst (IsConditionFound harts ms text)
+    (ok_is LitmusFault (record { quantifier = quantified.0; formula = formula.0; names = gathered.1 }) condition
+    formula.2)
     (walk.words, walk.known, (front.0, quantified.1, front.1, front.2, spelled, none), walk.names, walk.few, walk.all, stands)
 
 -- what is read is what the text asks
-pub condition_found : (harts : ℕ) (ms : Names) (text : List ℕ) (condition : Condition) → length (each_once ms) ≤ 1024 → condition_in harts (each_once ms) text ≡ Ok condition → IsConditionFound harts ms text condition
+pub condition_found : (harts : ℕ) (ms : Names) (text : List ℕ) (condition : Condition)
+    → length (each_once ms) ≤ 1024 → condition_in harts (each_once ms) text ≡ Ok condition
+    → IsConditionFound harts ms text condition
 unfolding condition_in
 condition_found harts ms text condition few e = go (quantifier_in (before_line Unread text)) refl e
   where
-    go : (o : Option Quantified) → quantifier_in (before_line Unread text) ≡ o → after_quantifier harts (each_once ms) text o ≡ Ok condition → IsConditionFound harts ms text condition
+    go : (o : Option Quantified) → quantifier_in (before_line Unread text) ≡ o
+        → after_quantifier harts (each_once ms) text o ≡ Ok condition → IsConditionFound harts ms text condition
     go None first shown = absurd cc
     go (Some quantified) first shown =
-        let gathered = bind_ok (tokens_added harts ([], each_once ms) (tokens_of quantified.1)) (λ gathered. none_unread (from_line Unread text) >>= λ end. as_condition (finished gathered.0) >>= λ formula. condition_so quantified.0 formula gathered.1) condition shown in
-        let end = bind_ok (none_unread (from_line Unread text)) (λ end. as_condition (finished gathered.0.0) >>= λ formula. condition_so quantified.0 formula gathered.0.1) condition gathered.2 in
+        let gathered = bind_ok (tokens_added harts ([], each_once ms) (tokens_of quantified.1))
+        (λ gathered. none_unread (from_line Unread text) >>= λ end.
+        as_condition (finished gathered.0) >>= λ formula. condition_so quantified.0 formula gathered.1) condition
+        shown in
+        let end = bind_ok (none_unread (from_line Unread text))
+        (λ end. as_condition (finished gathered.0.0) >>= λ formula. condition_so quantified.0 formula gathered.0.1)
+        condition gathered.2 in
         let none = nowhere_found Unread BeginsUnread unread_matches text (none_unread-found (from_line Unread text) end.0 end.1) in
         let whole : before_line Unread text ≡ text = (nowhere_only Unread BeginsUnread unread_matches text none).0 in
-        finished-condition harts ms text quantified gathered.0 condition (quantifier_found text quantified (ap quantifier_in (sym whole) ∙ first)) none (tokens_found harts ms [] (tokens_of quantified.1) gathered.0 few gathered.1) end.2
+        finished-condition harts ms text quantified gathered.0 condition
+        (quantifier_found text quantified (ap quantifier_in (sym whole) ∙ first)) none
+        (tokens_found harts ms [] (tokens_of quantified.1) gathered.0 few gathered.1) end.2
 
 -- what the text asks is read
-pub condition_only : (harts : ℕ) (ms : Names) (text : List ℕ) (quantifier : Quantifier) (words : List token.Token) (known : List Symbol) (formula : Formula) → IsFinalCondition text quantifier words → length (each_once (ms ++ names_in (atoms_in words))) ≤ 1024 → AreKnown harts (each_once (ms ++ names_in (atoms_in words))) words known → IsConditionOf known formula → condition_in harts (each_once ms) text ≡ Ok (record { quantifier = quantifier; formula = formula; names = each_once (ms ++ names_in (atoms_in words)) })
+pub condition_only : (harts : ℕ) (ms : Names) (text : List ℕ) (quantifier : Quantifier) (words : List token.Token)
+    (known : List Symbol) (formula : Formula) → IsFinalCondition text quantifier words
+    → length (each_once (ms ++ names_in (atoms_in words))) ≤ 1024
+    → AreKnown harts (each_once (ms ++ names_in (atoms_in words))) words known → IsConditionOf known formula
+    → condition_in harts (each_once ms) text
+    ≡ Ok (record { quantifier = quantifier; formula = formula; names = each_once (ms ++ names_in (atoms_in words)) })
 unfolding condition_in
 condition_only harts ms text quantifier words known formula (blanks, rest, all, whole, spelled, none) few are stands =
     let lines = nowhere_only Unread BeginsUnread unread_matches text none in
-    let first : quantifier_in (before_line Unread text) ≡ Some (quantifier, rest) = ap quantifier_in (lines.0 ∙ whole) ∙ quantifier_only blanks rest quantifier all in
+    let first : quantifier_in (before_line Unread text) ≡ Some (quantifier, rest) =
+    ap quantifier_in (lines.0 ∙ whole) ∙ quantifier_only blanks rest quantifier all in
     rw (first, tokens_are rest words spelled, tokens_only harts ms [] words known formula few are stands, lines.1, finished_only known formula stands) refl

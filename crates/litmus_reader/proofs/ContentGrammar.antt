@@ -38,20 +38,32 @@ abbrev AreAllRegisters : Names → List Equation → (hart : ℕ) → List (List
 AreAllRegisters names equations hart [] = Unit {0}
 AreAllRegisters names equations hart (first ∷ others) = AreRegisters names equations hart first × AreAllRegisters names equations (hart + 1) others
 
-all_registers : (names : Names) (equations : List Equation) (hart : ℕ) (registers : List (List ℕ)) → ((i : ℕ) → i < length registers → AreRegisters names equations (hart + i) (slice_index_or registers i [])) → AreAllRegisters names equations hart registers
+all_registers : (names : Names) (equations : List Equation) (hart : ℕ) (registers : List (List ℕ))
+    → ((i : ℕ) → i < length registers → AreRegisters names equations (hart + i) (slice_index_or registers i []))
+    → AreAllRegisters names equations hart registers
 all_registers names equations hart [] each = tt
 all_registers names equations hart (first ∷ others) each =
     let here : hart + 0 ≡ hart = omega arith in
     let P : ℕ → ℕ → Type 0 = λ h i. AreRegisters names equations h (slice_index_or (first ∷ others) i []) in (
       subst (λ (h : ℕ). AreRegisters names equations h first) here (each 0 (omega arith)),
-      all_registers names equations (hart + 1) others (λ i less. let there : hart + suc i ≡ hart + 1 + i = omega arith in subst (λ (h : ℕ). AreRegisters names equations h (slice_index_or others i [])) there (each (suc i) (omega (arith, less)))),
+      all_registers names equations (hart + 1) others
+          (λ i less. let there : hart + suc i ≡ hart + 1 + i = omega arith in
+          subst (λ (h : ℕ). AreRegisters names equations h (slice_index_or others i [])) there
+          (each (suc i) (omega (arith, less)))),
     )
 
-from_first : (names : Names) (equations : List Equation) (registers : List (List ℕ)) → ((i : ℕ) → i < length registers → AreRegisters names equations i (slice_index_or registers i [])) → AreAllRegisters names equations 0 registers
-from_first names equations registers each = all_registers names equations 0 registers (λ i less. let same : i ≡ 0 + i = omega arith in subst (λ (h : ℕ). AreRegisters names equations h (slice_index_or registers i [])) same (each i less))
+from_first : (names : Names) (equations : List Equation) (registers : List (List ℕ))
+    → ((i : ℕ) → i < length registers → AreRegisters names equations i (slice_index_or registers i []))
+    → AreAllRegisters names equations 0 registers
+from_first names equations registers each =
+    all_registers names equations 0 registers (λ i less. let same : i ≡ 0 + i = omega arith in
+    subst (λ (h : ℕ). AreRegisters names equations h (slice_index_or registers i [])) same (each i less))
 
-harts_found : (names : Names) (equations : List Equation) (rows : List Cells) (hart : ℕ) (codes : List Code) (registers : List (List ℕ)) → AreCodes rows hart codes → AreAllRegisters names equations hart registers → AreHarts names equations rows hart (with_registers codes registers)
-harts_found names equations rows hart (code ∷ codes) (first ∷ registers) are all = (are.0, all.0, refl, harts_found names equations rows (hart + 1) codes registers are.1 all.1)
+harts_found : (names : Names) (equations : List Equation) (rows : List Cells) (hart : ℕ) (codes : List Code)
+    (registers : List (List ℕ)) → AreCodes rows hart codes → AreAllRegisters names equations hart registers
+    → AreHarts names equations rows hart (with_registers codes registers)
+harts_found names equations rows hart (code ∷ codes) (first ∷ registers) are all =
+    (are.0, all.0, refl, harts_found names equations rows (hart + 1) codes registers are.1 all.1)
 harts_found names equations rows hart x y are all = tt
 
 length-with : (codes : List Code) (registers : List (List ℕ)) → length registers ≡ length codes → length (with_registers codes registers) ≡ length codes
@@ -62,14 +74,18 @@ length-with (code ∷ codes) (first ∷ registers) same = ap suc (length-with co
 abbrev code_of : HartContent → Code
 code_of hart = hart.code
 
-codes_found : (names : Names) (equations : List Equation) (rows : List Cells) (hart : ℕ) (harts : List HartContent) → AreHarts names equations rows hart harts → AreCodes rows hart (map code_of harts)
+codes_found : (names : Names) (equations : List Equation) (rows : List Cells) (hart : ℕ) (harts : List HartContent)
+    → AreHarts names equations rows hart harts → AreCodes rows hart (map code_of harts)
 codes_found names equations rows hart [] are = tt
 codes_found names equations rows hart (first ∷ others) are = (are.0, codes_found names equations rows (hart + 1) others are.3)
 
-one_hart : (first : HartContent) (registers : List ℕ) → first.inbox ≡ [] → first.registers ≡ registers → record { code = first.code; registers = registers; inbox = [] } ≡ first
+one_hart : (first : HartContent) (registers : List ℕ) → first.inbox ≡ [] → first.registers ≡ registers
+    → record { code = first.code; registers = registers; inbox = [] } ≡ first
 one_hart first registers empty same = rw (← empty, ← same) refl
 
-harts_only : (ms : Names) (equations : List Equation) (rows : List Cells) (hart : ℕ) (harts : List HartContent) (registers : List (List ℕ)) → length registers ≡ length harts → AreHarts (each_once ms) equations rows hart harts → AreAllRegisters (each_once ms) equations hart registers → with_registers (map code_of harts) registers ≡ harts
+harts_only : (ms : Names) (equations : List Equation) (rows : List Cells) (hart : ℕ) (harts : List HartContent)
+    (registers : List (List ℕ)) → length registers ≡ length harts → AreHarts (each_once ms) equations rows hart harts
+    → AreAllRegisters (each_once ms) equations hart registers → with_registers (map code_of harts) registers ≡ harts
 harts_only ms equations rows hart [] registers same are all = refl
 harts_only ms equations rows hart (first ∷ others) [] same are all = absurd (omega (arith, same))
 harts_only ms equations rows hart (first ∷ others) (next ∷ registers) same are all =
@@ -93,7 +109,8 @@ record Below (settings : InitItems) (codes : List Code) (o : Option (List ℕ)) 
   asks : condition_at (length codes) settings.names o ≡ Ok condition
   is : content codes values condition ≡ whole
 
-below_of : (settings : InitItems) (codes : List Code) (o : Option (List ℕ)) (whole : Content) → content_below settings codes o ≡ Ok whole → Below settings codes o whole
+below_of : (settings : InitItems) (codes : List Code) (o : Option (List ℕ)) (whole : Content)
+    → content_below settings codes o ≡ Ok whole → Below settings codes o whole
 unfolding content_below
 below_of settings codes o whole e = grind (arith, bind_ok, ok_is)
 
@@ -136,12 +153,22 @@ content_found text whole e =
     let few : length (each_once (names_in equations)) ≤ 1024 = subst (λ (names : Names). length names ≤ 1024) items.2 items.3 in
     let table = table_found (before_line mark.Condition read.rest) following.columns following.codes following.rows following.placed in
     let first = values_found harts equations read.settings below.values items.2 items.4 below.equation in
-    let condition_text = condition_found harts (names_in equations) asking.text below.condition few (subst (λ (names : Names). condition_in harts names asking.text ≡ Ok below.condition) items.2 asking.reads) in
+    let condition_text = condition_found harts (names_in equations) asking.text below.condition few
+    (subst (λ (names : Names). condition_in harts names asking.text ≡ Ok below.condition) items.2 asking.reads) in
     let more = names_in (atoms_in condition_text.0) in
     let names : below.condition.names ≡ each_once (names_in equations ++ more) = condition_text.3 in
     let count : length (with_registers following.codes below.values.registers) ≡ harts = length-with following.codes below.values.registers first.1 in
-    let registers : AreAllRegisters below.condition.names equations 0 below.values.registers = subst (λ (ns : Names). AreAllRegisters ns equations 0 below.values.registers) (sym names) (from_first (each_once (names_in equations ++ more)) equations below.values.registers (λ i less. registers-later (names_in equations) more equations i (slice_index_or below.values.registers i []) (subst (λ (ns : Names). AreRegisters ns equations i (slice_index_or below.values.registers i [])) items.2 (first.2 i (omega (arith, less, first.1)))))) in
-    let words : AreFirstWords below.condition.names equations (padded (length below.condition.names) below.values.words) = subst (λ (ns : Names). AreFirstWords ns equations (padded (length ns) below.values.words)) (sym names) (words-later equations more below.values.words (subst (λ (ns : Names). AreFirstWords ns equations below.values.words) items.2 first.3)) in
+    let registers : AreAllRegisters below.condition.names equations 0 below.values.registers =
+    subst (λ (ns : Names). AreAllRegisters ns equations 0 below.values.registers) (sym names)
+    (from_first (each_once (names_in equations ++ more)) equations below.values.registers
+    (λ i less. registers-later (names_in equations) more equations i (slice_index_or below.values.registers i [])
+    (subst (λ (ns : Names). AreRegisters ns equations i (slice_index_or below.values.registers i [])) items.2
+    (first.2 i (omega (arith, less, first.1)))))) in
+    let words : AreFirstWords below.condition.names equations
+    (padded (length below.condition.names) below.values.words) =
+    subst (λ (ns : Names). AreFirstWords ns equations (padded (length ns) below.values.words)) (sym names)
+    (words-later equations more below.values.words
+    (subst (λ (ns : Names). AreFirstWords ns equations below.values.words) items.2 first.3)) in
     subst (IsContent text) below.is (record {
       clean = cleaned_text text;
       init = before (is_byte 125) read.inner;
@@ -183,12 +210,47 @@ content_only text whole is =
     let settings = items.0 in
     let codes = map code_of whole.harts in
     let count : length codes ≡ harts = length-map whole.harts code_of in
-    let table = table_only is.table is.rows codes (subst (λ (n : ℕ). IsTable is.table n is.rows) (sym count) is.tabled) (codes_found whole.names is.equations is.rows 0 whole.harts is.harts) in
+    let table =
+    table_only is.table is.rows codes (subst (λ (n : ℕ). IsTable is.table n is.rows) (sym count) is.tabled)
+    (codes_found whole.names is.equations is.rows 0 whole.harts is.harts) in
     let equation = values_only harts is.equations settings items.2 items.3 is.there in
     let values = equation.0 in
     let first = values_found harts is.equations settings values items.2 items.3 equation.1 in
-    let registers : AreAllRegisters (each_once all) is.equations 0 values.registers = from_first (each_once all) is.equations values.registers (λ i less. registers-later (names_in is.equations) more is.equations i (slice_index_or values.registers i []) (subst (λ (ns : Names). AreRegisters ns is.equations i (slice_index_or values.registers i [])) items.2 (first.2 i (omega (arith, less, first.1))))) in
-    let same_harts : with_registers codes values.registers ≡ whole.harts = harts_only all is.equations is.rows 0 whole.harts values.registers first.1 (subst (λ (ns : Names). AreHarts ns is.equations is.rows 0 whole.harts) is.named is.harts) registers in
-    let same_words : padded (length (each_once all)) values.words ≡ whole.words = words_one all is.equations _ whole.words (words-later is.equations more values.words (subst (λ (ns : Names). AreFirstWords ns is.equations values.words) items.2 first.3)) (subst (λ (ns : Names). AreFirstWords ns is.equations whole.words) is.named is.first_words) in
-    let asks : condition_in harts settings.names is.condition_text ≡ Ok (record { quantifier = whole.quantifier; formula = whole.condition; names = each_once all }) = subst (λ (ns : Names). condition_in harts ns is.condition_text ≡ Ok (record { quantifier = whole.quantifier; formula = whole.condition; names = each_once all })) (sym items.2) (condition_only harts (names_in is.equations) is.condition_text whole.quantifier is.tokens is.known whole.condition is.quantified total (subst (λ (ns : Names). AreKnown harts ns is.tokens is.known) is.named is.all_known) is.condition) in
-    rw (clean, laying.headed, laying.braced, laying.opened, parts_only 59 is.init is.parts is.parted, items.1, laying.closed, laying.above, table.1, table.2, count, equation.1, laying.asks, asks, same_harts, same_words, ← is.named) refl
+    let registers : AreAllRegisters (each_once all) is.equations 0 values.registers =
+    from_first (each_once all) is.equations values.registers
+    (λ i less. registers-later (names_in is.equations) more is.equations i (slice_index_or values.registers i [])
+    (subst (λ (ns : Names). AreRegisters ns is.equations i (slice_index_or values.registers i [])) items.2
+    (first.2 i (omega (arith, less, first.1))))) in
+    let same_harts : with_registers codes values.registers ≡ whole.harts =
+    harts_only all is.equations is.rows 0 whole.harts values.registers first.1
+    (subst (λ (ns : Names). AreHarts ns is.equations is.rows 0 whole.harts) is.named is.harts) registers in
+    let same_words : padded (length (each_once all)) values.words ≡ whole.words =
+    words_one all is.equations _ whole.words (words-later is.equations more values.words
+    (subst (λ (ns : Names). AreFirstWords ns is.equations values.words) items.2 first.3))
+    (subst (λ (ns : Names). AreFirstWords ns is.equations whole.words) is.named is.first_words) in
+    let asks : condition_in harts settings.names is.condition_text
+    ≡ Ok (record { quantifier = whole.quantifier; formula = whole.condition; names = each_once all }) =
+    subst (λ (ns : Names). condition_in harts ns is.condition_text
+    ≡ Ok (record { quantifier = whole.quantifier; formula = whole.condition; names = each_once all })) (sym items.2)
+    (condition_only harts (names_in is.equations) is.condition_text whole.quantifier is.tokens is.known
+    whole.condition is.quantified total
+    (subst (λ (ns : Names). AreKnown harts ns is.tokens is.known) is.named is.all_known) is.condition) in
+    rw (
+      clean,
+      laying.headed,
+      laying.braced,
+      laying.opened,
+      parts_only 59 is.init is.parts is.parted,
+      items.1,
+      laying.closed,
+      laying.above,
+      table.1,
+      table.2,
+      count,
+      equation.1,
+      laying.asks,
+      asks,
+      same_harts,
+      same_words,
+      ← is.named,
+    ) refl

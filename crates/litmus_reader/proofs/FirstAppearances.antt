@@ -1,5 +1,7 @@
 -- Names in order of first appearance.
-use Rattle.std.proofs.Common.{◌≡◌, ℕ, zero, suc, ◌+◌, ◌*◌, ◌<◌, ◌≤◌, Bool, true, false, not, cond, List, [], ◌∷◌, ◌++◌, length, filter, Option, Some, None, Result, Ok, refl, sym, ap, subst, ◌∙◌, inl, inr, append_assoc, length-append, ltb-true, lt-ltb, arith}
+use Rattle.std.proofs.Common.{◌≡◌, ℕ, zero, suc, ◌+◌, ◌*◌, ◌<◌, ◌≤◌, Bool, true, false, not, cond, List, [], ◌∷◌, ◌++◌}
+use Rattle.std.proofs.Common.{length, filter, Option, Some, None, Result, Ok, refl, sym, ap, subst, ◌∙◌, inl, inr}
+use Rattle.std.proofs.Common.{append_assoc, length-append, ltb-true, lt-ltb, arith}
 use Rattle.std.specs.Prelude.{nat_lt, ◌||◌}
 use Rattle.std.specs.Str.{bytes_eq}
 use Rattle.std.proofs.lemmas.Bool.{cases_Bool}
@@ -42,12 +44,14 @@ none-without m name names none = grind (arith, cases_Bool, bytes_eq-Decides, gon
 abbrev added : Names → List ℕ → Bool → Names
 added names name b = names ++ cond b [] (name ∷ [])
 
-added-cons : (m name : List ℕ) (names : Names) (here there : Bool) → bytes_eq m name ≡ here → has names name ≡ there → m ∷ without m (added names name there) ≡ added (m ∷ without m names) name (here || has (without m names) name)
+added-cons : (m name : List ℕ) (names : Names) (here there : Bool) → bytes_eq m name ≡ here → has names name ≡ there
+    → m ∷ without m (added names name there) ≡ added (m ∷ without m names) name (here || has (without m names) name)
 added-cons m name names here there h5 is = grind (arith, cases_Bool, append-nil, filter-append, has-without)
 
 once-snoc : (ms : Names) (name : List ℕ) → each_once (ms ++ name ∷ []) ≡ added (each_once ms) name (has (each_once ms) name)
 once-snoc [] name = refl
-once-snoc (m ∷ ms) name = ap (λ (xs : Names). m ∷ without m xs) (once-snoc ms name) ∙ added-cons m name (each_once ms) (bytes_eq m name) (has (each_once ms) name) refl refl
+once-snoc (m ∷ ms) name = ap (λ (xs : Names). m ∷ without m xs) (once-snoc ms name)
+    ∙ added-cons m name (each_once ms) (bytes_eq m name) (has (each_once ms) name) refl refl
 
 pub once_old : (ms : Names) (name : List ℕ) → has (each_once ms) name ≡ true → each_once (ms ++ name ∷ []) ≡ each_once ms
 once_old ms name old = once-snoc ms name ∙ (rw old (append-nil (each_once ms)))
@@ -88,7 +92,8 @@ has_middle (first ∷ above) below name other none = grind (arith, cases_Bool, h
 turned_apart : (a b : List ℕ) → bytes_eq a b ≡ false → bytes_eq b a ≡ false
 turned_apart a b apart = grind (arith, cases_Bool, bytes_eq-Decides, same_bytes)
 
-index_at : (at : ℕ) (above below : Names) (name : List ℕ) → Distinct (above ++ name ∷ below) → index_from at (above ++ name ∷ below) name ≡ Some (at + length above)
+index_at : (at : ℕ) (above below : Names) (name : List ℕ) → Distinct (above ++ name ∷ below)
+    → index_from at (above ++ name ∷ below) name ≡ Some (at + length above)
 index_at at [] below name distinct = rw (same_bytes name) (ap Some (omega arith))
 index_at at (first ∷ above) below name distinct = grind (arith, turned_apart, has_middle, index_at (at + 1) above below name distinct.1)
 
@@ -102,11 +107,14 @@ index_of : (names : Names) (name : List ℕ) (index : ℕ) → Distinct names �
 index_of names name index distinct at = grind (arith, index_at)
 
 pub one_index : (ms : Names) (name : List ℕ) (i j : ℕ) → IsAt (each_once ms) name i → IsAt (each_once ms) name j → i ≡ j
-one_index ms name i j first second = some_index i j (sym (index_of (each_once ms) name i (once_distinct ms) first) ∙ index_of (each_once ms) name j (once_distinct ms) second)
+one_index ms name i j first second = some_index i j (sym (index_of (each_once ms) name i (once_distinct ms) first)
+    ∙ index_of (each_once ms) name j (once_distinct ms) second)
 
 same_middle : (above other below rest : Names) (a b : List ℕ) → above ++ a ∷ below ≡ other ++ b ∷ rest → length above ≡ length other → a ≡ b
 same_middle [] [] below rest a b same lengths = cc
-same_middle (x ∷ above) (y ∷ other) below rest a b same lengths = (let shorter : length above ≡ length other = omega arith in let tails : above ++ a ∷ below ≡ other ++ b ∷ rest = cc in same_middle above other below rest a b tails shorter)
+same_middle (x ∷ above) (y ∷ other) below rest a b same lengths =
+    (let shorter : length above ≡ length other = omega arith in
+    let tails : above ++ a ∷ below ≡ other ++ b ∷ rest = cc in same_middle above other below rest a b tails shorter)
 same_middle z u below rest a b same lengths = absurd (omega arith)
 
 pub one_name : (ms : Names) (a b : List ℕ) (i : ℕ) → IsAt (each_once ms) a i → IsAt (each_once ms) b i → a ≡ b
@@ -143,7 +151,12 @@ record Indexed (at : ℕ) (names : Names) (name : List ℕ) (index : ℕ) : Type
 indexed : (at : ℕ) (names : Names) (name : List ℕ) (index : ℕ) → index_from at names name ≡ Some index → Indexed at names name index
 indexed at [] name index e = absurd cc
 indexed at (other ∷ others) name index e = elim (cases_Bool (bytes_eq other name)) [
-  | inl same ↦ (let here : at ≡ index = some_index at index (rw same at e) in record { above = []; below = others; whole = ap (λ (x : List ℕ). x ∷ others) ((bytes_eq-Decides other name).0 same); counted = omega (arith, here) })
+  | inl same ↦ (let here : at ≡ index = some_index at index (rw same at e) in record {
+    above = [];
+    below = others;
+    whole = ap (λ (x : List ℕ). x ∷ others) ((bytes_eq-Decides other name).0 same);
+    counted = omega (arith, here);
+  })
   | inr apart ↦ (
       let rest = indexed (at + 1) others name index (rw apart at e) in
       record { above = other ∷ rest.above; below = rest.below; whole = ap (λ (xs : Names). other ∷ xs) rest.whole; counted = omega (arith, rest.counted) })
@@ -164,7 +177,8 @@ old_resolved ms name index is =
     let old : has (each_once ms) name ≡ true = ap (λ (xs : Names). has xs name) at.whole ∙ has_at at.above at.below name in
     (sym (once_old ms name old), (at.above, at.below, at.whole, omega (arith, at.counted)), λ few. few)
 
-new_resolved : (ms : Names) (name : List ℕ) → index_from 0 (each_once ms) name ≡ None → length (each_once ms) < 1024 → IsResolved ms name (length (each_once ms), each_once ms ++ name ∷ [])
+new_resolved : (ms : Names) (name : List ℕ) → index_from 0 (each_once ms) name ≡ None → length (each_once ms) < 1024
+    → IsResolved ms name (length (each_once ms), each_once ms ++ name ∷ [])
 new_resolved ms name is room = grind (arith, once_new, unindexed, length-append)
 
 abbrev resolved_as : ℕ × Names → Result (ℕ × Names) LitmusFault
@@ -177,12 +191,16 @@ resolved-found ms name found e = go (index_from 0 (each_once ms) name) refl e
     go : (o : Option ℕ) → index_from 0 (each_once ms) name ≡ o → joined (each_once ms) name o ≡ Ok found → IsResolved ms name found
     go (Some index) is shown = subst (IsResolved ms name) (ok_is LitmusFault (index, each_once ms) found shown) (old_resolved ms name index is)
     go None is shown = elim (cases_Bool (nat_lt (length (each_once ms)) 1024)) [
-      | inl room ↦ subst (IsResolved ms name) (ok_is LitmusFault (length (each_once ms), each_once ms ++ name ∷ []) found (rw room at shown)) (new_resolved ms name is (ltb-true (length (each_once ms)) 1024 room))
+      | inl room ↦ subst (IsResolved ms name)
+          (ok_is LitmusFault (length (each_once ms), each_once ms ++ name ∷ []) found (rw room at shown))
+          (new_resolved ms name is (ltb-true (length (each_once ms)) 1024 room))
       | inr full ↦ absurd (let f = rw full at shown in cc)
     ]
 
 -- the name of the value is resolved, and the value is the word
-pub resolved-only : (ms : Names) (name : List ℕ) → length (each_once (ms ++ name ∷ [])) ≤ 1024 → (index : ℕ) × (resolved (each_once ms) name ≡ Ok (index, each_once (ms ++ name ∷ []))) × IsAt (each_once (ms ++ name ∷ [])) name index
+pub resolved-only : (ms : Names) (name : List ℕ) → length (each_once (ms ++ name ∷ [])) ≤ 1024
+    → (index : ℕ) × (resolved (each_once ms) name ≡ Ok (index, each_once (ms ++ name ∷ [])))
+    × IsAt (each_once (ms ++ name ∷ [])) name index
 unfolding resolved
 resolved-only ms name few = go (index_from 0 (each_once ms) name) refl
   where
@@ -190,7 +208,11 @@ resolved-only ms name few = go (index_from 0 (each_once ms) name) refl
     Answer o = (index : ℕ) × (joined (each_once ms) name o ≡ Ok (index, each_once (ms ++ name ∷ []))) × IsAt (each_once (ms ++ name ∷ [])) name index
 
     go : (o : Option ℕ) → index_from 0 (each_once ms) name ≡ o → Answer o
-    go (Some index) is = let resolved = old_resolved ms name index is in (index, ap (λ (names : Names). resolved_as (index, names)) resolved.0, subst (λ (names : Names). IsAt names name index) resolved.0 resolved.1)
+    go (Some index) is = let resolved = old_resolved ms name index is in (
+      index,
+      ap (λ (names : Names). resolved_as (index, names)) resolved.0,
+      subst (λ (names : Names). IsAt names name index) resolved.0 resolved.1,
+    )
     go None is =
         let same : each_once (ms ++ name ∷ []) ≡ each_once ms ++ name ∷ [] = once_new ms name (unindexed 0 (each_once ms) name is) in
         let short : length (each_once ms ++ name ∷ []) ≤ 1024 = subst (λ (names : Names). length names ≤ 1024) same few in
@@ -200,7 +222,9 @@ resolved-only ms name few = go (index_from 0 (each_once ms) name) refl
 
 -- ---- values
 
-pub value_found : (ms : Names) (value : Value) (found : ℕ × Names) → value_resolved (each_once ms) value ≡ Ok found → (found.1 ≡ each_once (ms ++ name_of_value value)) × IsWorth found.1 value found.0 × (length (each_once ms) ≤ 1024 → length found.1 ≤ 1024)
+pub value_found : (ms : Names) (value : Value) (found : ℕ × Names) → value_resolved (each_once ms) value ≡ Ok found
+    → (found.1 ≡ each_once (ms ++ name_of_value value)) × IsWorth found.1 value found.0
+    × (length (each_once ms) ≤ 1024 → length found.1 ≤ 1024)
 unfolding value_resolved
 value_found ms (number n) found e = grind (arith, ok_is, append-nil)
 value_found ms (address_of name) found e =
@@ -210,7 +234,9 @@ value_found ms (address_of name) found e =
     subst (λ (f : ℕ × Names). (f.1 ≡ each_once (ms ++ name ∷ [])) × IsWorth f.1 (address_of name) f.0 × (length (each_once ms) ≤ 1024 → length f.1 ≤ 1024)) is
     (resolved.0, (step.0.0, resolved.1, refl), resolved.2)
 
-pub value_only : (ms : Names) (value : Value) → length (each_once (ms ++ name_of_value value)) ≤ 1024 → (word : ℕ) × (value_resolved (each_once ms) value ≡ Ok (word, each_once (ms ++ name_of_value value))) × IsWorth (each_once (ms ++ name_of_value value)) value word
+pub value_only : (ms : Names) (value : Value) → length (each_once (ms ++ name_of_value value)) ≤ 1024
+    → (word : ℕ) × (value_resolved (each_once ms) value ≡ Ok (word, each_once (ms ++ name_of_value value)))
+    × IsWorth (each_once (ms ++ name_of_value value)) value word
 unfolding value_resolved
 value_only ms (number n) few = (n, ap (λ (names : Names). resolved_as (n, names)) (ap each_once (sym (append-nil ms))), refl)
 value_only ms (address_of name) few =

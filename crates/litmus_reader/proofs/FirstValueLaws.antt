@@ -1,9 +1,12 @@
 -- First values: registers and words begin with what the items put there last.
-use Rattle.std.proofs.Common.{◌≡◌, ℕ, suc, ◌-◌, ◌<◌, ◌≤◌, ◌==◌, ◌&&◌, true, if◌then◌else◌, nat_lt, List, [], ◌∷◌, ◌++◌, length, get_or, replicate, filter, not, slice_index_or, slice_set, Option, Some, None, Ok, All, refl, sym, ap, subst, ◌∙◌, inl, inr, arith, ext_get_or}
+use Rattle.std.proofs.Common.{◌≡◌, ℕ, suc, ◌-◌, ◌<◌, ◌≤◌, ◌==◌, ◌&&◌, true, if◌then◌else◌, nat_lt, List, [], ◌∷◌, ◌++◌}
+use Rattle.std.proofs.Common.{length, get_or, replicate, filter, not, slice_index_or, slice_set, Option, Some, None, Ok}
+use Rattle.std.proofs.Common.{All, refl, sym, ap, subst, ◌∙◌, inl, inr, arith, ext_get_or}
 use Rattle.std.specs.Str.{bytes_eq}
 use Rattle.std.proofs.lemmas.Bool.{ltb-true, lt-ltb, eqb-false, eq-eqb, ne_eqb, cases_Bool, cases_eq, cases_lt, both_ways, false≢true, or_left, or_right}
 use Rattle.std.proofs.lemmas.Slice.Eq.{bytes_eq-Decides}
-use Rattle.std.proofs.lemmas.List.{length-append, get_or_append_left, get_or-append_right, length-set, length-replicate, get_or-replicate, get_or-set_same, get_or-set_other}
+use Rattle.std.proofs.lemmas.List.{length-append, get_or_append_left, get_or-append_right, length-set, length-replicate}
+use Rattle.std.proofs.lemmas.List.{get_or-replicate, get_or-set_same, get_or-set_other}
 use Rattle.std.proofs.lemmas.List.Elements.{All-cons, All-nil, All-head, All-tail, filter-append}
 use Rattle.texts.proofs.ResultLaws.{bind_ok, ok_is}
 use Rattle.rv_decode.specs.declared.instruction.Reg.{Reg}
@@ -15,7 +18,9 @@ use Rattle.litmus_reader.specs.declared.init.Target.TheVariants.{Register, Word}
 use Rattle.litmus_reader.specs.Locations.{Names}
 use Rattle.litmus_reader.specs.Init.{InitItem, InitItems}
 use Rattle.litmus_reader.specs.Values.{Values, zeros, with_register, put_at, item_put, items_put, values_at, padded}
-use Rattle.litmus_reader.specs.Openings.{IsAt, IsWorth, each_once, name_of_place, names_in, or_else, last_put, is_register, is_location, IsFirstValue, AreRegisters, AreFirstWords, IsHartThere}
+use Rattle.litmus_reader.specs.Openings.{IsAt, IsWorth, each_once, name_of_place, names_in, or_else, last_put}
+use Rattle.litmus_reader.specs.Openings.{is_register, is_location, IsFirstValue, AreRegisters, AreFirstWords}
+use Rattle.litmus_reader.specs.Openings.{IsHartThere}
 use Rattle.litmus_reader.proofs.FirstAppearances.{has, at_later, one_index, one_name, fewer, at_some, at_below, worth_later, one_worth}
 use Rattle.litmus_reader.proofs.ItemLaws.{IsSettingOf, AreSettings}
 
@@ -47,13 +52,17 @@ with_length number value registers = grind (arith, cases_Bool, length-set)
 with_zero : (number value : ℕ) (registers : List ℕ) → slice_index_or (with_register number value registers) 0 0 ≡ slice_index_or registers 0 0
 with_zero number value registers = grind (arith, cases_Bool, get_or-set_other, eqb-false)
 
-with_same : (number value : ℕ) (registers : List ℕ) → 1 ≤ number → number < length registers → slice_index_or (with_register number value registers) number 0 ≡ value
+with_same : (number value : ℕ) (registers : List ℕ) → 1 ≤ number → number < length registers
+    → slice_index_or (with_register number value registers) number 0 ≡ value
 with_same number value registers some few = grind (arith, ne_eqb, get_or-set_same)
 
-with_other : (number value : ℕ) (registers : List ℕ) (n : ℕ) → (n ≡ number → ⊥) → slice_index_or (with_register number value registers) n 0 ≡ slice_index_or registers n 0
+with_other : (number value : ℕ) (registers : List ℕ) (n : ℕ) → (n ≡ number → ⊥)
+    → slice_index_or (with_register number value registers) n 0 ≡ slice_index_or registers n 0
 with_other number value registers n other = grind (arith, cases_Bool, get_or-set_other)
 
-each_set : (P : List ℕ → Type 0) (registers : List (List ℕ)) (other : ℕ) (changed : List ℕ) (hart : ℕ) → hart < length registers → P (slice_index_or registers hart []) → (other ≡ hart → P changed) → P (slice_index_or (slice_set registers other changed) hart [])
+each_set : (P : List ℕ → Type 0) (registers : List (List ℕ)) (other : ℕ) (changed : List ℕ) (hart : ℕ)
+    → hart < length registers → P (slice_index_or registers hart []) → (other ≡ hart → P changed)
+    → P (slice_index_or (slice_set registers other changed) hart [])
 each_set P registers other changed hart here old new = grind (arith, cases_eq, slice_index_or, slice_set, get_or-set_same, get_or-set_other)
 
 -- what an item puts, and what was there where it puts nothing
@@ -61,14 +70,22 @@ abbrev IsValueOr : Names → Option Value → (start word : ℕ) → Type 0
 IsValueOr names None start word = word ≡ start
 IsValueOr names (Some value) start word = IsWorth names value word
 
-later_wins : (names : Names) (later this : Option Value) (start between word : ℕ) → IsValueOr names later between word → IsValueOr names this start between → IsValueOr names (or_else later this) start word
+later_wins : (names : Names) (later this : Option Value) (start between word : ℕ)
+    → IsValueOr names later between word → IsValueOr names this start between
+    → IsValueOr names (or_else later this) start word
 later_wins names later this start between word same before = grind arith
 
 first_value : (names : Names) (equation : Option Value) (start word : ℕ) → start ≡ 0 → IsValueOr names equation start word → IsFirstValue names equation word
 first_value names equation start word none same = grind arith
 
 -- a register after an item for one
-register_put : (names : Names) (equation : Value) (registers : List (List ℕ)) (hart other number value n : ℕ) → IsWorth names equation value → hart < length registers → n < length (slice_index_or registers hart []) → 1 ≤ n → IsValueOr names (if (other == hart) && (number == n) then Some equation else None) (slice_index_or (slice_index_or registers hart []) n 0) (slice_index_or (slice_index_or (slice_set registers other (with_register number value (slice_index_or registers other []))) hart []) n 0)
+register_put : (names : Names) (equation : Value) (registers : List (List ℕ)) (hart other number value n : ℕ)
+    → IsWorth names equation value → hart < length registers → n < length (slice_index_or registers hart []) → 1 ≤ n
+    → IsValueOr names (if (other == hart) && (number == n) then Some equation else None)
+    (slice_index_or (slice_index_or registers hart []) n 0)
+    (slice_index_or
+    (slice_index_or (slice_set registers other (with_register number value (slice_index_or registers other []))) hart
+    []) n 0)
 register_put names equation registers hart other number value n worth here few some = grind (
   arith,
   cases_eq,
@@ -84,7 +101,9 @@ register_put names equation registers hart other number value n worth here few s
 
 -- what putting an item's value leaves
 abbrev Left : Target → ℕ → Values → Values → Type 0
-Left (Register hart register) value values more = (hart < length values.registers) × (more.registers ≡ slice_set values.registers hart (with_register register.number value (slice_index_or values.registers hart []))) × (more.words ≡ values.words)
+Left (Register hart register) value values more = (hart < length values.registers) × (more.registers
+    ≡ slice_set values.registers hart (with_register register.number value (slice_index_or values.registers hart [])))
+    × (more.words ≡ values.words)
 Left (Word index) value values more = (more.registers ≡ values.registers) × (more.words ≡ slice_set values.words index value)
 
 left_by : (target : Target) (value : ℕ) (values more : Values) → put_at target value values ≡ Ok more → Left target value values more
@@ -94,38 +113,62 @@ left_put : (item : InitItem) (values more : Values) → item_put values item ≡
 unfolding item_put
 left_put item values more e = left_by item.target item.value values more e
 
-shaped_left : (harts locations : ℕ) (target : Target) (value : ℕ) (values more : Values) → IsShaped harts locations values → Left target value values more → IsShaped harts locations more
+shaped_left : (harts locations : ℕ) (target : Target) (value : ℕ) (values more : Values)
+    → IsShaped harts locations values → Left target value values more → IsShaped harts locations more
 shaped_left harts locations (Register other register) value values more shaped left =
     let changed = with_register register.number value (slice_index_or values.registers other []) in
     record {
       all = ap length left.1 ∙ length-set values.registers other changed ∙ shaped.all;
-      counts = λ hart here. subst (λ (rs : List (List ℕ)). length (slice_index_or rs hart []) ≡ 32) (sym left.1) (each_set (λ (xs : List ℕ). length xs ≡ 32) values.registers other changed hart (omega (arith, shaped.all, here)) (shaped.counts hart here) (λ same. with_length register.number value (slice_index_or values.registers other []) ∙ shaped.counts other (omega (arith, same, here))));
-      zeros = λ hart here. subst (λ (rs : List (List ℕ)). slice_index_or (slice_index_or rs hart []) 0 0 ≡ 0) (sym left.1) (each_set (λ (xs : List ℕ). slice_index_or xs 0 0 ≡ 0) values.registers other changed hart (omega (arith, shaped.all, here)) (shaped.zeros hart here) (λ same. with_zero register.number value (slice_index_or values.registers other []) ∙ shaped.zeros other (omega (arith, same, here))));
+      counts = λ hart here. subst (λ (rs : List (List ℕ)). length (slice_index_or rs hart []) ≡ 32) (sym left.1)
+          (each_set (λ (xs : List ℕ). length xs ≡ 32) values.registers other changed hart
+          (omega (arith, shaped.all, here)) (shaped.counts hart here)
+          (λ same. with_length register.number value (slice_index_or values.registers other [])
+          ∙ shaped.counts other (omega (arith, same, here))));
+      zeros =
+          λ hart here. subst (λ (rs : List (List ℕ)). slice_index_or (slice_index_or rs hart []) 0 0 ≡ 0) (sym left.1)
+          (each_set (λ (xs : List ℕ). slice_index_or xs 0 0 ≡ 0) values.registers other changed hart
+          (omega (arith, shaped.all, here)) (shaped.zeros hart here)
+          (λ same. with_zero register.number value (slice_index_or values.registers other [])
+          ∙ shaped.zeros other (omega (arith, same, here))));
       words = ap length left.2 ∙ shaped.words;
     }
 shaped_left harts locations (Word index) value values more shaped left = grind (arith, slice_index_or, length-set)
 
-register_added : (names : Names) (equation : Equation) (item : InitItem) (values more : Values) (harts locations hart n : ℕ) → IsShaped harts locations values → IsSettingOf names equation item → Left item.target item.value values more → hart < harts → 1 ≤ n → n < 32 → IsValueOr names (if is_register hart n equation.0 then Some equation.1 else None) (at_register values hart n) (at_register more hart n)
+register_added : (names : Names) (equation : Equation) (item : InitItem) (values more : Values)
+    (harts locations hart n : ℕ) → IsShaped harts locations values → IsSettingOf names equation item
+    → Left item.target item.value values more → hart < harts → 1 ≤ n → n < 32
+    → IsValueOr names (if is_register hart n equation.0 then Some equation.1 else None) (at_register values hart n)
+    (at_register more hart n)
 register_added names equation item values more harts locations hart n shaped setting left here some few = grind (arith, slice_index_or, register_put)
 
-word_added : (ms : Names) (equation : Equation) (item : InitItem) (values more : Values) (index : ℕ) (name : List ℕ) → length values.words ≡ length (each_once ms) → IsSettingOf (each_once ms) equation item → Left item.target item.value values more → IsAt (each_once ms) name index → IsValueOr (each_once ms) (if is_location name equation.0 then Some equation.1 else None) (at_word values index) (at_word more index)
+word_added : (ms : Names) (equation : Equation) (item : InitItem) (values more : Values) (index : ℕ) (name : List ℕ)
+    → length values.words ≡ length (each_once ms) → IsSettingOf (each_once ms) equation item
+    → Left item.target item.value values more → IsAt (each_once ms) name index
+    → IsValueOr (each_once ms) (if is_location name equation.0 then Some equation.1 else None) (at_word values index)
+    (at_word more index)
 word_added ms (in_register other register, value) item values more index name count setting left at = grind (arith, slice_index_or)
 word_added ms (at_location other, value) item values more index name count setting left at = elim (cases_Bool (bytes_eq other name)) [
   | inl same ↦ (
       let named : other ≡ name = (bytes_eq-Decides other name).0 same in
       let here : setting.0.0 ≡ index = one_index ms name setting.0.0 index (subst (λ (n : List ℕ). IsAt (each_once ms) n setting.0.0) named setting.0.1) at in
       let within = at_below (each_once ms) name index at in
-      let equation = ap (λ (words : List ℕ). slice_index_or words index 0) is.1 ∙ ap (λ (k : ℕ). slice_index_or (slice_set values.words k item.value) index 0) here ∙ get_or-set_same values.words index item.value 0 (omega (arith, count, within)) in
+      let equation = ap (λ (words : List ℕ). slice_index_or words index 0) is.1
+      ∙ ap (λ (k : ℕ). slice_index_or (slice_set values.words k item.value) index 0) here
+      ∙ get_or-set_same values.words index item.value 0 (omega (arith, count, within)) in
       rw same (subst (IsWorth (each_once ms) value) (sym equation) setting.1))
   | inr differs ↦ (
-      let apart : index ≡ setting.0.0 → ⊥ = λ here. absurd (both_ways (bytes_eq other name) differs ((bytes_eq-Decides other name).1 (one_name ms other name index (subst (IsAt (each_once ms) other) (sym here) setting.0.1) at))) in
+      let apart : index ≡ setting.0.0 → ⊥ =
+      λ here. absurd (both_ways (bytes_eq other name) differs ((bytes_eq-Decides other name).1
+      (one_name ms other name index (subst (IsAt (each_once ms) other) (sym here) setting.0.1) at))) in
       rw differs (ap (λ (words : List ℕ). slice_index_or words index 0) is.1 ∙ get_or-set_other values.words setting.0.0 index item.value 0 apart))
 ]
   where
     is : Left (Word setting.0.0) item.value values more
     is = subst (λ (target : Target). Left target item.value values more) setting.0.2 left
 
-hart_there : (names : Names) (equation : Equation) (item : InitItem) (values more : Values) (harts : ℕ) → length values.registers ≡ harts → IsSettingOf names equation item → Left item.target item.value values more → IsHartThere harts equation
+hart_there : (names : Names) (equation : Equation) (item : InitItem) (values more : Values) (harts : ℕ)
+    → length values.registers ≡ harts → IsSettingOf names equation item → Left item.target item.value values more
+    → IsHartThere harts equation
 hart_there names equation item values more harts count setting left = grind arith
 
 -- ---- all items
@@ -133,10 +176,15 @@ hart_there names equation item values more harts count setting left = grind arit
 record AreSet (ms : Names) (equations : List Equation) (harts : ℕ) (values out : Values) : Type 0 where
   shaped : IsShaped harts (length (each_once ms)) out
   there : All (IsHartThere harts) equations
-  registers : (hart n : ℕ) → hart < harts → 1 ≤ n → n < 32 → IsValueOr (each_once ms) (last_put (is_register hart n) equations) (at_register values hart n) (at_register out hart n)
-  words : (index : ℕ) (name : List ℕ) → IsAt (each_once ms) name index → IsValueOr (each_once ms) (last_put (is_location name) equations) (at_word values index) (at_word out index)
+  registers : (hart n : ℕ) → hart < harts → 1 ≤ n → n < 32
+      → IsValueOr (each_once ms) (last_put (is_register hart n) equations) (at_register values hart n)
+      (at_register out hart n)
+  words : (index : ℕ) (name : List ℕ) → IsAt (each_once ms) name index
+      → IsValueOr (each_once ms) (last_put (is_location name) equations) (at_word values index) (at_word out index)
 
-all_put : (ms : Names) (equations : List Equation) (items : List InitItem) (harts : ℕ) (values out : Values) → IsShaped harts (length (each_once ms)) values → AreSettings (each_once ms) equations items → items_put values items ≡ Ok out → AreSet ms equations harts values out
+all_put : (ms : Names) (equations : List Equation) (items : List InitItem) (harts : ℕ) (values out : Values)
+    → IsShaped harts (length (each_once ms)) values → AreSettings (each_once ms) equations items
+    → items_put values items ≡ Ok out → AreSet ms equations harts values out
 all_put ms [] [] harts values out shaped settings e =
     let same : values ≡ out = ok_is LitmusFault values out e in
     subst (AreSet ms [] harts values) same
@@ -150,18 +198,29 @@ all_put ms (equation ∷ equations) (item ∷ items) harts values out shaped set
     let step = bind_ok (item_put values item) (λ (more : Values). items_put more items) out e in
     let more = step.0 in
     let left = left_put item values more step.1 in
-    let next = all_put ms equations items harts more out (shaped_left harts (length (each_once ms)) item.target item.value values more shaped left) settings.1 step.2 in
+    let next = all_put ms equations items harts more out
+    (shaped_left harts (length (each_once ms)) item.target item.value values more shaped left) settings.1 step.2 in
     record {
       shaped = next.shaped;
       there = All-cons (IsHartThere harts) equation equations (hart_there (each_once ms) equation item values more harts shaped.all settings.0 left) next.there;
       registers = λ hart n here some few.
-          later_wins (each_once ms) (last_put (is_register hart n) equations) _ (at_register values hart n) (at_register more hart n) (at_register out hart n) (next.registers hart n here some few) (register_added (each_once ms) equation item values more harts (length (each_once ms)) hart n shaped settings.0 left here some few);
+          later_wins (each_once ms) (last_put (is_register hart n) equations) _ (at_register values hart n)
+          (at_register more hart n) (at_register out hart n) (next.registers hart n here some few)
+          (register_added (each_once ms) equation item values more harts (length (each_once ms)) hart n shaped
+          settings.0 left here some few);
       words = λ index name at.
-          later_wins (each_once ms) (last_put (is_location name) equations) _ (at_word values index) (at_word more index) (at_word out index) (next.words index name at) (word_added ms equation item values more index name shaped.words settings.0 left at);
+          later_wins (each_once ms) (last_put (is_location name) equations) _ (at_word values index)
+          (at_word more index) (at_word out index) (next.words index name at)
+          (word_added ms equation item values more index name shaped.words settings.0 left at);
     }
 all_put ms x y harts values out shaped settings e = absurd settings
 
-pub values_found : (harts : ℕ) (equations : List Equation) (settings : InitItems) (values : Values) → settings.names ≡ each_once (names_in equations) → AreSettings settings.names equations settings.items → values_at harts settings ≡ Ok values → All (IsHartThere harts) equations × (length values.registers ≡ harts) × ((hart : ℕ) → hart < harts → AreRegisters settings.names equations hart (slice_index_or values.registers hart [])) × AreFirstWords settings.names equations values.words
+pub values_found : (harts : ℕ) (equations : List Equation) (settings : InitItems) (values : Values)
+    → settings.names ≡ each_once (names_in equations) → AreSettings settings.names equations settings.items
+    → values_at harts settings ≡ Ok values
+    → All (IsHartThere harts) equations × (length values.registers ≡ harts)
+    × ((hart : ℕ) → hart < harts → AreRegisters settings.names equations hart (slice_index_or values.registers hart []))
+    × AreFirstWords settings.names equations values.words
 unfolding values_at
 values_found harts equations settings values same items e =
     let ms = names_in equations in
@@ -174,29 +233,47 @@ values_found harts equations settings values same items e =
       λ hart within. subst (λ (names : Names). AreRegisters names equations hart (slice_index_or values.registers hart [])) (sym same) (record {
         count = equation.shaped.counts hart within;
         zero = equation.shaped.zeros hart within;
-        others = λ n some few. first_value (each_once ms) (last_put (is_register hart n) equations) (at_register start hart n) (at_register values hart n) (zeros-at harts (length (each_once ms)) hart n within few) (equation.registers hart n within some few);
+        others = λ n some few. first_value (each_once ms) (last_put (is_register hart n) equations)
+            (at_register start hart n) (at_register values hart n)
+            (zeros-at harts (length (each_once ms)) hart n within few) (equation.registers hart n within some few);
       }),
       subst (λ (names : Names). AreFirstWords names equations values.words) (sym same) (record {
         count = equation.shaped.words;
-        values = λ index name at. first_value (each_once ms) (last_put (is_location name) equations) (at_word start index) (at_word values index) (get_or-replicate (length (each_once ms)) index 0 0 (at_below (each_once ms) name index at)) (equation.words index name at);
+        values = λ index name at. first_value (each_once ms) (last_put (is_location name) equations)
+            (at_word start index) (at_word values index)
+            (get_or-replicate (length (each_once ms)) index 0 0 (at_below (each_once ms) name index at))
+            (equation.words index name at);
       }),
     )
 
 -- ---- items whose harts are there can be put
 
-put_at-hart : (hart : ℕ) (register : Reg) (value : ℕ) (values : Values) (harts : ℕ) → length values.registers ≡ harts → hart < harts → (more : Values) × (put_at (Register hart register) value values ≡ Ok more) × (length more.registers ≡ harts)
+put_at-hart : (hart : ℕ) (register : Reg) (value : ℕ) (values : Values) (harts : ℕ)
+    → length values.registers ≡ harts → hart < harts
+    → (more : Values) × (put_at (Register hart register) value values ≡ Ok more) × (length more.registers ≡ harts)
 put_at-hart hart register value values harts count here =
-    let changed = with_register register.number value (slice_index_or values.registers hart []) in
-    (record values { registers = slice_set values.registers hart changed }, rw (lt-ltb hart (length values.registers) (omega (arith, count, here))) refl, length-set values.registers hart changed ∙ count)
+    let changed = with_register register.number value (slice_index_or values.registers hart []) in (
+      record values { registers = slice_set values.registers hart changed },
+      rw (lt-ltb hart (length values.registers) (omega (arith, count, here))) refl,
+      length-set values.registers hart changed ∙ count,
+    )
 
-item_there : (names : Names) (equation : Equation) (item : InitItem) (values : Values) (harts : ℕ) → length values.registers ≡ harts → IsSettingOf names equation item → IsHartThere harts equation → (more : Values) × (item_put values item ≡ Ok more) × (length more.registers ≡ harts)
+item_there : (names : Names) (equation : Equation) (item : InitItem) (values : Values) (harts : ℕ)
+    → length values.registers ≡ harts → IsSettingOf names equation item → IsHartThere harts equation
+    → (more : Values) × (item_put values item ≡ Ok more) × (length more.registers ≡ harts)
 unfolding item_put
 item_there names (in_register hart register, value) item values harts count setting there =
-    subst (λ (target : Target). (more : Values) × (put_at target item.value values ≡ Ok more) × (length more.registers ≡ harts)) (sym setting.0) (put_at-hart hart register item.value values harts count there)
+    subst (λ (target : Target).
+    (more : Values) × (put_at target item.value values ≡ Ok more) × (length more.registers ≡ harts)) (sym setting.0)
+    (put_at-hart hart register item.value values harts count there)
 item_there names (at_location name, value) item values harts count setting there =
-    subst (λ (target : Target). (more : Values) × (put_at target item.value values ≡ Ok more) × (length more.registers ≡ harts)) (sym setting.0.2) (record values { words = slice_set values.words setting.0.0 item.value }, refl, count)
+    subst (λ (target : Target).
+    (more : Values) × (put_at target item.value values ≡ Ok more) × (length more.registers ≡ harts))
+    (sym setting.0.2) (record values { words = slice_set values.words setting.0.0 item.value }, refl, count)
 
-all_there : (names : Names) (equations : List Equation) (items : List InitItem) (values : Values) (harts : ℕ) → length values.registers ≡ harts → AreSettings names equations items → All (IsHartThere harts) equations → (out : Values) × (items_put values items ≡ Ok out)
+all_there : (names : Names) (equations : List Equation) (items : List InitItem) (values : Values) (harts : ℕ)
+    → length values.registers ≡ harts → AreSettings names equations items → All (IsHartThere harts) equations
+    → (out : Values) × (items_put values items ≡ Ok out)
 all_there names [] [] values harts count settings there = (values, refl)
 all_there names (equation ∷ equations) (item ∷ items) values harts count settings there =
     let first = item_there names equation item values harts count settings.0 (All-head (IsHartThere harts) equation equations there) in
@@ -204,16 +281,22 @@ all_there names (equation ∷ equations) (item ∷ items) values harts count set
     (rest.0, rw first.1 rest.1)
 all_there names x y values harts count settings there = absurd settings
 
-pub values_only : (harts : ℕ) (equations : List Equation) (settings : InitItems) → settings.names ≡ each_once (names_in equations) → AreSettings settings.names equations settings.items → All (IsHartThere harts) equations → (values : Values) × (values_at harts settings ≡ Ok values)
+pub values_only : (harts : ℕ) (equations : List Equation) (settings : InitItems)
+    → settings.names ≡ each_once (names_in equations) → AreSettings settings.names equations settings.items
+    → All (IsHartThere harts) equations → (values : Values) × (values_at harts settings ≡ Ok values)
 unfolding values_at
-values_only harts equations settings same items there = all_there settings.names equations settings.items (zeros harts (length settings.names)) harts (length-replicate harts (replicate {A = ℕ} 32 0)) items there
+values_only harts equations settings same items there = all_there settings.names equations settings.items
+    (zeros harts (length settings.names)) harts (length-replicate harts (replicate {A = ℕ} 32 0)) items there
 
 -- ---- more names change nothing
 
-first_later : (ms more : Names) (equation : Option Value) (word : ℕ) → IsFirstValue (each_once ms) equation word → IsFirstValue (each_once (ms ++ more)) equation word
+first_later : (ms more : Names) (equation : Option Value) (word : ℕ) → IsFirstValue (each_once ms) equation word
+    → IsFirstValue (each_once (ms ++ more)) equation word
 first_later ms more equation word first = grind (arith, worth_later)
 
-pub registers-later : (ms more : Names) (equations : List Equation) (hart : ℕ) (registers : List ℕ) → AreRegisters (each_once ms) equations hart registers → AreRegisters (each_once (ms ++ more)) equations hart registers
+pub registers-later : (ms more : Names) (equations : List Equation) (hart : ℕ) (registers : List ℕ)
+    → AreRegisters (each_once ms) equations hart registers
+    → AreRegisters (each_once (ms ++ more)) equations hart registers
 registers-later ms more equations hart registers are = grind (arith, first_later, slice_index_or)
 
 has_after : (xs ys : Names) (name : List ℕ) → has ys name ≡ true → has (xs ++ ys) name ≡ true
@@ -224,7 +307,8 @@ has_put : (equation : Equation) (others : Names) (name : List ℕ) → is_locati
 has_put equation others name is = grind (arith, or_left, has)
 
 -- where an item puts a value, its name is one of the items'
-has_last : (equations : List Equation) (name : List ℕ) (value : Value) → last_put (is_location name) equations ≡ Some value → has (names_in equations) name ≡ true
+has_last : (equations : List Equation) (name : List ℕ) (value : Value)
+    → last_put (is_location name) equations ≡ Some value → has (names_in equations) name ≡ true
 has_last [] name value e = absurd cc
 has_last (equation ∷ equations) name value e = grind (arith, has, has_after, cases_Bool, has_put, has_last equations name)
 
@@ -238,16 +322,30 @@ at_resolved (m ∷ ms) name is = elim (cases_Bool (bytes_eq m name)) [
   | inr differs ↦ (
       let rest = at_resolved ms name (rw differs at is) in
       let kept : filter (λ other. not (bytes_eq m other)) (name ∷ rest.1.1) ≡ name ∷ filter (λ other. not (bytes_eq m other)) rest.1.1 = rw differs refl in
-      let whole = ap (filter (λ other. not (bytes_eq m other))) rest.1.2 ∙ filter-append (λ other. not (bytes_eq m other)) rest.1.0 (name ∷ rest.1.1) ∙ ap (λ (xs : Names). filter (λ other. not (bytes_eq m other)) rest.1.0 ++ xs) kept in
-      (suc (length (filter (λ other. not (bytes_eq m other)) rest.1.0)), (m ∷ filter (λ other. not (bytes_eq m other)) rest.1.0, filter (λ other. not (bytes_eq m other)) rest.1.1, ap (λ (xs : Names). m ∷ xs) whole, refl)))
+      let whole = ap (filter (λ other. not (bytes_eq m other))) rest.1.2
+      ∙ filter-append (λ other. not (bytes_eq m other)) rest.1.0 (name ∷ rest.1.1)
+      ∙ ap (λ (xs : Names). filter (λ other. not (bytes_eq m other)) rest.1.0 ++ xs) kept in (
+        suc (length (filter (λ other. not (bytes_eq m other)) rest.1.0)),
+        (
+          m ∷ filter (λ other. not (bytes_eq m other)) rest.1.0,
+          filter (λ other. not (bytes_eq m other)) rest.1.1,
+          ap (λ (xs : Names). m ∷ xs) whole,
+          refl,
+        ),
+      ))
 ]
   where
     without : Names
     without = filter (λ other. not (bytes_eq m other)) (each_once ms)
 
-pub words-later : (equations : List Equation) (more : Names) (words : List ℕ) → AreFirstWords (each_once (names_in equations)) equations words → AreFirstWords (each_once (names_in equations ++ more)) equations (padded (length (each_once (names_in equations ++ more))) words)
+pub words-later : (equations : List Equation) (more : Names) (words : List ℕ)
+    → AreFirstWords (each_once (names_in equations)) equations words
+    → AreFirstWords (each_once (names_in equations ++ more)) equations
+    (padded (length (each_once (names_in equations ++ more))) words)
 words-later equations more words are = record {
-  count = length-append words (replicate (length all - length words) 0) ∙ (rw (length-replicate {A = ℕ} (length all - length words) 0) (omega (arith, are.count, fewer (names_in equations) more)));
+  count = length-append words (replicate (length all - length words) 0)
+      ∙ (rw (length-replicate {A = ℕ} (length all - length words) 0)
+      (omega (arith, are.count, fewer (names_in equations) more)));
   values = λ index name at. elim (cases_lt index (length words)) [
     | inl within ↦ old index name at within
     | inr following ↦ new index name at following
@@ -257,20 +355,27 @@ words-later equations more words are = record {
     all : Names
     all = each_once (names_in equations ++ more)
 
-    old : (index : ℕ) (name : List ℕ) → IsAt all name index → index < length words → IsFirstValue all (last_put (is_location name) equations) (slice_index_or (padded (length all) words) index 0)
+    old : (index : ℕ) (name : List ℕ) → IsAt all name index → index < length words
+        → IsFirstValue all (last_put (is_location name) equations) (slice_index_or (padded (length all) words) index 0)
     old index name at within =
         let small = at_some (names_in equations) index (omega (arith, are.count)) in
         let same = one_name (names_in equations ++ more) small.0 name index (at_later (names_in equations) more small.0 index small.1) at in
         let first = are.values index name (subst (λ (n : List ℕ). IsAt (each_once (names_in equations)) n index) same small.1) in
-        subst (IsFirstValue all (last_put (is_location name) equations)) (sym (get_or_append_left words (replicate (length all - length words) 0) 0 index within)) (first_later (names_in equations) more (last_put (is_location name) equations) (slice_index_or words index 0) first)
+        subst (IsFirstValue all (last_put (is_location name) equations))
+        (sym (get_or_append_left words (replicate (length all - length words) 0) 0 index within))
+        (first_later (names_in equations) more (last_put (is_location name) equations)
+        (slice_index_or words index 0) first)
 
-    new : (index : ℕ) (name : List ℕ) → IsAt all name index → length words ≤ index → IsFirstValue all (last_put (is_location name) equations) (slice_index_or (padded (length all) words) index 0)
+    new : (index : ℕ) (name : List ℕ) → IsAt all name index → length words ≤ index
+        → IsFirstValue all (last_put (is_location name) equations) (slice_index_or (padded (length all) words) index 0)
     new index name at following = go (last_put (is_location name) equations) refl
       where
-        go : (equation : Option Value) → last_put (is_location name) equations ≡ equation → IsFirstValue all equation (slice_index_or (padded (length all) words) index 0)
+        go : (equation : Option Value) → last_put (is_location name) equations ≡ equation
+            → IsFirstValue all equation (slice_index_or (padded (length all) words) index 0)
         go None is =
             let within = at_below all name index at in
-            get_or-append_right words (replicate (length all - length words) 0) (length words) index 0 refl following ∙ get_or-replicate (length all - length words) (index - length words) 0 0 (omega arith)
+            get_or-append_right words (replicate (length all - length words) 0) (length words) index 0 refl
+            following ∙ get_or-replicate (length all - length words) (index - length words) 0 0 (omega arith)
         go (Some value) is =
             let here = at_resolved (names_in equations) name (has_last equations name value is) in
             let same = one_index (names_in equations ++ more) name here.0 index (at_later (names_in equations) more name here.0 here.1) at in
@@ -282,10 +387,12 @@ words-later equations more words are = record {
 one_first : (ms : Names) (equation : Option Value) (v w : ℕ) → IsFirstValue (each_once ms) equation v → IsFirstValue (each_once ms) equation w → v ≡ w
 one_first ms equation v w one other = grind (arith, one_worth)
 
-pub registers_one : (ms : Names) (equations : List Equation) (hart : ℕ) (a b : List ℕ) → AreRegisters (each_once ms) equations hart a → AreRegisters (each_once ms) equations hart b → a ≡ b
+pub registers_one : (ms : Names) (equations : List Equation) (hart : ℕ) (a b : List ℕ)
+    → AreRegisters (each_once ms) equations hart a → AreRegisters (each_once ms) equations hart b → a ≡ b
 registers_one ms equations hart a b one other = grind (arith, ext_get_or 0 a b (one.count ∙ sym other.count), get_or a, get_or b, one_first ms)
 
-pub words_one : (ms : Names) (equations : List Equation) (a b : List ℕ) → AreFirstWords (each_once ms) equations a → AreFirstWords (each_once ms) equations b → a ≡ b
+pub words_one : (ms : Names) (equations : List Equation) (a b : List ℕ) → AreFirstWords (each_once ms) equations a
+    → AreFirstWords (each_once ms) equations b → a ≡ b
 words_one ms equations a b one other = ext_get_or 0 a b (one.count ∙ sym other.count) go
   where
     go : (i : ℕ) → i < length a → get_or a i 0 ≡ get_or b i 0

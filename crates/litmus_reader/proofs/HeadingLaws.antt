@@ -75,7 +75,8 @@ header_tokens line (blanks, gap, rest, b, c, are, apart, solid, whole) =
     )
 
 -- the line that is read as the header
-header_read : (text init table condition_text : List ℕ) (laid : IsLaidOut text init table condition_text) → first_line (from_line mark.Visible text) ≡ laid.header
+header_read : (text init table condition_text : List ℕ) (laid : IsLaidOut text init table condition_text)
+    → first_line (from_line mark.Visible text) ≡ laid.header
 header_read text init table condition_text laid =
     let from = first_only mark.Visible IsVisible visible_matches text laid.blank_lines laid.headed laid.begins in
     rw from.1 (cut_only laid.headed laid.header laid.below laid.first).0

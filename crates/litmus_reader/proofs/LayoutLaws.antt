@@ -12,7 +12,8 @@ use Rattle.litmus_reader.specs.Header.{has_name, is_header, after_header, after_
 use Rattle.litmus_reader.specs.Shapes.{IsCut, IsFirst}
 use Rattle.litmus_reader.specs.Shapes.IsFirst.{here, below as further}
 use Rattle.litmus_reader.specs.Layout.{IsVisible, BeginsWith, BeginsCondition, IsHeader, IsLaidOut}
-use Rattle.litmus_reader.proofs.ShapeLaws.{none_passes, has_none, cut_found, cut_only, front_of, token_cut, word_only, visible_matches, brace_matches, condition_matches, first-found, first_only}
+use Rattle.litmus_reader.proofs.ShapeLaws.{none_passes, has_none, cut_found, cut_only, front_of, token_cut, word_only}
+use Rattle.litmus_reader.proofs.ShapeLaws.{visible_matches, brace_matches, condition_matches, first-found, first_only}
 
 -- the text from that line on begins so
 pub first_begins : (B : List ℕ → Type 0) (text above from : List ℕ) → IsFirst B text above from → B from
@@ -42,7 +43,15 @@ name_found (b ∷ text) h = go (without_front text) refl both.1
     go [] e some = absurd cc
     go (c ∷ rest) e some =
         let front = leading_split is_blank text in
-        record { b = b; gap = front.0; c = c; rest = rest; blanks = (both.0, front.1); solid = leading_first is_blank text c rest e; whole = ap (λ (ys : List ℕ). b ∷ ys) (front.2 ∙ ap (λ (ys : List ℕ). front.0 ++ ys) e) }
+        record {
+          b = b;
+          gap = front.0;
+          c = c;
+          rest = rest;
+          blanks = (both.0, front.1);
+          solid = leading_first is_blank text c rest e;
+          whole = ap (λ (ys : List ℕ). b ∷ ys) (front.2 ∙ ap (λ (ys : List ℕ). front.0 ++ ys) e);
+        }
 
 header_found : (line : List ℕ) → is_header line ≡ true → IsHeader line
 unfolding is_header
@@ -50,7 +59,8 @@ header_found line h =
     let both = and_parts (has_token (codes "RISCV") (without_front line)) (has_name (drop 5 (without_front line))) h in
     let front = leading_split is_blank line in
     let name = name_found (drop 5 (without_front line)) both.1 in
-    let whole : without_front line ≡ codes "RISCV" ++ name.b ∷ (name.gap ++ name.c ∷ name.rest) = token_cut (codes "RISCV") (without_front line) both.0 ∙ ap (λ (ys : List ℕ). codes "RISCV" ++ ys) name.whole in
+    let whole : without_front line ≡ codes "RISCV" ++ name.b ∷ (name.gap ++ name.c ∷ name.rest) =
+    token_cut (codes "RISCV") (without_front line) both.0 ∙ ap (λ (ys : List ℕ). codes "RISCV" ++ ys) name.whole in
     (front.0, name.gap, name.rest, name.b, name.c, front.1, name.blanks, name.solid, front.2 ∙ ap (λ (ys : List ℕ). front.0 ++ ys) whole)
 
 header_only : (line : List ℕ) → IsHeader line → is_header line ≡ true
@@ -67,7 +77,8 @@ headed_found : (text below : List ℕ) → after_header text ≡ Ok below → He
 unfolding after_header
 headed_found text below e = grind (arith, cases_Bool)
 
-headed_only : (text blank_lines headed header below : List ℕ) → IsFirst IsVisible text blank_lines headed → IsCut headed header below → IsHeader header → after_header text ≡ Ok below
+headed_only : (text blank_lines headed header below : List ℕ) → IsFirst IsVisible text blank_lines headed
+    → IsCut headed header below → IsHeader header → after_header text ≡ Ok below
 unfolding after_header
 headed_only text blank_lines headed header below begins first named =
     let from = first_only mark.Visible IsVisible visible_matches text blank_lines headed begins in
@@ -96,9 +107,17 @@ braced_found text inner e = go (from_line mark.Brace text) refl e
         let front : without_front braced ≡ 123 ∷ begun.1 = ap without_front begun.3 ∙ front_of begun.0 123 begun.1 begun.2 refl in
         let shown = rw front at f in
         let same : begun.1 ≡ inner = cc in
-        record { braced = braced; blanks = begun.0; first = first; opens = opens; indented = begun.2; whole = begun.3 ∙ ap (λ (ys : List ℕ). begun.0 ++ 123 ∷ ys) same }
+        record {
+          braced = braced;
+          blanks = begun.0;
+          first = first;
+          opens = opens;
+          indented = begun.2;
+          whole = begun.3 ∙ ap (λ (ys : List ℕ). begun.0 ++ 123 ∷ ys) same;
+        }
 
-braced_only : (text unread_lines braced blanks inner : List ℕ) → IsFirst (BeginsWith (codes "{")) text unread_lines braced → AreBlanks blanks → braced ≡ blanks ++ 123 ∷ inner → after_brace text ≡ Ok inner
+braced_only : (text unread_lines braced blanks inner : List ℕ) → IsFirst
+    (BeginsWith (codes "{")) text unread_lines braced → AreBlanks blanks → braced ≡ blanks ++ 123 ∷ inner → after_brace text ≡ Ok inner
 unfolding after_brace
 braced_only text unread_lines braced blanks inner opens indented whole =
     let from = first_only mark.Brace (BeginsWith (codes "{")) brace_matches text unread_lines braced opens in
@@ -106,7 +125,10 @@ braced_only text unread_lines braced blanks inner opens indented whole =
 
 -- ---- the layout
 
-pub layout_found : (text below inner rest condition_text : List ℕ) → after_header text ≡ Ok below → after_brace below ≡ Ok inner → after (is_byte 125) inner ≡ Some rest → from_line mark.Condition rest ≡ Some condition_text → IsLaidOut text (before (is_byte 125) inner) (before_line mark.Condition rest) condition_text
+pub layout_found : (text below inner rest condition_text : List ℕ) → after_header text ≡ Ok below
+    → after_brace below ≡ Ok inner → after (is_byte 125) inner ≡ Some rest
+    → from_line mark.Condition rest ≡ Some condition_text
+    → IsLaidOut text (before (is_byte 125) inner) (before_line mark.Condition rest) condition_text
 layout_found text below inner rest condition_text header brace closes asks =
     let h = headed_found text below header in
     let b = braced_found below inner brace in

@@ -14,5 +14,6 @@ reached seen last zero = last
 reached seen last (suc line) = seen + suc line
 
 -- the whole text is left at its first row
-pub row_here : (text line : List ℕ) (below : List (List ℕ)) → pieces (Byte 10) text ≡ line ∷ below → is_blank_line line ≡ false → left_from 0 (line ∷ below) ≡ length text
+pub row_here : (text line : List ℕ) (below : List (List ℕ)) → pieces (Byte 10) text ≡ line ∷ below
+    → is_blank_line line ≡ false → left_from 0 (line ∷ below) ≡ length text
 row_here text line below cut solid = rw solid (ap (λ (lines : List (List ℕ)). span lines - 1) (sym cut) ∙ rw (span-slice_split (is_byte 10) text) (omega arith))

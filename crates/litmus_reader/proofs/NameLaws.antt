@@ -3,7 +3,8 @@ use Rattle.std.proofs.Common.{arith, ◌≡◌, ℕ, Bool, List, Option, Some, s
 use Rattle.std.specs.Prelude.{if◌then◌else◌}
 use Rattle.litmus_tokens.specs.Settings.{NamedPlace, Value, Equation, IsNamedPlace, IsValue, IsSetting, IsDeclared, IsItem}
 use Rattle.litmus_tokens.specs.Reading.{setting_at}
-use Rattle.litmus_tokens.specs.Tokens.{Token, Beginning, nothing, begins, no_token, is_mark, after_not, paired, atom_from, negation_or, unmarked, begun, beginning_of}
+use Rattle.litmus_tokens.specs.Tokens.{Token, Beginning, nothing, begins, no_token, is_mark, after_not, paired}
+use Rattle.litmus_tokens.specs.Tokens.{atom_from, negation_or, unmarked, begun, beginning_of}
 use Rattle.texts.specs.Cutting.{before, from_first, without_leading}
 use Rattle.litmus_tokens.proofs.SettingLaws.{setting_found}
 use Rattle.litmus_reader.specs.Locations.{HasLocation, HasName, HasNames}
@@ -52,7 +53,9 @@ not_named o other names = grind arith
 
 unmarked-named : (text : List ℕ) → Named (unmarked text)
 unfolding unmarked
-unmarked-named text = not_named (after_not text) _ (atom_named (setting_at (before is_mark text)) (from_first is_mark text) (λ equation is. setting_names (before is_mark text) equation (setting_found (before is_mark text) equation is)))
+unmarked-named text =
+    not_named (after_not text) _ (atom_named (setting_at (before is_mark text)) (from_first is_mark text)
+    (λ equation is. setting_names (before is_mark text) equation (setting_found (before is_mark text) equation is)))
 
 begun-named : (text : List ℕ) → Named (begun text)
 unfolding begun

@@ -1,5 +1,6 @@
 -- A table's rows are those of the grammar.
-use Rattle.std.proofs.Common.{◌≡◌, ℕ, ◌+◌, ◌^◌, ◌<◌, ◌≤◌, true, false, ltb, List, [], ◌∷◌, ◌++◌, length, Option, Some, None, Ok, refl, ap, subst, ◌∙◌, inl, inr, arith}
+use Rattle.std.proofs.Common.{◌≡◌, ℕ, ◌+◌, ◌^◌, ◌<◌, ◌≤◌, true, false, ltb, List, [], ◌∷◌, ◌++◌, length, Option, Some}
+use Rattle.std.proofs.Common.{None, Ok, refl, ap, subst, ◌∙◌, inl, inr, arith}
 use Rattle.std.specs.Fmt.{decimal}
 use Rattle.std.proofs.lemmas.Bool.{cases_Bool, eqb-true, le-ltb, ltb-false, false_from_ne_true}
 use Rattle.std.proofs.lemmas.Slice.Eq.{bytes_eq-Decides}
@@ -41,8 +42,16 @@ row_found line row e = go (after (is_byte 59) line) refl e
     go None none f = absurd cc
     go (Some rest) cut f = elim (cases_Bool (is_blank_line rest)) [
       | inl blank ↦ (
-          let same : before (is_byte 59) line ≡ row = row-is (before (is_byte 59) line) row (rw blank at f) in
-          (row, rest, has_none 59 row (subst (λ (r : List ℕ). NonePass (is_byte 59) r) same (before-passes_not (is_byte 59) line)), blank_found rest blank, cut_byte 59 line rest cut ∙ ap (λ (r : List ℕ). r ++ 59 ∷ rest) same, parts_found 124 row))
+          let same : before (is_byte 59) line ≡ row = row-is (before (is_byte 59) line) row (rw blank at f) in (
+            row,
+            rest,
+            has_none 59 row (subst (λ (r : List ℕ). NonePass (is_byte 59) r) same
+                (before-passes_not (is_byte 59) line)),
+            blank_found rest blank,
+            cut_byte 59
+                line rest cut ∙ ap (λ (r : List ℕ). r ++ 59 ∷ rest) same,
+            parts_found 124 row,
+          ))
       | inr other ↦ absurd (let g = rw other at f in cc)
     ]
 
@@ -61,7 +70,11 @@ row_only line cells is = grind (arith, none_passes, false_from_ne_true, among_bl
 names_found : (hart : ℕ) (cells : Cells) → name_harts hart cells ≡ true → AreNames hart cells
 names_found hart [] e = tt
 names_found hart (cell ∷ cells) e = elim (cases_Bool (names_hart hart cell)) [
-  | inl named ↦ (subst (λ (core : List ℕ). IsPadded core cell) ((bytes_eq-Decides (trimmed cell) (80 ∷ decimal hart)).0 named) (padded_stripped is_blank cell), names_found (hart + 1) cells (rw named at e))
+  | inl named ↦ (
+    subst (λ (core : List ℕ). IsPadded core cell) ((bytes_eq-Decides (trimmed cell) (80 ∷ decimal hart)).0 named)
+        (padded_stripped is_blank cell),
+    names_found (hart + 1) cells (rw named at e),
+  )
   | inr other ↦ absurd (let f = rw other at e in cc)
 ]
 

@@ -35,7 +35,9 @@ longer_first byte c text ps other (shape.AreParts.more part rest others none bel
 pub parts_found : (byte : ℕ) (text : List ℕ) → AreParts byte text (pieces (Byte byte) text)
 parts_found byte [] = shape.AreParts.last [] tt
 parts_found byte (c ∷ text) = elim (cases_Bool (c == byte)) [
-  | inl same ↦ rw same (subst (λ (b : ℕ). AreParts byte (b ∷ text) ([] ∷ pieces (Byte byte) text)) (sym (eqb-true c byte same)) (shape.AreParts.more [] text (pieces (Byte byte) text) tt (parts_found byte text)))
+  | inl same ↦
+      rw same (subst (λ (b : ℕ). AreParts byte (b ∷ text) ([] ∷ pieces (Byte byte) text)) (sym (eqb-true c byte same))
+      (shape.AreParts.more [] text (pieces (Byte byte) text) tt (parts_found byte text)))
   | inr other ↦ rw other (longer_first byte c text (pieces (Byte byte) text) other (parts_found byte text))
 ]
 
@@ -44,7 +46,9 @@ parts_only byte text ps (shape.AreParts.last part none) = grind (arith, none_pas
 parts_only byte text ps (shape.AreParts.more part rest others none below) =
     let passes = none_passes byte part none in
     let stops : is_byte byte byte ≡ true = eq-eqb byte byte refl in
-    split_cut (is_byte byte) (part ++ byte ∷ rest) ∙ rw (before-stop (is_byte byte) part byte rest passes stops, after-stop (is_byte byte) part byte rest passes stops) (ap (λ (qs : List (List ℕ)). part ∷ qs) (parts_only byte rest others below))
+    split_cut (is_byte byte) (part ++ byte ∷ rest) ∙ rw
+    (before-stop (is_byte byte) part byte rest passes stops, after-stop (is_byte byte) part byte rest passes stops)
+    (ap (λ (qs : List (List ℕ)). part ∷ qs) (parts_only byte rest others below))
 
 -- ---- the first line
 
@@ -134,9 +138,13 @@ condition_matches = record {
     | inr unread ↦ inr (inr (inr (unread_found text unread)))
   ];
   only = λ text is. elim is [
-    | inl exists ↦ begun text (or_not_begins text (or_left (begun_by (codes "exists") text) (begun_by (codes "~exists") text) (word_only 101 (codes "xists") text refl exists)))
+    | inl exists ↦
+        begun text (or_not_begins text (or_left (begun_by (codes "exists") text) (begun_by (codes "~exists") text)
+        (word_only 101 (codes "xists") text refl exists)))
     | inr other ↦ elim other [
-      | inl never ↦ begun text (or_not_begins text (or_right (begun_by (codes "exists") text) (begun_by (codes "~exists") text) (word_only 126 (codes "exists") text refl never)))
+      | inl never ↦
+          begun text (or_not_begins text (or_right (begun_by (codes "exists") text) (begun_by (codes "~exists") text)
+          (word_only 126 (codes "exists") text refl never)))
       | inr following ↦ elim following [
         | inl forall ↦ begun text (or_right (exists_or_not text) (begun_by (codes "forall") text) (word_only 102 (codes "orall") text refl forall))
         | inr unread ↦ or_right (is_condition (without_front text)) (is_unread (without_front text)) (unread_only text unread)
@@ -163,9 +171,11 @@ record Following (m : Mark) (B : List ℕ → Type 0) (text from : List ℕ) : T
   front : before_next m text ≡ line ++ 10 ∷ above
   first : IsFirst B rest above from
 
-first_after : (m : Mark) (B : List ℕ → Type 0) → Matches m B → (text from : List ℕ) → begins m text ≡ false → Following m B text from → IsFirst B text (before_next m text) from
+first_after : (m : Mark) (B : List ℕ → Type 0) → Matches m B → (text from : List ℕ) → begins m text ≡ false
+    → Following m B text from → IsFirst B text (before_next m text) from
 first_after m B matches text from other b =
-    let is : IsFirst B (b.line ++ 10 ∷ b.rest) (b.line ++ 10 ∷ b.above) from = further b.line b.rest b.above from b.none (starts_not m B matches (b.line ++ 10 ∷ b.rest) (rw b.whole at other)) b.first in
+    let is : IsFirst B (b.line ++ 10 ∷ b.rest) (b.line ++ 10 ∷ b.above) from = further b.line b.rest b.above from
+    b.none (starts_not m B matches (b.line ++ 10 ∷ b.rest) (rw b.whole at other)) b.first in
     rw b.front (subst (λ (t : List ℕ). IsFirst B t (b.line ++ 10 ∷ b.above) from) (sym b.whole) is)
 
 after_more : (m : Mark) (B : List ℕ → Type 0) (c : ℕ) (text from : List ℕ) → (c == 10) ≡ false → Following m B text from → Following m B (c ∷ text) from
@@ -188,15 +198,36 @@ next_found m B matches (c ∷ text) from e = elim (cases_Bool (c == 10)) [
         | inl begun ↦ (
             let e' : Some text ≡ Some from = rw (ends, begun) at e in
             let is : text ≡ from = cc in
-            record { line = []; rest = text; above = []; none = tt; whole = ap (λ (b : ℕ). b ∷ text) same; front = rw (ends, begun, same) refl; first = subst (λ (t : List ℕ). IsFirst B text [] t) is (here text (matches.found text begun)) })
+            record {
+              line = [];
+              rest = text;
+              above = [];
+              none =
+                  tt;
+              whole = ap (λ (b : ℕ). b ∷ text) same;
+              front = rw (ends, begun, same) refl;
+              first =
+                  subst (λ (t : List ℕ). IsFirst B text [] t) is (here text (matches.found text begun));
+            })
         | inr other ↦ (
             let following = next_found m B matches text from (rw (ends, other) at e) in
-            record { line = []; rest = text; above = before_next m text; none = tt; whole = ap (λ (b : ℕ). b ∷ text) same; front = rw (ends, other, same) refl; first = first_after m B matches text from other following })
+            record {
+              line = [];
+              rest = text;
+              above =
+                  before_next m text;
+              none = tt;
+              whole = ap (λ (b : ℕ). b ∷ text) same;
+              front =
+                  rw (ends, other, same) refl;
+              first = first_after m B matches text from other following;
+            })
       ])
   | inr goes_on ↦ after_more m B c text from goes_on (next_found m B matches text from (rw goes_on at e))
 ]
 
-pub first-found : (m : Mark) (B : List ℕ → Type 0) → Matches m B → (text from : List ℕ) → from_line m text ≡ Some from → IsFirst B text (before_line m text) from
+pub first-found : (m : Mark) (B : List ℕ → Type 0) → Matches m B → (text from : List ℕ)
+    → from_line m text ≡ Some from → IsFirst B text (before_line m text) from
 unfolding before_line from_line
 first-found m B matches text from e = elim (cases_Bool (begins m text)) [
   | inl begun ↦ (
@@ -225,7 +256,8 @@ back_of_last : (m : Mark) (line : List ℕ) → HasNo 10 line → from_next m li
 back_of_last m [] none = refl
 back_of_last m (c ∷ line) none = rw none.0 (back_of_last m line none.1)
 
-pub first_only : (m : Mark) (B : List ℕ → Type 0) → Matches m B → (text above from : List ℕ) → IsFirst B text above from → (before_line m text ≡ above) × (from_line m text ≡ Some from)
+pub first_only : (m : Mark) (B : List ℕ → Type 0) → Matches m B → (text above from : List ℕ)
+    → IsFirst B text above from → (before_line m text ≡ above) × (from_line m text ≡ Some from)
 unfolding before_line from_line
 first_only m B matches text above from (here whole begun) = let starts = matches.only whole begun in rw starts (refl, refl)
 first_only m B matches text above from (further line rest higher last none other first) =
@@ -240,7 +272,8 @@ NoneBehind B text = HasNo 10 text ⊎ ((line rest : List ℕ) × HasNo 10 line �
 none_after : (m : Mark) (B : List ℕ → Type 0) → Matches m B → (text : List ℕ) → begins m text ≡ false → NoneBehind B text → NoneBegins B text
 none_after m B matches text other following = elim following [
   | inl last ↦ shape.NoneBegins.last text last (starts_not m B matches text other)
-  | inr b ↦ subst (λ (t : List ℕ). NoneBegins B t) (sym b.4) (shape.NoneBegins.more b.0 b.1 b.2 (starts_not m B matches (b.0 ++ 10 ∷ b.1) (rw b.4 at other)) b.3)
+  | inr b ↦ subst (λ (t : List ℕ). NoneBegins B t) (sym b.4)
+      (shape.NoneBegins.more b.0 b.1 b.2 (starts_not m B matches (b.0 ++ 10 ∷ b.1) (rw b.4 at other)) b.3)
 ]
 
 next_nowhere : (m : Mark) (B : List ℕ → Type 0) → Matches m B → (text : List ℕ) → from_next m text ≡ None → NoneBehind B text
@@ -248,7 +281,13 @@ next_nowhere m B matches [] e = inl tt
 next_nowhere m B matches (c ∷ text) e = elim (cases_Bool (c == 10)) [
   | inl ends ↦ elim (cases_Bool (begins m text)) [
     | inl begun ↦ (let never = rw (ends, begun) at e in absurd cc)
-    | inr other ↦ inr ([], text, tt, none_after m B matches text other (next_nowhere m B matches text (rw (ends, other) at e)), ap (λ (b : ℕ). b ∷ text) (eqb-true c 10 ends))
+    | inr other ↦ inr (
+      [],
+      text,
+      tt,
+      none_after m B matches text other (next_nowhere m B matches text (rw (ends, other) at e)),
+      ap (λ (b : ℕ). b ∷ text) (eqb-true c 10 ends),
+    )
   ]
   | inr goes_on ↦ elim (next_nowhere m B matches text (rw goes_on at e)) [
     | inl last ↦ inl (goes_on, last)
@@ -260,7 +299,8 @@ pub nowhere_found : (m : Mark) (B : List ℕ → Type 0) → Matches m B → (te
 unfolding from_line
 nowhere_found m B matches text e = grind (arith, cases_Bool, none_after, next_nowhere)
 
-pub nowhere_only : (m : Mark) (B : List ℕ → Type 0) → Matches m B → (text : List ℕ) → NoneBegins B text → (before_line m text ≡ text) × (from_line m text ≡ None)
+pub nowhere_only : (m : Mark) (B : List ℕ → Type 0) → Matches m B → (text : List ℕ) → NoneBegins B text
+    → (before_line m text ≡ text) × (from_line m text ≡ None)
 unfolding before_line from_line
 nowhere_only m B matches text (shape.NoneBegins.last line none other) = grind (arith, starts_other, front_of_last, back_of_last)
 nowhere_only m B matches text (shape.NoneBegins.more line rest none other below) =

@@ -1,5 +1,6 @@
 -- The columns' instructions, one column after the other.
-use Rattle.std.proofs.Common.{◌≡◌, ℕ, suc, ltb-false, ◌+◌, ◌≤◌, Bool, List, [], ◌∷◌, ◌++◌, length, Option, Some, None, Result, Ok, Err, refl, ap, sym, subst, ◌∙◌, append_assoc, length-append, map, arith}
+use Rattle.std.proofs.Common.{◌≡◌, ℕ, suc, ltb-false, ◌+◌, ◌≤◌, Bool, List, [], ◌∷◌, ◌++◌, length, Option, Some, None}
+use Rattle.std.proofs.Common.{Result, Ok, Err, refl, ap, sym, subst, ◌∙◌, append_assoc, length-append, map, arith}
 use Rattle.std.specs.Prelude.{nat_lt, if◌then◌else◌, IfOk}
 use Rattle.std.proofs.lemmas.List.{map-append, length-map}
 use Rattle.std.proofs.lemmas.List.Elements.{All-append, All-cons, All-nil}
@@ -25,15 +26,23 @@ going None codes others = onto codes others
 going (Some row) codes others = Err BadInstr
 
 -- a column's instructions join those before it
-onto-more : (front : List Code) (code : Code) (others : Result (List Code) LitmusFault) → onto front (onto (code ∷ []) others) ≡ onto (front ++ code ∷ []) others
+onto-more : (front : List Code) (code : Code) (others : Result (List Code) LitmusFault)
+    → onto front (onto (code ∷ []) others) ≡ onto (front ++ code ∷ []) others
 onto-more front code others = grind (arith, append_assoc)
 
-codes_more : (code : Code) (column : Column) (columns : List Column) → finished column ≡ Ok code → codes_of (column ∷ columns) ≡ onto (code ∷ []) (codes_of columns)
+codes_more : (code : Code) (column : Column) (columns : List Column) → finished column ≡ Ok code
+    → codes_of (column ∷ columns) ≡ onto (code ∷ []) (codes_of columns)
 codes_more code column columns done = rw done refl
 
-pub turn_going : (faulty : Option ℕ) (words : List (Vec ℕ Global)) (more : Vec ℕ Global) (column : Column) (columns : List Column) (whole : Result (List Code) LitmusFault) → finished column ≡ Ok (map meaning more.items) → going faulty (instructions_of words) (codes_of (column ∷ columns)) ≡ whole → going faulty (instructions_of (words ++ more ∷ [])) (codes_of columns) ≡ whole
+pub turn_going : (faulty : Option ℕ) (words : List (Vec ℕ Global)) (more : Vec ℕ Global) (column : Column)
+    (columns : List Column) (whole : Result (List Code) LitmusFault) → finished column ≡ Ok (map meaning more.items)
+    → going faulty (instructions_of words) (codes_of (column ∷ columns)) ≡ whole
+    → going faulty (instructions_of (words ++ more ∷ [])) (codes_of columns) ≡ whole
 turn_going None words more column columns whole done so_far =
-    rw (map-append (λ (v : Vec ℕ Global). map meaning v.items) words (more ∷ [])) (sym (onto-more (instructions_of words) (map meaning more.items) (codes_of columns)) ∙ ap (λ (others : Result (List Code) LitmusFault). onto (instructions_of words) others) (sym (codes_more (map meaning more.items) column columns done)) ∙ so_far)
+    rw (map-append (λ (v : Vec ℕ Global). map meaning v.items) words (more ∷ []))
+    (sym (onto-more (instructions_of words) (map meaning more.items) (codes_of columns))
+    ∙ ap (λ (others : Result (List Code) LitmusFault). onto (instructions_of words) others)
+    (sym (codes_more (map meaning more.items) column columns done)) ∙ so_far)
 turn_going (Some row) words more column columns whole done so_far = so_far
 
 pub plain_more : (words : List (Vec ℕ Global)) (more : Vec ℕ Global) → ArePlain words → IsPlainCode more.items → ArePlain (words ++ more ∷ [])
@@ -59,12 +68,16 @@ placed-sized found at made = grind (arith, after_sized)
 onto-sized : {X E : Type 0} (m n : ℕ) (front : List X) (r : Result (List X) E) → length front ≡ m → Sized n r → Sized (m + n) (onto front r)
 onto-sized m n front r here sized = grind (arith, length-append)
 
-joined_sized : {X E : Type 0} (m n : ℕ) (r : Result (List X) E) (others : Result (List X) E) → Sized m r → Sized n others → Sized (m + n) (r >>= λ front. onto front others)
+joined_sized : {X E : Type 0} (m n : ℕ) (r : Result (List X) E) (others : Result (List X) E) → Sized m r
+    → Sized n others → Sized (m + n) (r >>= λ front. onto front others)
 joined_sized m n r others here rest = grind (arith, onto-sized)
 
 all_placed-sized : (found : List ℕ → Option ℕ) (at line : ℕ) (lines : List Line) → Sized (words_of lines) (all_placed found at line lines)
 all_placed-sized found at line [] = refl
-all_placed-sized found at line (first ∷ rest) = joined_sized (size_of first.made) (words_of rest) (at_line line (placed found at first.made)) _ (at_line-sized (size_of first.made) line (placed found at first.made) (placed-sized found at first.made)) (all_placed-sized found (at + size_of first.made) (line + 1) rest)
+all_placed-sized found at line (first ∷ rest) =
+    joined_sized (size_of first.made) (words_of rest) (at_line line (placed found at first.made)) _
+    (at_line-sized (size_of first.made) line (placed found at first.made) (placed-sized found at first.made))
+    (all_placed-sized found (at + size_of first.made) (line + 1) rest)
 
 abbrev Short : {X E : Type 0} → Result (List X) E → Type 0
 Short (Ok list) = length list ≤ 4096
@@ -87,20 +100,26 @@ abbrev AllShort : ℕ → Result (List Code) LitmusFault → Type 0
 AllShort n (Ok codes) = (length codes ≡ n) × AreShort codes
 AllShort n (Err fault) = Unit {0}
 
-joined_short : (n : ℕ) (r : Result Code LitmusFault) (others : Result (List Code) LitmusFault) → Short r → AllShort n others → AllShort (suc n) (r >>= λ code. others >>= λ codes. Ok (code ∷ codes))
+joined_short : (n : ℕ) (r : Result Code LitmusFault) (others : Result (List Code) LitmusFault) → Short r
+    → AllShort n others → AllShort (suc n) (r >>= λ code. others >>= λ codes. Ok (code ∷ codes))
 joined_short n r others here rest = grind arith
 
 codes_short : (columns : List Column) → AllShort (length columns) (codes_of columns)
 codes_short [] = (refl, tt)
-codes_short (column ∷ columns) = joined_short (length columns) (as_instr (finished column)) (codes_of columns) (instr_short (finished column) (finished-short column)) (codes_short columns)
+codes_short (column ∷ columns) = joined_short (length columns) (as_instr (finished column)) (codes_of columns)
+    (instr_short (finished column) (finished-short column)) (codes_short columns)
 
 answer_short : (columns : List Column) (codes : List Code) → codes_of columns ≡ Ok codes → (length codes ≡ length columns) × AreShort codes
 answer_short columns codes shown = let P : Result (List Code) LitmusFault → Type 0 = λ r. AllShort (length columns) r in subst P shown (codes_short columns)
 
 -- what is answered of the harts' words
-pub answered_count : (columns : List Column) (result : Result (Vec (Vec ℕ Global) Global) (TextError AtLeft)) → GivesUpToMemory fault_in instructions result (codes_of columns) → IfOk result (λ words. length words.items ≡ length columns)
+pub answered_count : (columns : List Column) (result : Result (Vec (Vec ℕ Global) Global) (TextError AtLeft))
+    → GivesUpToMemory fault_in instructions result (codes_of columns)
+    → IfOk result (λ words. length words.items ≡ length columns)
 answered_count columns result shown = grind (arith, answer_short, length-map)
 
-pub answered_short : (columns : List Column) (result : Result (Vec (Vec ℕ Global) Global) (TextError AtLeft)) → GivesUpToMemory fault_in instructions result (codes_of columns) → IfOk result (λ words. AreShort (instructions words))
+pub answered_short : (columns : List Column) (result : Result (Vec (Vec ℕ Global) Global) (TextError AtLeft))
+    → GivesUpToMemory fault_in instructions result (codes_of columns)
+    → IfOk result (λ words. AreShort (instructions words))
 answered_short columns (Ok words) shown = (answer_short columns (instructions words) shown).1
 answered_short columns (Err e) shown = tt

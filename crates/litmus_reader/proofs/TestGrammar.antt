@@ -31,18 +31,27 @@ same_start : (a b : HartOpeningValue) → a.code ≡ b.code → hart_content a �
 same_start a b code same = grind arith
 
 -- harts of the same instructions have the same words
-same_harts : (names : Names) (equations : List Equation) (rows : List Cells) (hart : ℕ) (xs ys : List HartOpeningValue) → AreHarts names equations rows hart (map hart_content xs) → All HasPlainCode xs → All HasPlainCode ys → map hart_content xs ≡ map hart_content ys → xs ≡ ys
+same_harts : (names : Names) (equations : List Equation) (rows : List Cells) (hart : ℕ)
+    (xs ys : List HartOpeningValue) → AreHarts names equations rows hart (map hart_content xs) → All HasPlainCode xs
+    → All HasPlainCode ys → map hart_content xs ≡ map hart_content ys → xs ≡ ys
 same_harts names equations rows hart [] [] are p q same = refl
 same_harts names equations rows hart (x ∷ xs) (y ∷ ys) are p q same =
     let first : hart_content x ≡ hart_content y = cc in
     let rest : map hart_content xs ≡ map hart_content ys = cc in
     let instrs = are.0.1 in
     let meant = are.0.4 in
-    let code = one_code x.code y.code instrs (All-head HasPlainCode x xs p) (All-head HasPlainCode y ys q) meant (sym (ap (λ (h : HartContent). h.code) first) ∙ meant) in
-    rw (same_start x y code first, same_harts names equations rows (hart + 1) xs ys are.3 (All-tail HasPlainCode x xs p) (All-tail HasPlainCode y ys q) rest) refl
+    let code = one_code x.code y.code instrs (All-head HasPlainCode x xs p) (All-head HasPlainCode y ys q) meant
+    (sym (ap (λ (h : HartContent). h.code) first) ∙ meant) in
+    rw (
+      same_start x y code first,
+      same_harts names equations rows (hart + 1) xs ys are.3 (All-tail HasPlainCode x xs p)
+          (All-tail HasPlainCode y ys q) rest,
+    ) refl
 same_harts names equations rows hart z other are p q same = absurd cc
 
-same_test : (xs ys : List HartOpeningValue) (words others : List ℕ) (names more : Names) (q r : Quantifier) (f g : Formula) → xs ≡ ys → words ≡ others → names ≡ more → q ≡ r → f ≡ g → litmus_test_of xs words names q f ≡ litmus_test_of ys others more r g
+same_test : (xs ys : List HartOpeningValue) (words others : List ℕ) (names more : Names) (q r : Quantifier)
+    (f g : Formula) → xs ≡ ys → words ≡ others → names ≡ more → q ≡ r → f ≡ g
+    → litmus_test_of xs words names q f ≡ litmus_test_of ys others more r g
 same_test xs ys words others names more q r f g a b c d e = rw (a, b, c, d, e) refl
 
 pub one_test : (text : List ℕ) (a b : LitmusTest) → IsTestOf text a → IsTestOf text b → a ≡ b
@@ -56,11 +65,16 @@ one_test text a b first second =
 
 -- ---- what `read` answers
 
-pub found_test : (text : List ℕ) (result : Result LitmusTest (TextError (AtLine LitmusFault))) → GivesUpToMemory fault_of content_of result (test_at text) → IfOk result (λ test. All HasPlainCode test.opening.harts) → IfOk result (IsTestOf text)
+pub found_test : (text : List ℕ) (result : Result LitmusTest (TextError (AtLine LitmusFault)))
+    → GivesUpToMemory fault_of content_of result (test_at text)
+    → IfOk result (λ test. All HasPlainCode test.opening.harts) → IfOk result (IsTestOf text)
 unfolding IsTestOf
 found_test text result e plain = grind (arith, content_found)
 
-pub only_test : (text : List ℕ) (whole : LitmusTest) (result : Result LitmusTest (TextError (AtLine LitmusFault))) → GivesUpToMemory fault_of content_of result (test_at text) → IfOk result (λ test. All HasPlainCode test.opening.harts) → IsTestOf text whole → GivesUpToMemory fault_of (λ (test : LitmusTest). test) result (Ok whole)
+pub only_test : (text : List ℕ) (whole : LitmusTest) (result : Result LitmusTest (TextError (AtLine LitmusFault)))
+    → GivesUpToMemory fault_of content_of result (test_at text)
+    → IfOk result (λ test. All HasPlainCode test.opening.harts) → IsTestOf text whole
+    → GivesUpToMemory fault_of (λ (test : LitmusTest). test) result (Ok whole)
 unfolding IsTestOf
 only_test text whole (Ok test) e plain is = ap (λ (t : LitmusTest). Ok t) (one_test text whole test is (found_test text (Ok test) e plain))
 only_test text whole (Err NoMemory) e plain is = tt

@@ -1,5 +1,6 @@
 -- What a condition asks for is there.
-use Rattle.std.proofs.Common.{◌≡◌, ℕ, ◌+◌, ◌<◌, ◌≤◌, Bool, List, [], ◌∷◌, ◌++◌, length, Option, Some, None, Result, Ok, Err, All, refl, subst, ltb-true, length-append, arith}
+use Rattle.std.proofs.Common.{◌≡◌, ℕ, ◌+◌, ◌<◌, ◌≤◌, Bool, List, [], ◌∷◌, ◌++◌, length, Option, Some, None, Result, Ok}
+use Rattle.std.proofs.Common.{Err, All, refl, subst, ltb-true, length-append, arith}
 use Rattle.std.specs.Prelude.{nat_lt, if◌then◌else◌, IfOk}
 use Rattle.std.specs.Str.{bytes_eq}
 use Rattle.std.proofs.lemmas.List.Elements.{All-append, All-cons, All-nil}
@@ -27,7 +28,9 @@ use Rattle.litmus_reader.specs.Faults.{fault_in}
 use Rattle.litmus_reader.specs.Marks.{before_line, from_line}
 use Rattle.litmus_reader.specs.Locations.{Names, index_from, resolved, value_resolved}
 use Rattle.litmus_reader.specs.Locations as locations
-use Rattle.litmus_reader.specs.Condition.{Quantified, ConditionSoFar, Condition, quantifier_in, place_resolved, atom_resolved, token_resolved, as_condition, tokens_added, none_unread, after_quantifier, condition_in, condition_of}
+use Rattle.litmus_reader.specs.Condition.{Quantified, ConditionSoFar, Condition, quantifier_in, place_resolved}
+use Rattle.litmus_reader.specs.Condition.{atom_resolved, token_resolved, as_condition, tokens_added, none_unread}
+use Rattle.litmus_reader.specs.Condition.{after_quantifier, condition_in, condition_of}
 
 -- ---- symbols whose places are there
 
@@ -65,20 +68,27 @@ back_there : (harts n : ℕ) (xs ys : List Symbol) → AllThere harts n (xs ++ y
 back_there harts n [] ys there = there
 back_there harts n (x ∷ xs) ys there = back_there harts n xs ys there.1
 
-formula_there : (harts n : ℕ) (level : Level) (words : List Symbol) (f : Formula) → Stands level words f → AllThere harts n words → All (IsThere harts n) (places f)
+formula_there : (harts n : ℕ) (level : Level) (words : List Symbol) (f : Formula) → Stands level words f
+    → AllThere harts n words → All (IsThere harts n) (places f)
 formula_there harts n operand words f (atom p value) there = All-cons (IsThere harts n) p [] there.0 (All-nil (IsThere harts n))
 formula_there harts n operand words f (negated inner g stands) there = formula_there harts n operand inner g stands there.1
-formula_there harts n operand words f (enclosed inner g stands) there = formula_there harts n disjunction inner g stands (front_there harts n inner (symbol.Close ∷ []) there.1)
+formula_there harts n operand words f (enclosed inner g stands) there =
+    formula_there harts n disjunction inner g stands (front_there harts n inner (symbol.Close ∷ []) there.1)
 formula_there harts n conjunction words f (one_operand inner g stands) there = formula_there harts n operand inner g stands there
 formula_there harts n conjunction words f (joined left right g h stands_left stands_right) there =
-    All-append (IsThere harts n) (places g) (places h) (formula_there harts n conjunction left g stands_left (front_there harts n left (symbol.And ∷ right) there)) (formula_there harts n operand right h stands_right (back_there harts n left (symbol.And ∷ right) there).1)
+    All-append (IsThere harts n) (places g) (places h)
+    (formula_there harts n conjunction left g stands_left (front_there harts n left (symbol.And ∷ right) there))
+    (formula_there harts n operand right h stands_right (back_there harts n left (symbol.And ∷ right) there).1)
 formula_there harts n disjunction words f (one_conjunction inner g stands) there = formula_there harts n conjunction inner g stands there
 formula_there harts n disjunction words f (parted left right g h stands_left stands_right) there =
-    All-append (IsThere harts n) (places g) (places h) (formula_there harts n disjunction left g stands_left (front_there harts n left (symbol.Or ∷ right) there)) (formula_there harts n conjunction right h stands_right (back_there harts n left (symbol.Or ∷ right) there).1)
+    All-append (IsThere harts n) (places g) (places h)
+    (formula_there harts n disjunction left g stands_left (front_there harts n left (symbol.Or ∷ right) there))
+    (formula_there harts n conjunction right h stands_right (back_there harts n left (symbol.Or ∷ right) there).1)
 
 -- ---- locations
 
-after_ok : {A B E : Type 0} (P : A → Type 0) (Q : B → Type 0) (r : Result A E) (f : A → Result B E) → IfOk r P → ((a : A) → P a → IfOk (f a) Q) → IfOk (r >>= f) Q
+after_ok : {A B E : Type 0} (P : A → Type 0) (Q : B → Type 0) (r : Result A E) (f : A → Result B E) → IfOk r P
+    → ((a : A) → P a → IfOk (f a) Q) → IfOk (r >>= f) Q
 after_ok P Q r f here next = grind arith
 
 abbrev Within : ℕ → Option ℕ → Type 0
@@ -90,7 +100,8 @@ within_if n i b o here other = grind arith
 
 index_within : (n at : ℕ) (names : Names) (name : List ℕ) → at + length names ≤ n → Within n (index_from at names name)
 index_within n at [] name few = tt
-index_within n at (other ∷ others) name few = within_if n at (bytes_eq other name) (index_from (at + 1) others name) (omega arith) (index_within n (at + 1) others name (omega arith))
+index_within n at (other ∷ others) name few = within_if n at (bytes_eq other name) (index_from (at + 1) others name)
+    (omega arith) (index_within n (at + 1) others name (omega arith))
 
 -- the location is among the names, which are no fewer than before
 abbrev pub Resolved : Names → (ℕ × Names) → Type 0
@@ -112,25 +123,34 @@ Kept names found = length names ≤ length found.1
 value_kept : (names : Names) (v : setting.Value) → IfOk (value_resolved names v) (Kept names)
 unfolding value_resolved
 value_kept names (setting.Value.number n) = omega arith
-value_kept names (setting.Value.address_of name) = after_ok (Resolved names) (Kept names) (resolved names name) _ (resolved-there names name) (λ found there. there.1)
+value_kept names (setting.Value.address_of name) =
+    after_ok (Resolved names) (Kept names) (resolved names name) _ (resolved-there names name) (λ found there. there.1)
 
 abbrev PlaceResolved : ℕ → Names → (Place × Names) → Type 0
 PlaceResolved harts names found = IsThere harts (length found.1) found.0 × (length names ≤ length found.1)
 
-register_resolved : (harts hart : ℕ) (names : Names) (register : Reg) (b : Bool) (e : LitmusFault) → nat_lt hart harts ≡ b → IfOk (if b then Ok (place.Register hart register.number, names) else Err e) (PlaceResolved harts names)
+register_resolved : (harts hart : ℕ) (names : Names) (register : Reg) (b : Bool) (e : LitmusFault)
+    → nat_lt hart harts ≡ b
+    → IfOk (if b then Ok (place.Register hart register.number, names) else Err e) (PlaceResolved harts names)
 register_resolved harts hart names register b e within = grind (arith, ltb-true)
 
 place_there : (harts : ℕ) (names : Names) (p : setting.NamedPlace) → IfOk (place_resolved harts names p) (PlaceResolved harts names)
 unfolding place_resolved
 place_there harts names (setting.NamedPlace.in_register hart register) = register_resolved harts hart names register (nat_lt hart harts) _ refl
-place_there harts names (setting.NamedPlace.at_location name) = after_ok (Resolved names) (PlaceResolved harts names) (resolved names name) _ (resolved-there names name) (λ found there. ((omega arith, omega (arith, there.0)), there.1))
+place_there harts names (setting.NamedPlace.at_location name) =
+    after_ok (Resolved names) (PlaceResolved harts names) (resolved names name) _ (resolved-there names name)
+    (λ found there. ((omega arith, omega (arith, there.0)), there.1))
 
 abbrev TokenResolved : ℕ → Names → (Symbol × Names) → Type 0
 TokenResolved harts names found = TokenThere harts (length found.1) found.0 × (length names ≤ length found.1)
 
 atom_there : (harts : ℕ) (names : Names) (equation : setting.Equation) → IfOk (atom_resolved harts names equation) (TokenResolved harts names)
 unfolding atom_resolved
-atom_there harts names equation = after_ok (PlaceResolved harts names) (TokenResolved harts names) (place_resolved harts names equation.0) _ (place_there harts names equation.0) (λ spot here. after_ok (Kept spot.1) (TokenResolved harts names) (value_resolved spot.1 equation.1) _ (value_kept spot.1 equation.1) (λ value kept. (place_more harts (length spot.1) (length value.1) spot.0 kept here.0, omega (arith, kept, here.1))))
+atom_there harts names equation = after_ok (PlaceResolved harts names) (TokenResolved harts names)
+    (place_resolved harts names equation.0) _ (place_there harts names equation.0)
+    (λ spot here. after_ok (Kept spot.1) (TokenResolved harts names) (value_resolved spot.1 equation.1) _
+    (value_kept spot.1 equation.1)
+    (λ value kept. (place_more harts (length spot.1) (length value.1) spot.0 kept here.0, omega (arith, kept, here.1))))
 
 token_there : (harts : ℕ) (names : Names) (t : token.Token) → IfOk (token_resolved harts names t) (TokenResolved harts names)
 unfolding token_resolved
@@ -141,14 +161,17 @@ token_there harts names t = grind (arith, atom_there)
 abbrev Fine : (harts : ℕ) → Names → ConditionSoFar → Type 0
 Fine harts names gathered = AllThere harts (length gathered.1) gathered.0 × (length names ≤ length gathered.1)
 
-pushed : (harts n : ℕ) (words : List Symbol) (t : Symbol) (o : Option Stage) → AllThere harts n words → TokenThere harts n t → IfOk (as_condition (or_misplaced (with_symbol words t o))) (λ more. AllThere harts n more)
+pushed : (harts n : ℕ) (words : List Symbol) (t : Symbol) (o : Option Stage) → AllThere harts n words
+    → TokenThere harts n t → IfOk (as_condition (or_misplaced (with_symbol words t o))) (λ more. AllThere harts n more)
 pushed harts n words t o there last = grind (arith, there_with)
 
-symbol_there : (harts n : ℕ) (words : List Symbol) (t : Symbol) → AllThere harts n words → TokenThere harts n t → IfOk (as_condition (symbol_added words t)) (λ more. AllThere harts n more)
+symbol_there : (harts n : ℕ) (words : List Symbol) (t : Symbol) → AllThere harts n words → TokenThere harts n t
+    → IfOk (as_condition (symbol_added words t)) (λ more. AllThere harts n more)
 unfolding symbol_added
 symbol_there harts n words t there last = pushed harts n words t (stage_after (words ++ t ∷ [])) there last
 
-tokens_there : (harts : ℕ) (names : Names) (so_far : ConditionSoFar) (words : Tokens) → Fine harts names so_far → IfOk (tokens_added harts so_far words) (Fine harts names)
+tokens_there : (harts : ℕ) (names : Names) (so_far : ConditionSoFar) (words : Tokens) → Fine harts names so_far
+    → IfOk (tokens_added harts so_far words) (Fine harts names)
 tokens_there harts names so_far token.Tokens.ended fine = fine
 tokens_there harts names so_far token.Tokens.broken fine = tt
 tokens_there harts names so_far (token.Tokens.goes_on first others) fine =
@@ -160,16 +183,21 @@ tokens_there harts names so_far (token.Tokens.goes_on first others) fine =
 abbrev pub AsksThere : (harts : ℕ) → Names → Condition → Type 0
 AsksThere harts names condition = All (IsThere harts (length condition.names)) (places condition.formula) × (length names ≤ length condition.names)
 
-finished-there : (harts n : ℕ) (words : List Symbol) (r : Result Formula (Unit {0})) → finished words ≡ r → AllThere harts n words → IfOk (as_condition r) (λ f. All (IsThere harts n) (places f))
+finished-there : (harts n : ℕ) (words : List Symbol) (r : Result Formula (Unit {0})) → finished words ≡ r
+    → AllThere harts n words → IfOk (as_condition r) (λ f. All (IsThere harts n) (places f))
 finished-there harts n words (Ok f) done there = formula_there harts n disjunction words f (finished-found words f done) there
 finished-there harts n words (Err misplaced) done there = tt
 
 after_there : (harts : ℕ) (names : Names) (text : List ℕ) (o : Option Quantified) → IfOk (after_quantifier harts names text o) (AsksThere harts names)
 after_there harts names text None = tt
 after_there harts names text (Some quantified) =
-    after_ok (Fine harts names) (AsksThere harts names) (tokens_added harts ([], names) (tokens_of quantified.1)) _ (tokens_there harts names ([], names) (tokens_of quantified.1) (tt, omega arith)) (λ gathered fine.
+    after_ok (Fine harts names) (AsksThere harts names) (tokens_added harts ([], names) (tokens_of quantified.1)) _
+    (tokens_there harts names ([], names) (tokens_of quantified.1) (tt, omega arith)) (λ gathered fine.
     after_ok (λ _. Unit {0}) (AsksThere harts names) (none_unread (from_line Unread text)) _ (none_fine (from_line Unread text)) (λ end _.
-    after_ok (λ f. All (IsThere harts (length gathered.1)) (places f)) (AsksThere harts names) (as_condition (finished gathered.0)) _ (finished-there harts (length gathered.1) gathered.0 (finished gathered.0) refl fine.0) (λ f there. (there, fine.1))))
+    after_ok (λ f. All (IsThere harts (length gathered.1)) (places f)) (AsksThere harts names)
+    (as_condition (finished gathered.0)) _
+    (finished-there harts (length gathered.1) gathered.0 (finished gathered.0) refl fine.0)
+    (λ f there. (there, fine.1))))
   where
     none_fine : (o : Option (List ℕ)) → IfOk (none_unread o) (λ _. Unit {0})
     none_fine None = tt
@@ -180,12 +208,20 @@ unfolding condition_in
 condition_there harts names text = after_there harts names text (quantifier_in (before_line Unread text))
 
 there_of : (harts : ℕ) (names : Names) (text : List ℕ) (condition : Condition) → condition_in harts names text ≡ Ok condition → AsksThere harts names condition
-there_of harts names text condition read = let P : Result Condition LitmusFault → Type 0 = λ r. IfOk r (AsksThere harts names) in subst P read (condition_there harts names text)
+there_of harts names text condition read =
+    let P : Result Condition LitmusFault → Type 0 = λ r. IfOk r (AsksThere harts names) in
+    subst P read (condition_there harts names text)
 
-pub answered_there : (harts : ℕ) (old new : Names) (text : List ℕ) (result : Result FinalCondition (TextError AtLeft)) → GivesUpToMemory fault_in (condition_of new) result (condition_in harts old text) → IfOk result (λ condition. All (IsThere harts (length new)) (places condition.condition))
+pub answered_there : (harts : ℕ) (old new : Names) (text : List ℕ)
+    (result : Result FinalCondition (TextError AtLeft))
+    → GivesUpToMemory fault_in (condition_of new) result (condition_in harts old text)
+    → IfOk result (λ condition. All (IsThere harts (length new)) (places condition.condition))
 answered_there harts old new text (Ok condition) read = (there_of harts old text (condition_of new condition) read).0
 answered_there harts old new text (Err e) read = tt
 
-pub answered_more : (harts : ℕ) (old new : Names) (text : List ℕ) (result : Result FinalCondition (TextError AtLeft)) → GivesUpToMemory fault_in (condition_of new) result (condition_in harts old text) → IfOk result (λ condition. length old ≤ length new)
+pub answered_more : (harts : ℕ) (old new : Names) (text : List ℕ)
+    (result : Result FinalCondition (TextError AtLeft))
+    → GivesUpToMemory fault_in (condition_of new) result (condition_in harts old text)
+    → IfOk result (λ condition. length old ≤ length new)
 answered_more harts old new text (Ok condition) read = (there_of harts old text (condition_of new condition) read).1
 answered_more harts old new text (Err e) read = tt

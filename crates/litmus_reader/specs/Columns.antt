@@ -27,7 +27,8 @@ AreNames hart (cell ∷ cells) = IsPadded (80 ∷ decimal hart) cell × AreNames
 pub data AreRows (harts : ℕ) : List (List ℕ) → List Cells → Type 0 where
   none : AreRows harts [] []
   blank : (line : List ℕ) (lines : List (List ℕ)) (rows : List Cells) → AreBlanks line → AreRows harts lines rows → AreRows harts (line ∷ lines) rows
-  row : (line : List ℕ) (lines : List (List ℕ)) (cells : Cells) (rows : List Cells) → IsRow line cells → length cells ≡ harts → AreRows harts lines rows → AreRows harts (line ∷ lines) (cells ∷ rows)
+  row : (line : List ℕ) (lines : List (List ℕ)) (cells : Cells) (rows : List Cells) → IsRow line cells
+      → length cells ≡ harts → AreRows harts lines rows → AreRows harts (line ∷ lines) (cells ∷ rows)
 
 -- Its first row is the first line that isn't blank.
 pub record IsTable (table : List ℕ) (harts : ℕ) (rows : List Cells) : Type 0 where

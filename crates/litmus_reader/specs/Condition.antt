@@ -38,7 +38,8 @@ quantifier_in text = quantifier_of (without_front text)
 
 -- the place that an atom asks for; its hart has to be there
 unfoldable pub place_resolved : (harts : ℕ) → Names → setting.NamedPlace → Result (Place × Names) LitmusFault
-place_resolved harts names (setting.NamedPlace.in_register hart register) = if nat_lt hart harts then Ok (place.Register hart register.number, names) else Err BadCondition
+place_resolved harts names (setting.NamedPlace.in_register hart register) =
+    if nat_lt hart harts then Ok (place.Register hart register.number, names) else Err BadCondition
 place_resolved harts names (setting.NamedPlace.at_location name) = do
   found ← resolved names name
   Ok (place.Word (4 * found.0), found.1)

@@ -23,7 +23,8 @@ token_for ForAll = codes "forall"
 
 -- the quantifier, and tokens up to the text's end; none of its lines is one of a part that isn't read
 abbrev pub IsFinalCondition : List ℕ → Quantifier → List token.Token → Type 0
-IsFinalCondition text quantifier tokens = (blanks rest : List ℕ) × AreBlanks blanks × (text ≡ blanks ++ (token_for quantifier ++ rest)) × AreTokens rest tokens × NoneBegins BeginsUnread text
+IsFinalCondition text quantifier tokens = (blanks rest : List ℕ) × AreBlanks blanks
+    × (text ≡ blanks ++ (token_for quantifier ++ rest)) × AreTokens rest tokens × NoneBegins BeginsUnread text
 
 -- the atoms among the tokens
 abbrev pub atoms_in : List token.Token → List Equation
@@ -42,7 +43,8 @@ IsPlaceOf harts names (setting.NamedPlace.at_location name) at = (index : ℕ) �
 
 -- the token, with places and numbers for names
 abbrev pub IsKnown : (harts : ℕ) → Names → token.Token → Symbol → Type 0
-IsKnown harts names (token.Token.atom equation) known = (at : Place) × (value : ℕ) × IsPlaceOf harts names equation.0 at × IsWorth names equation.1 value × (known ≡ symbol.Is at value)
+IsKnown harts names (token.Token.atom equation) known = (at : Place) × (value : ℕ)
+    × IsPlaceOf harts names equation.0 at × IsWorth names equation.1 value × (known ≡ symbol.Is at value)
 IsKnown harts names token.Token.negation known = known ≡ symbol.Not
 IsKnown harts names token.Token.conjunction known = known ≡ symbol.And
 IsKnown harts names token.Token.disjunction known = known ≡ symbol.Or
@@ -51,4 +53,5 @@ IsKnown harts names token.Token.closing known = known ≡ symbol.Close
 
 abbrev pub AreKnown : (harts : ℕ) → Names → List token.Token → List Symbol → Type 0
 AreKnown harts names [] known = known ≡ []
-AreKnown harts names (first ∷ tokens) known = (token : Symbol) × (others : List Symbol) × (known ≡ token ∷ others) × IsKnown harts names first token × AreKnown harts names tokens others
+AreKnown harts names (first ∷ tokens) known = (token : Symbol) × (others : List Symbol) × (known ≡ token ∷ others)
+    × IsKnown harts names first token × AreKnown harts names tokens others

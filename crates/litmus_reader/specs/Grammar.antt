@@ -20,7 +20,9 @@ use Rattle.litmus_reader.specs.Reading.{HartContent, Content, content_of}
 -- each hart has its column's code and the registers that the items put; the first one is this hart
 abbrev pub AreHarts : Names → List Equation → List Cells → (hart : ℕ) → List HartContent → Type 0
 AreHarts names equations rows hart [] = Unit {0}
-AreHarts names equations rows hart (first ∷ others) = IsColumnCode (column_of hart rows) first.code × AreRegisters names equations hart first.registers × (first.inbox ≡ []) × AreHarts names equations rows (hart + 1) others
+AreHarts names equations rows hart (first ∷ others) =
+    IsColumnCode (column_of hart rows) first.code × AreRegisters names equations hart first.registers
+    × (first.inbox ≡ []) × AreHarts names equations rows (hart + 1) others
 
 -- A test's locations are those of its init part and its condition, in order of first appearance.
 pub record IsContent (text : List ℕ) (content : Content) : Type 0 where

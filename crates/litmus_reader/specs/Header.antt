@@ -1,5 +1,6 @@
 -- The header line, and where the init part begins.
-use Rattle.std.specs.Prelude.{ℕ, ◌==◌, Bool, false, not, ◌&&◌, List, [], ◌∷◌, length, drop, Option, None, Some, Result, Ok, Err, if◌then◌else◌, codes, unwrap_or}
+use Rattle.std.specs.Prelude.{ℕ, ◌==◌, Bool, false, not, ◌&&◌, List, [], ◌∷◌, length, drop, Option, None, Some, Result}
+use Rattle.std.specs.Prelude.{Ok, Err, if◌then◌else◌, codes, unwrap_or}
 use Rattle.texts.specs.Pieces.{is_blank}
 use Rattle.texts.specs.Cutting.{before, after, is_byte, without_front}
 use Rattle.litmus_reader.specs.declared.faults.LitmusFault.{LitmusFault}

@@ -27,7 +27,8 @@ BeginsCondition text = BeginsWith (codes "exists") text ⊎ (BeginsWith (codes "
 
 -- `RISCV`, blanks, and a name of one or more bytes, whatever follows
 abbrev pub IsHeader : List ℕ → Type 0
-IsHeader line = (blanks gap rest : List ℕ) × (b c : ℕ) × AreBlanks blanks × AreBlanks (b ∷ gap) × (is_blank c ≡ false) × (line ≡ blanks ++ (codes "RISCV" ++ b ∷ (gap ++ c ∷ rest)))
+IsHeader line = (blanks gap rest : List ℕ) × (b c : ℕ) × AreBlanks blanks × AreBlanks (b ∷ gap)
+    × (is_blank c ≡ false) × (line ≡ blanks ++ (codes "RISCV" ++ b ∷ (gap ++ c ∷ rest)))
 
 -- `{` is 123 and `}` is 125; what stands after the `}` belongs to the table.
 pub record IsLaidOut (text init table condition_text : List ℕ) : Type 0 where

@@ -12,8 +12,10 @@ use Rattle.litmus_reader.specs.Locations.{Names}
 -- The items that stand between `;`; blanks and line ends alone are none.
 pub data AreItems : List (List ℕ) → List Equation → Type 0 where
   none : AreItems [] []
-  empty : (part : List ℕ) (parts : List (List ℕ)) (equations : List Equation) → AllPass is_gap part → AreItems parts equations → AreItems (part ∷ parts) equations
-  item : (part : List ℕ) (parts : List (List ℕ)) (equation : Equation) (equations : List Equation) → IsItem part equation → AreItems parts equations → AreItems (part ∷ parts) (equation ∷ equations)
+  empty : (part : List ℕ) (parts : List (List ℕ)) (equations : List Equation) → AllPass is_gap part
+      → AreItems parts equations → AreItems (part ∷ parts) equations
+  item : (part : List ℕ) (parts : List (List ℕ)) (equation : Equation) (equations : List Equation)
+      → IsItem part equation → AreItems parts equations → AreItems (part ∷ parts) (equation ∷ equations)
 
 -- ---- locations
 

@@ -37,7 +37,13 @@ abbrev pub hart_content : HartOpeningValue → HartContent
 hart_content hart = record { code = map meaning hart.code; registers = hart.registers; inbox = hart.inbox }
 
 abbrev pub content_of : LitmusTest → Content
-content_of test = record { harts = map hart_content test.opening.harts; words = test.opening.words; names = test.names; quantifier = test.quantifier; condition = test.condition }
+content_of test = record {
+  harts = map hart_content test.opening.harts;
+  words = test.opening.words;
+  names = test.names;
+  quantifier = test.quantifier;
+  condition = test.condition;
+}
 
 -- each hart's code with its registers; nothing is in an inbox
 abbrev pub with_registers : List Code → List (List ℕ) → List HartContent
@@ -46,7 +52,13 @@ with_registers (code ∷ codes) [] = []
 with_registers (code ∷ codes) (first ∷ registers) = (record { code = code; registers = first; inbox = [] }) ∷ with_registers codes registers
 
 abbrev pub content : List Code → Values → Condition → Content
-content codes values condition = record { harts = with_registers codes values.registers; words = padded (length condition.names) values.words; names = condition.names; quantifier = condition.quantifier; condition = condition.formula }
+content codes values condition = record {
+  harts = with_registers codes values.registers;
+  words = padded (length condition.names) values.words;
+  names = condition.names;
+  quantifier = condition.quantifier;
+  condition = condition.formula;
+}
 
 -- the test whose table has this code, with the condition from its first line on
 unfoldable pub content_below : InitItems → List Code → Option (List ℕ) → Result Content LitmusFault

@@ -18,7 +18,8 @@ IsCut text line below = HasNo 10 line × ((text ≡ line ++ 10 ∷ below) ⊎ ((
 -- The lines above the first one that begins so, and the text from it on.
 pub data IsFirst (Begins : List ℕ → Type 0) : (text above from : List ℕ) → Type 0 where
   here : (text : List ℕ) → Begins text → IsFirst Begins text [] text
-  below : (line rest above from : List ℕ) → HasNo 10 line → (Begins (line ++ 10 ∷ rest) → ⊥) → IsFirst Begins rest above from → IsFirst Begins (line ++ 10 ∷ rest) (line ++ 10 ∷ above) from
+  below : (line rest above from : List ℕ) → HasNo 10 line → (Begins (line ++ 10 ∷ rest) → ⊥)
+      → IsFirst Begins rest above from → IsFirst Begins (line ++ 10 ∷ rest) (line ++ 10 ∷ above) from
 
 -- No line of the text begins so.
 pub data NoneBegins (Begins : List ℕ → Type 0) : List ℕ → Type 0 where

@@ -26,7 +26,10 @@ abbrev pub with_register : ℕ → ℕ → List ℕ → List ℕ
 with_register number value registers = if number == 0 then registers else slice_set registers number value
 
 abbrev pub put_at : Target → ℕ → Values → Result Values LitmusFault
-put_at (Register hart register) value values = if nat_lt hart (length values.registers) then Ok (record values { registers = slice_set values.registers hart (with_register register.number value (slice_index_or values.registers hart [])) }) else Err BadInit
+put_at (Register hart register) value values = if nat_lt hart (length values.registers) then Ok (record values {
+  registers =
+      slice_set values.registers hart (with_register register.number value (slice_index_or values.registers hart []));
+}) else Err BadInit
 put_at (Word index) value values = Ok (record values { words = slice_set values.words index value })
 
 -- the values with that of one item more; its hart has to be there

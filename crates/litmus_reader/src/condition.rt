@@ -13,7 +13,9 @@ ghost use Rattle.litmus_reader.specs.declared.faults.LitmusFault.TheVariants.{Ba
 ghost use Rattle.texts.specs.declared.errors.TextError.TheVariants.{Refused};
 ghost use Rattle.litmus_reader.specs.Faults.{fault_in};
 ghost use Rattle.litmus_reader.specs.Locations.{HasLocation, HasNames};
-ghost use Rattle.litmus_reader.specs.Condition.{Quantified, quantified_of, quantifier_in, place_resolved, atom_resolved, token_resolved, TokenHasNames, as_condition, tokens_added, condition_in, condition_of};
+ghost use Rattle.litmus_reader.specs.Condition.{Quantified, quantified_of, quantifier_in, place_resolved};
+ghost use Rattle.litmus_reader.specs.Condition.{atom_resolved, token_resolved, TokenHasNames, as_condition};
+ghost use Rattle.litmus_reader.specs.Condition.{tokens_added, condition_in, condition_of};
 ghost use Rattle.step_machine.specs.declared.opening.TheConstants.{MAX_HARTS};
 
 use crate::faults::LitmusFault;
@@ -143,7 +145,8 @@ fn read_tokens(
     following: usize,
 ) -> Result<ConditionDraft, Refusal>
     requires { harts ≤ MAX_HARTS }
-    ensures { GivesUpToMemory fault_in (λ (symbols : List Symbol). (symbols, locations.new)) result (tokens_added harts ([], locations.old) (tokens_of text.now)) }
+    ensures { GivesUpToMemory fault_in (λ (symbols : List Symbol). (symbols, locations.new)) result
+        (tokens_added harts ([], locations.old) (tokens_of text.now)) }
 {
     let mut draft = ConditionDraft::new(alloc);
     let mut rest = text;

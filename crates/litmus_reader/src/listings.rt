@@ -12,7 +12,9 @@ ghost use Rattle.litmus.specs.LitmusTests.{LitmusTest};
 ghost use Rattle.litmus_reader.specs.Faults.{fault_of, fault_in};
 ghost use Rattle.litmus_reader.specs.Grammar.{IsTestOf};
 ghost use Rattle.litmus_reader.specs.Rows.{cells_of, row_in};
-ghost use Rattle.litmus_reader.specs.Listings.{after_items as items_end, cell_of, ends_in as line_ends, indent, listing_at, listing_in as rows_in, row_on, rows_at, rows_from, words_made};
+ghost use Rattle.litmus_reader.specs.Listings.{after_items as items_end, cell_of, ends_in as line_ends, indent};
+ghost use Rattle.litmus_reader.specs.Listings.{listing_at, listing_in as rows_in, row_on, rows_at, rows_from};
+ghost use Rattle.litmus_reader.specs.Listings.{words_made};
 
 use crate::faults::{LitmusError, LitmusFault};
 use crate::header::{after_brace, after_header};

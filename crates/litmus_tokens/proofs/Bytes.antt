@@ -38,7 +38,8 @@ unfolding stripped
 none_round b none text h = grind (arith, other_byte, none_after, none_before)
 
 -- a text of a name's bytes, with gaps round it
-pub none_round_name : (b : ℕ) → goes_on_name b ≡ false → is_gap b ≡ false → (text name : List ℕ) → core text ≡ name → list_all goes_on_name name ≡ true → NonePass (is_byte b) text
+pub none_round_name : (b : ℕ) → goes_on_name b ≡ false → is_gap b ≡ false → (text name : List ℕ) → core text ≡ name
+    → list_all goes_on_name name ≡ true → NonePass (is_byte b) text
 none_round_name b no_name no_gap text name is all = none_round b no_gap text (rw is (none_name b no_name name all))
 
 -- ---- names, digits and registers have a name's bytes
@@ -60,7 +61,8 @@ digit_bytes [] h = refl
 digit_bytes (d ∷ digits) h = rw (digit_goes_on d h.0, digit_bytes digits h.1) refl
 
 -- what holds of each row's name holds of a text that is one
-row-passes : {R V : Type 0} (p : List ℕ → Bool) (name : R → List ℕ) (value : R → V) (rows : List R) (text : List ℕ) (v : V) → list_all (λ row. p (name row)) rows ≡ true → row_of name value rows text ≡ Some v → p text ≡ true
+row-passes : {R V : Type 0} (p : List ℕ → Bool) (name : R → List ℕ) (value : R → V) (rows : List R) (text : List ℕ)
+    (v : V) → list_all (λ row. p (name row)) rows ≡ true → row_of name value rows text ≡ Some v → p text ≡ true
 row-passes p name value [] text v all e = absurd cc
 row-passes p name value (row ∷ rows) text v all e = grind (arith, and_parts, cases_Bool, bytes_eq-Decides, row-passes p name value rows text v)
 

@@ -18,7 +18,9 @@ unfolding cleaned_text
 length-cleaned_text text = length-cleaned_from Text text
 
 -- one byte more
-pub one_turn : (part : Part) (text : List ℕ) (i : ℕ) → i < length text → cleaned_from part (drop i text) ≡ (turned part (get_or text i 0) (next_byte (drop (i + 1) text))).0 ∷ cleaned_from (turned part (get_or text i 0) (next_byte (drop (i + 1) text))).1 (drop (i + 1) text)
+pub one_turn : (part : Part) (text : List ℕ) (i : ℕ) → i < length text
+    → cleaned_from part (drop i text) ≡ (turned part (get_or text i 0) (next_byte (drop (i + 1) text))).0
+    ∷ cleaned_from (turned part (get_or text i 0) (next_byte (drop (i + 1) text))).1 (drop (i + 1) text)
 unfolding cleaned_from
 one_turn part [] i lt = absurd (omega arith)
 one_turn part (c ∷ rest) zero lt = refl
@@ -37,5 +39,7 @@ first_missing [] (suc i) le = refl
 first_missing (c ∷ rest) zero le = absurd (omega arith)
 first_missing (c ∷ rest) (suc i) le = first_missing rest i (omega arith)
 
-pub is_first : (text : List ℕ) (i : ℕ) (got : Option (Bor ℕ)) → MatchOption got (length text ≤ i) (λ x. (i < length text) × HoldsAt (λ y. x.now ≡ y) text i) → option_copied got ≡ next_byte (drop i text)
+pub is_first : (text : List ℕ) (i : ℕ) (got : Option (Bor ℕ))
+    → MatchOption got (length text ≤ i) (λ x. (i < length text) × HoldsAt (λ y. x.now ≡ y) text i)
+    → option_copied got ≡ next_byte (drop i text)
 is_first text i got h = grind (arith, first_missing, first-found)

@@ -34,7 +34,8 @@ int_front : (text rest : List ℕ) → after_int text ≡ Some rest → (text �
 unfolding after_int
 int_front text rest e = grind (arith, and_parts, starts_is, Decides-eqb)
 
-declared_after : (text : List ℕ) (place : NamedPlace) (following : Option (List ℕ)) → after_int (core text) ≡ following → inside following ≡ Some place → IsDeclared text place
+declared_after : (text : List ℕ) (place : NamedPlace) (following : Option (List ℕ))
+    → after_int (core text) ≡ following → inside following ≡ Some place → IsDeclared text place
 declared_after text place None is e = absurd cc
 declared_after text place (Some []) is e = (let front = int_front (core text) [] is in absurd cc)
 declared_after text place (Some (gap ∷ rest)) is e =
@@ -72,7 +73,8 @@ declared_no_place text place is = grind (arith, declared_free, before-none, afte
 
 -- ---- items
 
-item_place_found : (left : List ℕ) (place : NamedPlace) (declared : Option NamedPlace) → declared_in left ≡ declared → place_or declared (place_in left) ≡ Some place → IsNamedPlace left place ⊎ IsDeclared left place
+item_place_found : (left : List ℕ) (place : NamedPlace) (declared : Option NamedPlace) → declared_in left ≡ declared
+    → place_or declared (place_in left) ≡ Some place → IsNamedPlace left place ⊎ IsDeclared left place
 item_place_found left place None is e = inl (place_found left place e)
 item_place_found left place (Some other) is e = inr (declared_found left place (is ∙ e))
 
@@ -80,7 +82,8 @@ pub item_found : (text : List ℕ) (equation : Equation) → item_at text ≡ So
 unfolding item_at item_place_in
 item_found text equation e = go (after (is_byte 61) text) refl e
   where
-    go : (following : Option (List ℕ)) → after (is_byte 61) text ≡ following → item_round (before (is_byte 61) text) following ≡ Some equation → IsItem text equation
+    go : (following : Option (List ℕ)) → after (is_byte 61) text ≡ following
+        → item_round (before (is_byte 61) text) following ≡ Some equation → IsItem text equation
     go None none h =
         let shown = equation_from-found (declared_in (before (is_byte 61) text)) (Some (number 0)) equation h in
         let whole = uncut (is_byte 61) text none in
@@ -95,7 +98,8 @@ item_found text equation e = go (after (is_byte 61) text) refl e
           | inr declared ↦ inr (inl (left, right, whole, declared, value))
         ]
 
-undeclared : (left : List ℕ) (place : NamedPlace) (declared : Option NamedPlace) → declared_in left ≡ declared → IsNamedPlace left place → place_or declared (place_in left) ≡ Some place
+undeclared : (left : List ℕ) (place : NamedPlace) (declared : Option NamedPlace) → declared_in left ≡ declared
+    → IsNamedPlace left place → place_or declared (place_in left) ≡ Some place
 undeclared left place None is at = place_read left place at
 undeclared left place (Some other) is at =
     let none = declared_no_place left other (declared_found left other is) in

@@ -39,7 +39,8 @@ plain_found text w (Some n) is e = go (nat_lt n (2 ^ 32)) refl
         subst (λ (v : ℕ). IsNumber text v) same (plain text n (magnitude_found text n is small) small)
     go false x = (let never = rw x at e in absurd cc)
 
-negated_found : (digits : List ℕ) (w : ℕ) (m : Option ℕ) → magnitude_of digits ≡ m → word_read (option_map (λ n. neg_ℤ (pos n)) m) ≡ Some w → IsNumber (45 ∷ digits) w
+negated_found : (digits : List ℕ) (w : ℕ) (m : Option ℕ) → magnitude_of digits ≡ m
+    → word_read (option_map (λ n. neg_ℤ (pos n)) m) ≡ Some w → IsNumber (45 ∷ digits) w
 negated_found digits w None is e = absurd cc
 negated_found digits w (Some n) is e =
     let le = above_least n w e in

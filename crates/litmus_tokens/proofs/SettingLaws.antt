@@ -16,7 +16,8 @@ use Rattle.litmus_tokens.specs.Names.{core, begins_name, goes_on_name, is_spelle
 use Rattle.litmus_tokens.specs.Settings.{NamedPlace, Value, Equation, IsValue, IsNamedPlace, IsSetting}
 use Rattle.litmus_tokens.specs.Settings.NamedPlace.{in_register, at_location}
 use Rattle.litmus_tokens.specs.Settings.Value.{number, address_of}
-use Rattle.litmus_tokens.specs.Reading.{value_from, value_in, register_from, named, closed, location_in, place_round, place_in, equation_from, setting_round, setting_at}
+use Rattle.litmus_tokens.specs.Reading.{value_from, value_in, register_from, named, closed, location_in, place_round}
+use Rattle.litmus_tokens.specs.Reading.{place_in, equation_from, setting_round, setting_at}
 use Rattle.litmus_tokens.proofs.Bytes.{other_byte, name_bytes, digit_bytes, register_bytes, none_round, none_round_name}
 use Rattle.litmus_tokens.proofs.NumberTexts.{word-found, number_word, number_no_name}
 
@@ -56,7 +57,8 @@ location_found : (text solid : List ℕ) (place : NamedPlace) → core text ≡ 
 location_found text [] place is e = absurd cc
 location_found text (c ∷ rest) place is e = go (c == 91) refl
   where
-    inside : (inner : List ℕ) (following : Option (List ℕ)) → before (is_byte 93) rest ≡ inner → after (is_byte 93) rest ≡ following → c ≡ 91 → closed inner following ≡ Some place → IsNamedPlace text place
+    inside : (inner : List ℕ) (following : Option (List ℕ)) → before (is_byte 93) rest ≡ inner
+        → after (is_byte 93) rest ≡ following → c ≡ 91 → closed inner following ≡ Some place → IsNamedPlace text place
     inside inner None front back first h = absurd cc
     inside inner (Some more) front back first h = one (length more == 0) refl
       where
@@ -75,7 +77,9 @@ location_found text (c ∷ rest) place is e = go (c == 91) refl
         let found = named-found (c ∷ rest) place (rw other at e) in
         subst (IsNamedPlace text) found.1 (found.0, inl is)
 
-register_found : (text front name : List ℕ) (place : NamedPlace) (hart : Option ℕ) (register : Option Reg) → text ≡ front ++ 58 ∷ name → number_of (core front) ≡ hart → register_named (core name) ≡ register → register_from hart register ≡ Some place → IsNamedPlace text place
+register_found : (text front name : List ℕ) (place : NamedPlace) (hart : Option ℕ) (register : Option Reg)
+    → text ≡ front ++ 58 ∷ name → number_of (core front) ≡ hart → register_named (core name) ≡ register
+    → register_from hart register ≡ Some place → IsNamedPlace text place
 register_found text front name place (Some hart) (Some register) whole says is e =
     let said = capped_value-said 10 (core front) hart says in
     let same : in_register hart register ≡ place = cc in
@@ -86,17 +90,22 @@ pub place_found : (text : List ℕ) (place : NamedPlace) → place_in text ≡ S
 unfolding place_in
 place_found text place e = go (after (is_byte 58) text) refl e
   where
-    go : (following : Option (List ℕ)) → after (is_byte 58) text ≡ following → place_round (before (is_byte 58) text) following ≡ Some place → IsNamedPlace text place
+    go : (following : Option (List ℕ)) → after (is_byte 58) text ≡ following
+        → place_round (before (is_byte 58) text) following ≡ Some place → IsNamedPlace text place
     go None none h = location_found text (core text) place refl (rw (uncut (is_byte 58) text none) at h)
-    go (Some name) some h = register_found text (before (is_byte 58) text) name place (number_of (core (before (is_byte 58) text))) (register_named (core name)) (cut_byte 58 text name some) refl refl h
+    go (Some name) some h =
+        register_found text (before (is_byte 58) text) name place (number_of (core (before (is_byte 58) text)))
+        (register_named (core name)) (cut_byte 58 text name some) refl refl h
 
 -- a byte that stands in no name, bracket or gap, nor between a hart and a register, stands in no place
-pub place_free : (b : ℕ) → goes_on_name b ≡ false → is_gap b ≡ false → is_byte b 58 ≡ false → is_byte b 91 ≡ false → is_byte b 93 ≡ false → (text : List ℕ) (place : NamedPlace) → IsNamedPlace text place → NonePass (is_byte b) text
+pub place_free : (b : ℕ) → goes_on_name b ≡ false → is_gap b ≡ false → is_byte b 58 ≡ false → is_byte b 91 ≡ false
+    → is_byte b 93 ≡ false → (text : List ℕ) (place : NamedPlace) → IsNamedPlace text place → NonePass (is_byte b) text
 place_free b no_name no_gap no_colon no_open no_close text (in_register hart register) (digits, name, n, is, says, shown, known) =
     rw is (none-append (is_byte b) digits (58 ∷ name)
     (none_round_name b no_name no_gap digits (core digits) refl (digit_bytes (core digits) says.0.1))
     (no_colon, none_round_name b no_name no_gap name (core name) refl (register_bytes (core name) register known)))
-place_free b no_name no_gap no_colon no_open no_close text (at_location name) (is, inl same) = none_round_name b no_name no_gap text name same (name_bytes name is)
+place_free b no_name no_gap no_colon no_open no_close text (at_location name) (is, inl same) =
+    none_round_name b no_name no_gap text name same (name_bytes name is)
 place_free b no_name no_gap no_colon no_open no_close text (at_location name) (is, inr (inner, whole, same)) =
     none_round b no_gap text (rw whole
     (no_open, none-append (is_byte b) inner (93 ∷ []) (none_round_name b no_name no_gap inner name same (name_bytes name is)) (no_close, tt)))
@@ -117,10 +126,20 @@ pub place_read : (text : List ℕ) (place : NamedPlace) → IsNamedPlace text pl
 unfolding place_in
 place_read text (in_register hart register) (digits, name, n, is, says, shown, known) =
     let free = none_round_name 58 refl refl digits (core digits) refl (digit_bytes (core digits) says.0.1) in
-    rw is (rw (before-stop (is_byte 58) digits 58 name free refl, after-stop (is_byte 58) digits 58 name free refl, says_number (core digits) n says, known, shown) refl)
+    rw is (rw (
+      before-stop (is_byte 58) digits 58 name free refl,
+      after-stop (is_byte 58) digits 58 name free refl,
+      says_number (core digits) n says,
+      known,
+      shown,
+    ) refl)
 place_read text (at_location name) (is, inl same) = grind (arith, none_round_name, name_bytes, before-none, after-none, location_named)
 place_read text (at_location name) (is, inr (inner, whole, same)) =
-    let free = none_round 58 refl text (rw whole (refl, none-append (is_byte 58) inner (93 ∷ []) (none_round_name 58 refl refl inner name same (name_bytes name is)) (refl, tt))) in
+    let free = none_round 58 refl text (rw whole (
+      refl,
+      none-append (is_byte 58) inner (93 ∷ []) (none_round_name 58 refl refl inner name same (name_bytes name is))
+          (refl, tt),
+    )) in
     rw (before-none (is_byte 58) text free, after-none (is_byte 58) text free, whole) (bracketed inner name is same)
 
 -- ---- settings
@@ -128,7 +147,8 @@ place_read text (at_location name) (is, inr (inner, whole, same)) =
 pub equation_is : (a b : Equation) → Some a ≡ Some b → a ≡ b
 equation_is a b e = cc
 
-pub equation_from-found : (place : Option NamedPlace) (value : Option Value) (equation : Equation) → equation_from place value ≡ Some equation → (place ≡ Some equation.0) × (value ≡ Some equation.1)
+pub equation_from-found : (place : Option NamedPlace) (value : Option Value) (equation : Equation)
+    → equation_from place value ≡ Some equation → (place ≡ Some equation.0) × (value ≡ Some equation.1)
 equation_from-found (Some place) (Some value) equation e =
     let same : (place, value) ≡ equation = equation_is (place, value) equation e in
     (ap (λ (p : Equation). Some p.0) same, ap (λ (p : Equation). Some p.1) same)
@@ -138,11 +158,17 @@ pub setting_found : (text : List ℕ) (equation : Equation) → setting_at text 
 unfolding setting_at
 setting_found text equation e = go (after (is_byte 61) text) refl e
   where
-    go : (following : Option (List ℕ)) → after (is_byte 61) text ≡ following → setting_round (before (is_byte 61) text) following ≡ Some equation → IsSetting text equation
+    go : (following : Option (List ℕ)) → after (is_byte 61) text ≡ following
+        → setting_round (before (is_byte 61) text) following ≡ Some equation → IsSetting text equation
     go None none h = absurd cc
     go (Some right) some h =
-        let shown = equation_from-found (place_in (before (is_byte 61) text)) (value_in right) equation h in
-        (before (is_byte 61) text, right, cut_byte 61 text right some, place_found (before (is_byte 61) text) equation.0 shown.0, value_found right equation.1 shown.1)
+        let shown = equation_from-found (place_in (before (is_byte 61) text)) (value_in right) equation h in (
+          before (is_byte 61) text,
+          right,
+          cut_byte 61 text right some,
+          place_found (before (is_byte 61) text) equation.0 shown.0,
+          value_found right equation.1 shown.1,
+        )
 
 pub setting_read : (text : List ℕ) (equation : Equation) → IsSetting text equation → setting_at text ≡ Some equation
 unfolding setting_at

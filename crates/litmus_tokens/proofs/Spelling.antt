@@ -9,7 +9,9 @@ use Rattle.texts.proofs.TrimLaws.{leading_all, leading_past, leading_split, lead
 use Rattle.texts.specs.Pieces.{is_gap}
 use Rattle.litmus_tokens.specs.Settings.{Equation, IsSetting}
 use Rattle.litmus_tokens.specs.Reading.{setting_at}
-use Rattle.litmus_tokens.specs.Tokens.{Token, Beginning, Tokens, is_mark, ends_name, after_not, paired, atom_from, negation_or, unmarked, begun, beginning_of, tokens_from, tokens_of, EndsAtom, Spells, AreTokens, listed}
+use Rattle.litmus_tokens.specs.Tokens.{Token, Beginning, Tokens, is_mark, ends_name, after_not, paired, atom_from}
+use Rattle.litmus_tokens.specs.Tokens.{negation_or, unmarked, begun, beginning_of, tokens_from, tokens_of, EndsAtom}
+use Rattle.litmus_tokens.specs.Tokens.{Spells, AreTokens, listed}
 use Rattle.litmus_tokens.specs.Tokens.Token.{atom, negation, conjunction, disjunction, opening, closing}
 use Rattle.litmus_tokens.specs.Tokens.Beginning.{nothing, begins, no_token}
 use Rattle.litmus_tokens.specs.Tokens.Tokens.{ended, goes_on}
@@ -46,7 +48,11 @@ stretch (c ∷ rest) = go (stretch rest) (is_mark c) refl
   where
     go : Stretch rest → (b : Bool) → is_mark c ≡ b → Stretch (c ∷ rest)
     go others true mark = record { none = rw mark tt; ends = rw mark mark; whole = rw mark refl }
-    go others false plain = record { none = rw plain (plain, others.none); ends = rw plain others.ends; whole = rw plain (ap (λ (ys : List ℕ). c ∷ ys) others.whole) }
+    go others false plain = record {
+      none = rw plain (plain, others.none);
+      ends = rw plain others.ends;
+      whole = rw plain (ap (λ (ys : List ℕ). c ∷ ys) others.whole);
+    }
 
 -- a byte that is no mark is none of the five
 record Plain (c : ℕ) : Type 0 where
@@ -59,7 +65,8 @@ record Plain (c : ℕ) : Type 0 where
 plain_is : (c : ℕ) → is_mark c ≡ false → Plain c
 plain_is c e = go (c == 40) refl (c == 41) refl (c == 126) refl (c == 47) refl (c == 92) refl
   where
-    go : (a1 : Bool) → (c == 40) ≡ a1 → (a2 : Bool) → (c == 41) ≡ a2 → (a3 : Bool) → (c == 126) ≡ a3 → (a4 : Bool) → (c == 47) ≡ a4 → (a5 : Bool) → (c == 92) ≡ a5 → Plain c
+    go : (a1 : Bool) → (c == 40) ≡ a1 → (a2 : Bool) → (c == 41) ≡ a2 → (a3 : Bool) → (c == 126) ≡ a3 → (a4 : Bool)
+        → (c == 47) ≡ a4 → (a5 : Bool) → (c == 92) ≡ a5 → Plain c
     go true e1 a2 e2 a3 e3 a4 e4 a5 e5 = (let never = rw e1 at e in absurd cc)
     go false e1 true e2 a3 e3 a4 e4 a5 e5 = (let never = rw (e1, e2) at e in absurd cc)
     go false e1 false e2 true e3 a4 e4 a5 e5 = (let never = rw (e1, e2, e3) at e in absurd cc)
@@ -74,7 +81,9 @@ begun-plain c rest plain = rw (plain.open_none, plain.close_none, plain.tilde_no
 -- ---- what is spelled is read
 
 -- an atom, where it is known to be one
-atom_read : (first : ℕ) (others rest : List ℕ) (equation : Equation) → NonePass is_mark (first ∷ others) → EndsAtom rest → after_not (first ∷ (others ++ rest)) ≡ None → IsSetting (first ∷ others) equation → unmarked (first ∷ (others ++ rest)) ≡ begins (atom equation) rest
+atom_read : (first : ℕ) (others rest : List ℕ) (equation : Equation) → NonePass is_mark (first ∷ others)
+    → EndsAtom rest → after_not (first ∷ (others ++ rest)) ≡ None → IsSetting (first ∷ others) equation
+    → unmarked (first ∷ (others ++ rest)) ≡ begins (atom equation) rest
 unfolding unmarked
 atom_read first others rest equation none ends no_name is =
     rw (no_name, before-mark (first ∷ others) rest none ends, from_mark (first ∷ others) rest none ends, setting_read (first ∷ others) equation is) refl
@@ -116,7 +125,9 @@ begins-token a b xs ys e = cc
 begins-rest : (a b : Token) (xs ys : List ℕ) → begins a xs ≡ begins b ys → xs ≡ ys
 begins-rest a b xs ys e = cc
 
-paired-found : (c second : ℕ) (following : List ℕ) (one token : Token) (rest : List ℕ) → ((more : List ℕ) → Spells one (c ∷ second ∷ []) more) → paired one second following ≡ begins token rest → Spelled (c ∷ following) token rest
+paired-found : (c second : ℕ) (following : List ℕ) (one token : Token) (rest : List ℕ)
+    → ((more : List ℕ) → Spells one (c ∷ second ∷ []) more) → paired one second following ≡ begins token rest
+    → Spelled (c ∷ following) token rest
 paired-found c second [] one token rest spells e = absurd cc
 paired-found c second (d ∷ more) one token rest spells e = go (d == second) refl
   where
@@ -125,10 +136,17 @@ paired-found c second (d ∷ more) one token rest spells e = go (d == second) re
         let shown = rw is at e in
         let same = eqb-true d second is in
         let whole : c ∷ d ∷ more ≡ (c ∷ second ∷ []) ++ rest = (let r = begins-rest one token more rest shown in cc) in
-        record { bytes = c ∷ second ∷ []; whole = whole; spells = subst (λ (t : Token). Spells t (c ∷ second ∷ []) rest) (begins-token one token more rest shown) (spells rest) }
+        record {
+          bytes = c ∷ second ∷ [];
+          whole = whole;
+          spells = subst (λ (t : Token). Spells t (c ∷ second ∷ []) rest) (begins-token one token more rest shown)
+              (spells rest);
+        }
     go false isnt = (let never = rw isnt at e in absurd cc)
 
-one_found : (c d : ℕ) (following : List ℕ) (one token : Token) (rest : List ℕ) → c ≡ d → ((more : List ℕ) → Spells one (d ∷ []) more) → begins one following ≡ begins token rest → Spelled (c ∷ following) token rest
+one_found : (c d : ℕ) (following : List ℕ) (one token : Token) (rest : List ℕ) → c ≡ d
+    → ((more : List ℕ) → Spells one (d ∷ []) more) → begins one following ≡ begins token rest
+    → Spelled (c ∷ following) token rest
 one_found c d following one token rest same spells e =
     let whole : c ∷ following ≡ (d ∷ []) ++ rest = (let r = begins-rest one token following rest e in cc) in
     record { bytes = d ∷ []; whole = whole; spells = subst (λ (t : Token). Spells t (d ∷ []) rest) (begins-token one token following rest e) (spells rest) }
@@ -137,18 +155,24 @@ not_front : (text rest : List ℕ) → after_not text ≡ Some rest → (text �
 unfolding after_not
 not_front text rest e = grind (arith, and_parts, starts_is, Decides-eqb)
 
-atom_found : (c : ℕ) (following : List ℕ) (token : Token) (rest : List ℕ) (equation : Option Equation) → is_gap c ≡ false → is_mark c ≡ false → after_not (c ∷ following) ≡ None → setting_at (c ∷ before is_mark following) ≡ equation → atom_from equation (from_first is_mark following) ≡ begins token rest → Spelled (c ∷ following) token rest
+atom_found : (c : ℕ) (following : List ℕ) (token : Token) (rest : List ℕ) (equation : Option Equation)
+    → is_gap c ≡ false → is_mark c ≡ false → after_not (c ∷ following) ≡ None
+    → setting_at (c ∷ before is_mark following) ≡ equation
+    → atom_from equation (from_first is_mark following) ≡ begins token rest → Spelled (c ∷ following) token rest
 atom_found c following token rest None solid plain no_name is e = absurd cc
 atom_found c following token rest (Some equation) solid plain no_name is e =
     let cut = stretch following in
     let same = begins-rest (atom equation) token (from_first is_mark following) rest e in
     let whole : c ∷ following ≡ (c ∷ before is_mark following) ++ from_first is_mark following = ap (λ (ys : List ℕ). c ∷ ys) cut.whole in
-    let spells = says c (before is_mark following) (from_first is_mark following) equation solid (plain, cut.none) cut.ends (subst (λ (ys : List ℕ). after_not (c ∷ ys) ≡ None) cut.whole no_name) (setting_found (c ∷ before is_mark following) equation is) in
+    let spells = says c (before is_mark following) (from_first is_mark following) equation solid (plain, cut.none)
+    cut.ends (subst (λ (ys : List ℕ). after_not (c ∷ ys) ≡ None) cut.whole no_name)
+    (setting_found (c ∷ before is_mark following) equation is) in
     subst (λ (r : List ℕ). Spelled (c ∷ following) token r) same
     (subst (λ (t : Token). Spelled (c ∷ following) t (from_first is_mark following)) (begins-token (atom equation) token (from_first is_mark following) rest e)
     (record { bytes = c ∷ before is_mark following; whole = whole; spells = spells }))
 
-unmarked-found : (c : ℕ) (following : List ℕ) (token : Token) (rest : List ℕ) → is_gap c ≡ false → is_mark c ≡ false → unmarked (c ∷ following) ≡ begins token rest → Spelled (c ∷ following) token rest
+unmarked-found : (c : ℕ) (following : List ℕ) (token : Token) (rest : List ℕ) → is_gap c ≡ false → is_mark c ≡ false
+    → unmarked (c ∷ following) ≡ begins token rest → Spelled (c ∷ following) token rest
 unfolding unmarked
 unmarked-found c following token rest solid plain e = go (after_not (c ∷ following)) refl
   where
@@ -162,19 +186,28 @@ unmarked-found c following token rest solid plain e = go (after_not (c ∷ follo
         (subst (λ (t : Token). Spelled (c ∷ following) t more) (begins-token negation token more rest shown)
         (record { bytes = codes "not"; whole = front.0; spells = named_not more front.1 }))
 
-begun-found : (c : ℕ) (following : List ℕ) (token : Token) (rest : List ℕ) → is_gap c ≡ false → begun (c ∷ following) ≡ begins token rest → Spelled (c ∷ following) token rest
+begun-found : (c : ℕ) (following : List ℕ) (token : Token) (rest : List ℕ) → is_gap c ≡ false
+    → begun (c ∷ following) ≡ begins token rest → Spelled (c ∷ following) token rest
 unfolding begun
 begun-found c following token rest solid e = go (c == 40) refl (c == 41) refl (c == 126) refl (c == 47) refl (c == 92) refl
   where
-    go : (a1 : Bool) → (c == 40) ≡ a1 → (a2 : Bool) → (c == 41) ≡ a2 → (a3 : Bool) → (c == 126) ≡ a3 → (a4 : Bool) → (c == 47) ≡ a4 → (a5 : Bool) → (c == 92) ≡ a5 → Spelled (c ∷ following) token rest
+    go : (a1 : Bool) → (c == 40) ≡ a1 → (a2 : Bool) → (c == 41) ≡ a2 → (a3 : Bool) → (c == 126) ≡ a3 → (a4 : Bool)
+        → (c == 47) ≡ a4 → (a5 : Bool) → (c == 92) ≡ a5 → Spelled (c ∷ following) token rest
     go true e1 a2 e2 a3 e3 a4 e4 a5 e5 = one_found c 40 following opening token rest (eqb-true c 40 e1) opens (rw e1 at e)
     go false e1 true e2 a3 e3 a4 e4 a5 e5 = one_found c 41 following closing token rest (eqb-true c 41 e2) closes (rw (e1, e2) at e)
     go false e1 false e2 true e3 a4 e4 a5 e5 = one_found c 126 following negation token rest (eqb-true c 126 e3) tilde (rw (e1, e2, e3) at e)
-    go false e1 false e2 false e3 true e4 a5 e5 = subst (λ (d : ℕ). Spelled (d ∷ following) token rest) (sym (eqb-true c 47 e4)) (paired-found 47 92 following conjunction token rest both (rw (e1, e2, e3, e4) at e))
-    go false e1 false e2 false e3 false e4 true e5 = subst (λ (d : ℕ). Spelled (d ∷ following) token rest) (sym (eqb-true c 92 e5)) (paired-found 92 47 following disjunction token rest either (rw (e1, e2, e3, e4, e5) at e))
-    go false e1 false e2 false e3 false e4 false e5 = (let plain : is_mark c ≡ false = rw (e1, e2, e3, e4, e5) refl in unmarked-found c following token rest solid plain (rw (e1, e2, e3, e4, e5) at e))
+    go false e1 false e2 false e3 true e4 a5 e5 = subst (λ (d : ℕ). Spelled (d ∷ following) token rest)
+        (sym (eqb-true c 47 e4)) (paired-found 47 92 following conjunction token rest both (rw (e1, e2, e3, e4) at e))
+    go false e1 false e2 false e3 false e4 true e5 =
+        subst (λ (d : ℕ). Spelled (d ∷ following) token rest) (sym (eqb-true c 92 e5))
+        (paired-found 92 47 following disjunction token rest either (rw (e1, e2, e3, e4, e5) at e))
+    go false e1 false e2 false e3 false e4 false e5 =
+        (let plain : is_mark c ≡ false = rw (e1, e2, e3, e4, e5) refl in
+        unmarked-found c following token rest solid plain (rw (e1, e2, e3, e4, e5) at e))
 
-token_found : (text solid : List ℕ) (token : Token) (rest : List ℕ) (tokens : List Token) → without_leading is_gap text ≡ solid → begun solid ≡ begins token rest → AreTokens rest tokens → AreTokens text (token ∷ tokens)
+token_found : (text solid : List ℕ) (token : Token) (rest : List ℕ) (tokens : List Token)
+    → without_leading is_gap text ≡ solid → begun solid ≡ begins token rest → AreTokens rest tokens
+    → AreTokens text (token ∷ tokens)
 unfolding begun
 token_found text [] token rest tokens is e are = absurd cc
 token_found text (c ∷ following) token rest tokens is e are =
@@ -214,7 +247,9 @@ are_tokens [] text e = go (beginning_of text) refl (sym (tokens-cut text) ∙ e)
     go no_token is shown = absurd cc
 are_tokens (token ∷ tokens) text e = go (are_tokens tokens) (beginning_of text) refl (sym (tokens-cut text) ∙ e)
   where
-    go : ((rest : List ℕ) → tokens_of rest ≡ listed tokens → AreTokens rest tokens) → (b : Beginning) → beginning_of text ≡ b → tokens_from tokens_of b ≡ goes_on token (listed tokens) → AreTokens text (token ∷ tokens)
+    go : ((rest : List ℕ) → tokens_of rest ≡ listed tokens → AreTokens rest tokens) → (b : Beginning)
+        → beginning_of text ≡ b → tokens_from tokens_of b ≡ goes_on token (listed tokens)
+        → AreTokens text (token ∷ tokens)
     go others nothing is shown = absurd cc
     go others (begins first rest) is shown =
         let same : first ≡ token = cc in

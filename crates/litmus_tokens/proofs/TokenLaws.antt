@@ -3,7 +3,8 @@ use Rattle.std.proofs.Common.{◌≡◌, ℕ, suc, ◌<◌, ◌≤◌, false, Li
 use Rattle.texts.specs.Cutting.{before, fails, from_first, without_leading}
 use Rattle.litmus_tokens.specs.Settings.{Equation}
 use Rattle.litmus_tokens.specs.Reading.{setting_at}
-use Rattle.litmus_tokens.specs.Tokens.{Token, Beginning, Tokens, is_mark, after_not, paired, atom_from, negation_or, unmarked, begun, beginning_of, tokens_from, tokens_within, tokens_of, LeavesLess}
+use Rattle.litmus_tokens.specs.Tokens.{Token, Beginning, Tokens, is_mark, after_not, paired, atom_from, negation_or}
+use Rattle.litmus_tokens.specs.Tokens.{unmarked, begun, beginning_of, tokens_from, tokens_within, tokens_of, LeavesLess}
 use Rattle.litmus_tokens.specs.Tokens.Beginning.{nothing, begins, no_token}
 use Rattle.litmus_tokens.specs.Tokens.Tokens.{goes_on}
 use Rattle.texts.proofs.CuttingLaws.{length-from_first}
@@ -15,12 +16,15 @@ not_or_less : (c : ℕ) (rest : List ℕ) (other : Beginning) → LeavesLess (c 
 unfolding after_not
 not_or_less c rest other less = grind (arith, length-drop)
 
-atom_less : (c : ℕ) (rest : List ℕ) (equation : Option Equation) → is_mark c ≡ false → LeavesLess (c ∷ rest) (atom_from equation (from_first is_mark (c ∷ rest)))
+atom_less : (c : ℕ) (rest : List ℕ) (equation : Option Equation) → is_mark c ≡ false
+    → LeavesLess (c ∷ rest) (atom_from equation (from_first is_mark (c ∷ rest)))
 atom_less c rest equation other = grind (arith, length-from_first)
 
 unmarked-less : (c : ℕ) (rest : List ℕ) → is_mark c ≡ false → LeavesLess (c ∷ rest) (unmarked (c ∷ rest))
 unfolding unmarked
-unmarked-less c rest other = not_or_less c rest (atom_from (setting_at (before is_mark (c ∷ rest))) (from_first is_mark (c ∷ rest))) (atom_less c rest (setting_at (before is_mark (c ∷ rest))) other)
+unmarked-less c rest other =
+    not_or_less c rest (atom_from (setting_at (before is_mark (c ∷ rest))) (from_first is_mark (c ∷ rest)))
+    (atom_less c rest (setting_at (before is_mark (c ∷ rest))) other)
 
 paired-less : (c : ℕ) (rest : List ℕ) (token : Token) (second : ℕ) → LeavesLess (c ∷ rest) (paired token second rest)
 paired-less c rest token second = grind arith
@@ -34,7 +38,8 @@ less_more short long b le less = grind arith
 
 pub leaves_less : (text : List ℕ) → LeavesLess text (beginning_of text)
 unfolding beginning_of
-leaves_less text = less_more (without_leading is_gap text) text (begun (without_leading is_gap text)) (length-from_first (fails is_gap) text) (begun-less (without_leading is_gap text))
+leaves_less text = less_more (without_leading is_gap text) text (begun (without_leading is_gap text))
+    (length-from_first (fails is_gap) text) (begun-less (without_leading is_gap text))
 
 -- ---- this number of tokens is enough
 
@@ -42,7 +47,8 @@ same_tokens : (n : ℕ) (text : List ℕ) (m : ℕ) → length text < n → leng
 unfolding tokens_within
 same_tokens (suc n) text (suc m) lt lt' = go (same_tokens n) (beginning_of text) (leaves_less text)
   where
-    go : ((rest : List ℕ) (m : ℕ) → length rest < n → length rest < m → tokens_within n rest ≡ tokens_within m rest) → (b : Beginning) → LeavesLess text b → tokens_from (tokens_within n) b ≡ tokens_from (tokens_within m) b
+    go : ((rest : List ℕ) (m : ℕ) → length rest < n → length rest < m → tokens_within n rest ≡ tokens_within m rest)
+        → (b : Beginning) → LeavesLess text b → tokens_from (tokens_within n) b ≡ tokens_from (tokens_within m) b
     go same nothing less = refl
     go same (begins token rest) less = ap (λ (others : Tokens). goes_on token others) (same rest m (omega arith) (omega arith))
     go same no_token less = refl

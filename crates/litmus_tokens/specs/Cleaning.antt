@@ -48,7 +48,9 @@ NoneCloses (c ∷ rest) = (closes c (next_byte rest) ≡ false) × NoneCloses re
 -- What a text is cleaned to. A comment goes from `(*` to the first `*)` after that, or to the end.
 pub data IsCleaned : List ℕ → List ℕ → Type 0 where
   ended : IsCleaned [] []
-  commented : (inner rest out : List ℕ) → NoneCloses inner → IsCleaned rest out → IsCleaned (40 ∷ 42 ∷ (inner ++ 42 ∷ 41 ∷ rest)) (32 ∷ 32 ∷ (replicate (length inner) 32 ++ 32 ∷ 32 ∷ out))
+  commented : (inner rest out : List ℕ) → NoneCloses inner → IsCleaned rest out
+      → IsCleaned (40 ∷ 42 ∷ (inner ++ 42 ∷ 41 ∷ rest)) (32 ∷ 32 ∷ (replicate (length inner) 32 ++ 32 ∷ 32 ∷ out))
   unclosed : (inner : List ℕ) → NoneCloses inner → IsCleaned (40 ∷ 42 ∷ inner) (32 ∷ 32 ∷ replicate (length inner) 32)
   line_end : (rest out : List ℕ) → IsCleaned (10 ∷ rest) out → IsCleaned (13 ∷ 10 ∷ rest) (32 ∷ out)
-  other : (c : ℕ) (rest out : List ℕ) → opens c (next_byte rest) ≡ false → ends_line c (next_byte rest) ≡ false → IsCleaned rest out → IsCleaned (c ∷ rest) (c ∷ out)
+  other : (c : ℕ) (rest out : List ℕ) → opens c (next_byte rest) ≡ false → ends_line c (next_byte rest) ≡ false
+      → IsCleaned rest out → IsCleaned (c ∷ rest) (c ∷ out)

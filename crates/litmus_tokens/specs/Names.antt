@@ -1,5 +1,6 @@
 -- Names and numbers.
-use Rattle.std.specs.Prelude.{ℕ, ◌-◌, ◌<◌, ◌≤◌, ◌^◌, ◌%◌, ◌==◌, ℤ, pos, negsuc, Bool, false, not, ◌&&◌, ◌||◌, nat_lt, nat_eq, List, [], ◌∷◌, length, codes, Option, None, Some, if◌then◌else◌}
+use Rattle.std.specs.Prelude.{ℕ, ◌-◌, ◌<◌, ◌≤◌, ◌^◌, ◌%◌, ◌==◌, ℤ, pos, negsuc, Bool, false, not, ◌&&◌, ◌||◌, nat_lt}
+use Rattle.std.specs.Prelude.{nat_eq, List, [], ◌∷◌, length, codes, Option, None, Some, if◌then◌else◌}
 use Rattle.std.specs.List.{list_all, starts_with}
 use Rattle.texts.specs.Letters.{is_letter, is_digit}
 use Rattle.texts.specs.Pieces.{is_gap}

@@ -33,8 +33,10 @@ IsValue text (address_of name) = IsTrue (is_name name) × (core text ≡ name)
 
 -- `H:reg`, `name` or `[name]`; `:` is 58, `[` is 91, `]` is 93. The hart's number is capped.
 abbrev pub IsNamedPlace : List ℕ → NamedPlace → Type 0
-IsNamedPlace text (in_register hart register) = (digits name : List ℕ) × (n : ℕ) × (text ≡ digits ++ 58 ∷ name) × Says (core digits) n × (hart ≡ capped n) × (register_named (core name) ≡ Some register)
-IsNamedPlace text (at_location name) = IsTrue (is_name name) × ((core text ≡ name) ⊎ ((inner : List ℕ) × (core text ≡ 91 ∷ (inner ++ 93 ∷ [])) × (core inner ≡ name)))
+IsNamedPlace text (in_register hart register) = (digits name : List ℕ) × (n : ℕ) × (text ≡ digits ++ 58 ∷ name)
+    × Says (core digits) n × (hart ≡ capped n) × (register_named (core name) ≡ Some register)
+IsNamedPlace text (at_location name) = IsTrue (is_name name)
+    × ((core text ≡ name) ⊎ ((inner : List ℕ) × (core text ≡ 91 ∷ (inner ++ 93 ∷ [])) × (core inner ≡ name)))
 
 -- The text puts a value: a place, `=` (61), and the value.
 abbrev pub IsSetting : List ℕ → Equation → Type 0
@@ -43,11 +45,14 @@ IsSetting text equation = (left right : List ℕ) × (text ≡ left ++ 61 ∷ ri
 -- `int` and a name, with a gap between them
 abbrev pub IsDeclared : List ℕ → NamedPlace → Type 0
 IsDeclared text (in_register hart register) = ⊥
-IsDeclared text (at_location name) = (gap : ℕ) × (rest : List ℕ) × (core text ≡ codes "int" ++ gap ∷ rest) × IsTrue (is_gap gap) × IsTrue (is_name name) × (core rest ≡ name)
+IsDeclared text (at_location name) = (gap : ℕ) × (rest : List ℕ) × (core text ≡ codes "int" ++ gap ∷ rest)
+    × IsTrue (is_gap gap) × IsTrue (is_name name) × (core rest ≡ name)
 
 -- The item puts a value: a setting, or one of a declared location, which gets 0 where no value is given.
 abbrev pub IsItem : List ℕ → Equation → Type 0
-IsItem text equation = IsSetting text equation ⊎ (((left right : List ℕ) × (text ≡ left ++ 61 ∷ right) × IsDeclared left equation.0 × IsValue right equation.1) ⊎ (IsDeclared text equation.0 × (equation.1 ≡ number 0)))
+IsItem text equation = IsSetting text equation
+    ⊎ (((left right : List ℕ) × (text ≡ left ++ 61 ∷ right) × IsDeclared left equation.0 × IsValue right equation.1)
+    ⊎ (IsDeclared text equation.0 × (equation.1 ≡ number 0)))
 
 -- ---- what the code's values stand for
 

@@ -1,5 +1,6 @@
 -- The tokens of a condition.
-use Rattle.std.specs.Prelude.{◌≡◌, ℕ, suc, zero, ◌<◌, ◌==◌, Bool, true, false, not, ◌&&◌, ◌||◌, nat_eq, List, [], ◌∷◌, ◌++◌, length, drop, Option, None, Some, if◌then◌else◌, codes}
+use Rattle.std.specs.Prelude.{◌≡◌, ℕ, suc, zero, ◌<◌, ◌==◌, Bool, true, false, not, ◌&&◌, ◌||◌, nat_eq, List, [], ◌∷◌}
+use Rattle.std.specs.Prelude.{◌++◌, length, drop, Option, None, Some, if◌then◌else◌, codes}
 use Rattle.std.specs.List.{starts_with}
 use Rattle.texts.specs.Cutting.{before, AllPass, NonePass, from_first, without_leading}
 use Rattle.texts.specs.Pieces.{is_gap}
@@ -125,12 +126,15 @@ pub data Spells : Token → (bytes rest : List ℕ) → Type 0 where
   named_not : (rest : List ℕ) → ends_name rest ≡ true → Spells negation (codes "not") rest
   both : (rest : List ℕ) → Spells conjunction (47 ∷ 92 ∷ []) rest
   either : (rest : List ℕ) → Spells disjunction (92 ∷ 47 ∷ []) rest
-  says : (first : ℕ) (others rest : List ℕ) (equation : Equation) → is_gap first ≡ false → NonePass is_mark (first ∷ others) → EndsAtom rest → after_not (first ∷ (others ++ rest)) ≡ None → IsSetting (first ∷ others) equation → Spells (atom equation) (first ∷ others) rest
+  says : (first : ℕ) (others rest : List ℕ) (equation : Equation) → is_gap first ≡ false
+      → NonePass is_mark (first ∷ others) → EndsAtom rest → after_not (first ∷ (others ++ rest)) ≡ None
+      → IsSetting (first ∷ others) equation → Spells (atom equation) (first ∷ others) rest
 
 -- The text is these tokens, with gaps before, between and after them.
 pub data AreTokens : List ℕ → List Token → Type 0 where
   no_more : (gaps : List ℕ) → AllPass is_gap gaps → AreTokens gaps []
-  one_more : (gaps bytes rest : List ℕ) (token : Token) (tokens : List Token) → AllPass is_gap gaps → Spells token bytes rest → AreTokens rest tokens → AreTokens (gaps ++ (bytes ++ rest)) (token ∷ tokens)
+  one_more : (gaps bytes rest : List ℕ) (token : Token) (tokens : List Token) → AllPass is_gap gaps
+      → Spells token bytes rest → AreTokens rest tokens → AreTokens (gaps ++ (bytes ++ rest)) (token ∷ tokens)
 
 -- the tokens, with the text's end after them
 abbrev pub listed : List Token → Tokens

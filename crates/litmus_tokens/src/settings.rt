@@ -4,7 +4,9 @@ ghost use Rattle.std.specs.Prelude.{◌≡◌, Some, IfSome, option_map};
 ghost use Rattle.std.specs.Option.{option_copied};
 ghost use Rattle.litmus_tokens.specs.Names.{core};
 ghost use Rattle.litmus_tokens.specs.Settings.{Equation, IsSetting, IsItem, place_of, value_of, equations};
-ghost use Rattle.litmus_tokens.specs.Reading.{value_in, named, location_in, register_from, place_in, equation_from, setting_at, begins_with_gap, after_int, declared_in, item_place_in, item_at};
+ghost use Rattle.litmus_tokens.specs.Reading.{value_in, named, location_in, register_from, place_in, equation_from};
+ghost use Rattle.litmus_tokens.specs.Reading.{setting_at, begins_with_gap, after_int, declared_in, item_place_in};
+ghost use Rattle.litmus_tokens.specs.Reading.{item_at};
 
 use crate::names::{is_name, word_in};
 use rv_decode::{Reg, register_named};

@@ -3,7 +3,8 @@
 ghost use Rattle.std.specs.Prelude.{◌≡◌, position};
 ghost use Rattle.std.specs.Option.{option_copied};
 ghost use Rattle.texts.specs.Cutting.{before, from_first};
-ghost use Rattle.litmus_tokens.specs.Tokens.{is_mark, ends_name, after_not, paired, unmarked, begun, token_of, seen, beginning_of, tokens_of, tokens_from, LeavesLess};
+ghost use Rattle.litmus_tokens.specs.Tokens.{is_mark, ends_name, after_not, paired, unmarked, begun, token_of, seen};
+ghost use Rattle.litmus_tokens.specs.Tokens.{beginning_of, tokens_of, tokens_from, LeavesLess};
 
 use crate::names::goes_on_name;
 use crate::settings::{Setting, setting_in};

@@ -1,5 +1,6 @@
 -- Bytes of numbers below 2 ^ 32, and of words after a write.
-use Rattle.std.proofs.Common.{◌≡◌, ℕ, zero, suc, ◌+◌, ◌-◌, ◌*◌, ◌/◌, ◌%◌, ◌^◌, ◌<◌, ◌≤◌, ◌==◌, Bool, true, false, List, [], ◌∷◌, Option, Some, None, refl, sym, ◌∙◌, ap, arith}
+use Rattle.std.proofs.Common.{◌≡◌, ℕ, zero, suc, ◌+◌, ◌-◌, ◌*◌, ◌/◌, ◌%◌, ◌^◌, ◌<◌, ◌≤◌, ◌==◌, Bool, true, false, List}
+use Rattle.std.proofs.Common.{[], ◌∷◌, Option, Some, None, refl, sym, ◌∙◌, ap, arith}
 use Rattle.std.specs.Prelude.{if◌then◌else◌, unwrap_or, All, slice_index}
 use Rattle.std.specs.Int.{byte_at}
 use Rattle.std.proofs.lemmas.Bool.{le-leb, lt-ltb, leb-true, ltb-true, eqb-true, eqb-false}
@@ -51,27 +52,33 @@ byte_after-below w a b small = grind (arith, byte_below)
 -- each byte of the word in which a write is, after it
 pub over-byte : (w : Write) (word i : ℕ) → i < 4 → byte_at i (over w word) ≡ byte_after w (w.addr / 4 * 4 + i) (byte_at i word)
 over-byte w word i lt =
-    byte_of_joined (λ j. byte_after w (w.addr / 4 * 4 + j) (byte_at j word)) (λ j. byte_after-below w (w.addr / 4 * 4 + j) (byte_at j word) (byte_below j word)) i lt
+    byte_of_joined (λ j. byte_after w (w.addr / 4 * 4 + j) (byte_at j word))
+    (λ j. byte_after-below w (w.addr / 4 * 4 + j) (byte_at j word) (byte_below j word)) i lt
 
 -- a write covers no byte of another word
 pub covers-other : (w : Write) (a : ℕ) → WritesInWord w → (a / 4 ≡ w.addr / 4 → ⊥) → covers w a ≡ false
 covers-other w a small other = grind (arith, covers-from)
 
 -- byte by byte, the word around an address after writes is what the last of them to cover it put there
-overlaid_byte-found : (a word : ℕ) (ws : List Write) (i b : ℕ) (found : Option ℕ) → All WritesInWord ws → i < 4 → byte_at i word ≡ unwrap_or found b → byte_at i (overlaid a word ws) ≡ unwrap_or (newest_of (a / 4 * 4 + i) found ws) b
+overlaid_byte-found : (a word : ℕ) (ws : List Write) (i b : ℕ) (found : Option ℕ) → All WritesInWord ws → i < 4
+    → byte_at i word ≡ unwrap_or found b
+    → byte_at i (overlaid a word ws) ≡ unwrap_or (newest_of (a / 4 * 4 + i) found ws) b
 overlaid_byte-found a word [] i b found small lt is = is
 overlaid_byte-found a word (w ∷ ws) i b found small lt is =
-    overlaid_byte-found a (if w.addr / 4 == a / 4 then over w word else word) ws i b (if covers w (a / 4 * 4 + i) then Some (byte_at (a / 4 * 4 + i - w.addr) w.value) else found)
+    overlaid_byte-found a (if w.addr / 4 == a / 4 then over w word else word) ws i b
+    (if covers w (a / 4 * 4 + i) then Some (byte_at (a / 4 * 4 + i - w.addr) w.value) else found)
     (All-tail WritesInWord w ws small) lt (at (w.addr / 4 == a / 4) refl)
   where
     in_word : WritesInWord w
     in_word = All-head WritesInWord w ws small
 
-    chosen : (c : Bool) → (if c then byte_at (a / 4 * 4 + i - w.addr) w.value else byte_at i word) ≡ unwrap_or (if c then Some (byte_at (a / 4 * 4 + i - w.addr) w.value) else found) b
+    chosen : (c : Bool) → (if c then byte_at (a / 4 * 4 + i - w.addr) w.value else byte_at i word)
+        ≡ unwrap_or (if c then Some (byte_at (a / 4 * 4 + i - w.addr) w.value) else found) b
     chosen true = refl
     chosen false = is
 
-    at : (c : Bool) → (w.addr / 4 == a / 4) ≡ c → byte_at i (if c then over w word else word) ≡ unwrap_or (if covers w (a / 4 * 4 + i) then Some (byte_at (a / 4 * 4 + i - w.addr) w.value) else found) b
+    at : (c : Bool) → (w.addr / 4 == a / 4) ≡ c → byte_at i (if c then over w word else word)
+        ≡ unwrap_or (if covers w (a / 4 * 4 + i) then Some (byte_at (a / 4 * 4 + i - w.addr) w.value) else found) b
     at true same =
         let base : w.addr / 4 ≡ a / 4 = eqb-true (w.addr / 4) (a / 4) same in
         over-byte w word i lt ∙ ap (λ q. byte_after w (q * 4 + i) (byte_at i word)) base ∙ chosen (covers w (a / 4 * 4 + i))
@@ -80,9 +87,12 @@ overlaid_byte-found a word (w ∷ ws) i b found small lt is =
         let none : covers w (a / 4 * 4 + i) ≡ false = covers-other w (a / 4 * 4 + i) in_word (λ q. base (omega arith)) in
         is ∙ ap (λ c. unwrap_or (if c then Some (byte_at (a / 4 * 4 + i - w.addr) w.value) else found) b) (sym none)
 
-pub overlaid-byte : (a word : ℕ) (ws : List Write) (i : ℕ) → All WritesInWord ws → i < 4 → byte_at i (overlaid a word ws) ≡ unwrap_or (newest_of (a / 4 * 4 + i) None ws) (byte_at i word)
+pub overlaid-byte : (a word : ℕ) (ws : List Write) (i : ℕ) → All WritesInWord ws → i < 4
+    → byte_at i (overlaid a word ws) ≡ unwrap_or (newest_of (a / 4 * 4 + i) None ws) (byte_at i word)
 overlaid-byte a word ws i small lt = overlaid_byte-found a word ws i (byte_at i word) None small lt refl
 
 -- an access of n bytes to the word around its address, after writes to it
-pub overlaid-part : (a n : ℕ) (words : List ℕ) (ws : List Write) → All WritesInWord ws → IsInWord n a → joined (λ i. byte_at (a % 4 + i) (overlaid a (slice_index words (a / 4)) ws)) n ≡ joined (λ i. unwrap_or (newest_of (a + i) None ws) (byte_of words (a + i))) n
+pub overlaid-part : (a n : ℕ) (words : List ℕ) (ws : List Write) → All WritesInWord ws → IsInWord n a
+    → joined (λ i. byte_at (a % 4 + i) (overlaid a (slice_index words (a / 4)) ws)) n
+    ≡ joined (λ i. unwrap_or (newest_of (a + i) None ws) (byte_of words (a + i))) n
 overlaid-part a n words ws small within = grind (arith, joined-same, overlaid-byte)

@@ -9,7 +9,8 @@ use Rattle.memory.specs.Writes.{byte_after, over, byte_of, joined, WritesInWord}
 use Rattle.memory.proofs.Bytes.{over-byte, covers-other, word_of_bytes, joined-same}
 
 -- a write to a list of words changes the bytes that it covers, and no other
-pub byte_of-write : (words : List ℕ) (w : Write) (a : ℕ) → WritesInWord w → w.addr / 4 < length words → byte_of (set words (w.addr / 4) (over w (slice_index words (w.addr / 4)))) a ≡ byte_after w a (byte_of words a)
+pub byte_of-write : (words : List ℕ) (w : Write) (a : ℕ) → WritesInWord w → w.addr / 4 < length words
+    → byte_of (set words (w.addr / 4) (over w (slice_index words (w.addr / 4)))) a ≡ byte_after w a (byte_of words a)
 byte_of-write words w a small within = grind (arith, eqb-true, get_or, get_or-set_same, over-byte, mod_below, eqb-false, covers-other, get_or-set_other)
 
 -- a word of the list is the number of its bytes

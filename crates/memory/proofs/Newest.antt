@@ -16,5 +16,6 @@ pub newest_word-append : (a : ℕ) (found : Option ℕ) (ws vs : List Write) →
 newest_word-append a found [] vs = refl
 newest_word-append a found (w ∷ ws) vs = newest_word-append a (if w.addr == a then Some w.value else found) ws vs
 
-pub newest_word-last : (a : ℕ) (found : Option ℕ) (ws : List Write) (w : Write) → newest_word a found (ws ++ w ∷ []) ≡ (if w.addr == a then Some w.value else newest_word a found ws)
+pub newest_word-last : (a : ℕ) (found : Option ℕ) (ws : List Write) (w : Write)
+    → newest_word a found (ws ++ w ∷ []) ≡ (if w.addr == a then Some w.value else newest_word a found ws)
 newest_word-last a found ws w = newest_word-append a found ws (w ∷ [])

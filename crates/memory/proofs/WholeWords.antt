@@ -11,7 +11,8 @@ use Rattle.memory.specs.Writes.{covers, newest_of, newest_word, joined, IsWholeW
 use Rattle.memory.proofs.Bytes.{covers-yes, covers-other, joined-same, word_of_bytes}
 
 -- byte i of the word found is the byte found
-newest_byte-found : (a i : ℕ) (found : Option ℕ) (ws : List Write) → a % 4 ≡ 0 → i < 4 → All IsWholeWord ws → newest_of (a + i) (option_map (byte_at i) found) ws ≡ option_map (byte_at i) (newest_word a found ws)
+newest_byte-found : (a i : ℕ) (found : Option ℕ) (ws : List Write) → a % 4 ≡ 0 → i < 4 → All IsWholeWord ws
+    → newest_of (a + i) (option_map (byte_at i) found) ws ≡ option_map (byte_at i) (newest_word a found ws)
 newest_byte-found a i found [] aligned lt all = refl
 newest_byte-found a i found (w ∷ ws) aligned lt all =
     ap (λ f. newest_of (a + i) f ws) (at (w.addr == a) refl)
@@ -20,7 +21,9 @@ newest_byte-found a i found (w ∷ ws) aligned lt all =
     is : IsWholeWord w
     is = All-head IsWholeWord w ws all
 
-    at : (c : Bool) → (w.addr == a) ≡ c → (if covers w (a + i) then Some (byte_at (a + i - w.addr) w.value) else option_map (byte_at i) found) ≡ option_map (byte_at i) (if c then Some w.value else found)
+    at : (c : Bool) → (w.addr == a) ≡ c
+        → (if covers w (a + i) then Some (byte_at (a + i - w.addr) w.value) else option_map (byte_at i) found)
+        ≡ option_map (byte_at i) (if c then Some w.value else found)
     at true same =
         let here : w.addr ≡ a = eqb-true w.addr a same in
         let width : w.width ≡ 4 = is.whole in
@@ -35,11 +38,13 @@ newest_byte-found a i found (w ∷ ws) aligned lt all =
         ap (λ c. if c then Some (byte_at (a + i - w.addr) w.value) else option_map (byte_at i) found) none
 
 -- so does a read: of bytes over the bytes of a word, and of words
-pub read_byte_of_word : (a i word : ℕ) (ws : List Write) → a % 4 ≡ 0 → i < 4 → All IsWholeWord ws → unwrap_or (newest_of (a + i) None ws) (byte_at i word) ≡ byte_at i (unwrap_or (newest_word a None ws) word)
+pub read_byte_of_word : (a i word : ℕ) (ws : List Write) → a % 4 ≡ 0 → i < 4 → All IsWholeWord ws
+    → unwrap_or (newest_of (a + i) None ws) (byte_at i word) ≡ byte_at i (unwrap_or (newest_word a None ws) word)
 read_byte_of_word a i word ws aligned lt all = grind (arith, newest_byte-found)
 
 -- what is found among words below 2 ^ 32 is one
-pub newest_word-small : (a word : ℕ) (found : Option ℕ) (ws : List Write) → unwrap_or found word < 2 ^ 32 → All IsWholeWord ws → unwrap_or (newest_word a found ws) word < 2 ^ 32
+pub newest_word-small : (a word : ℕ) (found : Option ℕ) (ws : List Write) → unwrap_or found word < 2 ^ 32
+    → All IsWholeWord ws → unwrap_or (newest_word a found ws) word < 2 ^ 32
 newest_word-small a word found [] small all = small
 newest_word-small a word found (w ∷ ws) small all = grind (
   arith,
@@ -54,6 +59,11 @@ pub word_reads : (a word : ℕ) (early late : List Write) → a % 4 ≡ 0 → wo
     → joined (λ i. unwrap_or (newest_of (a + i) None late) (unwrap_or (newest_of (a + i) None early) (byte_at i word))) 4
     ≡ unwrap_or (newest_word a None late) (unwrap_or (newest_word a None early) word)
 word_reads a word early late aligned small all_early all_late =
-    joined-same (λ i. unwrap_or (newest_of (a + i) None late) (unwrap_or (newest_of (a + i) None early) (byte_at i word))) (λ i. byte_at i (unwrap_or (newest_word a None late) (unwrap_or (newest_word a None early) word))) 4
-    (λ i lt. ap (unwrap_or (newest_of (a + i) None late)) (read_byte_of_word a i word early aligned lt all_early) ∙ read_byte_of_word a i (unwrap_or (newest_word a None early) word) late aligned lt all_late)
-    ∙ word_of_bytes (unwrap_or (newest_word a None late) (unwrap_or (newest_word a None early) word)) (newest_word-small a (unwrap_or (newest_word a None early) word) None late (newest_word-small a word None early small all_early) all_late)
+    joined-same
+    (λ i. unwrap_or (newest_of (a + i) None late) (unwrap_or (newest_of (a + i) None early) (byte_at i word)))
+    (λ i. byte_at i (unwrap_or (newest_word a None late) (unwrap_or (newest_word a None early) word))) 4
+    (λ i lt. ap (unwrap_or (newest_of (a + i) None late)) (read_byte_of_word a i word early aligned lt all_early)
+    ∙ read_byte_of_word a i (unwrap_or (newest_word a None early) word) late aligned lt all_late)
+    ∙ word_of_bytes (unwrap_or (newest_word a None late) (unwrap_or (newest_word a None early) word))
+    (newest_word-small a (unwrap_or (newest_word a None early) word) None late
+    (newest_word-small a word None early small all_early) all_late)

@@ -72,7 +72,10 @@ impl<const M: usize> Memory<M> {
     pub fn store_bytes(&mut self, addr: u32, width: u32, value: u32)
         requires within { addr < 4 * M }
         requires in_word { IsInWord width addr }
-        ensures { self.new ≡ record self.old { words = slice_set self.old.words (addr / 4) (over (write addr width value) (slice_index self.old.words (addr / 4))) } }
+        ensures { self.new ≡ record self.old {
+          words = slice_set self.old.words (addr / 4)
+              (over (write addr width value) (slice_index self.old.words (addr / 4)));
+        } }
     {
         let index = (addr / 4) as usize;
         let write = Write { addr, width, value };

@@ -152,7 +152,9 @@ fn fits_at(place: Place, count: usize, words: &[u32], m: usize) -> bool
 {
     let stride = place.stride_or_dense();
     let last = place.base as u64 + (count as u64 - 1) * stride;
-    last + stride < 1 << 32 && last + 16 + 4 * place.slots as u64 <= 4 * m as u64 && words.len() <= m
+    last + stride < 1 << 32
+        && last + 16 + 4 * place.slots as u64 <= 4 * m as u64
+        && words.len() <= m
 }
 
 /// Whether a channel of these programs over these lists at a place, with rings of at least so many slots, fits a memory of `m`

@@ -25,7 +25,9 @@ drawn-more harts (c ∷ front) word = ap (λ (rest : List Event). drawn harts c 
 pub left_more : (i word : ℕ) (first before after : Stream) → before ≡ left_after i first → (word, after) ≡ next_u32 before → after ≡ left_after (i + 1) first
 left_more i word first before after was given = grind (arith, left_after-suc i first, add-one i)
 
-pub words-more : (harts i word : ℕ) (first before after : Stream) (old new : List Event) → old ≡ map (drawn harts) (words i first) → before ≡ left_after i first → (word, after) ≡ next_u32 before → new ≡ old ++ drawn harts word ∷ [] → new ≡ map (drawn harts) (words (i + 1) first)
+pub words-more : (harts i word : ℕ) (first before after : Stream) (old new : List Event)
+    → old ≡ map (drawn harts) (words i first) → before ≡ left_after i first → (word, after) ≡ next_u32 before
+    → new ≡ old ++ drawn harts word ∷ [] → new ≡ map (drawn harts) (words (i + 1) first)
 words-more harts i word first before after old new so_far was given pushed = grind (
   arith,
   drawn-more harts (words i first) (next_u32 (left_after i first)).0,
@@ -53,4 +55,5 @@ drawn-hart harts word some = grind (arith, lt-ltb, le-ltb)
 
 pub drawn-harts : (harts : ℕ) (front : List ℕ) → 1 ≤ harts → harts ≤ 64 → OfHarts (map (drawn harts) front)
 drawn-harts harts [] some most = All-nil (λ (e : Event). hart_of e < 64)
-drawn-harts harts (word ∷ front) some most = All-cons (λ (e : Event). hart_of e < 64) (drawn harts word) (map (drawn harts) front) (omega (arith, drawn-hart harts word some)) (drawn-harts harts front some most)
+drawn-harts harts (word ∷ front) some most = All-cons (λ (e : Event). hart_of e < 64) (drawn harts word)
+    (map (drawn harts) front) (omega (arith, drawn-hart harts word some)) (drawn-harts harts front some most)

@@ -1,5 +1,7 @@
 -- The texts of outcomes: what is read of words, against what they say, and what is written, read again.
-use Rattle.std.proofs.Common.{◌≡◌, ◌↔◌, inl, inr, ℕ, ◌<◌, ◌≤◌, ◌==◌, Bool, true, false, cond, ◌&&◌, List, [], ◌∷◌, ◌++◌, length, map, take, append_assoc, suc, Option, Some, None, refl, sym, ap, subst, ◌∙◌, arith, rules}
+use Rattle.std.proofs.Common.{◌≡◌, ◌↔◌, inl, inr, ℕ, ◌<◌, ◌≤◌, ◌==◌, Bool, true, false, cond, ◌&&◌, List, [], ◌∷◌, ◌++◌}
+use Rattle.std.proofs.Common.{length, map, take, append_assoc, suc, Option, Some, None, refl, sym, ap, subst, ◌∙◌}
+use Rattle.std.proofs.Common.{arith, rules}
 use Rattle.std.specs.Prelude.{codes, Decides}
 use Rattle.std.specs.Fmt.{decimal}
 use Rattle.std.specs.Str.{bytes_eq}
@@ -24,7 +26,9 @@ use Rattle.recorder.specs.declared.faults.AtByte.{AtByte}
 use Rattle.recorder.specs.declared.faults.ScheduleFault.TheVariants.{BadOutcome}
 use Rattle.recorder.specs.Schedule.{hart_of}
 use Rattle.recorder.specs.Reading.{at_byte}
-use Rattle.recorder.specs.Outcomes.{HartOutcome, stop_of, stopped, outcome_rows, may_have, event_outcome, SaysOutcome, entry_row, outcome_row, outcome_text, IsWidth, Word, Fits, OutcomeFits, IsOutcomeOf, HasWords, OutcomeHasWords, is_same_outcome}
+use Rattle.recorder.specs.Outcomes.{HartOutcome, stop_of, stopped, outcome_rows, may_have, event_outcome, SaysOutcome}
+use Rattle.recorder.specs.Outcomes.{entry_row, outcome_row, outcome_text, IsWidth, Word, Fits, OutcomeFits, IsOutcomeOf}
+use Rattle.recorder.specs.Outcomes.{HasWords, OutcomeHasWords, is_same_outcome}
 
 -- no two rows of the table are filled by the same words
 rows_apart : are_apart outcome_rows ≡ true
@@ -33,17 +37,26 @@ rows_apart = refl
 pub no_words : (found : HartOutcome) → ¬ IsRowOf outcome_rows [] found
 no_words found = rows-settle (at_byte BadOutcome 0) outcome_rows [] rows_apart found
 
-pub outcome_settles : (fault : AtByte) (event : Event) (words : List (List ℕ)) → DecidesGrammar (SaysOutcome event words) (or_fault fault (event_outcome event (rows_at outcome_rows words)))
+pub outcome_settles : (fault : AtByte) (event : Event) (words : List (List ℕ))
+    → DecidesGrammar (SaysOutcome event words) (or_fault fault (event_outcome event (rows_at outcome_rows words)))
 outcome_settles fault event words = of_read (rows_at outcome_rows words) (rows-settle fault outcome_rows words rows_apart)
   where
-    of_read : (read : Option HartOutcome) → DecidesGrammar (IsRowOf outcome_rows words) (or_fault fault read) → DecidesGrammar (SaysOutcome event words) (or_fault fault (event_outcome event read))
+    of_read : (read : Option HartOutcome) → DecidesGrammar (IsRowOf outcome_rows words) (or_fault fault read)
+        → DecidesGrammar (SaysOutcome event words) (or_fault fault (event_outcome event read))
     of_read None settles = λ outcome tells. settles (hart_of event, outcome) tells.0
     of_read (Some found) settles = by_test ((found.0 == hart_of event) && may_have event found.1) refl
       where
-        by_test : (b : Bool) → ((found.0 == hart_of event) && may_have event found.1) ≡ b → DecidesGrammar (SaysOutcome event words) (or_fault fault (cond b (Some found.1) None))
+        by_test : (b : Bool) → ((found.0 == hart_of event) && may_have event found.1) ≡ b
+            → DecidesGrammar (SaysOutcome event words) (or_fault fault (cond b (Some found.1) None))
         by_test true fits =
-            let both = and_parts (found.0 == hart_of event) (may_have event found.1) fits in
-            ((subst (λ (h : ℕ). IsRowOf outcome_rows words (h, found.1)) (eqb-true found.0 (hart_of event) both.0) settles.0, both.1), λ outcome tells. ap (λ (t : HartOutcome). t.1) (settles.1 (hart_of event, outcome) tells.0))
+            let both = and_parts (found.0 == hart_of event) (may_have event found.1) fits in (
+              (
+                subst (λ (h : ℕ). IsRowOf outcome_rows words (h, found.1))
+                    (eqb-true found.0 (hart_of event) both.0) settles.0,
+                both.1,
+              ),
+              λ outcome tells. ap (λ (t : HartOutcome). t.1) (settles.1 (hart_of event, outcome) tells.0),
+            )
         by_test false other = λ outcome tells.
             let same = settles.1 (hart_of event, outcome) tells.0 in
             let hart : (found.0 == hart_of event) ≡ true = eq-eqb found.0 (hart_of event) (sym (ap (λ (t : HartOutcome). t.0) same)) in
@@ -66,49 +79,130 @@ stop_again : (why : Stop) → (stop_of (stop_number why) ≡ Some why) × Word (
 stop_again why = grind arith
 
 load_says : (h a width v : ℕ) → Word h → IsWidth width → Word a → Word v → IsSaid h (Did (entry.Load h a width v)) (entry_row (entry.Load h a width v))
-load_says h a width v hart (inl (inl is)) a' v' = rw is (inr (inr (inl ((refl, (h, small h hart, (a, small a a', (v, small v v', refl))))))), (solid_by_test (codes "load1") refl, (solid h hart, (solid a a', (solid v v', tt)))))
-load_says h a width v hart (inl (inr is)) a' v' = rw is (inr (inr (inr (inl ((refl, (h, small h hart, (a, small a a', (v, small v v', refl)))))))), (solid_by_test (codes "load2") refl, (solid h hart, (solid a a', (solid v v', tt)))))
-load_says h a width v hart (inr is) a' v' = rw is (inr (inl ((refl, (h, small h hart, (a, small a a', (v, small v v', refl)))))), (solid_by_test (codes "load") refl, (solid h hart, (solid a a', (solid v v', tt)))))
+load_says h a width v hart (inl (inl is)) a' v' = rw is (
+  inr (inr (inl ((refl, (h, small h hart, (a, small a a', (v, small v v', refl))))))),
+  (solid_by_test (codes "load1") refl, (solid h hart, (solid a a', (solid v v', tt)))),
+)
+load_says h a width v hart (inl (inr is)) a' v' = rw is (
+  inr (inr (inr (inl ((refl, (h, small h hart, (a, small a a', (v, small v v', refl)))))))),
+  (solid_by_test (codes "load2") refl, (solid h hart, (solid a a', (solid v v', tt)))),
+)
+load_says h a width v hart (inr is) a' v' = rw is (
+  inr (inl ((refl, (h, small h hart, (a, small a a', (v, small v v', refl)))))),
+  (solid_by_test (codes "load") refl, (solid h hart, (solid a a', (solid v v', tt)))),
+)
 
 store_says : (h a width v : ℕ) → Word h → IsWidth width → Word a → Word v → IsSaid h (Did (entry.Store h a width v)) (entry_row (entry.Store h a width v))
-store_says h a width v hart (inl (inl is)) a' v' = rw is (inr (inr (inr (inr (inr (inl ((refl, (h, small h hart, (a, small a a', (v, small v v', refl)))))))))), (solid_by_test (codes "store1") refl, (solid h hart, (solid a a', (solid v v', tt)))))
-store_says h a width v hart (inl (inr is)) a' v' = rw is (inr (inr (inr (inr (inr (inr (inl ((refl, (h, small h hart, (a, small a a', (v, small v v', refl))))))))))), (solid_by_test (codes "store2") refl, (solid h hart, (solid a a', (solid v v', tt)))))
-store_says h a width v hart (inr is) a' v' = rw is (inr (inr (inr (inr (inl ((refl, (h, small h hart, (a, small a a', (v, small v v', refl))))))))), (solid_by_test (codes "store") refl, (solid h hart, (solid a a', (solid v v', tt)))))
+store_says h a width v hart (inl (inl is)) a' v' = rw is (
+  inr (inr (inr (inr (inr (inl ((refl, (h, small h hart, (a, small a a', (v, small v v', refl)))))))))),
+  (solid_by_test (codes "store1") refl, (solid h hart, (solid a a', (solid v v', tt)))),
+)
+store_says h a width v hart (inl (inr is)) a' v' = rw is (
+  inr (inr (inr (inr (inr (inr (inl ((refl, (h, small h hart, (a, small a a', (v, small v v', refl))))))))))),
+  (solid_by_test (codes "store2") refl, (solid h hart, (solid a a', (solid v v', tt)))),
+)
+store_says h a width v hart (inr is) a' v' = rw is (
+  inr (inr (inr (inr (inl ((refl, (h, small h hart, (a, small a a', (v, small v v', refl))))))))),
+  (solid_by_test (codes "store") refl, (solid h hart, (solid a a', (solid v v', tt)))),
+)
 
 said_here : (h : ℕ) (e : Entry) → Word h → Fits h e → HasWords e → IsSaid h (Did e) (entry_row e)
 said_here h (entry.Inner g) hart is words = rw (← is) (inl ((refl, (h, small h hart, refl))), (solid_by_test (codes "inner") refl, (solid h hart, tt)))
 said_here h (entry.Load g a width v) hart (is, width') (a', v') = rw (← is) (load_says h a width v hart width' a' v')
 said_here h (entry.Store g a width v) hart (is, width') (a', v') = rw (← is) (store_says h a width v hart width' a' v')
-said_here h (entry.Amo g a old new) hart is (a', old', new') = rw (← is) (inr (inr (inr (inr (inr (inr (inr (inl ((refl, (h, small h hart, (a, small a a', (old, small old old', (new, small new new', refl))))))))))))), (solid_by_test (codes "amo") refl, (solid h hart, (solid a a', (solid old old', (solid new new', tt))))))
-said_here h (entry.Fence g true) hart is words = rw (← is) (inr (inr (inr (inr (inr (inr (inr (inr (inl ((refl, (h, small h hart, (refl, refl)))))))))))), (solid_by_test (codes "fence") refl, (solid h hart, (solid_by_test (codes "full") refl, tt))))
-said_here h (entry.Fence g false) hart is words = rw (← is) (inr (inr (inr (inr (inr (inr (inr (inr (inr (inl ((refl, (h, small h hart, (refl, refl))))))))))))), (solid_by_test (codes "fence") refl, (solid h hart, (solid_by_test (codes "part") refl, tt))))
-said_here h (entry.Next g (Some w)) hart is w' = rw (← is) (inr (inr (inr (inr (inr (inr (inr (inr (inr (inr (inl ((refl, (h, small h hart, (w, small w w', refl)))))))))))))), (solid_by_test (codes "next") refl, (solid h hart, (solid w w', tt))))
-said_here h (entry.Next g None) hart is words = rw (← is) (inr (inr (inr (inr (inr (inr (inr (inr (inr (inr (inr (inl ((refl, (h, small h hart, (refl, refl))))))))))))))), (solid_by_test (codes "next") refl, (solid h hart, (solid_by_test (codes "end") refl, tt))))
-said_here h (entry.Took g i w) hart is (i', w') = rw (← is) (inr (inr (inr (inr (inr (inr (inr (inr (inr (inr (inr (inr (inl ((refl, (h, small h hart, (i, small i i', (w, small w w', refl))))))))))))))))), (solid_by_test (codes "took") refl, (solid h hart, (solid i i', (solid w w', tt)))))
-said_here h (entry.Closed g i) hart is i' = rw (← is) (inr (inr (inr (inr (inr (inr (inr (inr (inr (inr (inr (inr (inr (inl ((refl, (h, small h hart, (i, small i i', refl))))))))))))))))), (solid_by_test (codes "closed") refl, (solid h hart, (solid i i', tt))))
-said_here h (entry.Ended g) hart is words = rw (← is) (inr (inr (inr (inr (inr (inr (inr (inr (inr (inr (inr (inr (inr (inr (inl ((refl, (h, small h hart, refl))))))))))))))))), (solid_by_test (codes "ended") refl, (solid h hart, tt)))
-said_here h (entry.Stopped g why) hart is words = let n = stop_number why in let again = stop_again why in let n' = again.1 in rw (← is) (inr (inr (inr (inr (inr (inr (inr (inr (inr (inr (inr (inr (inr (inr (inr (inl ((refl, (h, small h hart, (n, small n n', ap (stopped h) again.0))))))))))))))))))), (solid_by_test (codes "stopped") refl, (solid h hart, (solid n n', tt))))
-said_here h (entry.Land g) hart is words = rw (← is) (inr (inr (inr (inr (inr (inr (inr (inr (inr (inr (inr (inr (inr (inr (inr (inr (inl ((refl, (h, small h hart, refl))))))))))))))))))), (solid_by_test (codes "land") refl, (solid h hart, tt)))
+said_here h (entry.Amo g a old new) hart is (a', old', new') = rw (← is) (
+  inr (inr (inr (inr (inr (inr
+      (inr (inl ((refl, (h, small h hart, (a, small a a', (old, small old old', (new, small new new', refl))))))))))))),
+  (solid_by_test (codes "amo") refl, (solid h hart, (solid a a', (solid old old', (solid new new', tt))))),
+)
+said_here h (entry.Fence g true) hart is words = rw (← is) (
+  inr (inr (inr (inr (inr (inr (inr (inr (inl ((refl, (h, small h hart, (refl, refl)))))))))))),
+  (solid_by_test (codes "fence") refl, (solid h hart, (solid_by_test (codes "full") refl, tt))),
+)
+said_here h (entry.Fence g false) hart is words = rw (← is) (
+  inr (inr (inr (inr (inr (inr (inr (inr (inr (inl ((refl, (h, small h hart, (refl, refl))))))))))))),
+  (solid_by_test (codes "fence") refl, (solid h hart, (solid_by_test (codes "part") refl, tt))),
+)
+said_here h (entry.Next g (Some w)) hart is w' = rw (← is) (
+  inr
+      (inr (inr (inr (inr (inr (inr (inr (inr (inr (inl ((refl, (h, small h hart, (w, small w w', refl)))))))))))))),
+  (solid_by_test (codes "next") refl, (solid h hart, (solid w w', tt))),
+)
+said_here h (entry.Next g None) hart is words = rw (← is) (
+  inr (inr (inr (inr (inr (inr (inr (inr (inr (inr (inr (inl ((refl, (h, small h hart, (refl, refl))))))))))))))),
+  (solid_by_test (codes "next") refl, (solid h hart, (solid_by_test (codes "end") refl, tt))),
+)
+said_here h (entry.Took g i w) hart is (i', w') = rw (← is) (
+  inr (inr (inr (inr (inr (inr
+      (inr (inr (inr (inr (inr (inr (inl ((refl, (h, small h hart, (i, small i i', (w, small w w', refl))))))))))))))))),
+  (solid_by_test (codes "took") refl, (solid h hart, (solid i i', (solid w w', tt)))),
+)
+said_here h (entry.Closed g i) hart is i' = rw (← is) (
+  inr (inr (inr (inr
+      (inr (inr (inr (inr (inr (inr (inr (inr (inr (inl ((refl, (h, small h hart, (i, small i i', refl))))))))))))))))),
+  (solid_by_test (codes "closed") refl, (solid h hart, (solid i i', tt))),
+)
+said_here h (entry.Ended g) hart is words = rw (← is) (
+  inr (inr
+      (inr (inr (inr (inr (inr (inr (inr (inr (inr (inr (inr (inr (inl ((refl, (h, small h hart, refl))))))))))))))))),
+  (solid_by_test (codes "ended") refl, (solid h hart, tt)),
+)
+said_here h (entry.Stopped g why) hart is words = let n = stop_number why in
+    let again = stop_again why in
+    let n' = again.1 in
+    rw (← is) (
+      inr (inr (inr (inr (inr (inr (inr (inr (inr (inr
+          (inr (inr (inr (inr (inr (inl ((refl, (h, small h hart, (n, small n n', ap (stopped h) again.0))))))))))))))))))),
+      (solid_by_test (codes "stopped") refl, (solid h hart, (solid n n', tt))),
+    )
+said_here h (entry.Land g) hart is words = rw (← is) (
+  inr (inr (inr (inr
+      (inr (inr (inr (inr (inr (inr (inr (inr (inr (inr (inr (inr (inl ((refl, (h, small h hart, refl))))))))))))))))))),
+  (solid_by_test (codes "land") refl, (solid h hart, tt)),
+)
 
 pub outcome_says : (h : ℕ) (outcome : Outcome) → Word h → OutcomeFits h outcome → OutcomeHasWords outcome → IsSaid h outcome (outcome_row h outcome)
 outcome_says h (Did e) hart fits words = said_here h e hart fits words
-outcome_says h Waited hart fits words = (inr (inr (inr (inr (inr (inr (inr (inr (inr (inr (inr (inr (inr (inr (inr (inr (inr (inl ((refl, (h, small h hart, refl)))))))))))))))))))), (solid_by_test (codes "waited") refl, (solid h hart, tt)))
-outcome_says h NothingToLand hart fits words = (inr (inr (inr (inr (inr (inr (inr (inr (inr (inr (inr (inr (inr (inr (inr (inr (inr (inr (inl ((refl, (h, small h hart, refl))))))))))))))))))))), (solid_by_test (codes "nothing") refl, (solid h hart, tt)))
-outcome_says h Over hart fits words = (inr (inr (inr (inr (inr (inr (inr (inr (inr (inr (inr (inr (inr (inr (inr (inr (inr (inr (inr (inl ((refl, (h, small h hart, refl)))))))))))))))))))))), (solid_by_test (codes "over") refl, (solid h hart, tt)))
-outcome_says h NoHart hart fits words = (inr (inr (inr (inr (inr (inr (inr (inr (inr (inr (inr (inr (inr (inr (inr (inr (inr (inr (inr (inr (inl ((refl, (h, small h hart, refl))))))))))))))))))))))), (solid_by_test (codes "nohart") refl, (solid h hart, tt)))
+outcome_says h Waited hart fits words = (
+  inr (inr (inr (inr (inr (inr
+      (inr (inr (inr (inr (inr (inr (inr (inr (inr (inr (inr (inl ((refl, (h, small h hart, refl)))))))))))))))))))),
+  (solid_by_test (codes "waited") refl, (solid h hart, tt)),
+)
+outcome_says h NothingToLand hart fits words = (
+  inr (inr (inr (inr (inr (inr (inr
+      (inr (inr (inr (inr (inr (inr (inr (inr (inr (inr (inr (inl ((refl, (h, small h hart, refl))))))))))))))))))))),
+  (solid_by_test (codes "nothing") refl, (solid h hart, tt)),
+)
+outcome_says h Over hart fits words = (
+  inr (inr (inr (inr (inr (inr (inr (inr
+      (inr (inr (inr (inr (inr (inr (inr (inr (inr (inr (inr (inl ((refl, (h, small h hart, refl)))))))))))))))))))))),
+  (solid_by_test (codes "over") refl, (solid h hart, tt)),
+)
+outcome_says h NoHart hart fits words = (
+  inr (inr (inr (inr (inr (inr (inr (inr (inr
+      (inr (inr (inr (inr (inr (inr (inr (inr (inr (inr (inr (inl ((refl, (h, small h hart, refl))))))))))))))))))))))),
+  (solid_by_test (codes "nohart") refl, (solid h hart, tt)),
+)
 
-pub outcome_read : (event : Event) (words : List (List ℕ)) (outcome : Outcome) → SaysOutcome event words outcome ↔ (event_outcome event (rows_at outcome_rows words) ≡ Some outcome)
+pub outcome_read : (event : Event) (words : List (List ℕ)) (outcome : Outcome)
+    → SaysOutcome event words outcome ↔ (event_outcome event (rows_at outcome_rows words) ≡ Some outcome)
 outcome_read event words outcome = go (event_outcome event (rows_at outcome_rows words)) (outcome_settles (at_byte BadOutcome 0) event words)
   where
-    go : (found : Option Outcome) → DecidesGrammar (SaysOutcome event words) (or_fault (at_byte BadOutcome 0) found) → SaysOutcome event words outcome ↔ (found ≡ Some outcome)
+    go : (found : Option Outcome) → DecidesGrammar (SaysOutcome event words) (or_fault (at_byte BadOutcome 0) found)
+        → SaysOutcome event words outcome ↔ (found ≡ Some outcome)
     go None settles = (λ tells. absurd (settles outcome tells), λ e. absurd cc)
-    go (Some x) settles = (λ tells. ap (λ (o : Outcome). some o) (sym (settles.1 outcome tells)), λ e. subst (SaysOutcome event words) (some_is x outcome e) settles.0)
+    go (Some x) settles = (
+      λ tells. ap (λ (o : Outcome). some o) (sym (settles.1 outcome tells)),
+      λ e. subst (SaysOutcome event words) (some_is x outcome e) settles.0,
+    )
 
-pub outcome_again : (event : Event) (outcome : Outcome) → hart_of event < 64 → IsOutcomeOf event outcome → OutcomeHasWords outcome → SaysOutcome event (tokens (outcome_text (hart_of event) outcome)) outcome
+pub outcome_again : (event : Event) (outcome : Outcome) → hart_of event < 64 → IsOutcomeOf event outcome
+    → OutcomeHasWords outcome → SaysOutcome event (tokens (outcome_text (hart_of event) outcome)) outcome
 outcome_again event outcome hart can words = grind (arith, outcome_says, row-again)
 
 -- words are read by how many they are, and by the first
-pub outcome_chain : (name : List ℕ) (words : List (List ℕ)) → rows_at outcome_rows (name ∷ words) ≡ chain_at (of_length (suc (length words)) outcome_rows) name words
+pub outcome_chain : (name : List ℕ) (words : List (List ℕ))
+    → rows_at outcome_rows (name ∷ words) ≡ chain_at (of_length (suc (length words)) outcome_rows) name words
 outcome_chain name words = rows-of_length outcome_rows (name ∷ words) ∙ rows-by_name (of_length (suc (length words)) outcome_rows) name words
 
 -- one word says nothing

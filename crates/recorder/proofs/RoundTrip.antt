@@ -1,5 +1,6 @@
 -- What the writer writes is a schedule of its events.
-use Rattle.std.proofs.Common.{◌≡◌, ℕ, ◌+◌, ◌^◌, ◌<◌, ◌≤◌, Bool, false, List, [], ◌∷◌, ◌++◌, length, replicate, refl, sym, ap, subst, ◌∙◌, inl, inr, append_assoc, length-append, arith}
+use Rattle.std.proofs.Common.{◌≡◌, ℕ, ◌+◌, ◌^◌, ◌<◌, ◌≤◌, Bool, false, List, [], ◌∷◌, ◌++◌, length, replicate}
+use Rattle.std.proofs.Common.{refl, sym, ap, subst, ◌∙◌, inl, inr, append_assoc, length-append, arith}
 use Rattle.std.specs.List.{AllByRecursion}
 use Rattle.std.specs.Fmt.{decimal}
 use Rattle.std.proofs.lemmas.Bool.{cases_lt, lt-ltb, le-ltb, ne_eqb}
@@ -33,7 +34,8 @@ abbrev AreFit : List (Run Event) → Type 0
 AreFit runs = AllByRecursion IsFit runs
 
 AreFit-runs_of : (events : List Event) → OfHarts events → AreFit (runs_of is_same events)
-AreFit-runs_of events harts = all-runs_of is_same decides (λ (e : Event). hart_of e < 64) events (recursion_from_All (λ (e : Event). hart_of e < 64) events harts)
+AreFit-runs_of events harts =
+    all-runs_of is_same decides (λ (e : Event). hart_of e < 64) events (recursion_from_All (λ (e : Event). hart_of e < 64) events harts)
 
 -- ---- a token is one piece
 
@@ -57,7 +59,11 @@ IsToken run word = Spells run.0 word run.1 × Solid word
 
 -- a run's token spells its event and how often it stands, and nothing in it parts pieces
 pub token_fits : (run : Run Event) → IsFit run → run.1 < 2 ^ 64 → IsToken run (token_of run)
-token_fits run fit small = elim (cases_lt 1 run.1) [ inl more ↦ subst (IsToken run) (sym (token-more run more)) (repeats more) | inr one ↦ subst (IsToken run) (sym (token-one run one)) (comes_once one) ]
+token_fits run fit small =
+    elim (cases_lt 1 run.1) [
+      | inl more ↦ subst (IsToken run) (sym (token-more run more)) (repeats more)
+      | inr one ↦ subst (IsToken run) (sym (token-one run one)) (comes_once one)
+    ]
   where
     hart : Says (decimal (hart_of run.0)) (hart_of run.0)
     hart = decimal_is_IsNumeral (hart_of run.0) (omega (arith, fit.0))
@@ -66,30 +72,39 @@ token_fits run fit small = elim (cases_lt 1 run.1) [ inl more ↦ subst (IsToken
     printed = (decimal_solid (hart_of run.0) (omega (arith, fit.0))).1
 
     repeats : 1 < run.1 → IsToken run (letter run.0 ∷ (decimal (hart_of run.0) ++ 42 ∷ decimal run.1))
-    repeats more =
-        (repeated (decimal (hart_of run.0)) (decimal run.1) run.1 hart (decimal_is_IsNumeral run.1 small), after_letter run.0 (decimal (hart_of run.0) ++ 42 ∷ decimal run.1) (none-append is_low (decimal (hart_of run.0)) (42 ∷ decimal run.1) printed (refl, (decimal_solid run.1 small).1)))
+    repeats more = (
+      repeated (decimal (hart_of run.0)) (decimal run.1) run.1 hart (decimal_is_IsNumeral run.1 small),
+      after_letter run.0 (decimal (hart_of run.0) ++ 42 ∷ decimal run.1)
+          (none-append is_low (decimal (hart_of run.0)) (42 ∷ decimal run.1) printed (refl, (decimal_solid run.1 small).1)),
+    )
 
     comes_once : run.1 ≤ 1 → IsToken run (letter run.0 ∷ decimal (hart_of run.0))
     comes_once one =
-        let times : 1 ≡ run.1 = omega (arith, fit.1) in
-        (subst (λ (n : ℕ). Spells run.0 (letter run.0 ∷ decimal (hart_of run.0)) n) times (once (decimal (hart_of run.0)) hart), after_letter run.0 (decimal (hart_of run.0)) printed)
+        let times : 1 ≡ run.1 = omega (arith, fit.1) in (
+          subst (λ (n : ℕ). Spells run.0 (letter run.0 ∷ decimal (hart_of run.0)) n) times (once (decimal (hart_of run.0)) hart),
+          after_letter run.0 (decimal (hart_of run.0)) printed,
+        )
 
 -- ---- the tokens of runs stand for their events
 
 -- a text ends with nothing, or with a separator: what follows its last token is tail, which stands for no event
-module _ (end : List ℕ) (tail : List (List ℕ)) (none : Stand IsPieceOf tail []) (ends : (word : List ℕ) → NonePass parts word → pieces BlanksAndLineEnds (word ++ end) ≡ word ∷ tail) where
-  text_stands : (runs : List (Run Event)) → AreFit runs → length (expanded runs) ≤ 1048576 → Stand IsPieceOf (pieces BlanksAndLineEnds (text_of runs ++ end)) (expanded runs)
+module _ (end : List ℕ) (tail : List (List ℕ)) (none : Stand IsPieceOf tail [])
+    (ends : (word : List ℕ) → NonePass parts word → pieces BlanksAndLineEnds (word ++ end) ≡ word ∷ tail) where
+  text_stands : (runs : List (Run Event)) → AreFit runs → length (expanded runs) ≤ 1048576
+      → Stand IsPieceOf (pieces BlanksAndLineEnds (text_of runs ++ end)) (expanded runs)
   text_stands [] fit few = rw (ends [] tt) ([], [], refl, refl, none)
   text_stands (run ∷ []) fit few =
       let token = token_fits run fit.0 (omega (arith, length-append (replicate run.1 run.0) [], length-replicate run.1 run.0)) in
       subst (λ (ps : List (List ℕ)). Stand IsPieceOf ps (expanded (run ∷ []))) (sym (ends (token_of run) (none_of parts parts_none (token_of run) token.1.1)))
       (replicate run.1 run.0, [], (run.0, run.1, token.0, fit.0.0, fit.0.1, refl), refl, none)
   text_stands (run ∷ next ∷ runs) fit few =
-      let total : length (expanded (run ∷ next ∷ runs)) ≡ run.1 + length (expanded (next ∷ runs)) = omega (arith, length-append (replicate run.1 run.0) (expanded (next ∷ runs)), length-replicate run.1 run.0) in
+      let total : length (expanded (run ∷ next ∷ runs)) ≡ run.1 + length (expanded (next ∷ runs)) =
+      omega (arith, length-append (replicate run.1 run.0) (expanded (next ∷ runs)), length-replicate run.1 run.0) in
       let token = token_fits run fit.0 (omega arith) in
       let rest = text_of (next ∷ runs) ++ end in
       let first = split_stop parts (token_of run) 32 rest (none_of parts parts_none (token_of run) token.1.1) refl in
-      subst (λ (ps : List (List ℕ)). Stand IsPieceOf ps (expanded (run ∷ next ∷ runs))) (sym (ap (pieces BlanksAndLineEnds) (append_assoc (token_of run) (32 ∷ text_of (next ∷ runs)) end) ∙ first))
+      subst (λ (ps : List (List ℕ)). Stand IsPieceOf ps (expanded (run ∷ next ∷ runs)))
+      (sym (ap (pieces BlanksAndLineEnds) (append_assoc (token_of run) (32 ∷ text_of (next ∷ runs)) end) ∙ first))
       (replicate run.1 run.0, expanded (next ∷ runs), (run.0, run.1, token.0, fit.0.0, fit.0.1, refl), refl, text_stands (next ∷ runs) fit.1 (omega arith))
 
   events_again : (events : List Event) → OfHarts events → length events ≤ 1048576 → IsTokensOf (tokens_of events ++ end) events

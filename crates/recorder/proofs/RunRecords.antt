@@ -13,7 +13,8 @@ use Rattle.recorder.specs.Records.{Step, events_in}
 use Rattle.recorder.specs.Replaying.{RecordFrom, IsRunRecord, DiffersAt}
 
 -- one more step at the end
-pub RecordFrom-more : (B M : ℕ) (t : History) (steps : List Step) (mid : History) (step : Step) (new : History) → RecordFrom B M t steps mid → Happens B M mid step.0 step.1 new → RecordFrom B M t (steps ++ step ∷ []) new
+pub RecordFrom-more : (B M : ℕ) (t : History) (steps : List Step) (mid : History) (step : Step) (new : History)
+    → RecordFrom B M t steps mid → Happens B M mid step.0 step.1 new → RecordFrom B M t (steps ++ step ∷ []) new
 RecordFrom-more B M t [] mid step new is happens = (new, subst (λ (u : History). Happens B M u step.0 step.1 new) is happens, refl)
 RecordFrom-more B M t (first ∷ steps) mid step new is happens = (is.0, is.1, RecordFrom-more B M is.0 steps mid step new is.2 happens)
 
@@ -23,11 +24,17 @@ RecordFrom-RunFrom B M t [] new is = is
 RecordFrom-RunFrom B M t (step ∷ steps) new is = (step.1, is.0, is.1, RecordFrom-RunFrom B M is.0 steps new is.2)
 
 -- the first steps are a record, and the next has happened as it says
-pub record_more : (B M : ℕ) (t : History) (steps : List Step) (i : ℕ) (d : Step) (mid : History) (new : History) → i < length steps → RecordFrom B M t (take i steps) mid → Happens B M mid (get_or steps i d).0 (get_or steps i d).1 new → RecordFrom B M t (take (i + 1) steps) new
-record_more B M t steps i d mid new within is happens = subst (λ (front : List Step). RecordFrom B M t front new) (sym (take_more steps i d within)) (RecordFrom-more B M t (take i steps) mid (get_or steps i d) new is happens)
+pub record_more : (B M : ℕ) (t : History) (steps : List Step) (i : ℕ) (d : Step) (mid : History) (new : History)
+    → i < length steps → RecordFrom B M t (take i steps) mid
+    → Happens B M mid (get_or steps i d).0 (get_or steps i d).1 new → RecordFrom B M t (take (i + 1) steps) new
+record_more B M t steps i d mid new within is happens = subst (λ (front : List Step). RecordFrom B M t front new)
+    (sym (take_more steps i d within)) (RecordFrom-more B M t (take i steps) mid (get_or steps i d) new is happens)
 
-pub checked_more : (B M : ℕ) (t : History) (steps : List Step) (i : ℕ) (d : Step) (mid : History) (o : Outcome) (new : History) → i < length steps → RecordFrom B M t (take i steps) mid → Happens B M mid (get_or steps i d).0 o new → o ≡ (get_or steps i d).1 → RecordFrom B M t (take (i + 1) steps) new
-checked_more B M t steps i d mid o new within is happens same = record_more B M t steps i d mid new within is (subst (λ (p : Outcome). Happens B M mid (get_or steps i d).0 p new) same happens)
+pub checked_more : (B M : ℕ) (t : History) (steps : List Step) (i : ℕ) (d : Step) (mid : History) (o : Outcome)
+    (new : History) → i < length steps → RecordFrom B M t (take i steps) mid
+    → Happens B M mid (get_or steps i d).0 o new → o ≡ (get_or steps i d).1 → RecordFrom B M t (take (i + 1) steps) new
+checked_more B M t steps i d mid o new within is happens same = record_more B M t steps i d mid new within is
+    (subst (λ (p : Outcome). Happens B M mid (get_or steps i d).0 p new) same happens)
 
 -- or the next has another outcome than it says
 pub differs_here : (B M : ℕ) (o : OpeningValue) (steps : List Step) (i : ℕ) (d : Step) (mid : History) (out : Outcome) (new : History) → i < length steps
@@ -40,7 +47,8 @@ events_in-append : (front back : List Step) → events_in (front ++ back) ≡ ev
 events_in-append [] back = refl
 events_in-append (step ∷ front) back = ap (λ (rest : List Event). step.0 ∷ rest) (events_in-append front back)
 
-pub events_more : (steps : List Step) (i : ℕ) (d : Step) (old new : List Event) → i < length steps → old ≡ events_in (take i steps) → new ≡ old ++ (get_or steps i d).0 ∷ [] → new ≡ events_in (take (i + 1) steps)
+pub events_more : (steps : List Step) (i : ℕ) (d : Step) (old new : List Event) → i < length steps
+    → old ≡ events_in (take i steps) → new ≡ old ++ (get_or steps i d).0 ∷ [] → new ≡ events_in (take (i + 1) steps)
 events_more steps i d old new within so_far pushed =
     pushed
     ∙ ap (λ (front : List Event). front ++ (get_or steps i d).0 ∷ []) so_far
@@ -49,7 +57,8 @@ events_more steps i d old new within so_far pushed =
 
 -- one more event has happened, and is noted
 pub one_recorded : (B M : ℕ) (t : History) (old new : List Step) (events : List Event) (i : ℕ) (d : Event) (o : Outcome) (mid after : History)
-    → i < length events → RecordFrom B M t old mid → events_in old ≡ take i events → Happens B M mid (get_or events i d) o after → new ≡ old ++ (get_or events i d, o) ∷ []
+    → i < length events → RecordFrom B M t old mid → events_in old ≡ take i events
+    → Happens B M mid (get_or events i d) o after → new ≡ old ++ (get_or events i d, o) ∷ []
     → RecordFrom B M t new after × (events_in new ≡ take (i + 1) events)
 one_recorded B M t old new events i d o mid after within is same happens noted = grind (arith, get_or, RecordFrom-more, events_in-append, take_more)
 
@@ -60,7 +69,10 @@ alike B M t [] a b one other = one ∙ sym other
 alike B M t (step ∷ steps) a b one other = grind (arith, happens-one, alike B M other.0 steps a b)
 
 -- the part of a record before a place, and what its step says there
-cut : (B M : ℕ) (t : History) (steps : List Step) (new : History) (k : ℕ) (step : Step) → RecordFrom B M t steps new → slice_get steps k ≡ Some step → (before : History) × (after : History) × RecordFrom B M t (take k steps) before × Happens B M before step.0 step.1 after
+cut : (B M : ℕ) (t : History) (steps : List Step) (new : History) (k : ℕ) (step : Step) → RecordFrom B M t steps new
+    → slice_get steps k ≡ Some step
+    → (before : History) × (after : History) × RecordFrom B M t (take k steps) before
+    × Happens B M before step.0 step.1 after
 cut B M t [] new k step is stands = absurd cc
 cut B M t (first ∷ steps) new zero step is stands = (t, is.0, refl, subst (λ (s : Step). Happens B M t s.0 s.1 is.0) (some_is first step stands) is.1)
 cut B M t (first ∷ steps) new (suc k) step is stands = grind (arith, cut B M is.0 steps new k step is.2 stands)

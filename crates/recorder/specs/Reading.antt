@@ -1,5 +1,7 @@
 -- Reading tokens from the left, with the first fault that is met and its byte.
-use Rattle.std.specs.Prelude.{◌≡◌, ℕ, ◌+◌, ◌-◌, ◌==◌, nat_lt, nat_le, is_some, Bool, true, false, ◌&&◌, ◌||◌, if◌then◌else◌, List, [], ◌∷◌, ◌++◌, length, drop, replicate, Option, Some, None, Result, Ok, Err, IfSome, codes, nat_eq}
+use Rattle.std.specs.Prelude.{◌≡◌, ℕ, ◌+◌, ◌-◌, ◌==◌, nat_lt, nat_le, is_some, Bool, true, false, ◌&&◌, ◌||◌}
+use Rattle.std.specs.Prelude.{if◌then◌else◌, List, [], ◌∷◌, ◌++◌, length, drop, replicate, Option, Some, None, Result}
+use Rattle.std.specs.Prelude.{Ok, Err, IfSome, codes, nat_eq}
 use Rattle.std.specs.List.{starts_with}
 use Rattle.step_machine.specs.declared.events.Event.{Event}
 use Rattle.step_machine.specs.declared.events.Event.TheVariants.{Act, Land}
@@ -71,7 +73,9 @@ abbrev pub shape_fault : (end place : ℕ) → List ℕ → AtByte
 shape_fault end place word = if is_cut word && ((place + length word) == end) then at_byte Truncated end else at_byte BadToken place
 
 abbrev pub decoded : (place room : ℕ) → Token → Result (Event × ℕ) AtByte
-decoded place room token = if nat_le MAX_HARTS token.hart then Err (at_byte BadHart place) else (if (token.times == 0) || nat_lt room token.times then Err (at_byte BadCount place) else Ok (event_of token.kind token.hart, token.times))
+decoded place room token = if nat_le MAX_HARTS token.hart then Err (at_byte BadHart place)
+    else (if (token.times == 0) || nat_lt room token.times then Err (at_byte BadCount place)
+    else Ok (event_of token.kind token.hart, token.times))
 
 unfoldable pub run_at : (end place room : ℕ) → List ℕ → Result (Event × ℕ) AtByte
 run_at end place room word = do

@@ -26,7 +26,8 @@ pub data Spells (event : Event) : List ℕ → ℕ → Type 0 where
 -- A piece is a token for a run of one event of one of the harts, once at least, or it is empty and for none.
 abbrev pub IsPieceOf : List ℕ → List Event → Type 0
 IsPieceOf [] events = events ≡ []
-IsPieceOf (c ∷ token) events = (event : Event) × (times : ℕ) × Spells event (c ∷ token) times × (hart_of event < MAX_HARTS) × (0 < times) × (events ≡ replicate times event)
+IsPieceOf (c ∷ token) events = (event : Event) × (times : ℕ) × Spells event (c ∷ token) times
+    × (hart_of event < MAX_HARTS) × (0 < times) × (events ≡ replicate times event)
 
 -- The tokens of the text stand for these events, which are at most 1,048,576. Tokens are parted by
 -- spaces, tabs, CR and LF.

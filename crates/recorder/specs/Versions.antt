@@ -36,7 +36,8 @@ IsScheduleOf text events = (said : ScheduleValue) × Says text said × (events �
 -- ---- the reading
 
 unfoldable pub said_at : List ℕ → Result ScheduleValue AtByte
-said_at text = if has_head head text then (tokens_from 15 MAX_EVENTS text >>= λ events. Ok (plain events)) else (record_at text >>= λ steps. Ok (recorded steps))
+said_at text = if has_head head text then (tokens_from 15 MAX_EVENTS text >>= λ events. Ok (plain events))
+    else (record_at text >>= λ steps. Ok (recorded steps))
 
 unfoldable pub schedule_at : List ℕ → Result (List Event) AtByte
 schedule_at text = do

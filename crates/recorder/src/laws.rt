@@ -33,7 +33,8 @@ pub fn one_value()
 #[tactic(auto, using(crate::proofs::HeadLaws::refused_tokens, crate::proofs::HeadLaws::refused_further, crate::proofs::HeadLaws::refused_said))]
 pub fn refused_without_value()
     ensures tokens { (text : List ℕ) → IsErr (tokens_at MAX_EVENTS text) ↔ ((events : List Event) → ¬ IsTokensOf text events) }
-    ensures further { (before : ℕ) (text : List ℕ) → before ≤ MAX_EVENTS → IsErr (tokens_after before text) ↔ ((events : List Event) → IsTokensOf text events → ¬ (before + length events ≤ MAX_EVENTS)) }
+    ensures further { (before : ℕ) (text : List ℕ) → before ≤ MAX_EVENTS → IsErr (tokens_after before text) ↔
+        ((events : List Event) → IsTokensOf text events → ¬ (before + length events ≤ MAX_EVENTS)) }
     ensures schedules { (text : List ℕ) → IsErr (said_at text) ↔ ((said : ScheduleValue) → ¬ Says text said) }
     ensures records { (text : List ℕ) → IsErr (record_at text) ↔ ((steps : List Step) → ¬ IsRecordOf text steps) }
 {}
@@ -60,14 +61,18 @@ pub fn tokens_are_read_again()
 /// 4 and of words, says this outcome; words are read as an outcome exactly where they say it. It does
 /// nothing.
 pub fn outcomes_are_read_again()
-    ensures again { (event : Event) (outcome : Outcome) → hart_of event < MAX_HARTS → IsOutcomeOf event outcome → OutcomeHasWords outcome → SaysOutcome event (tokens (outcome_text (hart_of event) outcome)) outcome }
-    ensures read { (event : Event) (words : List (List ℕ)) (outcome : Outcome) → SaysOutcome event words outcome ↔ (event_outcome event (rows_at outcome_rows words) ≡ Some outcome) }
+    ensures again { (event : Event) (outcome : Outcome) → hart_of event < MAX_HARTS → IsOutcomeOf event outcome
+        → OutcomeHasWords outcome → SaysOutcome event (tokens (outcome_text (hart_of event) outcome)) outcome }
+    ensures read { (event : Event) (words : List (List ℕ)) (outcome : Outcome)
+        → SaysOutcome event words outcome ↔ (event_outcome event (rows_at outcome_rows words) ≡ Some outcome) }
 {}
 
 /// A record of a run is the run of its events, and no check of it finds another outcome. It does nothing.
 pub fn records_are_runs()
-    ensures runs { (B M : ℕ) (o : OpeningValue) (steps : List Step) (history : History) → IsRunRecord B M o steps history → Run B M o (events_in steps) history }
-    ensures no_other { (B M : ℕ) (o : OpeningValue) (steps : List Step) (history : History) (place : ℕ) → IsRunRecord B M o steps history → ¬ DiffersAt B M o steps place }
+    ensures runs { (B M : ℕ) (o : OpeningValue) (steps : List Step) (history : History)
+        → IsRunRecord B M o steps history → Run B M o (events_in steps) history }
+    ensures no_other { (B M : ℕ) (o : OpeningValue) (steps : List Step) (history : History) (place : ℕ)
+        → IsRunRecord B M o steps history → ¬ DiffersAt B M o steps place }
 {}
 
 /// The steps of a record's text can be written, and so can those of a run's record, where its events are of
@@ -75,5 +80,6 @@ pub fn records_are_runs()
 pub fn records_can_be_written()
     ensures texts { (text : List ℕ) (steps : List Step) → IsRecordOf text steps → All CanBeWritten steps }
     ensures few { (text : List ℕ) (steps : List Step) → IsRecordOf text steps → length steps ≤ MAX_EVENTS }
-    ensures runs { (B M : ℕ) (o : OpeningValue) (steps : List Step) (history : History) → IsRunRecord B M o steps history → OfHarts (events_in steps) → All CanBeWritten steps }
+    ensures runs { (B M : ℕ) (o : OpeningValue) (steps : List Step) (history : History)
+        → IsRunRecord B M o steps history → OfHarts (events_in steps) → All CanBeWritten steps }
 {}

@@ -155,7 +155,8 @@ fn push_list(events: &mut Vec<Event>, list: Vec<Event>) -> Result<(), AllocError
 /// passes it.
 pub fn push_tokens_of(events: &mut Vec<Event>, text: &[u8]) -> Result<(), ScheduleError>
     ensures found { OnOk result ((read : List Event) × IsTokensOf text.now read × (events.new.items ≡ events.old.items ++ read)) }
-    ensures only { (read : List Event) → IsTokensOf text.now read → vec_len events.old + length read ≤ MAX_EVENTS → Pushes events.old.items events.new.items result (Ok read) }
+    ensures only { (read : List Event) → IsTokensOf text.now read → vec_len events.old + length read ≤ MAX_EVENTS
+        → Pushes events.old.items events.new.items result (Ok read) }
     ensures exact { Pushes events.old.items events.new.items result (tokens_after (vec_len events.old) text.now) }
 {
     let read = tokens_after(*events.allocator(), text, events.len())?;

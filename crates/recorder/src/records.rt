@@ -14,7 +14,8 @@ ghost use Rattle.recorder.specs.declared.faults.ScheduleFault.TheVariants.{BadHe
 ghost use Rattle.recorder.specs.Schedule.{OfHarts};
 ghost use Rattle.recorder.specs.Outcomes.{OutcomeHasWords};
 ghost use Rattle.recorder.specs.Reading.{has_head, Pushes};
-ghost use Rattle.recorder.specs.Records.{Step, events_in, ends_early, steps_at, records_from, record_head, record_at, IsRecordOf, is_same_step, record_line, record_text, CanBeWritten};
+ghost use Rattle.recorder.specs.Records.{Step, events_in, ends_early, steps_at, records_from, record_head, record_at};
+ghost use Rattle.recorder.specs.Records.{IsRecordOf, is_same_step, record_line, record_text, CanBeWritten};
 
 use crate::faults::{ScheduleError, ScheduleFault};
 use crate::heads::{RECORD_HEAD, has_head};

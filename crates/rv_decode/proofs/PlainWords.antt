@@ -5,7 +5,9 @@ use Rattle.std.proofs.lemmas.Nat.{shr-shr, shr_split}
 use Rattle.rv_decode.specs.Word.{field, imm_i, imm_s, imm_b, imm_j}
 use Rattle.rv_decode.specs.Fits.{IsPlainWord}
 use Rattle.rv_decode.specs.declared.instruction.Instr.{Instr}
-use Rattle.rv_decode.specs.declared.instruction.Instr.TheVariants.{Lui, Auipc, Jal, Jalr, Branch, Load, Store, Immediate, Shift, Register, Fence, FenceTso, Ecall, Ebreak, Amo}
+use Rattle.rv_decode.specs.declared.instruction.Instr.TheVariants.{Lui, Auipc, Jal, Jalr, Branch, Load, Store}
+use Rattle.rv_decode.specs.declared.instruction.Instr.TheVariants.{Immediate, Shift, Register, Fence, FenceTso, Ecall}
+use Rattle.rv_decode.specs.declared.instruction.Instr.TheVariants.{Ebreak, Amo}
 
 -- ---- words with the same fields are one
 
@@ -42,10 +44,14 @@ same_imm_i a b e = (omega (arith, ints), omega (arith, ints))
 same_imm_s : (a b : ℕ) → imm_s a ≡ imm_s b → (field a 7 5 ≡ field b 7 5) × (field a 25 6 ≡ field b 25 6) × (field a 31 1 ≡ field b 31 1)
 same_imm_s a b e = (omega (arith, ints), omega (arith, ints), omega (arith, ints))
 
-same_imm_b : (a b : ℕ) → imm_b a ≡ imm_b b → (field a 7 1 ≡ field b 7 1) × (field a 8 4 ≡ field b 8 4) × (field a 25 6 ≡ field b 25 6) × (field a 31 1 ≡ field b 31 1)
+same_imm_b : (a b : ℕ) → imm_b a ≡ imm_b b
+    → (field a 7 1 ≡ field b 7 1) × (field a 8 4 ≡ field b 8 4) × (field a 25 6 ≡ field b 25 6)
+    × (field a 31 1 ≡ field b 31 1)
 same_imm_b a b e = (omega (arith, ints), omega (arith, ints), omega (arith, ints), omega (arith, ints))
 
-same_imm_j : (a b : ℕ) → imm_j a ≡ imm_j b → (field a 12 8 ≡ field b 12 8) × (field a 20 1 ≡ field b 20 1) × (field a 21 10 ≡ field b 21 10) × (field a 31 1 ≡ field b 31 1)
+same_imm_j : (a b : ℕ) → imm_j a ≡ imm_j b
+    → (field a 12 8 ≡ field b 12 8) × (field a 20 1 ≡ field b 20 1) × (field a 21 10 ≡ field b 21 10)
+    × (field a 31 1 ≡ field b 31 1)
 same_imm_j a b e = (omega (arith, ints), omega (arith, ints), omega (arith, ints), omega (arith, ints))
 
 -- two fields, each of which a third number determines
@@ -68,25 +74,61 @@ one_plain_word (Jalr rd rs1 offset) a b (fa, m, p) (fb, n, q) =
     same_word (7 ∷ 5 ∷ 3 ∷ 5 ∷ 11 ∷ 1 ∷ []) a b (meet m.0 n.0, (join m.2 n.2, (meet m.1 n.1, (join m.3 n.3, (imm.0, (imm.1, nothing_above a b fa fb))))))
 one_plain_word (Branch op rs1 rs2 offset) a b (fa, m, p) (fb, n, q) =
     let imm = same_imm_b a b (join m.4 n.4) in
-    same_word (7 ∷ 1 ∷ 4 ∷ 3 ∷ 5 ∷ 5 ∷ 6 ∷ 1 ∷ []) a b (meet m.0 n.0, (imm.0, (imm.1, (meet m.1 n.1, (join m.2 n.2, (join m.3 n.3, (imm.2, (imm.3, nothing_above a b fa fb))))))))
+    same_word (7 ∷ 1 ∷ 4 ∷ 3 ∷ 5 ∷ 5 ∷ 6 ∷ 1 ∷ []) a b (
+      meet m.0 n.0,
+      (imm.0, (imm.1, (meet m.1 n.1, (join m.2 n.2, (join m.3 n.3, (imm.2, (imm.3, nothing_above a b fa fb))))))),
+    )
 one_plain_word (Load op rd rs1 offset) a b (fa, m, p) (fb, n, q) =
     let imm = same_imm_i a b (join m.4 n.4) in
     same_word (7 ∷ 5 ∷ 3 ∷ 5 ∷ 11 ∷ 1 ∷ []) a b (meet m.0 n.0, (join m.2 n.2, (meet m.1 n.1, (join m.3 n.3, (imm.0, (imm.1, nothing_above a b fa fb))))))
 one_plain_word (Store op rs1 rs2 offset) a b (fa, m, p) (fb, n, q) =
     let imm = same_imm_s a b (join m.4 n.4) in
-    same_word (7 ∷ 5 ∷ 3 ∷ 5 ∷ 5 ∷ 6 ∷ 1 ∷ []) a b (meet m.0 n.0, (imm.0, (meet m.1 n.1, (join m.2 n.2, (join m.3 n.3, (imm.1, (imm.2, nothing_above a b fa fb)))))))
+    same_word (7 ∷ 5 ∷ 3 ∷ 5 ∷ 5 ∷ 6 ∷ 1 ∷ []) a b (
+      meet m.0 n.0,
+      (imm.0, (meet m.1 n.1, (join m.2 n.2, (join m.3 n.3, (imm.1, (imm.2, nothing_above a b fa fb)))))),
+    )
 one_plain_word (Immediate op rd rs1 value) a b (fa, m, p) (fb, n, q) =
     let imm = same_imm_i a b (join m.4 n.4) in
     same_word (7 ∷ 5 ∷ 3 ∷ 5 ∷ 11 ∷ 1 ∷ []) a b (meet m.0 n.0, (join m.2 n.2, (meet m.1 n.1, (join m.3 n.3, (imm.0, (imm.1, nothing_above a b fa fb))))))
 one_plain_word (Shift op rd rs1 amount) a b (fa, m, p) (fb, n, q) =
-    same_word (7 ∷ 5 ∷ 3 ∷ 5 ∷ 5 ∷ 7 ∷ []) a b (meet m.0 n.0, (join m.3 n.3, (meet m.1 n.1, (join m.4 n.4, (join m.5 n.5, (meet m.2 n.2, nothing_above a b fa fb))))))
+    same_word (7 ∷ 5 ∷ 3 ∷ 5 ∷ 5 ∷ 7 ∷ []) a b (
+      meet m.0 n.0,
+      (join m.3 n.3, (meet m.1 n.1, (join m.4 n.4, (join m.5 n.5, (meet m.2 n.2, nothing_above a b fa fb))))),
+    )
 one_plain_word (Register op rd rs1 rs2) a b (fa, m, p) (fb, n, q) =
-    same_word (7 ∷ 5 ∷ 3 ∷ 5 ∷ 5 ∷ 7 ∷ []) a b (meet m.0 n.0, (join m.3 n.3, (meet m.1 n.1, (join m.4 n.4, (join m.5 n.5, (meet m.2 n.2, nothing_above a b fa fb))))))
+    same_word (7 ∷ 5 ∷ 3 ∷ 5 ∷ 5 ∷ 7 ∷ []) a b (
+      meet m.0 n.0,
+      (join m.3 n.3, (meet m.1 n.1, (join m.4 n.4, (join m.5 n.5, (meet m.2 n.2, nothing_above a b fa fb))))),
+    )
 one_plain_word (Fence pred succ) a b (fa, m, p) (fb, n, q) =
-    same_word (7 ∷ 5 ∷ 3 ∷ 5 ∷ 4 ∷ 4 ∷ 4 ∷ []) a b (meet m.0 n.0, (meet p.1 q.1, (meet m.1 n.1, (meet p.2 q.2, (join m.4 n.4, (join m.3 n.3, (meet p.0 q.0, nothing_above a b fa fb)))))))
+    same_word (7 ∷ 5 ∷ 3 ∷ 5 ∷ 4 ∷ 4 ∷ 4 ∷ []) a b (
+      meet m.0 n.0,
+      (
+        meet p.1 q.1,
+        (meet m.1 n.1, (meet p.2 q.2, (join m.4 n.4, (join m.3 n.3, (meet p.0 q.0, nothing_above a b fa fb))))),
+      ),
+    )
 one_plain_word FenceTso a b (fa, m, p) (fb, n, q) =
-    same_word (7 ∷ 5 ∷ 3 ∷ 5 ∷ 4 ∷ 4 ∷ 4 ∷ []) a b (meet m.0 n.0, (meet p.0 q.0, (meet m.1 n.1, (meet p.1 q.1, (meet m.2.2 n.2.2, (meet m.2.1 n.2.1, (meet m.2.0 n.2.0, nothing_above a b fa fb)))))))
+    same_word (7 ∷ 5 ∷ 3 ∷ 5 ∷ 4 ∷ 4 ∷ 4 ∷ []) a b (
+      meet m.0 n.0,
+      (
+        meet p.0 q.0,
+        (
+          meet m.1 n.1,
+          (meet p.1 q.1, (meet m.2.2 n.2.2, (meet m.2.1 n.2.1, (meet m.2.0 n.2.0, nothing_above a b fa fb)))),
+        ),
+      ),
+    )
 one_plain_word Ecall a b (fa, m, p) (fb, n, q) = meet m n
 one_plain_word Ebreak a b (fa, m, p) (fb, n, q) = meet m n
 one_plain_word (Amo op rd rs1 rs2 aq rl) a b (fa, m, p) (fb, n, q) =
-    same_word (7 ∷ 5 ∷ 3 ∷ 5 ∷ 5 ∷ 1 ∷ 1 ∷ 5 ∷ []) a b (meet m.0 n.0, (join m.3 n.3, (meet m.1 n.1, (join m.4 n.4, (join m.5 n.5, (meet m.7 n.7, (meet m.6 n.6, (meet m.2 n.2, nothing_above a b fa fb))))))))
+    same_word (7 ∷ 5 ∷ 3 ∷ 5 ∷ 5 ∷ 1 ∷ 1 ∷ 5 ∷ []) a b (
+      meet m.0 n.0,
+      (
+        join m.3 n.3,
+        (
+          meet m.1 n.1,
+          (join m.4 n.4, (join m.5 n.5, (meet m.7 n.7, (meet m.6 n.6, (meet m.2 n.2, nothing_above a b fa fb))))),
+        ),
+      ),
+    )

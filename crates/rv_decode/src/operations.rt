@@ -1,7 +1,8 @@
 //! The operations of each row, and the numbers that name them in their words, both ways.
 
 ghost use Rattle.std.specs.Prelude.{◌≡◌, ◌≢◌, IfSome, IfNone};
-ghost use Rattle.rv_decode.specs.Means.{branch_funct3, load_funct3, store_funct3, immediate_funct3, shift_funct3, shift_funct7, register_funct3, register_funct7, amo_funct5};
+ghost use Rattle.rv_decode.specs.Means.{branch_funct3, load_funct3, store_funct3, immediate_funct3, shift_funct3};
+ghost use Rattle.rv_decode.specs.Means.{shift_funct7, register_funct3, register_funct7, amo_funct5};
 ghost use Rattle.rv_decode.specs.declared.instruction.BranchOp.{BranchOp};
 ghost use Rattle.rv_decode.specs.declared.instruction.LoadOp.{LoadOp};
 ghost use Rattle.rv_decode.specs.declared.instruction.StoreOp.{StoreOp};

@@ -1,6 +1,7 @@
 -- What one more entry at the end does to a hart's own entries, its stores and landings, its pending
 -- stores, what landed, and its path.
-use Rattle.std.proofs.Common.{◌≡◌, ℕ, ◌+◌, ◌≤◌, List, [], ◌∷◌, ◌++◌, length, drop, Some, refl, sym, ◌∙◌, ap, append_assoc, add_assoc, zero-add, arith, append-nil}
+use Rattle.std.proofs.Common.{◌≡◌, ℕ, ◌+◌, ◌≤◌, List, [], ◌∷◌, ◌++◌, length, drop, Some, refl, sym, ◌∙◌, ap}
+use Rattle.std.proofs.Common.{append_assoc, add_assoc, zero-add, arith, append-nil}
 use Rattle.std.specs.List.{slice_get}
 use Rattle.std.proofs.lemmas.List.{drop-append-le, drop-drop}
 use Rattle.hart.specs.State.{HartState}
@@ -59,7 +60,8 @@ pub Makes-back : (s : HartState) (es fs : List Entry) → Makes s (es ++ fs) →
 Makes-back s [] fs m = m
 Makes-back s (e ∷ es) fs m = Makes-back (advanced s (value_of e)) es fs m.1
 
-pub LegalAfter-append : (B : ℕ) (o : OpeningValue) (before es fs : List Entry) → LegalAfter B o before es → LegalAfter B o (before ++ es) fs → LegalAfter B o before (es ++ fs)
+pub LegalAfter-append : (B : ℕ) (o : OpeningValue) (before es fs : List Entry) → LegalAfter B o before es
+    → LegalAfter B o (before ++ es) fs → LegalAfter B o before (es ++ fs)
 LegalAfter-append B o before [] fs l m = rw append-nil at m
 LegalAfter-append B o before (e ∷ es) fs l m = (l.0, LegalAfter-append B o (before ++ e ∷ []) es fs l.1 (rw append_assoc m))
 
@@ -72,5 +74,6 @@ LegalAfter-back B o before [] fs l = rw append-nil l
 LegalAfter-back B o before (e ∷ es) fs l = rw (← append_assoc before (e ∷ []) es) (LegalAfter-back B o (before ++ e ∷ []) es fs l.1)
 
 -- the hart's pending stores after one more entry
-pub pending-last : (h : ℕ) (es : List Entry) (e : Entry) → lands h es ≤ length (stores h es) → pending h (es ++ e ∷ []) ≡ drop (land_of h e) (pending h es ++ store_of h e)
+pub pending-last : (h : ℕ) (es : List Entry) (e : Entry) → lands h es ≤ length (stores h es)
+    → pending h (es ++ e ∷ []) ≡ drop (land_of h e) (pending h es ++ store_of h e)
 pending-last h es e le = grind (arith, stores-append, append-nil, lands-append, drop-drop, drop-append-le)

@@ -64,19 +64,27 @@ pub read-empty : (o : OpeningValue) (es : List Entry) (h a : ℕ) → pending h 
 read-empty o es h a e = ap (λ ws. joined (λ i. unwrap_or (newest_of (a + i) None ws) (memory_byte o es (a + i))) 4) e
 
 -- an entry that is the only one, whatever it read
-alone : (B : ℕ) (t : History) (h : ℕ) (n : Need) (e : Entry) → hart_of e ≡ h → is_land e ≡ false → e ≡ entry_of h n (value_of e) → Allowed B t.opening t.entries e → ((d : Entry) → d ≡ entry_of h n (value_of d) → d ≡ e) → Decided B t h n (outcome.Did e)
+alone : (B : ℕ) (t : History) (h : ℕ) (n : Need) (e : Entry) → hart_of e ≡ h → is_land e ≡ false
+    → e ≡ entry_of h n (value_of e) → Allowed B t.opening t.entries e
+    → ((d : Entry) → d ≡ entry_of h n (value_of d) → d ≡ e) → Decided B t h n (outcome.Did e)
 alone B t h n e mine act made allowed only = (mine, act, record { made = made; allowed = allowed }, λ d does. only d does.made)
 
-decided_load : (B M : ℕ) (t : History) (c : Stored) (h a width : ℕ) → Sees M t c h → IsPlace M width a → Decided B t h (need.Load a width) (outcome.Did (entry.Load h a width (found c h a width)))
+decided_load : (B M : ℕ) (t : History) (c : Stored) (h a width : ℕ) → Sees M t c h → IsPlace M width a
+    → Decided B t h (need.Load a width) (outcome.Did (entry.Load h a width (found c h a width)))
 decided_load B M t c h a width sees is = grind arith
 
-decided_store : (B M : ℕ) (t : History) (c : Stored) (h a width w : ℕ) (b : Bool) → Sees M t c h → nat_lt (length (buffer_of c h)) B ≡ b → Decided B t h (need.Store a width w) (if_waits (not b) (entry.Store h a width w))
+decided_store : (B M : ℕ) (t : History) (c : Stored) (h a width w : ℕ) (b : Bool) → Sees M t c h
+    → nat_lt (length (buffer_of c h)) B ≡ b
+    → Decided B t h (need.Store a width w) (if_waits (not b) (entry.Store h a width w))
 decided_store B M t c h a width w b sees is = grind (arith, nat_tests, alone)
 
-decided_amo : (B M : ℕ) (t : History) (c : Stored) (h a : ℕ) (op : AmoOp) (rs2 : ℕ) (b : Bool) → Sees M t c h → IsPlace M 4 a → is_empty (buffer_of c h) ≡ b → Decided B t h (need.Amo a op rs2) (if_waits (not b) (entry.Amo h a (word_at c a) (updated op (word_at c a) rs2)))
+decided_amo : (B M : ℕ) (t : History) (c : Stored) (h a : ℕ) (op : AmoOp) (rs2 : ℕ) (b : Bool) → Sees M t c h
+    → IsPlace M 4 a → is_empty (buffer_of c h) ≡ b
+    → Decided B t h (need.Amo a op rs2) (if_waits (not b) (entry.Amo h a (word_at c a) (updated op (word_at c a) rs2)))
 decided_amo B M t c h a op rs2 b sees is h11 = grind (arith, is_empty-nil, read-empty, nil-is_empty)
 
-decided_fence : (B M : ℕ) (t : History) (c : Stored) (h : ℕ) (full b : Bool) → Sees M t c h → is_empty (buffer_of c h) ≡ b → Decided B t h (need.Fence full) (if_waits (full && not b) (entry.Fence h full))
+decided_fence : (B M : ℕ) (t : History) (c : Stored) (h : ℕ) (full b : Bool) → Sees M t c h
+    → is_empty (buffer_of c h) ≡ b → Decided B t h (need.Fence full) (if_waits (full && not b) (entry.Fence h full))
 decided_fence B M t c h full b sees is = grind (arith, alone, is_empty-nil, nil-is_empty)
 
 -- what a running hart's act answers is decided
@@ -85,6 +93,8 @@ outcome_for-decided B M t c h (need.Load a width) sees is = decided_load B M t c
 outcome_for-decided B M t c h (need.Store a width w) sees is = decided_store B M t c h a width w (nat_lt (length (buffer_of c h)) B) sees refl
 outcome_for-decided B M t c h (need.Amo a op rs2) sees is = decided_amo B M t c h a op rs2 (is_empty (buffer_of c h)) sees is refl
 outcome_for-decided B M t c h (need.Fence full) sees is = decided_fence B M t c h full (is_empty (buffer_of c h)) sees refl
-outcome_for-decided B M t c h (need.Report (report.Took i w)) sees is = alone B t h (need.Report (report.Took i w)) (entry.Took h i w) refl refl refl tt (λ d made. made)
-outcome_for-decided B M t c h (need.Report (report.Closed i)) sees is = alone B t h (need.Report (report.Closed i)) (entry.Closed h i) refl refl refl tt (λ d made. made)
+outcome_for-decided B M t c h (need.Report (report.Took i w)) sees is =
+    alone B t h (need.Report (report.Took i w)) (entry.Took h i w) refl refl refl tt (λ d made. made)
+outcome_for-decided B M t c h (need.Report (report.Closed i)) sees is =
+    alone B t h (need.Report (report.Closed i)) (entry.Closed h i) refl refl refl tt (λ d made. made)
 outcome_for-decided B M t c h other sees is = alone B t h other (entry_of h other 0) refl refl refl tt (λ d made. made)

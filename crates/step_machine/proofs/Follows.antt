@@ -27,19 +27,23 @@ state_after M es o = after_entries (opens_as M o) es
 abbrev pub advance_by : Entry → HartState → HartState
 advance_by e s = advanced s (value_of e)
 
-state_after-last : (M : ℕ) (so : Option HartOpeningValue) (es : List Entry) (e : Entry) → option_map (state_after M (es ++ e ∷ [])) so ≡ option_map (advance_by e) (option_map (state_after M es) so)
+state_after-last : (M : ℕ) (so : Option HartOpeningValue) (es : List Entry) (e : Entry)
+    → option_map (state_after M (es ++ e ∷ [])) so ≡ option_map (advance_by e) (option_map (state_after M es) so)
 state_after-last M so es e = grind (arith, after_entries-append)
 
-pub state_of-mine : (M : ℕ) (t : History) (h : ℕ) (e : Entry) → hart_of e ≡ h → is_land e ≡ false → state_of M (with_entry t e) h ≡ option_map (advance_by e) (state_of M t h)
+pub state_of-mine : (M : ℕ) (t : History) (h : ℕ) (e : Entry) → hart_of e ≡ h → is_land e ≡ false
+    → state_of M (with_entry t e) h ≡ option_map (advance_by e) (state_of M t h)
 state_of-mine M t h e mine act = grind (arith, own-mine h t.entries e mine act, state_after-last M (slice_get t.opening.harts h) (own h t.entries) e)
 
 pub state_of-other : (M : ℕ) (t : History) (h : ℕ) (e : Entry) → is_own h e ≡ false → state_of M (with_entry t e) h ≡ state_of M t h
 state_of-other M t h e other = ap (λ es. option_map (state_after M es) (slice_get t.opening.harts h)) (own-other h t.entries e other)
 
-path_on : (M : ℕ) (so : Option HartOpeningValue) (es : List Entry) (e : Entry) (s : HartState) → PathOf M so es → option_map (state_after M es) so ≡ Some s → CanMake s e → PathOf M so (es ++ e ∷ [])
+path_on : (M : ℕ) (so : Option HartOpeningValue) (es : List Entry) (e : Entry) (s : HartState) → PathOf M so es
+    → option_map (state_after M es) so ≡ Some s → CanMake s e → PathOf M so (es ++ e ∷ [])
 path_on M so es e s p is can = grind (arith, Makes-append)
 
-path_last : (M : ℕ) (so : Option HartOpeningValue) (es : List Entry) (e : Entry) (s : HartState) → PathOf M so (es ++ e ∷ []) → option_map (state_after M es) so ≡ Some s → CanMake s e
+path_last : (M : ℕ) (so : Option HartOpeningValue) (es : List Entry) (e : Entry) (s : HartState)
+    → PathOf M so (es ++ e ∷ []) → option_map (state_after M es) so ≡ Some s → CanMake s e
 path_last M None es e s p is = absurd p
 path_last M (Some o) es e s p is = grind (arith, Makes-back (opens_as M o) es (e ∷ []) p)
 
@@ -47,11 +51,13 @@ path_front : (M : ℕ) (so : Option HartOpeningValue) (es : List Entry) (e : Ent
 path_front M so es e p = grind (arith, Makes-front)
 
 -- the hart's path goes on by an entry that its state makes
-pub Path-mine : (M : ℕ) (t : History) (h : ℕ) (e : Entry) (s : HartState) → hart_of e ≡ h → is_land e ≡ false → Path M t h → state_of M t h ≡ Some s → CanMake s e → Path M (with_entry t e) h
+pub Path-mine : (M : ℕ) (t : History) (h : ℕ) (e : Entry) (s : HartState) → hart_of e ≡ h → is_land e ≡ false
+    → Path M t h → state_of M t h ≡ Some s → CanMake s e → Path M (with_entry t e) h
 Path-mine M t h e s mine act p is can = grind (arith, own-mine, path_on)
 
 -- the last entry of a path is one that the state before it makes
-pub Path-last : (M : ℕ) (t : History) (h : ℕ) (e : Entry) (s : HartState) → hart_of e ≡ h → is_land e ≡ false → Path M (with_entry t e) h → state_of M t h ≡ Some s → CanMake s e
+pub Path-last : (M : ℕ) (t : History) (h : ℕ) (e : Entry) (s : HartState) → hart_of e ≡ h → is_land e ≡ false
+    → Path M (with_entry t e) h → state_of M t h ≡ Some s → CanMake s e
 Path-last M t h e s mine act p is =
     path_last M (slice_get t.opening.harts h) (own h t.entries) e s (subst (PathOf M (slice_get t.opening.harts h)) (own-mine h t.entries e mine act) p) is
 
@@ -69,11 +75,14 @@ pub Legal-on : (B : ℕ) (t : History) (e : Entry) → Legal B t → Allowed B t
 Legal-on B t e l a = LegalAfter-append B t.opening [] t.entries (e ∷ []) l (a, tt)
 
 -- an entry that its hart's state makes and that memory and buffers allow can follow
-pub follows : (B M : ℕ) (t : History) (h : ℕ) (s : HartState) (e : Entry) → hart_of e ≡ h → is_land e ≡ false → Legal B t → Path M t h → state_of M t h ≡ Some s → CanMake s e → Allowed B t.opening t.entries e → CanFollow B M t e
+pub follows : (B M : ℕ) (t : History) (h : ℕ) (s : HartState) (e : Entry) → hart_of e ≡ h → is_land e ≡ false
+    → Legal B t → Path M t h → state_of M t h ≡ Some s → CanMake s e → Allowed B t.opening t.entries e
+    → CanFollow B M t e
 follows B M t h s e mine act l p is can a = grind (arith, Legal-on, Path-mine)
 
 -- and no other entry of the hart's own can
-pub act_only : (B M : ℕ) (t : History) (h : ℕ) (s : HartState) (d : Entry) → hart_of d ≡ h → is_land d ≡ false → state_of M t h ≡ Some s → CanFollow B M t d → CanMake s d × Allowed B t.opening t.entries d
+pub act_only : (B M : ℕ) (t : History) (h : ℕ) (s : HartState) (d : Entry) → hart_of d ≡ h → is_land d ≡ false
+    → state_of M t h ≡ Some s → CanFollow B M t d → CanMake s d × Allowed B t.opening t.entries d
 act_only B M t h s d mine act is f = (Path-last M t h d s mine act (subst (Path M (with_entry t d)) mine f.path) is, Legal-last B t d f.legal)
 
 -- a landing of a hart that has a pending store can follow

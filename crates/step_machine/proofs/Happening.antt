@@ -46,18 +46,26 @@ none-no_hart B M t h d none mine f = grind (arith, Path-hart, no_hart, state_aft
 pub state_of-hart : (M : ℕ) (t : History) (h : ℕ) (s : HartState) → state_of M t h ≡ Some s → h < length t.opening.harts
 state_of-hart M t h s is = grind (arith, state_after, slice_get_within)
 
-running_happens : (B M : ℕ) (t : History) (h : ℕ) (s : HartState) (o : Outcome) → WellFormed B M t → state_of M t h ≡ Some s → s.status ≡ status.Running → Decided B t h (need_of s) o → Happens B M t (event.Act h) o (history_after t o)
+running_happens : (B M : ℕ) (t : History) (h : ℕ) (s : HartState) (o : Outcome) → WellFormed B M t
+    → state_of M t h ≡ Some s → s.status ≡ status.Running → Decided B t h (need_of s) o
+    → Happens B M t (event.Act h) o (history_after t o)
 running_happens B M t h s o kept is run d = grind (arith, state_of-hart, follows, act_only)
 
 -- a hart that doesn't run does nothing more
-pub over_happens : (B M : ℕ) (t : History) (h : ℕ) (s : HartState) → state_of M t h ≡ Some s → (s.status ≡ status.Running → ⊥) → idle_in s.status outcome.Waited ≡ outcome.Over → Happens B M t (event.Act h) outcome.Over t
+pub over_happens : (B M : ℕ) (t : History) (h : ℕ) (s : HartState) → state_of M t h ≡ Some s
+    → (s.status ≡ status.Running → ⊥) → idle_in s.status outcome.Waited ≡ outcome.Over
+    → Happens B M t (event.Act h) outcome.Over t
 over_happens B M t h s is over idles = grind (arith, act_only B M t h s)
 
-status_happens : (B M : ℕ) (t : History) (h : ℕ) (s : HartState) (st : Status) (o : Outcome) → WellFormed B M t → state_of M t h ≡ Some s → s.status ≡ st → Decided B t h (need_of s) o → Happens B M t (event.Act h) (act_in st o) (history_after t (act_in st o))
+status_happens : (B M : ℕ) (t : History) (h : ℕ) (s : HartState) (st : Status) (o : Outcome) → WellFormed B M t
+    → state_of M t h ≡ Some s → s.status ≡ st → Decided B t h (need_of s) o
+    → Happens B M t (event.Act h) (act_in st o) (history_after t (act_in st o))
 status_happens B M t h s status.Running o kept is run d = running_happens B M t h s o kept is run d
 status_happens B M t h s other o kept is run d = over_happens B M t h s is (λ r. cc) (ap (λ x. idle_in x outcome.Waited) run)
 
-act_happens : (B M : ℕ) (t : History) (c : Config) (h : ℕ) (so : Option HartView) → Stands B M t c → ((v : HartView) → so ≡ Some v → v.state.words ≡ M) → option_map view_state so ≡ state_of M t h → Happens B M t (event.Act h) (act_outcome B c h so) (history_after t (act_outcome B c h so))
+act_happens : (B M : ℕ) (t : History) (c : Config) (h : ℕ) (so : Option HartView) → Stands B M t c
+    → ((v : HartView) → so ≡ Some v → v.state.words ≡ M) → option_map view_state so ≡ state_of M t h
+    → Happens B M t (event.Act h) (act_outcome B c h so) (history_after t (act_outcome B c h so))
 act_happens B M t c h None stands words is = grind (arith, none-no_hart)
 act_happens B M t c h (Some v) stands words is =
     let range : IsInRange M (need_of v.state) = need_of-in_range M v.state (words v refl) in
@@ -67,16 +75,24 @@ act_happens B M t c h (Some v) stands words is =
 land_none : (B M : ℕ) (t : History) (h : ℕ) → pending h t.entries ≡ [] → NoEntry B M t (event.Land h)
 land_none B M t h empty d is f = grind (arith, Legal-last)
 
-idle_land : (B M : ℕ) (t : History) (h : ℕ) (s : HartState) (st : Status) → state_of M t h ≡ Some s → s.status ≡ st → pending h t.entries ≡ [] → Happens B M t (event.Land h) (land_in [] h (is_over st)) (history_after t (land_in [] h (is_over st)))
+idle_land : (B M : ℕ) (t : History) (h : ℕ) (s : HartState) (st : Status) → state_of M t h ≡ Some s → s.status ≡ st
+    → pending h t.entries ≡ []
+    → Happens B M t (event.Land h) (land_in [] h (is_over st)) (history_after t (land_in [] h (is_over st)))
 idle_land B M t h s st is run empty = grind (arith, land_none)
 
 -- a landing where this is pending
-pub some_land : (B M : ℕ) (t : History) (h : ℕ) (s : HartState) (ps : List Write) → WellFormed B M t → state_of M t h ≡ Some s → ps ≡ pending h t.entries → Happens B M t (event.Land h) (land_in ps h (is_over s.status)) (history_after t (land_in ps h (is_over s.status)))
+pub some_land : (B M : ℕ) (t : History) (h : ℕ) (s : HartState) (ps : List Write) → WellFormed B M t
+    → state_of M t h ≡ Some s → ps ≡ pending h t.entries
+    → Happens B M t (event.Land h) (land_in ps h (is_over s.status)) (history_after t (land_in ps h (is_over s.status)))
 some_land B M t h s ps kept is ps8 = grind (arith, idle_land, follows, land_follows, state_of-hart)
 
-land_happens : (B M : ℕ) (t : History) (c : Config) (h : ℕ) (so : Option HartView) → Stands B M t c → option_map view_state so ≡ state_of M t h → Happens B M t (event.Land h) (land_outcome c h so) (history_after t (land_outcome c h so))
+land_happens : (B M : ℕ) (t : History) (c : Config) (h : ℕ) (so : Option HartView) → Stands B M t c
+    → option_map view_state so ≡ state_of M t h
+    → Happens B M t (event.Land h) (land_outcome c h so) (history_after t (land_outcome c h so))
 land_happens B M t c h so stands is = grind (arith, none-no_hart, some_land)
 
 -- the outcome of an event is the one that the history allows, and the history goes on by it
-pub outcome_of-happens : (B M : ℕ) (t : History) (c : Config) (ev : Event) → Stands B M t c → ((h : ℕ) (v : HartView) → slice_get c.harts h ≡ Some v → v.state.words ≡ M) → Happens B M t ev (outcome_of B c ev) (history_after t (outcome_of B c ev))
+pub outcome_of-happens : (B M : ℕ) (t : History) (c : Config) (ev : Event) → Stands B M t c
+    → ((h : ℕ) (v : HartView) → slice_get c.harts h ≡ Some v → v.state.words ≡ M)
+    → Happens B M t ev (outcome_of B c ev) (history_after t (outcome_of B c ev))
 outcome_of-happens B M t c ev stands words = grind (arith, act_happens, land_happens)

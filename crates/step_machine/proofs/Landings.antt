@@ -15,10 +15,12 @@ element [] ys k lt = absurd (omega arith)
 element (x ∷ xs) ys zero lt = refl
 element (x ∷ xs) ys (suc k) lt = element xs ys k (omega arith)
 
-write_counted : (B : ℕ) (o : OpeningValue) (before : List Entry) (e : Entry) (es : List Entry) → Allowed B o before e → write_of before e ≡ write_by_count (before ++ e ∷ es) before e
+write_counted : (B : ℕ) (o : OpeningValue) (before : List Entry) (e : Entry) (es : List Entry)
+    → Allowed B o before e → write_of before e ≡ write_by_count (before ++ e ∷ es) before e
 write_counted B o before e es a = grind (arith, length-drop, element, stores-append)
 
-counted_after : (B : ℕ) (o : OpeningValue) (before es : List Entry) → LegalAfter B o before es → landed_after before es ≡ landed_by_count_after (before ++ es) before es
+counted_after : (B : ℕ) (o : OpeningValue) (before es : List Entry) → LegalAfter B o before es
+    → landed_after before es ≡ landed_by_count_after (before ++ es) before es
 counted_after B o before [] l = refl
 counted_after B o before (e ∷ es) l =
     ap (λ (ps : List Write). ps ++ landed_after (before ++ e ∷ []) es) (write_counted B o before e es l.0)

@@ -65,5 +65,7 @@ sound_restarted B M n t c sound = record {
 }
 
 -- the same of what the machine then holds
-pub sound_put_back : (B M n : ℕ) (o : OpeningValue) (es none : List Entry) (c d : Config) → IsMachineAt B M (record { opening = o; entries = es }) c n → none ≡ [] → d ≡ restarted_config c → IsMachineAt B M (record { opening = o; entries = none }) d n
+pub sound_put_back : (B M n : ℕ) (o : OpeningValue) (es none : List Entry) (c d : Config)
+    → IsMachineAt B M (record { opening = o; entries = es }) c n → none ≡ [] → d ≡ restarted_config c
+    → IsMachineAt B M (record { opening = o; entries = none }) d n
 sound_put_back B M n o es none c d sound is_none is = grind (arith, sound_restarted B M n (record { opening = o; entries = es }) c sound)

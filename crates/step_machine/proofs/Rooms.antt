@@ -16,15 +16,22 @@ same_self c = record { harts = refl; firsts = refl; stored = refl }
 pub same_after : (c d e : Config) → SameButRoom c d → SameButRoom d e → SameButRoom c e
 same_after c d e s t = record { harts = t.harts ∙ s.harts; firsts = t.firsts ∙ s.firsts; stored = t.stored ∙ s.stored }
 
-same_in : {X : Type 0} (f : HartView → X) → ((n : ℕ) (v : HartView) → f (roomy n v) ≡ f v) → (hs : List HartView) (h n : ℕ) (so : Option HartView) → slice_get hs h ≡ so → map f (roomy_in hs h n so) ≡ map f hs
+same_in : {X : Type 0} (f : HartView → X) → ((n : ℕ) (v : HartView) → f (roomy n v) ≡ f v)
+    → (hs : List HartView) (h n : ℕ) (so : Option HartView) → slice_get hs h ≡ so
+    → map f (roomy_in hs h n so) ≡ map f hs
 same_in f same hs h n None is = refl
 same_in f same hs h n (Some v) is = map-set_same f hs h (roomy n v) v (same n v ∙ ap f (sym (get_or_from_slice_get hs h v v is)))
 
 pub same_roomy : (c : Config) (h n : ℕ) → SameButRoom c (record c { harts = roomy_at c.harts h n })
-same_roomy c h n = record { harts = same_in without_room (λ m v. refl) c.harts h n (slice_get c.harts h) refl; firsts = same_in beginning (λ m v. refl) c.harts h n (slice_get c.harts h) refl; stored = refl }
+same_roomy c h n = record {
+  harts = same_in without_room (λ m v. refl) c.harts h n (slice_get c.harts h) refl;
+  firsts = same_in beginning (λ m v. refl) c.harts h n (slice_get c.harts h) refl;
+  stored = refl;
+}
 
 -- a hart written at h: what a test says of it and of the others
-pub written_at_place : (P : HartView → Type 0) (hs : List HartView) (h k : ℕ) (x v : HartView) → h < length hs → P x → ((w : HartView) → slice_get hs k ≡ Some w → P w) → slice_get (set hs h x) k ≡ Some v → P v
+pub written_at_place : (P : HartView → Type 0) (hs : List HartView) (h k : ℕ) (x v : HartView) → h < length hs → P x
+    → ((w : HartView) → slice_get hs k ≡ Some w → P w) → slice_get (set hs h x) k ≡ Some v → P v
 written_at_place P hs h k x v within here others is = grind (arith, eqb-true, slice_get-set_same, set, slice_get-set_other, eqb-false)
 
 more_in : (hs : List HartView) (h n r : ℕ) (so : Option HartView) → slice_get hs h ≡ so → AllHaveRoom r hs → AllHaveRoom r (roomy_in hs h n so)
@@ -63,10 +70,13 @@ pub same-length : (c d : Config) → SameButRoom c d → length d.harts ≡ leng
 same-length c d same = sym (length-map d.harts without_room) ∙ ap length same.harts ∙ length-map c.harts without_room
 
 -- whatever the result, all stays but room
-pub same_whichever : {E : Type 0} (c d : Config) (h n : ℕ) (r : Result (Unit {0}) E) → OnOk r (d ≡ record c { harts = roomy_at c.harts h n }) → OnErr r (d ≡ c) → SameButRoom c d
+pub same_whichever : {E : Type 0} (c d : Config) (h n : ℕ) (r : Result (Unit {0}) E)
+    → OnOk r (d ≡ record c { harts = roomy_at c.harts h n }) → OnErr r (d ≡ c) → SameButRoom c d
 same_whichever c d h n (Ok x) ok err = subst (SameButRoom c) (sym ok) (same_roomy c h n)
 same_whichever c d h n (Err e) ok err = subst (SameButRoom c) (sym err) (same_self c)
 
-pub more_whichever : {E : Type 0} (c d : Config) (h n r : ℕ) (result : Result (Unit {0}) E) → OnOk result (d ≡ record c { harts = roomy_at c.harts h n }) → OnErr result (d ≡ c) → AllHaveRoom r c.harts → AllHaveRoom r d.harts
+pub more_whichever : {E : Type 0} (c d : Config) (h n r : ℕ) (result : Result (Unit {0}) E)
+    → OnOk result (d ≡ record c { harts = roomy_at c.harts h n }) → OnErr result (d ≡ c) → AllHaveRoom r c.harts
+    → AllHaveRoom r d.harts
 more_whichever c d h n r (Ok x) ok err all = subst (λ (k : Config). AllHaveRoom r k.harts) (sym ok) (more_roomy c.harts h n r all)
 more_whichever c d h n r (Err e) ok err all = subst (λ (k : Config). AllHaveRoom r k.harts) (sym err) all

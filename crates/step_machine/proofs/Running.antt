@@ -19,7 +19,8 @@ use Rattle.step_machine.specs.Runs.{CanFollow, Adds, Idles, Happens, RunFrom, Ru
 use Rattle.step_machine.proofs.Follows.{Path-other}
 
 -- an outcome is an entry added, or nothing
-pub shape_of : (B M : ℕ) (t : History) (ev : Event) (o : Outcome) (new : History) → Happens B M t ev o new → ((e : Entry) × (o ≡ outcome.Did e) × Adds B M t ev e new) ⊎ Idles B M t ev o new
+pub shape_of : (B M : ℕ) (t : History) (ev : Event) (o : Outcome) (new : History) → Happens B M t ev o new
+    → ((e : Entry) × (o ≡ outcome.Did e) × Adds B M t ev e new) ⊎ Idles B M t ev o new
 shape_of B M t ev o new h = grind arith
 
 own_hart : (k : ℕ) (e : Entry) → is_own k e ≡ true → hart_of e ≡ k
@@ -55,7 +56,9 @@ kept-run B M t [] new kept run = subst (WellFormed B M) (sym run) kept
 kept-run B M t (ev ∷ evs) new kept run = kept-run B M run.1 evs new (kept-happens B M t ev run.0 run.1 kept run.2) run.3
 
 -- what each event keeps, each run keeps, the histories between being kept too: for the crates above
-pub run_induction : (B M : ℕ) (P : History → Type 0) → ((t : History) (ev : Event) (o : Outcome) (new : History) → WellFormed B M t → P t → Happens B M t ev o new → P new) → (t : History) (evs : List Event) (new : History) → WellFormed B M t → P t → RunFrom B M t evs new → P new
+pub run_induction : (B M : ℕ) (P : History → Type 0) →
+    ((t : History) (ev : Event) (o : Outcome) (new : History) → WellFormed B M t → P t → Happens B M t ev o new → P new)
+    → (t : History) (evs : List Event) (new : History) → WellFormed B M t → P t → RunFrom B M t evs new → P new
 run_induction B M P step t [] new kept holds run = subst P (sym run) holds
 run_induction B M P step t (ev ∷ evs) new kept holds run =
     run_induction B M P step run.1 evs new (kept-happens B M t ev run.0 run.1 kept run.2) (step t ev run.0 run.1 kept holds run.2) run.3
@@ -76,22 +79,27 @@ pub of_harts-run : (B M : ℕ) (o : OpeningValue) (evs : List Event) (t : Histor
 of_harts-run B M o evs t run = grind (arith, opening_kept B M o evs t run, kept-run B M (at_opening o) evs t (kept-at_opening B M o) run, kept-at_opening B M o)
 
 -- a run goes on by one event from its end
-pub RunFrom-more : (B M : ℕ) (t : History) (evs : List Event) (mid : History) (ev : Event) (o : Outcome) (new : History) → RunFrom B M t evs mid → Happens B M mid ev o new → RunFrom B M t (evs ++ ev ∷ []) new
+pub RunFrom-more : (B M : ℕ) (t : History) (evs : List Event) (mid : History) (ev : Event) (o : Outcome)
+    (new : History) → RunFrom B M t evs mid → Happens B M mid ev o new → RunFrom B M t (evs ++ ev ∷ []) new
 RunFrom-more B M t [] mid ev o new run h = (o, new, subst (λ (u : History). Happens B M u ev o new) run h, refl)
 RunFrom-more B M t (e ∷ evs) mid ev o new run h = (run.0, run.1, run.2, RunFrom-more B M run.1 evs mid ev o new run.3 h)
 
 -- a run goes on by a run from its end (for proofs about further programs)
-pub RunFrom-append : (B M : ℕ) (t : History) (evs : List Event) (mid : History) (more : List Event) (new : History) → RunFrom B M t evs mid → RunFrom B M mid more new → RunFrom B M t (evs ++ more) new
+pub RunFrom-append : (B M : ℕ) (t : History) (evs : List Event) (mid : History) (more : List Event) (new : History)
+    → RunFrom B M t evs mid → RunFrom B M mid more new → RunFrom B M t (evs ++ more) new
 RunFrom-append B M t [] mid more new run next = subst (λ (u : History). RunFrom B M u more new) run next
 RunFrom-append B M t (e ∷ evs) mid more new run next = (run.0, run.1, run.2, RunFrom-append B M run.1 evs mid more new run.3 next)
 
 -- the first i events have run, and the next has happened
-pub run_more : (B M : ℕ) (t : History) (evs : List Event) (i : ℕ) (d : Event) (mid : History) (o : Outcome) (new : History) → i < length evs → RunFrom B M t (take i evs) mid → Happens B M mid (get_or evs i d) o new → RunFrom B M t (take (i + 1) evs) new
+pub run_more : (B M : ℕ) (t : History) (evs : List Event) (i : ℕ) (d : Event) (mid : History) (o : Outcome)
+    (new : History) → i < length evs → RunFrom B M t (take i evs) mid → Happens B M mid (get_or evs i d) o new
+    → RunFrom B M t (take (i + 1) evs) new
 run_more B M t evs i d mid o new within run h =
     subst (λ (es : List Event). RunFrom B M t es new) (sym (take_more evs i d within)) (RunFrom-more B M t (take i evs) mid (get_or evs i d) o new run h)
 
 -- one event has one outcome and one history after it
-pub happens-one : (B M : ℕ) (t : History) (ev : Event) (o p : Outcome) (new other : History) → Happens B M t ev o new → Happens B M t ev p other → (o ≡ p) × (new ≡ other)
+pub happens-one : (B M : ℕ) (t : History) (ev : Event) (o p : Outcome) (new other : History)
+    → Happens B M t ev o new → Happens B M t ev p other → (o ≡ p) × (new ≡ other)
 happens-one B M t ev o p new other h k = grind (arith, shape_of)
 
 pub run-one : (B M : ℕ) (t : History) (evs : List Event) (new other : History) → RunFrom B M t evs new → RunFrom B M t evs other → new ≡ other

@@ -1,5 +1,6 @@
 -- A machine that is put back to a snapshot of its own holds what it held then.
-use Rattle.std.proofs.Common.{◌≡◌, ℕ, zero, suc, ◌≤◌, ◌<◌, List, [], ◌∷◌, ◌++◌, ◌+◌, length, get_or, take, drop, Option, Some, None, refl, sym, ◌∙◌, ap, subst, arith, length-append, length-drop}
+use Rattle.std.proofs.Common.{◌≡◌, ℕ, zero, suc, ◌≤◌, ◌<◌, List, [], ◌∷◌, ◌++◌, ◌+◌, length, get_or, take, drop, Option}
+use Rattle.std.proofs.Common.{Some, None, refl, sym, ◌∙◌, ap, subst, arith, length-append, length-drop}
 use Rattle.std.specs.Prelude.{map, option_map, All}
 use Rattle.std.specs.List.{slice_get}
 use Rattle.std.proofs.Math.Seq.{take-append_seam}
@@ -64,11 +65,14 @@ first_reports k es h rs qs all some =
     all ∙ ap (reported h) (sym (take-append-drop k es)) ∙ reported-append h (take k es) (drop k es) ∙ ap (λ ps. ps ++ reported h (drop k es)) (sym some) in
     ap (take (length qs)) whole ∙ take-append_seam qs (reported h (drop k es))
 
-gone_on : (B M n k : ℕ) (t : History) (c d : Config) → IsMachineAt B M t c n → IsMachineAt B M (up_to k t) d 0 → (h : ℕ) (v w : HartView) → slice_get c.harts h ≡ Some v
+gone_on : (B M n k : ℕ) (t : History) (c d : Config) → IsMachineAt B M t c n → IsMachineAt B M (up_to k t) d 0
+    → (h : ℕ) (v w : HartView) → slice_get c.harts h ≡ Some v
     → slice_get d.harts h ≡ Some w → HasGoneOn w v
 gone_on B M n k t c d now then h v w is_v is_w = record {
   first = same_first (slice_get c.harts h) (slice_get d.harts h) v w (now.tied.firsts h ∙ sym (then.tied.firsts h)) is_v is_w;
-  code = same_code M k t h (slice_get t.opening.harts h) v.state w.state refl (sym (now.tied.states h) ∙ ap (option_map view_state) is_v) (sym (then.tied.states h) ∙ ap (option_map view_state) is_w);
+  code = same_code M k t h (slice_get t.opening.harts h) v.state w.state refl
+      (sym (now.tied.states h) ∙ ap (option_map view_state) is_v)
+      (sym (then.tied.states h) ∙ ap (option_map view_state) is_w);
   words = hart_at (λ x. x.state.words ≡ M) c.harts now.fit.harts h v is_v ∙ sym (hart_at (λ x. x.state.words ≡ M) d.harts then.fit.harts h w is_w);
   reports = first_reports k t.entries h v.reports w.reports (now.tied.reports h v is_v) (then.tied.reports h w is_w);
 }
@@ -96,8 +100,10 @@ same_again : (B M n k : ℕ) (t : History) (c d : Config) (s : Taken) → IsMach
     → SameButRoom d (restored_config s c)
 same_again B M n k t c d s now then saved =
     let count : length c.harts ≡ length d.harts = now.count ∙ sym then.count in record {
-      harts = same_restored without_room c.harts d.harts s.harts saved.harts count (λ h v w x is_v is_w of_w. same_seen v w x of_w (gone_on B M n k t c d now then h v w is_v is_w));
-      firsts = same_restored beginning c.harts d.harts s.harts saved.harts count (λ h v w x is_v is_w of_w. (gone_on B M n k t c d now then h v w is_v is_w).first);
+      harts = same_restored without_room c.harts d.harts s.harts saved.harts count
+          (λ h v w x is_v is_w of_w. same_seen v w x of_w (gone_on B M n k t c d now then h v w is_v is_w));
+      firsts = same_restored beginning c.harts d.harts s.harts saved.harts count
+          (λ h v w x is_v is_w of_w. (gone_on B M n k t c d now then h v w is_v is_w).first);
       stored = same_stored s c.stored d.stored (now.tied.holds.opens ∙ sym then.tied.holds.opens) saved.buffers saved.words;
     }
 
@@ -130,7 +136,8 @@ pub within_back : (B M n : ℕ) (t : History) (c : Config) (s : Taken) → IsMac
 within_back B M n t c s now taken = record {
   count = length-saved taken.held.harts s.harts taken.saved.harts ∙ taken.stands.count ∙ sym now.count;
   given = λ h v x is_v is_x. (let of_w = saved_at taken.held.harts s.harts h x taken.saved.harts is_x in
-      subst (λ (f : HartState). x.given ≤ length f.inbox) (sym (gone_on B M n s.count t c taken.held now taken.stands h v of_w.0 is_v of_w.1).first) of_w.2.given);
+      subst (λ (f : HartState). x.given ≤ length f.inbox)
+      (sym (gone_on B M n s.count t c taken.held now taken.stands h v of_w.0 is_v of_w.1).first) of_w.2.given);
   reports = λ h v x is_v is_x. (let of_w = saved_at taken.held.harts s.harts h x taken.saved.harts is_x in
       reports_within v of_w.0 x of_w.2 (gone_on B M n s.count t c taken.held now taken.stands h v of_w.0 is_v of_w.1));
 }

@@ -13,7 +13,8 @@ use Rattle.step_machine.specs.declared.events.Outcome.{Outcome}
 use Rattle.step_machine.specs.History.{OpeningValue, History, at_opening, FitsIn}
 use Rattle.step_machine.specs.Runs.{Happens}
 use Rattle.step_machine.specs.inner.Stored.{Stored, FitStored}
-use Rattle.step_machine.specs.inner.Config.{Config, Fit, AllHaveRoom, SameButRoom, without_room, beginning, step_at, after_entry, after_outcome, entries_after, outcome_of, opened_config}
+use Rattle.step_machine.specs.inner.Config.{Config, Fit, AllHaveRoom, SameButRoom, without_room, beginning, step_at}
+use Rattle.step_machine.specs.inner.Config.{after_entry, after_outcome, entries_after, outcome_of, opened_config}
 use Rattle.step_machine.specs.inner.Representation.{view_state, Represents, IsMachineAt}
 use Rattle.step_machine.proofs.Carried.{carried}
 use Rattle.step_machine.proofs.Fitting.{length-step_at}
@@ -35,7 +36,8 @@ same_states : (so to : Option HartView) → option_map without_room so ≡ optio
 same_states so to is = grind arith
 
 -- what is so of a hart is so of another that looks the same
-same_at : {X : Type 0} (f : HartView → X) (P : X → Type 0) (so : Option HartView) (v : HartView) → option_map f so ≡ Some (f v) → ((w : HartView) → so ≡ Some w → P (f w)) → P (f v)
+same_at : {X : Type 0} (f : HartView → X) (P : X → Type 0) (so : Option HartView) (v : HartView)
+    → option_map f so ≡ Some (f v) → ((w : HartView) → so ≡ Some w → P (f w)) → P (f v)
 same_at f P so v is all = grind arith
 
 pub tied_same : (M : ℕ) (t : History) (c d : Config) → Represents M t c → SameButRoom c d → Represents M t d
@@ -84,9 +86,12 @@ pub fit_same : (M : ℕ) (c d : Config) → Fit M c → SameButRoom c d → Fit 
 fit_same M c d fit same = record {
   buffers = ap (λ (s : Stored). length s.buffers) same.stored ∙ fit.buffers ∙ sym (same-length c d same);
   harts = λ h x lt. (let here : slice_get d.harts h ≡ Some (get_or d.harts h x) = slice_get-get_or d.harts h x lt in
-      same_at without_room (λ p. p.0.words ≡ M) (slice_get c.harts h) (get_or d.harts h x) (sym (same_without_room c d h same) ∙ ap (option_map without_room) here) (words_of M c fit h));
+      same_at without_room (λ p. p.0.words ≡ M) (slice_get c.harts h) (get_or d.harts h x)
+      (sym (same_without_room c d h same) ∙ ap (option_map without_room) here)
+      (words_of M c fit h));
   firsts = λ h x lt. (let here : slice_get d.harts h ≡ Some (get_or d.harts h x) = slice_get-get_or d.harts h x lt in
-      same_at beginning (λ s. s.words ≡ M) (slice_get c.harts h) (get_or d.harts h x) (sym (first_same c.harts d.harts h same.firsts) ∙ ap (option_map beginning) here)
+      same_at beginning (λ s. s.words ≡ M) (slice_get c.harts h) (get_or d.harts h x)
+      (sym (first_same c.harts d.harts h same.firsts) ∙ ap (option_map beginning) here)
       (hart_at (λ v. v.first.words ≡ M) c.harts fit.firsts h));
   stored = subst (FitStored M) (sym same.stored) fit.stored;
 }
@@ -96,27 +101,44 @@ sound_same B M n m t c d sound same room = grind (arith, tied_same, fit_same, sa
 
 -- steps
 
-pub sound_happens : (B M n : ℕ) (t : History) (c : Config) (ev : Event) → IsMachineAt B M t c n → Happens B M t ev (outcome_of B c ev) (history_after t (outcome_of B c ev))
+pub sound_happens : (B M n : ℕ) (t : History) (c : Config) (ev : Event) → IsMachineAt B M t c n
+    → Happens B M t ev (outcome_of B c ev) (history_after t (outcome_of B c ev))
 sound_happens B M n t c ev sound = outcome_of-happens B M t c ev (record { kept = sound.kept; tied = sound.tied }) (words_of M c sound.fit)
 
 still : (B M n : ℕ) (t : History) (c : Config) → IsMachineAt B M t c n → IsMachineAt B M t c (n - 1)
-still B M n t c sound = record { fits = sound.fits; kept = sound.kept; tied = sound.tied; fit = sound.fit; count = sound.count; room = less_room c.harts n sound.room }
+still B M n t c sound = record {
+  fits = sound.fits;
+  kept = sound.kept;
+  tied = sound.tied;
+  fit = sound.fit;
+  count = sound.count;
+  room = less_room c.harts n sound.room;
+}
 
-sound_outcome : (B M n : ℕ) (t : History) (c : Config) (ev : Event) (o : Outcome) → IsMachineAt B M t c n → Happens B M t ev o (history_after t o) → Fit M (after_outcome c o) → IsMachineAt B M (history_after t o) (after_outcome c o) (n - 1)
+sound_outcome : (B M n : ℕ) (t : History) (c : Config) (ev : Event) (o : Outcome) → IsMachineAt B M t c n
+    → Happens B M t ev o (history_after t o) → Fit M (after_outcome c o)
+    → IsMachineAt B M (history_after t o) (after_outcome c o) (n - 1)
 sound_outcome B M n t c ev o sound adds fit = grind (arith, kept_after, carried, entry_count, entry_room, still)
 
-pub sound_held : (B M : ℕ) (o : OpeningValue) (es : List Entry) (c : Config) → FitsIn M o → es ≡ [] → c ≡ opened_config M o → IsMachineAt B M (record { opening = o; entries = es }) c 0
+pub sound_held : (B M : ℕ) (o : OpeningValue) (es : List Entry) (c : Config) → FitsIn M o → es ≡ []
+    → c ≡ opened_config M o → IsMachineAt B M (record { opening = o; entries = es }) c 0
 sound_held B M o es c fits none is = grind (arith, sound_opened B M o fits)
 
 -- the same entries and the same machine except for room
-pub sound_moved : (B M n m : ℕ) (o : OpeningValue) (es moved : List Entry) (c d : Config) → IsMachineAt B M (record { opening = o; entries = es }) c n → moved ≡ es → SameButRoom c d → AllHaveRoom m d.harts → IsMachineAt B M (record { opening = o; entries = moved }) d m
+pub sound_moved : (B M n m : ℕ) (o : OpeningValue) (es moved : List Entry) (c d : Config)
+    → IsMachineAt B M (record { opening = o; entries = es }) c n → moved ≡ es → SameButRoom c d → AllHaveRoom m d.harts
+    → IsMachineAt B M (record { opening = o; entries = moved }) d m
 sound_moved B M n m o es moved c d sound is same room = grind (arith, sound_same B M n m (record { opening = o; entries = es }) c d sound same room)
 
 -- a step of a sound machine, and what it leaves
-pub happens_stepped : (B M n : ℕ) (t : History) (c : Config) (ev : Event) (o : Outcome) (es : List Entry) → IsMachineAt B M t c n → o ≡ outcome_of B c ev → es ≡ entries_after t.entries o → Happens B M t ev o (record { opening = t.opening; entries = es })
+pub happens_stepped : (B M n : ℕ) (t : History) (c : Config) (ev : Event) (o : Outcome) (es : List Entry)
+    → IsMachineAt B M t c n → o ≡ outcome_of B c ev → es ≡ entries_after t.entries o
+    → Happens B M t ev o (record { opening = t.opening; entries = es })
 happens_stepped B M n t c ev o es sound is added = grind (arith, history_after t, sound_happens B M n t c ev sound)
 
-pub sound_stepped : (B M n : ℕ) (t : History) (c d : Config) (ev : Event) (o : Outcome) (es : List Entry) → IsMachineAt B M t c n → o ≡ outcome_of B c ev → d ≡ after_outcome c o → Fit M d → es ≡ entries_after t.entries o → IsMachineAt B M (record { opening = t.opening; entries = es }) d (n - 1)
+pub sound_stepped : (B M n : ℕ) (t : History) (c d : Config) (ev : Event) (o : Outcome) (es : List Entry)
+    → IsMachineAt B M t c n → o ≡ outcome_of B c ev → d ≡ after_outcome c o → Fit M d → es ≡ entries_after t.entries o
+    → IsMachineAt B M (record { opening = t.opening; entries = es }) d (n - 1)
 sound_stepped B M n t c d ev o es sound is after fit added =
     subst (λ (k : Config). IsMachineAt B M (record { opening = t.opening; entries = es }) k (n - 1)) (sym after)
     (subst (λ (xs : List Entry). IsMachineAt B M (record { opening = t.opening; entries = xs }) (after_outcome c o) (n - 1)) (sym added)

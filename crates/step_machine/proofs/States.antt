@@ -31,7 +31,8 @@ after_entries-keep : (M : ℕ) (o : HartOpeningValue) (s : HartState) (es : List
 after_entries-keep M o s [] keeps = keeps
 after_entries-keep M o s (e ∷ es) keeps = grind (arith, advanced-code, advanced-words, registers-are_kept, after_entries-keep M o (advanced s (value_of e)) es)
 
-pub state_keeps : (M : ℕ) (t : History) (h : ℕ) (o : HartOpeningValue) (s : HartState) → slice_get t.opening.harts h ≡ Some o → state_of M t h ≡ Some s → KeepsOpening M o s
+pub state_keeps : (M : ℕ) (t : History) (h : ℕ) (o : HartOpeningValue) (s : HartState)
+    → slice_get t.opening.harts h ≡ Some o → state_of M t h ≡ Some s → KeepsOpening M o s
 state_keeps M t h o s here is =
     let some : Some (state_after M (own h t.entries) o) ≡ Some s = sym (ap (option_map (state_after M (own h t.entries))) here) ∙ is in
     let same : state_after M (own h t.entries) o ≡ s = cc in

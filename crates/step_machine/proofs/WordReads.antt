@@ -12,7 +12,8 @@ use Rattle.memory.proofs.WholeWords.{word_reads}
 use Rattle.step_machine.specs.declared.events.Entry.{Entry}
 use Rattle.step_machine.specs.Access.{Access, access_of}
 use Rattle.step_machine.specs.History.{OpeningValue}
-use Rattle.step_machine.specs.Entries.{hart_of, stored_by, written_by, store_of, stores, lands, pending, write_of, landed_after, landed, opening_byte, memory_byte, memory_word, read}
+use Rattle.step_machine.specs.Entries.{hart_of, stored_by, written_by, store_of, stores, lands, pending, write_of}
+use Rattle.step_machine.specs.Entries.{landed_after, landed, opening_byte, memory_byte, memory_word, read}
 use Rattle.step_machine.proofs.Appended.{landed-last}
 use Rattle.step_machine.specs.WordReads.{WritesWord, AllWriteWords, OpensWithWords, word_in_memory, word_read}
 
@@ -36,7 +37,9 @@ AllWriteWords-append (e ∷ es) fs all more = (all.0, AllWriteWords-append es fs
 landed_after-whole : (before es : List Entry) → AllWriteWords before → AllWriteWords es → All IsWholeWord (landed_after before es)
 landed_after-whole before [] all more = All-nil IsWholeWord
 landed_after-whole before (e ∷ es) all more =
-    All-append IsWholeWord (write_of before e) (landed_after (before ++ e ∷ []) es) (write_whole (take 1 (pending (hart_of e) before)) (access_of e) (All-take IsWholeWord 1 (pending (hart_of e) before) (pending-whole (hart_of e) before all)) more.0)
+    All-append IsWholeWord (write_of before e) (landed_after (before ++ e ∷ []) es)
+    (write_whole (take 1 (pending (hart_of e) before)) (access_of e)
+    (All-take IsWholeWord 1 (pending (hart_of e) before) (pending-whole (hart_of e) before all)) more.0)
     (landed_after-whole (before ++ e ∷ []) es (AllWriteWords-append before (e ∷ []) all (more.0, tt)) more.1)
 
 pub landed-whole : (es : List Entry) → AllWriteWords es → All IsWholeWord (landed es)
@@ -59,8 +62,12 @@ memory-word o es a opens all aligned =
 
 -- a word of memory after one more entry, stated without bytes
 
-pub word_in_memory-other : (o : OpeningValue) (es : List Entry) (e : Entry) (a : ℕ) → write_of es e ≡ [] → word_in_memory o (es ++ e ∷ []) a ≡ word_in_memory o es a
-word_in_memory-other o es e a none = ap (λ ws. unwrap_or (newest_word a None ws) (slice_index o.words (a / 4))) (landed-last es e ∙ ap (λ ws. landed es ++ ws) none ∙ append-nil (landed es))
+pub word_in_memory-other : (o : OpeningValue) (es : List Entry) (e : Entry) (a : ℕ) → write_of es e ≡ []
+    → word_in_memory o (es ++ e ∷ []) a ≡ word_in_memory o es a
+word_in_memory-other o es e a none = ap (λ ws. unwrap_or (newest_word a None ws) (slice_index o.words (a / 4)))
+    (landed-last es e ∙ ap (λ ws. landed es ++ ws) none ∙ append-nil (landed es))
 
-pub word_in_memory-write : (o : OpeningValue) (es : List Entry) (e : Entry) (w : Write) (a : ℕ) → write_of es e ≡ w ∷ [] → word_in_memory o (es ++ e ∷ []) a ≡ (if w.addr == a then w.value else word_in_memory o es a)
+pub word_in_memory-write : (o : OpeningValue) (es : List Entry) (e : Entry) (w : Write) (a : ℕ)
+    → write_of es e ≡ w ∷ []
+    → word_in_memory o (es ++ e ∷ []) a ≡ (if w.addr == a then w.value else word_in_memory o es a)
 word_in_memory-write o es e w a is = grind (arith, landed-last, newest_word-last)

@@ -28,10 +28,14 @@ pub fn laws_of_runs()
     ensures opening { (B M : ℕ) (o : OpeningValue) (evs : List Event) (t : History) → Run B M o evs t → t.opening ≡ o }
     ensures harts { (B M : ℕ) (o : OpeningValue) (evs : List Event) (t : History) → Run B M o evs t → All (IsOfHarts o) t.entries }
     ensures own { (B M : ℕ) (t : History) → WellFormed B M t → IsOwnRun B M t }
-    ensures induction { (B M : ℕ) (holds : History → Bool) (o : OpeningValue) → IsTrue (holds (at_opening o)) → ((t : History) (ev : Event) (out : Outcome) (new : History) → IsTrue (holds t) → Happens B M t ev out new → IsTrue (holds new)) → (evs : List Event) (t : History) → Run B M o evs t → IsTrue (holds t) }
+    ensures induction { (B M : ℕ) (holds : History → Bool) (o : OpeningValue) → IsTrue (holds (at_opening o))
+        → ((t : History) (ev : Event) (out : Outcome) (new : History) → IsTrue (holds t) → Happens B M t ev out new
+        → IsTrue (holds new)) → (evs : List Event) (t : History) → Run B M o evs t → IsTrue (holds t) }
     ensures landings { (B : ℕ) (t : History) → Legal B t → landed t.entries ≡ landed_by_count t.entries }
-    ensures word_reads { (o : OpeningValue) (es : List Entry) (h a : ℕ) → OpensWithWords o → AllWriteWords es → a % 4 ≡ 0 → read o es h a 4 ≡ word_read o es h a }
-    ensures words_of_memory { (o : OpeningValue) (es : List Entry) (a : ℕ) → OpensWithWords o → AllWriteWords es → a % 4 ≡ 0 → memory_word o es a ≡ word_in_memory o es a }
+    ensures word_reads { (o : OpeningValue) (es : List Entry) (h a : ℕ) → OpensWithWords o → AllWriteWords es
+        → a % 4 ≡ 0 → read o es h a 4 ≡ word_read o es h a }
+    ensures words_of_memory { (o : OpeningValue) (es : List Entry) (a : ℕ) → OpensWithWords o → AllWriteWords es
+        → a % 4 ≡ 0 → memory_word o es a ≡ word_in_memory o es a }
 {}
 
 /// The laws of memory entries. What is pending, what landed, what is read and what is legal depends on the
@@ -47,7 +51,10 @@ pub fn laws_of_placing()
     ensures words { (B : ℕ) (o p : OpeningValue) (es : List Entry) → o.words ≡ p.words → Legal B (history_of o es) → Legal B (history_of p es) }
     ensures own { (ds : List (List Entry)) (us : List Entry) → Parts ds us → (h : ℕ) → own h (placed ds us) ≡ diary_of ds h }
     ensures memory { (ds : List (List Entry)) (us : List Entry) → All IsMemory us → Parts ds us → memory_of (placed ds us) ≡ us }
-    ensures kept { (B M : ℕ) (o : OpeningValue) (ds : List (List Entry)) (us : List Entry) → length ds ≡ length o.harts → All IsMemory us → Legal B (history_of o us) → Parts ds us → ((h : ℕ) → h < length o.harts → PathOf M (slice_get o.harts h) (diary_of ds h)) → WellFormed B M (history_of o (placed ds us)) }
+    ensures kept { (B M : ℕ) (o : OpeningValue) (ds : List (List Entry)) (us : List Entry)
+        → length ds ≡ length o.harts → All IsMemory us → Legal B (history_of o us) → Parts ds us
+        → ((h : ℕ) → h < length o.harts → PathOf M (slice_get o.harts h) (diary_of ds h))
+        → WellFormed B M (history_of o (placed ds us)) }
 {}
 
 /// The laws of positions. What an event answers, and the position after it, depend on the position alone. The
@@ -56,6 +63,8 @@ pub fn laws_of_placing()
 pub fn laws_of_positions()
     ensures outcome { (B : ℕ) (c : Config) (ev : Event) → outcome_of B c ev ≡ outcome_at B (position_of c) ev }
     ensures next { (B : ℕ) (c : Config) (ev : Event) → position_of (after_outcome c (outcome_of B c ev)) ≡ next_position B (position_of c) ev }
-    ensures back { (B M : ℕ) (c d : Config) → AreOfOneOpening c d → IsSoundMachine B M c → IsSoundMachine B M d → position_of (put_at B M c (packed d)) ≡ position_of d }
-    ensures one { (B M : ℕ) (c d : Config) → AreOfOneOpening c d → IsSoundMachine B M c → IsSoundMachine B M d → packed c ≡ packed d → position_of c ≡ position_of d }
+    ensures back { (B M : ℕ) (c d : Config) → AreOfOneOpening c d → IsSoundMachine B M c → IsSoundMachine B M d
+        → position_of (put_at B M c (packed d)) ≡ position_of d }
+    ensures one { (B M : ℕ) (c d : Config) → AreOfOneOpening c d → IsSoundMachine B M c → IsSoundMachine B M d
+        → packed c ≡ packed d → position_of c ≡ position_of d }
 {}

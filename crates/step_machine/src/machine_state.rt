@@ -1,7 +1,8 @@
 //! What the machine holds: its harts, their store buffers and the memory, and what an event makes of
 //! them. Nothing here knows a history.
 
-ghost use Rattle.std.specs.Prelude.{◌≡◌, ◌≤◌, ◌<◌, ℕ, true, false, IsTrue, [], length, slice_get, map, replicate, All, IfOk, IfSome, IsSomeAnd, OnOk, OnErr, unwrap_or, is_some};
+ghost use Rattle.std.specs.Prelude.{◌≡◌, ◌≤◌, ◌<◌, ℕ, true, false, IsTrue, [], length, slice_get, map, replicate, All};
+ghost use Rattle.std.specs.Prelude.{IfOk, IfSome, IsSomeAnd, OnOk, OnErr, unwrap_or, is_some};
 ghost use Rattle.memory.specs.Words.{IsAddress};
 ghost use Rattle.hart.specs.Steps.{reads, restarted};
 ghost use Rattle.step_machine.specs.Snapshots.{AreSaved, IsSavedFrom};
@@ -58,7 +59,9 @@ impl<const B: usize, const M: usize> MachineState<B, M> {
     ghost use Rattle.step_machine.specs.History.{FitsIn};
     ghost use Rattle.step_machine.specs.Ranges.{IsInRange};
     ghost use Rattle.step_machine.specs.inner.Stored.{outcome_for, buffer_of, word_at};
-    ghost use Rattle.step_machine.specs.inner.Config.{Fit, opened_config, HasRoom, outcome_of, act_outcome, land_outcome, after_outcome, step_hart, roomy_at, restarted_config, HasRoomAt, SameButRoom, AllHaveRoom, IsNext};
+    ghost use Rattle.step_machine.specs.inner.Config.{Fit, opened_config, HasRoom, outcome_of, act_outcome};
+    ghost use Rattle.step_machine.specs.inner.Config.{land_outcome, after_outcome, step_hart, roomy_at};
+    ghost use Rattle.step_machine.specs.inner.Config.{restarted_config, HasRoomAt, SameButRoom, AllHaveRoom, IsNext};
 
     /// What an opening gives: harts at their beginnings, empty buffers, and the opening's words.
     pub(crate) fn opened(alloc: Global, opening: &Opening) -> Result<Self, AllocError>

@@ -1,7 +1,8 @@
 //! Entries in few bytes: a head of four bytes for each row of equal entries, and beside the heads the numbers
 //! that don't fit there.
 
-ghost use Rattle.std.specs.Prelude.{◌≡◌, ◌+◌, ◌≤◌, ◌<◌, [], ◌∷◌, ◌++◌, true, false, length, take, ◌-◌, IfOk, IfSome, is_some, MatchOption, IsErr, OnOk, OnErr, vec_len, vec_capacity, if◌then◌else◌};
+ghost use Rattle.std.specs.Prelude.{◌≡◌, ◌+◌, ◌≤◌, ◌<◌, [], ◌∷◌, ◌++◌, true, false, length, take, ◌-◌, IfOk, IfSome};
+ghost use Rattle.std.specs.Prelude.{is_some, MatchOption, IsErr, OnOk, OnErr, vec_len, vec_capacity, if◌then◌else◌};
 ghost use Rattle.step_machine.specs.inner.Packed.{IsSingle, IsLonger, entry_of, further_of, longer, longer_last};
 
 use crate::events::Entry;

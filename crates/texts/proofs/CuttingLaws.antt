@@ -1,5 +1,6 @@
 -- Texts cut at bytes: what stands before the first byte that passes, after it, and from it on.
-use Rattle.std.proofs.Common.{◌≡◌, ℕ, suc, ◌+◌, ◌%◌, ◌^◌, ◌<◌, ◌≤◌, Bool, true, false, List, [], ◌∷◌, ◌++◌, length, take, drop, Option, Some, None, refl, ap, subst, ◌∙◌, inl, inr, add-one, arith}
+use Rattle.std.proofs.Common.{◌≡◌, ℕ, suc, ◌+◌, ◌%◌, ◌^◌, ◌<◌, ◌≤◌, Bool, true, false, List, [], ◌∷◌, ◌++◌, length}
+use Rattle.std.proofs.Common.{take, drop, Option, Some, None, refl, ap, subst, ◌∙◌, inl, inr, add-one, arith}
 use Rattle.std.specs.Prelude.{position}
 use Rattle.std.specs.List.{position_or_len, slice_split}
 use Rattle.std.specs.Fmt.{decimal}
@@ -93,7 +94,8 @@ cut_whole p [] ys e = absurd cc
 cut_whole p (x ∷ xs) ys e = grind (arith, cut_whole p xs ys)
 
 pub cut_byte : (byte : ℕ) (xs ys : List ℕ) → after (is_byte byte) xs ≡ Some ys → xs ≡ before (is_byte byte) xs ++ byte ∷ ys
-cut_byte byte xs ys e = let cut = cut_whole (is_byte byte) xs ys e in subst (λ (c : ℕ). xs ≡ before (is_byte byte) xs ++ c ∷ ys) (eqb-true cut.0 byte cut.1) cut.2
+cut_byte byte xs ys e = let cut = cut_whole (is_byte byte) xs ys e in
+    subst (λ (c : ℕ). xs ≡ before (is_byte byte) xs ++ c ∷ ys) (eqb-true cut.0 byte cut.1) cut.2
 
 pub uncut : (p : ℕ → Bool) (xs : List ℕ) → after p xs ≡ None → before p xs ≡ xs
 uncut p [] e = refl
@@ -131,7 +133,8 @@ one_line xs some h = lines_whole xs (position_none (is_byte 10) xs h) some
 -- ---- digits
 
 pub decimal_none : (p : ℕ → Bool) → ((d : ℕ) → d < 10 → p (48 + d) ≡ false) → (n : ℕ) → n < 2 ^ 64 → NonePass p (decimal n)
-decimal_none p digit n fits = decimal_by_steps (λ k ds. NonePass p ds) (λ k lt. (digit k lt, tt)) (λ k ds le rest. none-append p ds ((48 + k % 10) ∷ []) rest (digit (k % 10) (omega arith), tt)) n fits
+decimal_none p digit n fits = decimal_by_steps (λ k ds. NonePass p ds) (λ k lt. (digit k lt, tt))
+    (λ k ds le rest. none-append p ds ((48 + k % 10) ∷ []) rest (digit (k % 10) (omega arith), tt)) n fits
 
 pub not_byte : (byte d : ℕ) → 58 ≤ byte → d < 10 → is_byte byte (48 + d) ≡ false
 not_byte byte d high lt = ne_eqb (48 + d) byte (omega arith)

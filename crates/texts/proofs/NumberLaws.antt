@@ -1,5 +1,7 @@
 -- Digits and what they say.
-use Rattle.std.proofs.Common.{◌≡◌, ℕ, ◌+◌, ◌*◌, ◌^◌, ◌<◌, ◌≤◌, Bool, true, false, cond, ◌&&◌, List, [], ◌∷◌, length, take, drop, get_or, Option, Some, None, refl, sym, ◌∙◌, subst, arith, inl, inr, ltb, eqb, ap}
+use Rattle.std.proofs.Common.{◌≡◌, ℕ, ◌+◌, ◌*◌, ◌^◌, ◌<◌, ◌≤◌, Bool, true, false, cond, ◌&&◌, List, [], ◌∷◌, length}
+use Rattle.std.proofs.Common.{take, drop, get_or, Option, Some, None, refl, sym, ◌∙◌, subst, arith, inl, inr, ltb, eqb}
+use Rattle.std.proofs.Common.{ap}
 use Rattle.std.specs.Prelude.{IfSome}
 use Rattle.std.specs.List.{list_all}
 use Rattle.std.specs.Char.{digit_value, is_digit}
@@ -37,10 +39,15 @@ capped-step n radix digit low = grind (arith, mul-le-mul_left, mul-le-mul_right)
 abbrev pub all_digits : ℕ → List ℕ → Bool
 all_digits radix digits = list_all (λ c. is_digit c radix) digits
 
-pub all_digits_more : (radix : ℕ) (digits : List ℕ) (i : ℕ) → i < length digits → digit_value (get_or digits i 0) < radix → all_digits radix (take i digits) ≡ true → all_digits radix (take (i + 1) digits) ≡ true
-all_digits_more radix digits i lt fits so_far = list_all_more (λ c. is_digit c radix) digits i 0 lt ∙ rw (so_far, lt-ltb (digit_value (get_or digits i 0)) radix fits) refl
+pub all_digits_more : (radix : ℕ) (digits : List ℕ) (i : ℕ) → i < length digits
+    → digit_value (get_or digits i 0) < radix → all_digits radix (take i digits) ≡ true
+    → all_digits radix (take (i + 1) digits) ≡ true
+all_digits_more radix digits i lt fits so_far = list_all_more (λ c. is_digit c radix) digits i 0 lt
+    ∙ rw (so_far, lt-ltb (digit_value (get_or digits i 0)) radix fits) refl
 
-pub value_more : (radix : ℕ) (digits : List ℕ) (i value : ℕ) → 1 ≤ radix → i < length digits → value ≡ capped (digits_value radix (take i digits)) → capped (value * radix + digit_value (get_or digits i 0)) ≡ capped (digits_value radix (take (i + 1) digits))
+pub value_more : (radix : ℕ) (digits : List ℕ) (i value : ℕ) → 1 ≤ radix → i < length digits
+    → value ≡ capped (digits_value radix (take i digits))
+    → capped (value * radix + digit_value (get_or digits i 0)) ≡ capped (digits_value radix (take (i + 1) digits))
 value_more radix digits i value low lt so_far = grind (arith, digits_value_more, capped-step)
 
 pub capped_value_empty : (radix : ℕ) (digits : List ℕ) → length digits ≡ 0 → capped_value radix digits ≡ None
@@ -51,14 +58,16 @@ pub capped_value_other : (radix : ℕ) (digits : List ℕ) (i : ℕ) → i < len
 unfolding capped_value
 capped_value_other radix digits i lt other = grind (arith, list_all_at, le-ltb)
 
-pub capped_value-all : (radix : ℕ) (digits : List ℕ) → 0 < length digits → all_digits radix digits ≡ true → capped_value radix digits ≡ Some (capped (digits_value radix digits))
+pub capped_value-all : (radix : ℕ) (digits : List ℕ) → 0 < length digits → all_digits radix digits ≡ true
+    → capped_value radix digits ≡ Some (capped (digits_value radix digits))
 unfolding capped_value
 capped_value-all radix digits some all = grind arith
 
 -- ---- the numbers of the grammars
 
 -- what is read was said by digits
-pub capped_value-said : (radix : ℕ) (digits : List ℕ) (n : ℕ) → capped_value radix digits ≡ Some n → IsNumeral radix digits × (capped (digits_value radix digits) ≡ n)
+pub capped_value-said : (radix : ℕ) (digits : List ℕ) (n : ℕ) → capped_value radix digits ≡ Some n
+    → IsNumeral radix digits × (capped (digits_value radix digits) ≡ n)
 unfolding capped_value
 capped_value-said radix digits n e = grind (arith, IsNumeral-from_test)
 
@@ -85,9 +94,11 @@ one_said digits m n h k = sym h.1 ∙ k.1
 
 -- what a digit's reader says of the byte that it read
 pub other_digit : (radix byte read : ℕ) → read ≡ byte → (digit_value read < radix → ⊥) → radix ≤ digit_value byte
-other_digit radix byte read same refused = subst (λ (b : ℕ). radix ≤ digit_value b) same (elim (cases_lt (digit_value read) radix) [ inl lt ↦ absurd (refused lt) | inr le ↦ le ])
+other_digit radix byte read same refused = subst (λ (b : ℕ). radix ≤ digit_value b) same
+    (elim (cases_lt (digit_value read) radix) [ inl lt ↦ absurd (refused lt) | inr le ↦ le ])
 
-pub read_digit : (radix byte read digit : ℕ) → read ≡ byte → (digit_value read < radix) × (digit ≡ digit_value read) → (digit_value byte < radix) × (digit ≡ digit_value byte)
+pub read_digit : (radix byte read digit : ℕ) → read ≡ byte → (digit_value read < radix) × (digit ≡ digit_value read)
+    → (digit_value byte < radix) × (digit ≡ digit_value byte)
 read_digit radix byte read digit same h = subst (λ (b : ℕ). (digit_value b < radix) × (digit ≡ digit_value b)) same h
 
 -- ---- words
@@ -156,7 +167,9 @@ hex_text text e = grind (arith, and_parts, eqb-true)
 no_hex : (digits : List ℕ) → AllDigits 10 digits → is_hex digits ≡ false
 no_hex [] h = refl
 no_hex (a ∷ []) h = refl
-no_hex (a ∷ b ∷ rest) h = rw (ne_eqb b 120 (λ is. (let f : digit_value 120 < 10 = subst (λ (c : ℕ). digit_value c < 10) is h.1.0 in omega arith))) (and_right (ltb 1 (length (a ∷ b ∷ rest)) && eqb a 48) false refl)
+no_hex (a ∷ b ∷ rest) h = rw
+    (ne_eqb b 120 (λ is. (let f : digit_value 120 < 10 = subst (λ (c : ℕ). digit_value c < 10) is h.1.0 in omega arith)))
+    (and_right (ltb 1 (length (a ∷ b ∷ rest)) && eqb a 48) false refl)
 
 pub magnitude_found : (text : List ℕ) (n : ℕ) → magnitude_of text ≡ Some n → n < 2 ^ 32 → IsMagnitude text n
 unfolding magnitude_of

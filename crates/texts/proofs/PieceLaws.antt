@@ -42,11 +42,13 @@ span-slice_split p (x ∷ xs) = grind (arith, span-onto_first, span-slice_split 
 -- ---- lines
 
 -- a part before another one is a line
-pub lines_of_parts-cons : (part : List ℕ) (parts : List (List ℕ)) → 0 < length parts → lines_of_parts (part ∷ parts) ≡ strip_carriage_return part ∷ lines_of_parts parts
+pub lines_of_parts-cons : (part : List ℕ) (parts : List (List ℕ)) → 0 < length parts
+    → lines_of_parts (part ∷ parts) ≡ strip_carriage_return part ∷ lines_of_parts parts
 lines_of_parts-cons part parts some = grind arith
 
 -- the first line ends before the first LF, and loses the CR before it
-pub lines_found : (text : List ℕ) (i : ℕ) → position (λ byte. byte == 10) text ≡ Some i → lines text ≡ strip_carriage_return (take i text) ∷ lines (drop (i + 1) text)
+pub lines_found : (text : List ℕ) (i : ℕ) → position (λ byte. byte == 10) text ≡ Some i
+    → lines text ≡ strip_carriage_return (take i text) ∷ lines (drop (i + 1) text)
 lines_found text i e = grind (arith, slice_split_found, lines_of_parts-cons, length-slice_split)
 
 -- and is all that is left where there is none

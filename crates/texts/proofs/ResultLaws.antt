@@ -26,7 +26,9 @@ pub ok_is : {A : Type 0} (E : Type 0) (x y : A) → done E x ≡ done E y → x 
 ok_is E x y e = cc
 
 -- An answer that is a value exactly where there is one of which P holds, is a fault exactly where there is none.
-pub refused_without : {A B E : Type 0} (answer : Result A E) (P : B → Type 0) → ((x : A) → answer ≡ Ok x → (y : B) × P y) → ((y : B) → P y → (x : A) × (answer ≡ Ok x)) → IsErr answer ↔ ((y : B) → ¬ P y)
+pub refused_without : {A B E : Type 0} (answer : Result A E) (P : B → Type 0)
+    → ((x : A) → answer ≡ Ok x → (y : B) × P y) → ((y : B) → P y → (x : A) × (answer ≡ Ok x))
+    → IsErr answer ↔ ((y : B) → ¬ P y)
 refused_without (Ok x) P found only = (λ refused. absurd cc, λ none. absurd (let value = found x refl in none value.0 value.1))
 refused_without (Err d) P found only = (λ refused y is. absurd (let value = only y is in let f = value.1 in cc), λ none. refl)
 

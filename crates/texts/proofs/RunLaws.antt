@@ -1,5 +1,7 @@
 -- The runs of a list are the longest ones, and a text of them is written one element at a time.
-use Rattle.std.proofs.Common.{◌≡◌, ◌≢◌, ℕ, zero, suc, ◌+◌, ◌<◌, ◌≤◌, Bool, true, false, List, [], ◌∷◌, ◌++◌, length, drop, replicate, get_or, Some, refl, sym, ap, ◌∙◌, append_assoc, add-one, drop-cons, arith}
+use Rattle.std.proofs.Common.{◌≡◌, ◌≢◌, ℕ, zero, suc, ◌+◌, ◌<◌, ◌≤◌, Bool, true, false, List, [], ◌∷◌, ◌++◌, length}
+use Rattle.std.proofs.Common.{drop, replicate, get_or, Some, refl, sym, ap, ◌∙◌, append_assoc, add-one, drop-cons}
+use Rattle.std.proofs.Common.{arith}
 use Rattle.std.specs.Prelude.{Decides}
 use Rattle.std.specs.List.{slice_get, AllByRecursion}
 use Rattle.std.proofs.lemmas.Bool.Decides.{not_from_Decides}
@@ -47,7 +49,8 @@ module _ {E : Type 0} (same : E → E → Bool) (decides : (a b : E) → Decides
   Differs e [] = Unit {0}
   Differs e (next ∷ runs) = e ≢ next.0
 
-  runs_of-run : (e : E) (times : ℕ) (elements : List E) → Differs e (runs_of same elements) → runs_of same (replicate (suc times) e ++ elements) ≡ (e, suc times) ∷ runs_of same elements
+  runs_of-run : (e : E) (times : ℕ) (elements : List E) → Differs e (runs_of same elements)
+      → runs_of same (replicate (suc times) e ++ elements) ≡ (e, suc times) ∷ runs_of same elements
   unfolding runs_of
   runs_of-run e zero elements differs = grind (arith, same_or_not)
   runs_of-run e (suc times) elements differs = grind (arith, runs_of-run e times elements differs)
@@ -62,23 +65,32 @@ module _ {E : Type 0} (same : E → E → Bool) (decides : (a b : E) → Decides
 
   -- ---- what holds of each element holds of each run
 
-  all-joined : (P : Run E → Type 0) → ((e : E) (m n : ℕ) → P (e, m) → P (e, m + n)) → (run : Run E) (runs : List (Run E)) → P run → AllByRecursion P runs → AllByRecursion P (joined same run runs)
+  all-joined : (P : Run E → Type 0) → ((e : E) (m n : ℕ) → P (e, m) → P (e, m + n))
+      → (run : Run E) (runs : List (Run E)) → P run → AllByRecursion P runs → AllByRecursion P (joined same run runs)
   all-joined P longer run h3 holds all = grind arith
 
-  pub all-runs_of : (P : E → Type 0) (elements : List E) → AllByRecursion P elements → AllByRecursion (λ (run : Run E). P run.0 × (0 < run.1)) (runs_of same elements)
+  pub all-runs_of : (P : E → Type 0) (elements : List E) → AllByRecursion P elements
+      → AllByRecursion (λ (run : Run E). P run.0 × (0 < run.1)) (runs_of same elements)
   unfolding runs_of
   all-runs_of P [] all = tt
-  all-runs_of P (e ∷ elements) all = all-joined (λ (run : Run E). P run.0 × (0 < run.1)) (λ x m n holds. (holds.0, omega (arith, holds.1))) (e, 1) (runs_of same elements) (all.0, omega arith) (all-runs_of P elements all.1)
+  all-runs_of P (e ∷ elements) all =
+      all-joined (λ (run : Run E). P run.0 × (0 < run.1)) (λ x m n holds. (holds.0, omega (arith, holds.1))) (e, 1)
+      (runs_of same elements) (all.0, omega arith) (all-runs_of P elements all.1)
 
   -- ---- a text of runs: write is what stands for a run that others follow
 
-  module _ (text_of : List (Run E) → List ℕ) (write : Run E → List ℕ) (writes : (run next : Run E) (runs : List (Run E)) → text_of (run ∷ next ∷ runs) ≡ write run ++ text_of (next ∷ runs)) where
+  module _ (text_of : List (Run E) → List ℕ) (write : Run E → List ℕ)
+      (writes : (run next : Run E) (runs : List (Run E))
+      → text_of (run ∷ next ∷ runs) ≡ write run ++ text_of (next ∷ runs)) where
     -- an element that goes on with a run
-    joined-same : (e next : E) (times : ℕ) (runs : List (Run E)) → same e next ≡ true → joined same (e, times) (joined same (next, 1) runs) ≡ joined same (e, times + 1) runs
+    joined-same : (e next : E) (times : ℕ) (runs : List (Run E)) → same e next ≡ true
+        → joined same (e, times) (joined same (next, 1) runs) ≡ joined same (e, times + 1) runs
     joined-same e next times runs is = grind arith
 
     -- an element that ends it
-    text-other : (e next : E) (times : ℕ) (runs : List (Run E)) → same e next ≡ false → text_of (joined same (e, times) (joined same (next, 1) runs)) ≡ write (e, times) ++ text_of (joined same (next, 1) runs)
+    text-other : (e next : E) (times : ℕ) (runs : List (Run E)) → same e next ≡ false
+        → text_of (joined same (e, times) (joined same (next, 1) runs)) ≡ write (e, times)
+        ++ text_of (joined same (next, 1) runs)
     text-other e next times runs other = grind arith
 
     -- what is still to be written: the run that goes on, and the runs of the rest
@@ -88,13 +100,20 @@ module _ {E : Type 0} (same : E → E → Bool) (decides : (a b : E) → Decides
     rest-cons : (elements : List E) (i : ℕ) (d : E) → i < length elements → drop i elements ≡ get_or elements i d ∷ drop (i + 1) elements
     rest-cons elements i d within = rw (add-one) (drop-cons elements i d within)
 
-    write-same : (e d : E) (times i : ℕ) (elements : List E) → i < length elements → same e (get_or elements i d) ≡ true → to_write e times (drop i elements) ≡ to_write e (times + 1) (drop (i + 1) elements)
+    write-same : (e d : E) (times i : ℕ) (elements : List E) → i < length elements
+        → same e (get_or elements i d) ≡ true
+        → to_write e times (drop i elements) ≡ to_write e (times + 1) (drop (i + 1) elements)
     unfolding runs_of
-    write-same e d times i elements within is = rw (rest-cons elements i d within) (ap text_of (joined-same e (get_or elements i d) times (runs_of same (drop (i + 1) elements)) is))
+    write-same e d times i elements within is = rw (rest-cons elements i d within)
+        (ap text_of (joined-same e (get_or elements i d) times (runs_of same (drop (i + 1) elements)) is))
 
-    write-other : (e d : E) (times i : ℕ) (elements : List E) → i < length elements → same e (get_or elements i d) ≡ false → to_write e times (drop i elements) ≡ write (e, times) ++ to_write (get_or elements i d) 1 (drop (i + 1) elements)
+    write-other : (e d : E) (times i : ℕ) (elements : List E) → i < length elements
+        → same e (get_or elements i d) ≡ false
+        → to_write e times (drop i elements) ≡ write (e, times)
+        ++ to_write (get_or elements i d) 1 (drop (i + 1) elements)
     unfolding runs_of
-    write-other e d times i elements within other = rw (rest-cons elements i d within) (text-other e (get_or elements i d) times (runs_of same (drop (i + 1) elements)) other)
+    write-other e d times i elements within other = rw (rest-cons elements i d within)
+        (text-other e (get_or elements i d) times (runs_of same (drop (i + 1) elements)) other)
 
     -- before the first turn a run of no element stands in front
     pub write-start : (e : E) (elements : List E) → slice_get elements 0 ≡ Some e → to_write e 0 elements ≡ text_of (runs_of same elements)
@@ -103,14 +122,19 @@ module _ {E : Type 0} (same : E → E → Bool) (decides : (a b : E) → Decides
     write-start e (next ∷ elements) first = grind (arith, some_is, joined-same)
 
     -- the element goes on with the run
-    pub turn-same : (e d : E) (times i : ℕ) (elements : List E) (text whole : List ℕ) → i < length elements → same e (get_or elements i d) ≡ true → text ++ to_write e times (drop i elements) ≡ whole → text ++ to_write e (times + 1) (drop (i + 1) elements) ≡ whole
+    pub turn-same : (e d : E) (times i : ℕ) (elements : List E) (text whole : List ℕ) → i < length elements
+        → same e (get_or elements i d) ≡ true → text ++ to_write e times (drop i elements) ≡ whole
+        → text ++ to_write e (times + 1) (drop (i + 1) elements) ≡ whole
     turn-same e d times i elements text whole within is so_far = ap (λ (rest : List ℕ). text ++ rest) (sym (write-same e d times i elements within is)) ∙ so_far
 
     -- the element ends it
-    pub turn-other : (e d : E) (times i : ℕ) (elements : List E) (text new whole : List ℕ) → i < length elements → same e (get_or elements i d) ≡ false → text ++ to_write e times (drop i elements) ≡ whole → new ≡ text ++ write (e, times) → new ++ to_write (get_or elements i d) 1 (drop (i + 1) elements) ≡ whole
+    pub turn-other : (e d : E) (times i : ℕ) (elements : List E) (text new whole : List ℕ) → i < length elements
+        → same e (get_or elements i d) ≡ false → text ++ to_write e times (drop i elements) ≡ whole
+        → new ≡ text ++ write (e, times) → new ++ to_write (get_or elements i d) 1 (drop (i + 1) elements) ≡ whole
     turn-other e d times i elements text new whole within other so_far written = grind (arith, append_assoc, write-other)
 
     -- after the last turn
-    pub turns-end : (e : E) (times n : ℕ) (elements : List E) (text new whole : List ℕ) → length elements ≤ n → text ++ to_write e times (drop n elements) ≡ whole → new ≡ text ++ text_of ((e, times) ∷ []) → new ≡ whole
+    pub turns-end : (e : E) (times n : ℕ) (elements : List E) (text new whole : List ℕ) → length elements ≤ n
+        → text ++ to_write e times (drop n elements) ≡ whole → new ≡ text ++ text_of ((e, times) ∷ []) → new ≡ whole
     unfolding runs_of
     turns-end e times n elements text new whole past so_far written = written ∙ (rw (drop_all n elements past) at so_far)

@@ -17,7 +17,8 @@ after_words : (rest : Option (List ℕ)) → filter is_word (split_after is_blan
 after_words rest = grind arith
 
 -- a text that begins with no blank is its first token, and the tokens after it
-tokens-solid : (byte : ℕ) (text : List ℕ) → is_blank byte ≡ false → tokens (byte ∷ text) ≡ before is_blank (byte ∷ text) ∷ tokens (unwrap_or (after is_blank (byte ∷ text)) [])
+tokens-solid : (byte : ℕ) (text : List ℕ) → is_blank byte ≡ false
+    → tokens (byte ∷ text) ≡ before is_blank (byte ∷ text) ∷ tokens (unwrap_or (after is_blank (byte ∷ text)) [])
 unfolding tokens
 tokens-solid byte text solid = grind (arith, split_cut, filter_kept, split_after, after_words)
 
@@ -42,7 +43,8 @@ tokens_uncut [] e = refl
 tokens_uncut (byte ∷ line) e = grind (arith, tokens-blank, tokens_uncut line)
 
 -- what the reader of a first token cut
-pub first_is : (line kept token : List ℕ) (rest : Option (List ℕ)) → kept ≡ without_front line → 0 < length kept → token ≡ before is_blank kept → rest ≡ after is_blank kept → first_cut line ≡ Some (token, unwrap_or rest [])
+pub first_is : (line kept token : List ℕ) (rest : Option (List ℕ)) → kept ≡ without_front line → 0 < length kept
+    → token ≡ before is_blank kept → rest ≡ after is_blank kept → first_cut line ≡ Some (token, unwrap_or rest [])
 unfolding first_cut
 first_is line kept token rest is some first following = grind arith
 
@@ -51,7 +53,8 @@ unfolding first_cut
 first_none line kept is none = grind arith
 
 -- a line that has tokens has a first one
-pub tokens-first : (line name : List ℕ) (others : List (List ℕ)) → tokens line ≡ name ∷ others → (rest : List ℕ) × (first_cut line ≡ Some (name, rest)) × (tokens rest ≡ others)
+pub tokens-first : (line name : List ℕ) (others : List (List ℕ)) → tokens line ≡ name ∷ others
+    → (rest : List ℕ) × (first_cut line ≡ Some (name, rest)) × (tokens rest ≡ others)
 tokens-first line name others e = grind (arith, tokens_uncut, tokens-cut)
 
 pub tokens_none : (line : List ℕ) → tokens line ≡ [] → first_cut line ≡ None

@@ -1,12 +1,14 @@
 -- Bytes round a text, and the text without them.
-use Rattle.std.proofs.Common.{◌≡◌, ℕ, suc, zero, ◌+◌, ◌-◌, ◌<◌, ◌≤◌, Bool, true, false, List, [], ◌∷◌, ◌++◌, length, take, get_or, refl, sym, ap, ◌∙◌, inl, inr, append_assoc, arith}
+use Rattle.std.proofs.Common.{◌≡◌, ℕ, suc, zero, ◌+◌, ◌-◌, ◌<◌, ◌≤◌, Bool, true, false, List, [], ◌∷◌, ◌++◌, length}
+use Rattle.std.proofs.Common.{take, get_or, refl, sym, ap, ◌∙◌, inl, inr, append_assoc, arith}
 use Rattle.std.proofs.lemmas.Bool.{cases_Bool}
 use Rattle.texts.specs.Cutting.{without_leading, without_trailing, onto_kept, stripped, AllPass, NonePass, IsPaddedBy}
 
 -- ---- the end, from the last byte back
 
 -- a byte that passes can go from the end of the part so far
-end_less : (p : ℕ → Bool) (xs : List ℕ) (i : ℕ) → i < length xs → p (get_or xs i 0) ≡ true → without_trailing p (take (i + 1) xs) ≡ without_trailing p (take i xs)
+end_less : (p : ℕ → Bool) (xs : List ℕ) (i : ℕ) → i < length xs → p (get_or xs i 0) ≡ true
+    → without_trailing p (take (i + 1) xs) ≡ without_trailing p (take i xs)
 end_less p [] i lt passes = absurd (omega arith)
 end_less p (x ∷ xs) zero lt passes = rw passes refl
 end_less p (x ∷ xs) (suc i) lt passes = grind (arith, end_less p xs i)
@@ -21,7 +23,8 @@ end_kept p (x ∷ xs) zero lt fails = rw fails refl
 end_kept p (x ∷ xs) (suc i) lt fails = grind (arith, onto_some, end_kept p xs i)
 
 -- the same, seen from after the byte
-pub end_step : (p : ℕ → Bool) (xs : List ℕ) (e : ℕ) → 0 < e → e ≤ length xs → p (get_or xs (e - 1) 0) ≡ true → without_trailing p (take (e - 1) xs) ≡ without_trailing p (take e xs)
+pub end_step : (p : ℕ → Bool) (xs : List ℕ) (e : ℕ) → 0 < e → e ≤ length xs → p (get_or xs (e - 1) 0) ≡ true
+    → without_trailing p (take (e - 1) xs) ≡ without_trailing p (take e xs)
 end_step p xs e some le passes = grind (arith, end_less)
 
 pub end_stop : (p : ℕ → Bool) (xs : List ℕ) (e : ℕ) → 0 < e → e ≤ length xs → p (get_or xs (e - 1) 0) ≡ false → take e xs ≡ without_trailing p (take e xs)
@@ -51,7 +54,8 @@ unfolding stripped
 stripped-none p xs h = rw (leading_none p xs h) (trailing_none p xs h)
 
 -- a text in whose first and last parts no byte passes
-pub stripped-ends : (p : ℕ → Bool) (xs ys zs : List ℕ) → 0 < length xs → NonePass p xs → 0 < length zs → NonePass p zs → stripped p (xs ++ (ys ++ zs)) ≡ xs ++ (ys ++ zs)
+pub stripped-ends : (p : ℕ → Bool) (xs ys zs : List ℕ) → 0 < length xs → NonePass p xs → 0 < length zs
+    → NonePass p zs → stripped p (xs ++ (ys ++ zs)) ≡ xs ++ (ys ++ zs)
 unfolding stripped
 stripped-ends p [] ys zs begins h some k = absurd (omega arith)
 stripped-ends p (x ∷ xs) ys zs begins h some k = rw (h.0, ← append_assoc xs ys zs) (trailing_append p (x ∷ (xs ++ ys)) zs some k)
@@ -116,7 +120,8 @@ pub trailing_split : (p : ℕ → Bool) (xs : List ℕ) → (back : List ℕ) ×
 trailing_split p [] = ([], tt, refl)
 trailing_split p (x ∷ xs) = let rest = trailing_split p xs in go (without_trailing p xs) rest.0 rest.1 rest.2 (p x) refl
   where
-    go : (kept back : List ℕ) → AllPass p back → xs ≡ kept ++ back → (b : Bool) → p x ≡ b → (end : List ℕ) × AllPass p end × (x ∷ xs ≡ onto_kept p x kept ++ end)
+    go : (kept back : List ℕ) → AllPass p back → xs ≡ kept ++ back → (b : Bool) → p x ≡ b
+        → (end : List ℕ) × AllPass p end × (x ∷ xs ≡ onto_kept p x kept ++ end)
     go [] back all whole true passes = (x ∷ back, (passes, all), rw passes (ap (λ ys. x ∷ ys) whole))
     go [] back all whole false fails = (back, all, rw fails (ap (λ ys. x ∷ ys) whole))
     go (y ∷ ys) back all whole b e = (back, all, ap (λ zs. x ∷ zs) whole)

@@ -1,5 +1,6 @@
 -- Numbers in digits, with a sign or without.
-use Rattle.std.specs.Prelude.{◌≡◌, ℕ, ℤ, pos, neg_ℤ, ◌^◌, ◌-◌, ◌<◌, ◌==◌, nat_lt, Bool, false, ◌&&◌, if◌then◌else◌, min, List, [], ◌∷◌, ◌++◌, length, replicate, drop, slice_index, Option, Some, None, option_map}
+use Rattle.std.specs.Prelude.{◌≡◌, ℕ, ℤ, pos, neg_ℤ, ◌^◌, ◌-◌, ◌<◌, ◌==◌, nat_lt, Bool, false, ◌&&◌, if◌then◌else◌, min}
+use Rattle.std.specs.Prelude.{List, [], ◌∷◌, ◌++◌, length, replicate, drop, slice_index, Option, Some, None, option_map}
 use Rattle.std.specs.List.{list_all}
 use Rattle.std.specs.Char.{is_digit}
 use Rattle.std.specs.Fmt.{digits}

@@ -3,7 +3,8 @@
 ghost use Rattle.std.specs.Prelude.{◌≡◌, ◌++◌, ◌≤◌, ◌<◌, ◌^◌, ℕ, pos, option_map, Some, IfSome, OnOk, OnErr};
 ghost use Rattle.std.specs.String.{string_bytes};
 ghost use Rattle.std.specs.Fmt.{decimal};
-ghost use Rattle.texts.specs.Numbers.{capped_value, number_of, hex_number_of, below_cap_of, word_of, hex_word_of, Says, IsHexWord, is_hex, is_negative, magnitude_of, integer_of};
+ghost use Rattle.texts.specs.Numbers.{capped_value, number_of, hex_number_of, below_cap_of, word_of, hex_word_of, Says};
+ghost use Rattle.texts.specs.Numbers.{IsHexWord, is_hex, is_negative, magnitude_of, integer_of};
 
 use std::alloc::AllocError;
 

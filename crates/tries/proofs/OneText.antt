@@ -24,14 +24,18 @@ trial_of events verdict values = record { events = events; verdict = verdict; va
 one_trial : (B M : ℕ) (q : LitmusTest) (s t : Trial) → IsTrial B M q s → IsTrial B M q t → s.events ≡ t.events → s ≡ t
 unfolding trial_of
 one_trial B M q s t is other events =
-    let histories : is.history ≡ other.history = run-one B M (at_opening q.opening) s.events is.history other.history is.ran (subst (λ (evs : List Event). Run B M q.opening evs other.history) (sym events) other.ran) in
-    let verdicts : s.verdict ≡ t.verdict = one_verdict M q is.history s.verdict t.verdict is.judged (subst (λ (h : History). IsVerdict M q h t.verdict) (sym histories) other.judged) in
+    let histories : is.history ≡ other.history =
+    run-one B M (at_opening q.opening) s.events is.history other.history is.ran
+    (subst (λ (evs : List Event). Run B M q.opening evs other.history) (sym events) other.ran) in
+    let verdicts : s.verdict ≡ t.verdict = one_verdict M q is.history s.verdict t.verdict is.judged
+    (subst (λ (h : History). IsVerdict M q h t.verdict) (sym histories) other.judged) in
     let values : s.values ≡ t.values = is.read ∙ ap (λ (h : History). map (final_value M h) (left_sides q.condition)) histories ∙ sym other.read in
     ap (λ (evs : List Event). trial_of evs s.verdict s.values) events
     ∙ ap (λ (v : Verdict). trial_of t.events v s.values) verdicts
     ∙ ap (λ (xs : List ℕ). trial_of t.events t.verdict xs) values
 
-one_list : (B M : ℕ) (q : LitmusTest) (ss ts : List Trial) → All (IsTrial B M q) ss → All (IsTrial B M q) ts → map (λ (t : Trial). t.events) ss ≡ map (λ (t : Trial). t.events) ts → ss ≡ ts
+one_list : (B M : ℕ) (q : LitmusTest) (ss ts : List Trial) → All (IsTrial B M q) ss → All (IsTrial B M q) ts
+    → map (λ (t : Trial). t.events) ss ≡ map (λ (t : Trial). t.events) ts → ss ≡ ts
 one_list B M q [] [] are others same = refl
 one_list B M q (s ∷ ss) (t ∷ ts) are others same =
     let first : s.events ≡ t.events = cc in
@@ -42,10 +46,12 @@ one_list B M q x y are others same = absurd cc
 
 -- ---- one text
 
-pub one_try : (B M : ℕ) (stream : Stream) (runs size : ℕ) (q : LitmusTest) (a b : List ℕ × Bool) → IsTried B M stream runs size q a → IsTried B M stream runs size q b → a ≡ b
+pub one_try : (B M : ℕ) (stream : Stream) (runs size : ℕ) (q : LitmusTest) (a b : List ℕ × Bool)
+    → IsTried B M stream runs size q a → IsTried B M stream runs size q b → a ≡ b
 one_try B M stream runs size q a b is other =
     let trials : is.trials ≡ other.trials = one_list B M q is.trials other.trials is.are.ran other.are.ran (is.are.schedules ∙ sym other.are.schedules) in
-    let outcomes : is.outcomes ≡ other.outcomes = one_outcomes gave is.trials is.outcomes other.outcomes is.shown (subst (λ (ts : List Trial). AreOutcomes gave ts other.outcomes) (sym trials) other.shown) in
+    let outcomes : is.outcomes ≡ other.outcomes = one_outcomes gave is.trials is.outcomes other.outcomes is.shown
+    (subst (λ (ts : List Trial). AreOutcomes gave ts other.outcomes) (sym trials) other.shown) in
     let texts : a.0 ≡ b.0 = is.text
     ∙ ap (λ (ts : List Trial). flat_map (outcome_line q ts) is.outcomes ++ unfinished_line (unfinished ts)) trials
     ∙ ap (λ (xs : List (List ℕ)). flat_map (outcome_line q other.trials) xs ++ unfinished_line (unfinished other.trials)) outcomes

@@ -12,11 +12,14 @@ use Rattle.tries.specs.Trials.{Trial, AreTrials, is_holds, is_fails, gave, are_g
 use Rattle.tries.specs.Outcomes.{first_schedule, IsTried}
 use Rattle.tries.specs.inner.Tallies.{IsTallyOf, good_by}
 
-good_is : (quantifier : Quantifier) (trials : List Trial) → good_by quantifier (list_any (λ (t : Trial). is_holds t.verdict) trials) (list_any (λ (t : Trial). is_fails t.verdict) trials) ≡ are_good quantifier trials
+good_is : (quantifier : Quantifier) (trials : List Trial)
+    → good_by quantifier (list_any (λ (t : Trial). is_holds t.verdict) trials)
+    (list_any (λ (t : Trial). is_fails t.verdict) trials) ≡ are_good quantifier trials
 good_is quantifier trials = grind arith
 
 pub tried : (B M : ℕ) (stream : Stream) (runs size : ℕ) (test : LitmusTest) (trials : List Trial) (tally : Tally) (lines text : List ℕ) (good : Bool)
-    → AreTrials B M test stream runs size trials → IsTallyOf trials tally → AreLines test (counted tally.outcomes) lines → text ≡ lines ++ unfinished_line tally.unfinished
+    → AreTrials B M test stream runs size trials → IsTallyOf trials tally
+    → AreLines test (counted tally.outcomes) lines → text ≡ lines ++ unfinished_line tally.unfinished
     → good ≡ good_by test.quantifier tally.some_hold tally.some_fail → IsTried B M stream runs size test (text, good)
 tried B M stream runs size test trials tally lines text good are is made written judged = record {
   trials = trials;

@@ -1,5 +1,6 @@
 -- A tally of runs, and one run more.
-use Rattle.std.proofs.Common.{◌≡◌, ℕ, ◌<◌, Bool, true, false, cond, ◌&&◌, ◌||◌, not, List, [], ◌∷◌, ◌++◌, length, find, Option, Some, None, refl, sym, ap, ◌∙◌, arith}
+use Rattle.std.proofs.Common.{◌≡◌, ℕ, ◌<◌, Bool, true, false, cond, ◌&&◌, ◌||◌, not, List, [], ◌∷◌, ◌++◌, length, find}
+use Rattle.std.proofs.Common.{Option, Some, None, refl, sym, ap, ◌∙◌, arith}
 use Rattle.std.specs.Prelude.{IfSome, OnOk, Result, is_some}
 use Rattle.std.specs.List.{list_any}
 use Rattle.std.specs.Option.{option_or}
@@ -28,13 +29,15 @@ first_later : (o p : Option Trial) → is_some o ≡ false → first_schedule_te
 first_later o p none = grind arith
 
 -- of runs and then later ones it is one of the runs, where one of them gave the outcome
-pub first_of_both : (outcome : List ℕ) (front back : List Trial) → list_any (gave outcome) front ≡ true → first_schedule outcome (front ++ back) ≡ first_schedule outcome front
+pub first_of_both : (outcome : List ℕ) (front back : List Trial) → list_any (gave outcome) front ≡ true
+    → first_schedule outcome (front ++ back) ≡ first_schedule outcome front
 first_of_both outcome front back some =
     ap first_schedule_text (find-append (gave outcome) front back)
     ∙ first_kept (find (gave outcome) front) (find (gave outcome) back) (some_found (gave outcome) front ∙ some)
 
 -- and else one of the later ones
-pub first_of_later : (outcome : List ℕ) (front back : List Trial) → list_any (gave outcome) front ≡ false → first_schedule outcome (front ++ back) ≡ first_schedule outcome back
+pub first_of_later : (outcome : List ℕ) (front back : List Trial) → list_any (gave outcome) front ≡ false
+    → first_schedule outcome (front ++ back) ≡ first_schedule outcome back
 first_of_later outcome front back none =
     ap first_schedule_text (find-append (gave outcome) front back)
     ∙ first_later (find (gave outcome) front) (find (gave outcome) back) (some_found (gave outcome) front ∙ none)
@@ -42,7 +45,9 @@ first_of_later outcome front back none =
 -- ---- one more run makes a tally of one more
 
 more_seen : (trials : List Trial) (trial : Trial) (outcome : List ℕ) → seen_of gave first_schedule (trials ++ trial ∷ []) outcome
-    ≡ cond (gave outcome trial) (counted_both (seen_of gave first_schedule trials outcome) (Some (1, schedule_text trial.events))) (seen_of gave first_schedule trials outcome)
+    ≡ cond (gave outcome trial)
+    (counted_both (seen_of gave first_schedule trials outcome) (Some (1, schedule_text trial.events)))
+    (seen_of gave first_schedule trials outcome)
 more_seen trials trial outcome = seen_more gave first_schedule trials trial outcome (schedule_text trial.events)
     (λ none given. first_of_later outcome trials (trial ∷ []) none ∙ ap (λ (b : Bool). first_schedule_text (cond b (Some trial) None)) given)
     (first_of_both outcome trials (trial ∷ []))
@@ -58,7 +63,8 @@ tally_more trials trial old new tally more = record {
 }
 
 -- no count is above the number of runs
-pub counted-few : (trials : List Trial) (tally : Tally) (most : ℕ) → IsTallyOf trials tally → length trials < most → (outcome : List ℕ) → IfSome {T = Counted} (counted tally.outcomes outcome) (λ seen. seen.0 < most)
+pub counted-few : (trials : List Trial) (tally : Tally) (most : ℕ) → IsTallyOf trials tally → length trials < most
+    → (outcome : List ℕ) → IfSome {T = Counted} (counted tally.outcomes outcome) (λ seen. seen.0 < most)
 counted-few trials tally most is few outcome = rw (is.counts outcome) (seen_few gave first_schedule trials outcome most few)
 
 pub unfinished-few : (trials : List Trial) (tally : Tally) (most : ℕ) → IsTallyOf trials tally → length trials < most → tally.unfinished < most
@@ -67,7 +73,8 @@ unfinished-few trials tally most is few = omega (arith, is.unfinished_are, count
 -- ---- the steps of a tally
 
 -- of no run nothing is counted
-pub nothing_counted : (tally : Tally) → ((outcome : List ℕ) → counted tally.outcomes outcome ≡ None) → tally.unfinished ≡ 0 → tally.some_hold ≡ false → tally.some_fail ≡ false → IsTallyOf [] tally
+pub nothing_counted : (tally : Tally) → ((outcome : List ℕ) → counted tally.outcomes outcome ≡ None)
+    → tally.unfinished ≡ 0 → tally.some_hold ≡ false → tally.some_fail ≡ false → IsTallyOf [] tally
 nothing_counted tally nothing none holds fails =
     record { counts = λ outcome. nothing outcome ∙ sym (seen_none gave first_schedule outcome); unfinished_are = none; holds = holds; fails = fails }
 
@@ -76,9 +83,11 @@ gave_by_key : (finished : Bool) → finished ≡ true → (outcome values : List
 gave_by_key finished e outcome values = grind arith
 
 -- a finished run whose outcome was counted is tallied
-pub tallied : {E : Type 0} (result : Result (Unit {0}) E) (events : List Event) (verdict : Verdict) (values : List ℕ) (old new : Tally) → is_finished verdict ≡ true → new.unfinished ≡ old.unfinished
+pub tallied : {E : Type 0} (result : Result (Unit {0}) E) (events : List Event) (verdict : Verdict)
+    (values : List ℕ) (old new : Tally) → is_finished verdict ≡ true → new.unfinished ≡ old.unfinished
     → new.some_hold ≡ (old.some_hold || is_holds verdict) → new.some_fail ≡ (old.some_fail || is_fails verdict)
-    → OnOk result (Counts values (1, schedule_text events) (counted old.outcomes) (counted new.outcomes)) → OnOk result (Tallies (record { events = events; verdict = verdict; values = values }) old new)
+    → OnOk result (Counts values (1, schedule_text events) (counted old.outcomes) (counted new.outcomes))
+    → OnOk result (Tallies (record { events = events; verdict = verdict; values = values }) old new)
 tallied result events verdict values old new finished same holds fails counts = grind (arith, gave_by_key)
 
 pub or_true : (b : Bool) → true ≡ (b || true)

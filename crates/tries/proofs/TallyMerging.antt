@@ -1,5 +1,6 @@
 -- Runs after runs: their schedules, and the tally of them all from the tallies of the two parts.
-use Rattle.std.proofs.Common.{◌≡◌, ℕ, zero, suc, ◌+◌, ◌*◌, Bool, cond, ◌||◌, not, List, [], ◌∷◌, ◌++◌, length, map, Option, sym, ap, ◌∙◌, arith, append-nil, append_assoc, subst, ◌-◌, ◌≤◌, ◌<◌, rules}
+use Rattle.std.proofs.Common.{◌≡◌, ℕ, zero, suc, ◌+◌, ◌*◌, Bool, cond, ◌||◌, not, List, [], ◌∷◌, ◌++◌, length, map}
+use Rattle.std.proofs.Common.{Option, sym, ap, ◌∙◌, arith, append-nil, append_assoc, subst, ◌-◌, ◌≤◌, ◌<◌, rules}
 use Rattle.std.specs.List.{list_any, range_with_len}
 use Rattle.std.specs.Prelude.{IfSome}
 use Rattle.std.proofs.lemmas.List.{map-append, length-map}
@@ -36,7 +37,8 @@ both_seen front back outcome =
     seen_both gave first_schedule front back outcome (λ none some. first_of_later outcome front back none) (first_of_both outcome front back)
 
 -- two tallies make the tally of the first one's runs and then the other's
-tally_both : (front back : List Trial) (old later new : Tally) → IsTallyOf front old → IsTallyOf back later → Merges old later new → IsTallyOf (front ++ back) new
+tally_both : (front back : List Trial) (old later new : Tally) → IsTallyOf front old → IsTallyOf back later
+    → Merges old later new → IsTallyOf (front ++ back) new
 tally_both front back old later new first second merged = record {
   counts = λ outcome.
       merged.counts outcome
@@ -65,7 +67,9 @@ numbered_both {X} f later before (suc number) same = grind (
 )
 
 -- the schedules from a number on are those that the generator draws there
-drawn_later : (harts size : ℕ) (stream : Stream) (before number : ℕ) → schedule_drawn harts size (left_after (before * size) stream) number ≡ schedule_drawn harts size stream (before + number)
+drawn_later : (harts size : ℕ) (stream : Stream) (before number : ℕ)
+    → schedule_drawn harts size (left_after (before * size) stream) number
+    ≡ schedule_drawn harts size stream (before + number)
 drawn_later harts size stream before number = grind (arith, left_after-sum)
 
 at_start : (size : ℕ) (stream : Stream) → left_after (0 * size) stream ≡ stream
@@ -81,7 +85,8 @@ module _ (source : Source) where
   IsRun trial = IsTrial source.B source.M source.test trial
 
   -- runs, and those that the generator draws after them
-  runs_both : (before number : ℕ) (front back : List Trial) → AreRuns before front → AreRunsFrom source before number back → AreRuns (before + number) (front ++ back)
+  runs_both : (before number : ℕ) (front back : List Trial) → AreRuns before front
+      → AreRunsFrom source before number back → AreRuns (before + number) (front ++ back)
   runs_both before number front back first second =
       let drawing = schedule_drawn (length source.test.opening.harts) source.size source.stream in
       let later = schedule_drawn (length source.test.opening.harts) source.size (left_after (before * source.size) source.stream) in
@@ -116,7 +121,8 @@ module _ (source : Source) where
       let zero_runs = none_placed runs jobs some in
       record {
         trials = [];
-        are = are_first (first_of runs jobs 0) [] (subst (λ (n : ℕ). AreRuns n []) zero_runs (no_trials source.B source.M source.test source.stream source.size));
+        are = are_first (first_of runs jobs 0) [] (subst (λ (n : ℕ). AreRuns n []) zero_runs
+            (no_trials source.B source.M source.test source.stream source.size));
         tallied = none;
       }
 
@@ -134,7 +140,8 @@ module _ (source : Source) where
       }
 
   -- the runs before a job or a round, and its own
-  module _ (before end : ℕ) (old later : Tally) (le : before ≤ end) (first : IsTallyFrom source 0 before old) (second : IsTallyFrom source before end later) where
+  module _ (before end : ℕ) (old later : Tally) (le : before ≤ end) (first : IsTallyFrom source 0 before old)
+      (second : IsTallyFrom source before end later) where
     abbrev both : List Trial
     both = first.trials ++ second.trials
 
@@ -165,4 +172,12 @@ module _ (source : Source) where
     pub both_unfinished_few : (most : ℕ) → end < most → old.unfinished + later.unfinished < most
     both_unfinished_few most few =
         let e = sum_by-append (λ (y : Trial). cond (not (is_finished y.verdict)) 1 0) first.trials second.trials in
-        omega (arith, both_long, few, e, first.tallied.unfinished_are, second.tallied.unfinished_are, count_by-le-length (λ (t : Trial). not (is_finished t.verdict)) both)
+        omega (
+          arith,
+          both_long,
+          few,
+          e,
+          first.tallied.unfinished_are,
+          second.tallied.unfinished_are,
+          count_by-le-length (λ (t : Trial). not (is_finished t.verdict)) both,
+        )

@@ -13,8 +13,10 @@ pub no_trials : (B M : ℕ) (test : LitmusTest) (stream : Stream) (size : ℕ) �
 no_trials B M test stream size = record { schedules = refl; ran = All-nil (IsTrial B M test) }
 
 -- and one run more
-pub trials_more : (B M : ℕ) (test : LitmusTest) (stream : Stream) (number size : ℕ) (trials : List Trial) (trial : Trial) → AreTrials B M test stream number size trials
-    → trial.events ≡ schedule_drawn (length test.opening.harts) size stream number → IsTrial B M test trial → AreTrials B M test stream (number + 1) size (trials ++ trial ∷ [])
+pub trials_more : (B M : ℕ) (test : LitmusTest) (stream : Stream) (number size : ℕ) (trials : List Trial)
+    (trial : Trial) → AreTrials B M test stream number size trials
+    → trial.events ≡ schedule_drawn (length test.opening.harts) size stream number → IsTrial B M test trial
+    → AreTrials B M test stream (number + 1) size (trials ++ trial ∷ [])
 trials_more B M test stream number size trials trial are drawn is = grind (
   arith,
   map-append,

@@ -1,6 +1,7 @@
 -- The command `try`: the outcomes of a test's runs, each with how many runs gave it and the schedule of
 -- the first one, and how many runs did not finish.
-use Rattle.std.specs.Prelude.{ℕ, ◌≡◌, ◌==◌, if◌then◌else◌, Bool, not, List, [], ◌++◌, length, find, flat_map, count_by, Option, Some, None, Result, Ok, Err, codes}
+use Rattle.std.specs.Prelude.{ℕ, ◌≡◌, ◌==◌, if◌then◌else◌, Bool, not, List, [], ◌++◌, length, find, flat_map, count_by}
+use Rattle.std.specs.Prelude.{Option, Some, None, Result, Ok, Err, codes}
 use Rattle.rand_core.specs.Stream.{Stream}
 use Rattle.step_machine.specs.declared.events.Event.{Event}
 use Rattle.litmus.specs.LitmusTests.{LitmusTest}

@@ -53,7 +53,9 @@ fn answer<const B: usize, const M: usize, G: Jump + Sync + Drop, T: Threads + Sy
     requires capacity { B ≤ 64 }
     requires words { MAX_LOCATIONS ≤ M }
     requires size { M ≤ 65536 }
-    ensures { IfOk result (λ answered. IsTried B M (left_after (runs.skip * runs.length) (G.Rng.stream generator.now)) runs.number runs.length test.now (text_and_value answered)) }
+    ensures { IfOk result
+        (λ answered. IsTried B M (left_after (runs.skip * runs.length) (G.Rng.stream generator.now)) runs.number
+        runs.length test.now (text_and_value answered)) }
 {
     let start = generator.ahead(runs.skip, runs.length)?;
     let Runs {
@@ -92,7 +94,9 @@ fn made<
     requires capacity { B ≤ 64 }
     requires words { MAX_LOCATIONS ≤ M }
     requires size { M ≤ 65536 }
-    ensures { FindsByUpToReads (IsTryAnswer B M (left_after (runs.skip * runs.length) (G.Rng.stream generator.now)) runs.number runs.length) text_and_value (R.remaining file.old) result }
+    ensures { FindsByUpToReads
+        (IsTryAnswer B M (left_after (runs.skip * runs.length) (G.Rng.stream generator.now)) runs.number runs.length)
+        text_and_value (R.remaining file.old) result }
 {
     let test = read_test(alloc, file)?;
     let answered = answer::<B, M, G, T, P>(rt, alloc, &test, generator, runs, progress)?;
@@ -131,7 +135,9 @@ pub fn try_engine<
     requires capacity { B ≤ 64 }
     requires words { MAX_LOCATIONS ≤ M }
     requires size { M ≤ 65536 }
-    ensures { EndsBy (IsTryAnswer B M (left_after (runs.skip * runs.length) (G.Rng.stream generator.now)) runs.number runs.length) result (R.remaining file.old) W.contents writer.old writer.new }
+    ensures { EndsBy
+        (IsTryAnswer B M (left_after (runs.skip * runs.length) (G.Rng.stream generator.now)) runs.number runs.length)
+        result (R.remaining file.old) W.contents writer.old writer.new }
 {
     end_with(
         made::<B, M, R, G, T, P>(rt, alloc, file, generator, runs, progress),

@@ -12,7 +12,8 @@ ghost use Rattle.litmus_reader.specs.Headings.{heading_of};
 ghost use Rattle.chart.specs.Pictures.{shown as shown_byte};
 ghost use Rattle.engine_support.specs.Places.{place_text};
 ghost use Rattle.view_engines.specs.LeastWidths.{least_widths as widths_of_test};
-ghost use Rattle.view_engines.specs.About.{IsAbout, instruction_of, instructions_of, last_value as value_of_left, meant, next_instruction, verdict_text, word_at, word_meant};
+ghost use Rattle.view_engines.specs.About.{IsAbout, instruction_of, instructions_of, last_value as value_of_left};
+ghost use Rattle.view_engines.specs.About.{meant, next_instruction, verdict_text, word_at, word_meant};
 
 use crate::least_widths::least_widths;
 use assembler::write_instr;

@@ -67,7 +67,9 @@ fn picture_of_run<const B: usize, const M: usize>(
     requires opening { machine.old.history.opening ≡ test.now.opening }
     requires locations { length test.now.opening.words ≡ length test.now.names }
     requires names { length test.now.names ≤ M }
-    ensures { (said : ScheduleValue) → Runs B M test.now.opening said (Ok machine.old.history) → AnswersAs (IsChart B M (drawing style selection) (heading_of heading.now) test.now said) text_and_value result }
+    ensures { (said : ScheduleValue) → Runs B M test.now.opening said (Ok machine.old.history)
+        → AnswersAs (IsChart B M (drawing style selection) (heading_of heading.now) test.now said) text_and_value
+        result }
 {
     let entries = machine.entries().into_vec(alloc)?;
     if entries.len() > MAX_ROWS {
@@ -112,7 +114,9 @@ fn made<const B: usize, const M: usize, F: Read, S: Read>(
     requires capacity { B ≤ 64 }
     requires words { MAX_LOCATIONS ≤ M }
     requires size { M ≤ 65536 }
-    ensures made { FindsUpToReads (AnswersBoth (IsChartAnswer B M (drawing style selection)) (F.remaining file.old) (S.remaining schedule.old)) text_and_value result }
+    ensures made { FindsUpToReads
+        (AnswersBoth (IsChartAnswer B M (drawing style selection)) (F.remaining file.old) (S.remaining schedule.old))
+        text_and_value result }
     ensures unread { HasNoTest (F.remaining file.old) → schedule.new ≡ schedule.old }
 {
     let (test, heading) = read_headed(alloc, file)?;
@@ -141,7 +145,8 @@ pub fn chart_engine<const B: usize, const M: usize, F: Read, S: Read, W: Write>(
     requires capacity { B ≤ 64 }
     requires words { MAX_LOCATIONS ≤ M }
     requires size { M ≤ 65536 }
-    ensures ends { EndsByBoth (IsChartAnswer B M (drawing style selection)) result (F.remaining file.old) (S.remaining schedule.old) W.contents writer.old writer.new }
+    ensures ends { EndsByBoth (IsChartAnswer B M (drawing style selection)) result (F.remaining file.old)
+        (S.remaining schedule.old) W.contents writer.old writer.new }
     ensures unread { HasNoTest (F.remaining file.old) → schedule.new ≡ schedule.old }
 {
     end_with(

@@ -21,27 +21,39 @@ ghost use Rattle.view_engines.specs.Shrink.{AreOfOneKind, IsShrink, IsShrinkAnsw
 /// is written, isn't said. Of a test and a schedule that are read the refusal is one with its place; of a
 /// refused litmus text it isn't said on which line its first fault stands. It does nothing.
 pub fn shrinks_alike()
-    ensures run { (B M : ℕ) (test : LitmusTest) (said : ScheduleValue) (a b : Result Output Refusal) → IsShrink B M test said a → IsShrink B M test said b → AreAlike a b }
-    ensures inputs { (B M : ℕ) (file schedule : List ℕ) (a b : Result Output Refusal) → IsShrinkAnswer B M file schedule a → IsShrinkAnswer B M file schedule b → AreOfOneKind a b }
+    ensures run { (B M : ℕ) (test : LitmusTest) (said : ScheduleValue) (a b : Result Output Refusal)
+        → IsShrink B M test said a → IsShrink B M test said b → AreAlike a b }
+    ensures inputs { (B M : ℕ) (file schedule : List ℕ) (a b : Result Output Refusal)
+        → IsShrinkAnswer B M file schedule a → IsShrinkAnswer B M file schedule b → AreOfOneKind a b }
 {}
 
 /// Two charts of one input are one text, or refusals of one number. Of a refused litmus text it isn't said
 /// on which line its first fault stands. It does nothing.
 #[tactic(auto, using(crate::proofs::ChartLaws::charts_alike))]
 pub fn one_chart()
-    ensures { (B M : ℕ) (draws : Drawing) (file schedule : List ℕ) (a b : Result Output Refusal) → IsChartAnswer B M draws file schedule a → IsChartAnswer B M draws file schedule b → AreOneAnswer a b }
+    ensures { (B M : ℕ) (draws : Drawing) (file schedule : List ℕ) (a b : Result Output Refusal)
+        → IsChartAnswer B M draws file schedule a → IsChartAnswer B M draws file schedule b → AreOneAnswer a b }
 {}
 
 /// In the chart of a text's test, of all rows or without some, no text of a row stands on another text or on a
 /// line, and no head of a column on another head. It does nothing.
 pub fn charts_are_clear()
-    ensures { (selection : Selection) (B M : ℕ) (draws : Drawing) (file : List ℕ) (heading : HeadingOf) (test : LitmusTest) (said : ScheduleValue) (answer : Output) → IsTestOf file test → (chart : IsChartOf B M draws heading test said answer) → All IsClear (layout selection chart.about chart.history.entries).body × IsClear (layout selection chart.about chart.history.entries).heads }
+    ensures { (selection : Selection) (B M : ℕ) (draws : Drawing) (file : List ℕ) (heading : HeadingOf)
+        (test : LitmusTest) (said : ScheduleValue) (answer : Output) → IsTestOf file test
+        → (chart : IsChartOf B M draws heading test said answer)
+        → All IsClear (layout selection chart.about chart.history.entries).body
+        × IsClear (layout selection chart.about chart.history.entries).heads }
 {}
 
 /// The charts of two runs of one test, as of a run and of its beginning, have their columns at the same cells,
 /// where no row of either takes more than columns have whatever the run. It does nothing.
 pub fn columns_stand_still()
-    ensures { (s t : Selection) (B M : ℕ) (draws also_draws : Drawing) (heading : HeadingOf) (test : LitmusTest) (said more : ScheduleValue) (answer other : Output) → (chart : IsChartOf B M draws heading test said answer) → (next : IsChartOf B M also_draws heading test more other) → ((form : ChartForm) → FitsColumns (scene_of_run s chart.about chart.history.entries) form) → ((form : ChartForm) → FitsColumns (scene_of_run t next.about next.history.entries) form) → (layout s chart.about chart.history.entries).heads ≡ (layout t next.about next.history.entries).heads }
+    ensures { (s t : Selection) (B M : ℕ) (draws also_draws : Drawing) (heading : HeadingOf) (test : LitmusTest)
+        (said more : ScheduleValue) (answer other : Output) → (chart : IsChartOf B M draws heading test said answer)
+        → (next : IsChartOf B M also_draws heading test more other)
+        → ((form : ChartForm) → FitsColumns (scene_of_run s chart.about chart.history.entries) form)
+        → ((form : ChartForm) → FitsColumns (scene_of_run t next.about next.history.entries) form)
+        → (layout s chart.about chart.history.entries).heads ≡ (layout t next.about next.history.entries).heads }
 {}
 
 /// Two answers of `show` to one input are one text, or refusals of one number. Of a refused litmus text it isn't

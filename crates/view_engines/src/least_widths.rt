@@ -5,7 +5,11 @@ ghost use Rattle.std.specs.List.{count_by, range_with_len};
 ghost use Rattle.std.specs.String.{string_bytes};
 ghost use Rattle.hart.specs.Effects.{load_width, store_width};
 ghost use Rattle.chart.specs.Names.{word_text as text_of_word};
-ghost use Rattle.view_engines.specs.LeastWidths.{offset_cells, effect_cells, said_of_word, kept_cells, is_store, brief_of_word, kept_of_word, stores, most, name_cells as cells_of_names, store_count, number_cells as cells_of_numbers, widths_with, words_of as words_of_harts, least_widths as widths_of_test};
+ghost use Rattle.view_engines.specs.LeastWidths.{offset_cells, effect_cells, said_of_word, kept_cells, is_store};
+ghost use Rattle.view_engines.specs.LeastWidths.{brief_of_word, kept_of_word, stores, most};
+ghost use Rattle.view_engines.specs.LeastWidths.{name_cells as cells_of_names, store_count};
+ghost use Rattle.view_engines.specs.LeastWidths.{number_cells as cells_of_numbers, widths_with};
+ghost use Rattle.view_engines.specs.LeastWidths.{words_of as words_of_harts, least_widths as widths_of_test};
 
 use crate::about::word_text;
 use chart::charts::LeastWidths;

@@ -17,11 +17,13 @@ answered status IsAnswer (Err ReadFailed) contents old new h = h
 answered status IsAnswer (Err NoMemory) contents old new h = h
 answered status IsAnswer (Err WriteFailed) contents old new (answer, is) = ((answer.0, status answer.1), (answer.1, refl, is))
 
-pub ends_with_status : {V W : Type 0} (status : V → ℕ) (IsAnswer : Result (List ℕ × V) Refusal → Type 0) (r : Result V Fault) (contents : W → Option (List ℕ)) (old new : W)
+pub ends_with_status : {V W : Type 0} (status : V → ℕ) (IsAnswer : Result (List ℕ × V) Refusal → Type 0)
+    (r : Result V Fault) (contents : W → Option (List ℕ)) (old new : W)
     → Ends IsAnswer r contents old new → (s : Result ℕ Fault) → s ≡ ended_with status r → Ends (WithStatus status IsAnswer) s contents old new
 ends_with_status status IsAnswer r contents old new h s is = rw is (answered status IsAnswer r contents old new h)
 
-interactive_with_status : {V W : Type 0} (status : V → ℕ) (IsAnswer : Result (List ℕ × V) Refusal → Type 0) (r : Result V Fault) (contents : W → Option (List ℕ)) (old new : W)
+interactive_with_status : {V W : Type 0} (status : V → ℕ) (IsAnswer : Result (List ℕ × V) Refusal → Type 0)
+    (r : Result V Fault) (contents : W → Option (List ℕ)) (old new : W)
     → EndsInteractive IsAnswer r contents old new → EndsInteractive (WithStatus status IsAnswer) (ended_with status r) contents old new
 interactive_with_status status IsAnswer (Ok v) contents old new (out, answers, appends) = (out, (v, refl, answers), appends)
 interactive_with_status status IsAnswer (Err (Refused refusal)) contents old new h = h
@@ -29,8 +31,10 @@ interactive_with_status status IsAnswer (Err ReadFailed) contents old new h = h
 interactive_with_status status IsAnswer (Err NoMemory) contents old new h = h
 interactive_with_status status IsAnswer (Err WriteFailed) contents old new h = h
 
-pub ends_interactive : {V W : Type 0} (status : V → ℕ) (IsAnswer : Result (List ℕ × V) Refusal → Type 0) (r : Result V Fault) (contents : W → Option (List ℕ)) (old new : W)
-    → EndsInteractive IsAnswer r contents old new → (s : Result ℕ Fault) → s ≡ ended_with status r → EndsInteractive (WithStatus status IsAnswer) s contents old new
+pub ends_interactive : {V W : Type 0} (status : V → ℕ) (IsAnswer : Result (List ℕ × V) Refusal → Type 0)
+    (r : Result V Fault) (contents : W → Option (List ℕ)) (old new : W)
+    → EndsInteractive IsAnswer r contents old new → (s : Result ℕ Fault) → s ≡ ended_with status r
+    → EndsInteractive (WithStatus status IsAnswer) s contents old new
 ends_interactive status IsAnswer r contents old new h s is = rw is (interactive_with_status status IsAnswer r contents old new h)
 
 left : {V : Type 0} (status : V → ℕ) (P Q : Type 0) (r : Result V Fault) → OnStopped r P × OnUnwritten r Q
@@ -52,7 +56,8 @@ refused P (Err ReadFailed) h leaves = absurd leaves
 refused P (Err NoMemory) h leaves = absurd leaves
 refused P (Err WriteFailed) h leaves = absurd leaves
 
-pub refused_with_status : (P : Type 0) (r : Result (Unit {0}) Fault) → OnRefused r P → (s : Result ℕ Fault) → s ≡ ended_with done_status r → LeavesCommands Debug s → P
+pub refused_with_status : (P : Type 0) (r : Result (Unit {0}) Fault) → OnRefused r P → (s : Result ℕ Fault)
+    → s ≡ ended_with done_status r → LeavesCommands Debug s → P
 refused_with_status P r h s is leaves = refused P r h (subst (LeavesCommands Debug) is leaves)
 
 is_refusal : {V : Type 0} (status : V → ℕ) (r : Result V Fault) → IsRefusal (ended_with status r) → IsRefusal r

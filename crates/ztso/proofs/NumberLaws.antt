@@ -38,7 +38,11 @@ module _ (k least most : ℕ) (text : List ℕ) where
   number_read n h low high =
       let above : least ≤ value_of text = omega (arith, h.1, low) in
       let below : value_of text ≤ most = omega (arith, h.1, high) in
-      rw (is_numeral-from_IsNumeral 10 (digits_of text) h.0.0, le-leb least (value_of text) above, le-leb (value_of text) most below) (ap (λ (m : ℕ). Some m) h.1)
+      rw (
+        is_numeral-from_IsNumeral 10 (digits_of text) h.0.0,
+        le-leb least (value_of text) above,
+        le-leb (value_of text) most below,
+      ) (ap (λ (m : ℕ). Some m) h.1)
 
   pub number_too_small : (n : ℕ) → IsRead k text × (n ≡ value_of text) → n < least → None ≡ number_within least most text
   number_too_small n h low = no_number least most text (λ numeral above below. omega (arith, h.1, low, above))

@@ -9,7 +9,9 @@ use Rattle.clap.specs.Lexer.{long_of, short_of}
 use Rattle.clap.specs.Faults.{check_fault, defaults_fault, entered_fault, level_fault, settle_fault, step_fault, turn_fault, walk_fault, word_fault}
 use Rattle.clap.specs.Kinds.{Kinds, or_else}
 use Rattle.clap.specs.Simple.{App, Shape, built, entered, label_of, names_of, rows_at}
-use Rattle.clap.specs.Walk.{Held, Names, Row, Rule, Step, value, Waiting, idle, option, positional, Walk, after_step, answers_to, finished, nothing_held, plain_word, settled, walk_from, walked, walked_from, word_met}
+use Rattle.clap.specs.Walk.{Held, Names, Row, Rule, Step, value, Waiting, idle, option, positional, Walk, after_step}
+use Rattle.clap.specs.Walk.{answers_to, finished, nothing_held, plain_word, settled, walk_from, walked, walked_from}
+use Rattle.clap.specs.Walk.{word_met}
 use Rattle.clap.specs.Words.{Text}
 use Rattle.ztso.specs.CommandLines.{job_said, job_without}
 use Rattle.ztso.specs.Descriptions.{ztso_command}
@@ -161,7 +163,8 @@ said_by faults end below found =
     (or_else (defaults_fault (settled top.rules end.held).rows top.rules) (check_fault top (finished top.rules end.held) (is_some found)))))) found
 
 abbrev pub said : Text → List Piece → Option Wanted
-said command ps = said_by [] (at_command command (map text_in ps)) (option_map_or (found_fault ps) (named command) []) (option_map (found_rows ps) (named command))
+said command ps = said_by [] (at_command command (map text_in ps))
+    (option_map_or (found_fault ps) (named command) []) (option_map (found_rows ps) (named command))
 
 -- the word is a command's name, and no fault
 abbrev pub IsCommand : Text → Type 0

@@ -2,7 +2,12 @@
 
 ghost use Rattle.std.specs.Prelude.{◌≡◌, ◌∷◌, ℕ, List, IfOk, map, option_and_then, option_map};
 ghost use Rattle.clap.specs.Words.{FailsBy, fault_of, first_of, found_of, rows_of, subcommand_of, subcommand_rows_of};
-ghost use Rattle.ztso.specs.CommandLines.{Answers, capacity_said, job_at, channel_in, chart_in, find_in, flag_said, form_said, show_in, style_said, selection_said, job_said, number_if_said, machine_in, own_in, on_file, on_file_and_schedule, on_channel, on_file_and_standard, on_own_channel, on_programs_and_standard, on_schedule_and_standard, on_standard, place_in, ring_in, ring_said, runs_in, seed_in, threads_in, try_in};
+ghost use Rattle.ztso.specs.CommandLines.{Answers, capacity_said, job_at, channel_in, chart_in, find_in, flag_said};
+ghost use Rattle.ztso.specs.CommandLines.{form_said, show_in, style_said, selection_said, job_said, number_if_said};
+ghost use Rattle.ztso.specs.CommandLines.{machine_in, own_in, on_file, on_file_and_schedule, on_channel};
+ghost use Rattle.ztso.specs.CommandLines.{on_file_and_standard, on_own_channel, on_programs_and_standard};
+ghost use Rattle.ztso.specs.CommandLines.{on_schedule_and_standard, on_standard, place_in, ring_in, ring_said, runs_in};
+ghost use Rattle.ztso.specs.CommandLines.{seed_in, threads_in, try_in};
 ghost use Rattle.ztso.specs.Descriptions.{ztso_command};
 ghost use Rattle.ztso.specs.Spellings.{IsSpelling};
 ghost use Rattle.ztso.specs.Jobs.{Wanted, wanted_by};

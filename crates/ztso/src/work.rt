@@ -3,7 +3,9 @@
 ghost use Rattle.std.specs.Prelude.{◌≡◌, ◌⊎◌, ℕ, ◌≤◌, ◌*◌, List, [], max, Option, IfOk};
 ghost use Rattle.ztso.specs.declared.work.TheConstants.{WORDS};
 ghost use Rattle.ztso.specs.Work.{DoesOwn, DoesRing, drawn_runs};
-ghost use Rattle.ztso.specs.Work.{DoesCode, DoesFind, DoesMachine, DoesThreads, IsRefusal, LeavesCommands, LeavesFront, LeavesReports, LeavesSecond, WithStatus, done_status, drawn_from, ended_with, good_status, stores_of, tables_of, verdict_status};
+ghost use Rattle.ztso.specs.Work.{DoesCode, DoesFind, DoesMachine, DoesThreads, IsRefusal, LeavesCommands, LeavesFront};
+ghost use Rattle.ztso.specs.Work.{LeavesReports, LeavesSecond, WithStatus, done_status, drawn_from, ended_with};
+ghost use Rattle.ztso.specs.Work.{good_status, stores_of, tables_of, verdict_status};
 ghost use Rattle.recorder.specs.Drawing.{left_after};
 ghost use Rattle.poll_close.specs.Places.{layout_of};
 ghost use Rattle.ztso_engines.specs.Channels.{IsChannelAnswer};
@@ -97,10 +99,14 @@ fn debug<const B: usize, F: Read, S: Read, C: Read, W: Write>(
 ) -> Result<(), Fault>
     requires some_capacity { 1 ≤ B }
     requires capacity { B ≤ 64 }
-    ensures ends { EndsInteractive (AnswersBoth (IsDebugAnswer B WORDS (C.remaining commands.old)) (F.remaining file.old) (S.remaining schedule.old)) result W.contents writer.old writer.new }
+    ensures ends { EndsInteractive
+        (AnswersBoth (IsDebugAnswer B WORDS (C.remaining commands.old)) (F.remaining file.old)
+        (S.remaining schedule.old)) result W.contents writer.old writer.new }
     ensures unread { HasNoTest (F.remaining file.old) → schedule.new ≡ schedule.old }
     ensures unasked { OnRefused result (commands.new ≡ commands.old) }
-    ensures left { LeavesFront B (record { first = F.remaining file.old; second = S.remaining schedule.old; commands = C.remaining commands.old }) result W.contents writer.old writer.new }
+    ensures left { LeavesFront B
+        (record { first = F.remaining file.old; second = S.remaining schedule.old; commands = C.remaining commands.old })
+        result W.contents writer.old writer.new }
 {
     let Ok(mut commands) = BufReader::new(alloc, commands) else {
         return Err(Fault::NoMemory);
@@ -149,7 +155,9 @@ fn try_drawn<const B: usize, F: Read, W: Write, T: Threads + Sync, P: Progress>(
 ) -> Result<bool, Fault>
     requires some_capacity { 1 ≤ B }
     requires capacity { B ≤ 64 }
-    ensures { EndsBy (IsTryAnswer B WORDS (left_after (runs.skip * runs.length) (drawn_from seed)) runs.number runs.length) result (F.remaining file.old) W.contents writer.old writer.new }
+    ensures { EndsBy
+        (IsTryAnswer B WORDS (left_after (runs.skip * runs.length) (drawn_from seed)) runs.number runs.length) result
+        (F.remaining file.old) W.contents writer.old writer.new }
 {
     let generator = Lcg64Xsh32::seed_from_u64(seed);
     try_engine::<B, WORDS, _, _, _, _, _>(rt, alloc, file, &generator, runs, progress, writer)
@@ -168,7 +176,8 @@ fn run_rings<const B: usize, S: Read, L: Read, W: Write>(
 ) -> Result<(), Fault>
     requires some_capacity { 1 ≤ B }
     requires capacity { B ≤ 64 }
-    ensures ends { EndsByBoth (IsChannelAnswer (tables_of kind) B WORDS (layout_of place []) finish) result (S.remaining schedule.old) (L.remaining lists.old) W.contents writer.old writer.new }
+    ensures ends { EndsByBoth (IsChannelAnswer (tables_of kind) B WORDS (layout_of place []) finish) result
+        (S.remaining schedule.old) (L.remaining lists.old) W.contents writer.old writer.new }
     ensures unread { HasNoSchedule (S.remaining schedule.old) → lists.new ≡ lists.old }
 {
     match kind {
@@ -197,7 +206,9 @@ fn do_buffered<const B: usize, F: Read, S: Read, C: Read, W: Write, T: Threads +
 ) -> Result<u8, Fault>
     requires some_capacity { 1 ≤ B }
     requires capacity { B ≤ 64 }
-    ensures does { DoesMachine B command result (record { first = F.remaining first.old; second = S.remaining second.old; commands = C.remaining commands.old }) W.contents writer.old writer.new }
+    ensures does { DoesMachine B command result
+        (record { first = F.remaining first.old; second = S.remaining second.old; commands = C.remaining commands.old })
+        W.contents writer.old writer.new }
     ensures unread { LeavesSecond command result (F.remaining first.old) → second.new ≡ second.old }
     ensures unasked { LeavesCommands command result → commands.new ≡ commands.old }
     ensures status { IfOk result (λ status. status ≤ 1) }
@@ -270,7 +281,9 @@ pub fn do_machine<F: Read, S: Read, C: Read, W: Write, T: Threads + Sync, P: Pro
     progress: &mut P,
     writer: &mut W,
 ) -> Result<u8, Fault>
-    ensures does { DoesMachine (stores_of capacity) command result (record { first = F.remaining first.old; second = S.remaining second.old; commands = C.remaining commands.old }) W.contents writer.old writer.new }
+    ensures does { DoesMachine (stores_of capacity) command result
+        (record { first = F.remaining first.old; second = S.remaining second.old; commands = C.remaining commands.old })
+        W.contents writer.old writer.new }
     ensures unread { LeavesSecond command result (F.remaining first.old) → second.new ≡ second.old }
     ensures unasked { LeavesCommands command result → commands.new ≡ commands.old }
     ensures status { IfOk result (λ status. status ≤ 1) }
@@ -360,7 +373,9 @@ fn run_threads<const B: usize, F: Read, W: Write, T: Threads + Wait + Sync>(
 ) -> Result<u8, Fault>
     requires some_capacity { 1 ≤ B }
     requires capacity { B ≤ 64 }
-    ensures ends { Ends (WithStatus verdict_status (λ answer. OfInput (F.remaining file.old) (λ bytes. IsThreadsAnswer B WORDS turns bytes answer))) result W.contents writer.old writer.new }
+    ensures ends { Ends (WithStatus verdict_status
+        (λ answer. OfInput (F.remaining file.old) (λ bytes. IsThreadsAnswer B WORDS turns bytes answer))) result
+        W.contents writer.old writer.new }
     ensures status { IfOk result (λ status. status ≤ 1) }
 {
     after_run(threads_engine::<B, WORDS, _, _, _>(rt, alloc, file, turns, writer))

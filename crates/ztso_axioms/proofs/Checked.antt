@@ -1,5 +1,7 @@
 -- What the checks of a list establish.
-use Rattle.std.proofs.Common.{◌≡◌, ℕ, ◌+◌, ◌-◌, ◌≤◌, ◌<◌, Bool, true, false, ◌||◌, if◌then◌else◌, nat_lt, List, [], ◌∷◌, ◌++◌, length, take, drop, get_or, Option, Some, None, refl, sym, ◌∙◌, ap, subst, arith, length-drop, get_or-drop}
+use Rattle.std.proofs.Common.{◌≡◌, ℕ, ◌+◌, ◌-◌, ◌≤◌, ◌<◌, Bool, true, false, ◌||◌, if◌then◌else◌, nat_lt, List, [], ◌∷◌}
+use Rattle.std.proofs.Common.{◌++◌, length, take, drop, get_or, Option, Some, None, refl, sym, ◌∙◌, ap, subst, arith}
+use Rattle.std.proofs.Common.{length-drop, get_or-drop}
 use Rattle.std.specs.Prelude.{All, filter, unwrap_or}
 use Rattle.std.proofs.lemmas.Bool.{and_parts, ltb-true, ltb-false, lt-ltb, le-ltb, cond_both, false_from_ne_true, true_from_ne_false}
 use Rattle.std.proofs.lemmas.List.{take_rest, get_or_default, get_or_read, drop_more}
@@ -8,7 +10,8 @@ use Rattle.std.proofs.lemmas.Option.{slice_get_past}
 use Rattle.step_machine.specs.History.{OpeningValue}
 use Rattle.step_machine.specs.declared.events.Entry.{Entry}
 use Rattle.ztso_axioms.specs.Operations.{is_operation, is_at, read_at, written_at}
-use Rattle.ztso_axioms.specs.Axioms.{times_named, is_named, is_before, in_program_order, is_preserved, is_seen, last_written, NamesEachOnce, KeepsProgramOrder, HasLoadValue}
+use Rattle.ztso_axioms.specs.Axioms.{times_named, is_named, is_before, in_program_order, is_preserved, is_seen}
+use Rattle.ztso_axioms.specs.Axioms.{last_written, NamesEachOnce, KeepsProgramOrder, HasLoadValue}
 use Rattle.ztso_axioms.proofs.Listing.{Once, times-none, times-some, named-some, named_at, index_of, split_at, is_before-index}
 
 pub once_of : (es : List Entry) (gs : List ℕ) → NamesEachOnce es gs → Once gs
@@ -77,13 +80,18 @@ last_written-append es a w [] ys = refl
 last_written-append es a w (x ∷ xs) ys = last_written-append es a (unwrap_or (written_at es a x) w) xs ys
 
 -- a first operation, after which none writes to the address
-written_first : (es : List Entry) (a w x : ℕ) (seen : ℕ → Bool) (xs : List ℕ) → NoneWrites es a seen xs → last_written es a w (filter seen (x ∷ xs)) ≡ unwrap_or (written_if es a seen x) w
+written_first : (es : List Entry) (a w x : ℕ) (seen : ℕ → Bool) (xs : List ℕ) → NoneWrites es a seen xs
+    → last_written es a w (filter seen (x ∷ xs)) ≡ unwrap_or (written_if es a seen x) w
 written_first es a w x seen xs none = grind (arith, none (unwrap_or (written_at es a x) w), none w)
 
-pub none_more : (es : List Entry) (a j : ℕ) (seen : ℕ → Bool) (gs : List ℕ) → j < length gs → written_if es a seen (get_or gs j 0) ≡ None → NoneWrites es a seen (drop (j + 1) gs) → NoneWrites es a seen (drop j gs)
+pub none_more : (es : List Entry) (a j : ℕ) (seen : ℕ → Bool) (gs : List ℕ) → j < length gs
+    → written_if es a seen (get_or gs j 0) ≡ None → NoneWrites es a seen (drop (j + 1) gs)
+    → NoneWrites es a seen (drop j gs)
 none_more es a j seen gs lt is none w = grind (arith, drop_more, written_first)
 
-pub last_found : (es : List Entry) (a w j b : ℕ) (seen : ℕ → Bool) (gs : List ℕ) → j < length gs → written_if es a seen (get_or gs j 0) ≡ Some b → NoneWrites es a seen (drop (j + 1) gs) → b ≡ last_written es a w (filter seen gs)
+pub last_found : (es : List Entry) (a w j b : ℕ) (seen : ℕ → Bool) (gs : List ℕ) → j < length gs
+    → written_if es a seen (get_or gs j 0) ≡ Some b → NoneWrites es a seen (drop (j + 1) gs)
+    → b ≡ last_written es a w (filter seen gs)
 last_found es a w j b seen gs lt is none =
     let front : ℕ = last_written es a w (filter seen (take j gs)) in
     sym (ap (λ zs. last_written es a w (filter seen zs)) (split_at gs j lt)
@@ -96,25 +104,33 @@ last_found es a w j b seen gs lt is none =
 pub read_op : (es : List Entry) (q : ℕ) (r : ℕ × ℕ × ℕ) → read_at es q ≡ Some r → is_at is_operation es q ≡ true
 read_op es q r is = grind arith
 
-pub values_from_indices : (o : OpeningValue) (es : List Entry) (gs : List ℕ) → NamesEachOnce es gs → ((i : ℕ) → i < length gs → HasLoadValue o es gs (get_or gs i 0)) → (q : ℕ) → HasLoadValue o es gs q
+pub values_from_indices : (o : OpeningValue) (es : List Entry) (gs : List ℕ) → NamesEachOnce es gs
+    → ((i : ℕ) → i < length gs → HasLoadValue o es gs (get_or gs i 0)) → (q : ℕ) → HasLoadValue o es gs q
 values_from_indices o es gs n values q a width v is =
     let at_q : (i : ℕ) × (i < length gs) × (get_or gs i 0 ≡ q) = index_of q gs (named_op es gs q n (read_op es q (a, width, v) is)) in
     subst (λ (x : ℕ). HasLoadValue o es gs x) at_q.2 (values at_q.0 at_q.1) a width v is
 
 -- the same of the slice from i on, and the operation as it was read
-pub slice_from_none : (es : List Entry) (gs : List ℕ) (i x : ℕ) → i < length gs → x ≡ get_or gs i x → NoneBelongsBefore es gs i → All (λ (p : ℕ). is_preserved es p x ≡ false) (take (length gs - i) (drop i gs))
+pub slice_from_none : (es : List Entry) (gs : List ℕ) (i x : ℕ) → i < length gs → x ≡ get_or gs i x
+    → NoneBelongsBefore es gs i → All (λ (p : ℕ). is_preserved es p x ≡ false) (take (length gs - i) (drop i gs))
 slice_from_none es gs i x lt read none = grind (arith, take_rest, get_or_read)
 
-pub none_from_slice : (es : List Entry) (gs : List ℕ) (i x : ℕ) → i < length gs → x ≡ get_or gs i x → All (λ (p : ℕ). is_preserved es p x ≡ false) (take (length gs - i) (drop i gs)) → NoneBelongsBefore es gs i
+pub none_from_slice : (es : List Entry) (gs : List ℕ) (i x : ℕ) → i < length gs → x ≡ get_or gs i x
+    → All (λ (p : ℕ). is_preserved es p x ≡ false) (take (length gs - i) (drop i gs)) → NoneBelongsBefore es gs i
 none_from_slice es gs i x lt read none = grind (arith, get_or_read, take_rest)
 
 -- what the operation at i sees of the one at j, by their indices
-pub is_seen-index : (es : List Entry) (gs : List ℕ) (i j x y : ℕ) → Once gs → i < length gs → j < length gs → x ≡ get_or gs i x → y ≡ get_or gs j y → is_seen es gs (get_or gs i 0) (get_or gs j 0) ≡ (nat_lt j i || in_program_order es y x)
+pub is_seen-index : (es : List Entry) (gs : List ℕ) (i j x y : ℕ) → Once gs → i < length gs → j < length gs
+    → x ≡ get_or gs i x → y ≡ get_or gs j y
+    → is_seen es gs (get_or gs i 0) (get_or gs j 0) ≡ (nat_lt j i || in_program_order es y x)
 is_seen-index es gs i j x y o lt_i lt_j read_x read_y = grind (arith, is_before-index, nat_lt, get_or_read)
 
-pub seen_in_front : (es : List Entry) (gs : List ℕ) (i j : ℕ) → Once gs → i < length gs → j < length gs → j < i → nat_lt j i ≡ is_seen es gs (get_or gs i 0) (get_or gs j 0)
+pub seen_in_front : (es : List Entry) (gs : List ℕ) (i j : ℕ) → Once gs → i < length gs → j < length gs → j < i
+    → nat_lt j i ≡ is_seen es gs (get_or gs i 0) (get_or gs j 0)
 seen_in_front es gs i j o lt_i lt_j front = grind (arith, nat_lt, lt-ltb, is_before-index)
 
-pub seen_after : (es : List Entry) (gs : List ℕ) (i j x y : ℕ) (r : Bool) → Once gs → i < length gs → j < length gs → x ≡ get_or gs i x → y ≡ get_or gs j y → i ≤ j → r ≡ in_program_order es y x → r ≡ is_seen es gs (get_or gs i 0) (get_or gs j 0)
+pub seen_after : (es : List Entry) (gs : List ℕ) (i j x y : ℕ) (r : Bool) → Once gs → i < length gs → j < length gs
+    → x ≡ get_or gs i x → y ≡ get_or gs j y → i ≤ j → r ≡ in_program_order es y x
+    → r ≡ is_seen es gs (get_or gs i 0) (get_or gs j 0)
 seen_after es gs i j x y r o lt_i lt_j read_x read_y following is =
     is ∙ ap (λ b. b || in_program_order es y x) (sym (le-ltb j i following)) ∙ sym (is_seen-index es gs i j x y o lt_i lt_j read_x read_y)

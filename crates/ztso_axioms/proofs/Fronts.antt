@@ -1,5 +1,6 @@
 -- The front of a trace, and what it has performed.
-use Rattle.std.proofs.Common.{◌≡◌, ℕ, zero, suc, ◌≤◌, ◌<◌, Bool, true, false, List, [], ◌∷◌, ◌++◌, length, take, drop, Some, refl, sym, ◌∙◌, ap, subst, arith, append_assoc, length-append, length-drop}
+use Rattle.std.proofs.Common.{◌≡◌, ℕ, zero, suc, ◌≤◌, ◌<◌, Bool, true, false, List, [], ◌∷◌, ◌++◌, length, take, drop}
+use Rattle.std.proofs.Common.{Some, refl, sym, ◌∙◌, ap, subst, arith, append_assoc, length-append, length-drop}
 use Rattle.std.specs.List.{slice_get, AllZip}
 use Rattle.std.proofs.lemmas.Bool.{eqb-true, and_parts, or_left, false_from_ne_true}
 use Rattle.std.proofs.lemmas.List.{take-append-drop, take-append-le, take_all}
@@ -42,7 +43,9 @@ at_past test us p le = ap (passes test) (slice_get_past us p le)
 
 -- what the front performed stands before all else
 
-pub order-front : (es us ws : List Entry) → es ≡ us ++ ws → performed_after es [] es ++ left_below (hart_bound es) es ≡ performed_after es [] us ++ (performed_after es us ws ++ left_below (hart_bound es) es)
+pub order-front : (es us ws : List Entry) → es ≡ us ++ ws
+    → performed_after es [] es ++ left_below (hart_bound es) es ≡ performed_after es [] us
+    ++ (performed_after es us ws ++ left_below (hart_bound es) es)
 order-front es us ws split = grind (arith, performed_after-append, append_assoc)
 
 -- a load or an AMO is performed by the front that holds it
@@ -52,7 +55,8 @@ read_in_front es us ws p split reads =
     ∙ ap (is_named p) (reads_performed es [] us ws split)
     ∙ named-places is_reader p us
 
-store_in_front : (es us ws : List Entry) (h p : ℕ) → es ≡ us ++ ws → stores_at es h p ≡ true → is_named p (performed_after es [] us) ≡ is_named p (take (lands h us) (store_places h es))
+store_in_front : (es us ws : List Entry) (h p : ℕ) → es ≡ us ++ ws → stores_at es h p ≡ true
+    → is_named p (performed_after es [] us) ≡ is_named p (take (lands h us) (store_places h es))
 store_in_front es us ws h p split own =
     sym (named-filter (stores_at es h) p (performed_after es [] us) own)
     ∙ ap (is_named p) (stores_performed es [] us ws h split)
@@ -74,7 +78,9 @@ AreWritten-drop all (suc n) [] [] written = written
 AreWritten-drop all (suc n) (g ∷ gs) (p ∷ ps) written = AreWritten-drop all n gs ps written.1
 AreWritten-drop all (suc n) gs ps written = absurd written
 
-written_before : (all us : List Entry) (e : Entry) (ws : List Entry) (h : ℕ) (rest : List Entry) → all ≡ us ++ e ∷ ws → (gs : List ℕ) → AreWritten all gs (stores h rest) → AreWritten all (place_of (is_store_of h) (length us) e ++ gs) (store_of h e ++ stores h rest)
+written_before : (all us : List Entry) (e : Entry) (ws : List Entry) (h : ℕ) (rest : List Entry)
+    → all ≡ us ++ e ∷ ws → (gs : List ℕ) → AreWritten all gs (stores h rest)
+    → AreWritten all (place_of (is_store_of h) (length us) e ++ gs) (store_of h e ++ stores h rest)
 written_before all us e ws h rest split gs written = grind (arith, place_of, entry_there)
 
 pub written_stores : (all us es ws : List Entry) (h : ℕ) → all ≡ us ++ (es ++ ws) → AreWritten all (places_of (is_store_of h) (length us) es) (stores h es)
@@ -82,7 +88,8 @@ written_stores all us [] ws h split = tt
 written_stores all us (e ∷ es) ws h split =
     let len : length (us ++ e ∷ []) ≡ suc (length us) = omega (arith, length-append us (e ∷ [])) in
     let rest : AreWritten all (places_of (is_store_of h) (suc (length us)) es) (stores h es)
-    = subst (λ (n : ℕ). AreWritten all (places_of (is_store_of h) n es) (stores h es)) len (written_stores all (us ++ e ∷ []) es ws h (split ∙ sym (append_assoc us (e ∷ []) (es ++ ws)))) in
+    = subst (λ (n : ℕ). AreWritten all (places_of (is_store_of h) n es) (stores h es)) len
+    (written_stores all (us ++ e ∷ []) es ws h (split ∙ sym (append_assoc us (e ∷ []) (es ++ ws)))) in
     subst (λ (zs : List ℕ). AreWritten all zs (store_of h e ++ stores h es)) (sym (places_of-cons (is_store_of h) (length us) e es))
     (written_before all us e (es ++ ws) h es split (places_of (is_store_of h) (suc (length us)) es) rest)
 
@@ -101,7 +108,8 @@ front_balanced B o es us ws h legal split =
 pub front_stores : (es us ws : List Entry) (h : ℕ) → es ≡ us ++ ws → store_places h es ≡ store_places h us ++ places_of (is_store_of h) (length us) ws
 front_stores es us ws h split = ap (store_places h) split ∙ places_of-split (is_store_of h) us ws
 
-pub front_landed : (B : ℕ) (o : OpeningValue) (es us ws : List Entry) (h : ℕ) → LegalAfter B o [] es → es ≡ us ++ ws → take (lands h us) (store_places h es) ≡ take (lands h us) (store_places h us)
+pub front_landed : (B : ℕ) (o : OpeningValue) (es us ws : List Entry) (h : ℕ) → LegalAfter B o [] es → es ≡ us ++ ws
+    → take (lands h us) (store_places h es) ≡ take (lands h us) (store_places h us)
 front_landed B o es us ws h legal split =
     ap (take (lands h us)) (front_stores es us ws h split)
     ∙ take-append-le (lands h us) (store_places h us) (places_of (is_store_of h) (length us) ws) (front_balanced B o es us ws h legal split)
@@ -110,7 +118,9 @@ pub front_allows : (B : ℕ) (o : OpeningValue) (es us : List Entry) (e : Entry)
 front_allows B o es us e ws legal split = (LegalAfter-back B o [] us (e ∷ ws) (subst (λ (zs : List Entry). LegalAfter B o [] zs) split legal)).0
 
 -- where nothing is pending of a hart, its stores have been performed
-pub store_performed : (B : ℕ) (o : OpeningValue) (es us ws : List Entry) (h p : ℕ) → LegalAfter B o [] es → es ≡ us ++ ws → pending h us ≡ [] → stores_at es h p ≡ true → p < length us → is_named p (performed_after es [] us) ≡ true
+pub store_performed : (B : ℕ) (o : OpeningValue) (es us ws : List Entry) (h p : ℕ) → LegalAfter B o [] es
+    → es ≡ us ++ ws → pending h us ≡ [] → stores_at es h p ≡ true → p < length us
+    → is_named p (performed_after es [] us) ≡ true
 store_performed B o es us ws h p legal split none own lt =
     let same : length (store_places h us) ≡ length (stores h us) = AreWritten-length es (store_places h us) (stores h us) (front_written es us ws h split) in
     let left : length (drop (lands h us) (stores h us)) ≡ 0 = ap length none in
@@ -122,7 +132,8 @@ store_performed B o es us ws h p legal split none own lt =
     ∙ own
 
 -- a store that the front does not hold has not been performed by it
-pub store_not_yet : (B : ℕ) (o : OpeningValue) (es us ws : List Entry) (h q : ℕ) → LegalAfter B o [] es → es ≡ us ++ ws → stores_at es h q ≡ true → length us ≤ q → is_named q (performed_after es [] us) ≡ false
+pub store_not_yet : (B : ℕ) (o : OpeningValue) (es us ws : List Entry) (h q : ℕ) → LegalAfter B o [] es
+    → es ≡ us ++ ws → stores_at es h q ≡ true → length us ≤ q → is_named q (performed_after es [] us) ≡ false
 store_not_yet B o es us ws h q legal split own le =
     store_in_front es us ws h q split own
     ∙ ap (is_named q) (front_landed B o es us ws h legal split)

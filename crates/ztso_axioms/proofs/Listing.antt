@@ -1,5 +1,7 @@
 -- Lists of places: how often they name one, and what stands before it.
-use Rattle.std.proofs.Common.{◌≡◌, ℕ, suc, ◌+◌, ◌-◌, ◌≤◌, ◌<◌, ◌==◌, Bool, true, false, ◌||◌, if◌then◌else◌, nat_lt, List, [], ◌∷◌, ◌++◌, length, take, drop, get_or, refl, sym, ◌∙◌, ap, subst, arith, length-take, length-drop, get_or-take, get_or-drop}
+use Rattle.std.proofs.Common.{◌≡◌, ℕ, suc, ◌+◌, ◌-◌, ◌≤◌, ◌<◌, ◌==◌, Bool, true, false, ◌||◌, if◌then◌else◌, nat_lt}
+use Rattle.std.proofs.Common.{List, [], ◌∷◌, ◌++◌, length, take, drop, get_or, refl, sym, ◌∙◌, ap, subst, arith}
+use Rattle.std.proofs.Common.{length-take, length-drop, get_or-take, get_or-drop}
 use Rattle.std.proofs.lemmas.Bool.{eqb-true, eq-eqb, ne_eqb, ltb-true, ltb-false}
 use Rattle.std.proofs.lemmas.List.{take-append-drop, drop_more, take_more, get_or_read, get_or_default}
 use Rattle.std.proofs.lemmas.List.Folds.{list_any-append, list_any_at, Any-from_list_any}
@@ -54,7 +56,8 @@ pub before-index : (gs : List ℕ) (i : ℕ) → Once gs → i < length gs → b
 before-index gs i o lt =
     let q : ℕ = get_or gs i 0 in
     let few : times_named q gs ≤ 1 = o.once q in
-    let whole : times_named q gs ≡ times_named q (take i gs) + times_named q (q ∷ drop (i + 1) gs) = ap (times_named q) (split_at gs i lt) ∙ times-append q (take i gs) (q ∷ drop (i + 1) gs) in
+    let whole : times_named q gs ≡ times_named q (take i gs) + times_named q (q ∷ drop (i + 1) gs) =
+    ap (times_named q) (split_at gs i lt) ∙ times-append q (take i gs) (q ∷ drop (i + 1) gs) in
     let here : times_named q (q ∷ drop (i + 1) gs) ≡ suc (times_named q (drop (i + 1) gs)) = times-self q (drop (i + 1) gs) in
     ap (before q) (split_at gs i lt) ∙ before-at q (take i gs) (drop (i + 1) gs) (omega arith)
 
@@ -72,18 +75,26 @@ is_before-index gs j i o lt_j lt_i = ap (is_named (get_or gs j 0)) (before-index
         let within : j - i < length (drop i gs) = omega (arith, length-drop i gs) in
         let there : i + (j - i) ≡ j = omega arith in
         let same : get_or (drop i gs) (j - i) 0 ≡ get_or gs j 0 = get_or-drop i gs (j - i) 0 ∙ ap (λ k. get_or gs k 0) there in
-        let back : is_named (get_or gs j 0) (drop i gs) ≡ true = subst (λ (x : ℕ). is_named x (drop i gs) ≡ true) same (named_at (drop i gs) (j - i) 0 within) in
+        let back : is_named (get_or gs j 0) (drop i gs) ≡ true =
+        subst (λ (x : ℕ). is_named x (drop i gs) ≡ true) same (named_at (drop i gs) (j - i) 0 within) in
         let some : 1 ≤ times_named (get_or gs j 0) (drop i gs) = times-some (get_or gs j 0) (drop i gs) back in
-        let whole : times_named (get_or gs j 0) gs ≡ times_named (get_or gs j 0) (take i gs) + times_named (get_or gs j 0) (drop i gs) = ap (times_named (get_or gs j 0)) (sym (take-append-drop i gs)) ∙ times-append (get_or gs j 0) (take i gs) (drop i gs) in
+        let whole : times_named (get_or gs j 0) gs
+        ≡ times_named (get_or gs j 0) (take i gs) + times_named (get_or gs j 0) (drop i gs) =
+        ap (times_named (get_or gs j 0)) (sym (take-append-drop i gs))
+        ∙ times-append (get_or gs j 0) (take i gs) (drop i gs) in
         let few : times_named (get_or gs j 0) gs ≤ 1 = o.once (get_or gs j 0) in
         named-none (get_or gs j 0) (take i gs) (omega arith)
 
 -- one more place looked at
-pub times_more : (p : ℕ) (xs : List ℕ) (i : ℕ) (b : Bool) → i < length xs → (get_or xs i 0 == p) ≡ b → times_named p (take (i + 1) xs) ≡ times_named p (take i xs) + (if b then 1 else 0)
-times_more p xs i b lt is = ap (times_named p) (take_more xs i 0 lt) ∙ times-append p (take i xs) (get_or xs i 0 ∷ []) ∙ ap (λ c. times_named p (take i xs) + (if c then 1 else 0)) is
+pub times_more : (p : ℕ) (xs : List ℕ) (i : ℕ) (b : Bool) → i < length xs → (get_or xs i 0 == p) ≡ b
+    → times_named p (take (i + 1) xs) ≡ times_named p (take i xs) + (if b then 1 else 0)
+times_more p xs i b lt is = ap (times_named p) (take_more xs i 0 lt)
+    ∙ times-append p (take i xs) (get_or xs i 0 ∷ []) ∙ ap (λ c. times_named p (take i xs) + (if c then 1 else 0)) is
 
-pub times_hit : (p : ℕ) (xs : List ℕ) (i t n x : ℕ) → i < length xs → x ≡ get_or xs i x → x ≡ p → t ≡ times_named p (take i xs) → n ≡ t + 1 → n ≡ times_named p (take (i + 1) xs)
+pub times_hit : (p : ℕ) (xs : List ℕ) (i t n x : ℕ) → i < length xs → x ≡ get_or xs i x → x ≡ p
+    → t ≡ times_named p (take i xs) → n ≡ t + 1 → n ≡ times_named p (take (i + 1) xs)
 times_hit p xs i t n x lt read is before_it after = grind (arith, times_more p xs i true lt, get_or_read xs i x lt read 0, eq-eqb (get_or xs i 0) p)
 
-pub times_missed : (p : ℕ) (xs : List ℕ) (i t n x : ℕ) → i < length xs → x ≡ get_or xs i x → (x ≡ p → ⊥) → t ≡ times_named p (take i xs) → n ≡ t → n ≡ times_named p (take (i + 1) xs)
+pub times_missed : (p : ℕ) (xs : List ℕ) (i t n x : ℕ) → i < length xs → x ≡ get_or xs i x → (x ≡ p → ⊥)
+    → t ≡ times_named p (take i xs) → n ≡ t → n ≡ times_named p (take (i + 1) xs)
 times_missed p xs i t n x lt read not before_it after = grind (arith, times_more p xs i false lt, get_or_read xs i x lt read 0, ne_eqb (get_or xs i 0) p)

@@ -1,5 +1,6 @@
 -- Which places a list names, and what a filter of it names.
-use Rattle.std.proofs.Common.{◌≡◌, ℕ, zero, suc, ◌+◌, ◌<◌, Bool, true, false, not, ◌&&◌, if◌then◌else◌, List, [], ◌∷◌, ◌++◌, get_or, refl, sym, ◌∙◌, ap, arith, length, append-nil, append_assoc}
+use Rattle.std.proofs.Common.{◌≡◌, ℕ, zero, suc, ◌+◌, ◌<◌, Bool, true, false, not, ◌&&◌, if◌then◌else◌, List, [], ◌∷◌}
+use Rattle.std.proofs.Common.{◌++◌, get_or, refl, sym, ◌∙◌, ap, arith, length, append-nil, append_assoc}
 use Rattle.std.specs.Prelude.{filter, option_to_list}
 use Rattle.std.specs.List.{AllPass, slice_get}
 use Rattle.std.proofs.lemmas.Bool.{eqb-true, eq-eqb, ne_eqb, not-true, or_left, or_right}
@@ -101,17 +102,22 @@ abbrev pub place_of : (Entry → Bool) → ℕ → Entry → List ℕ
 place_of test n e = if test e then n ∷ [] else []
 
 pub places_of-cons : (test : Entry → Bool) (n : ℕ) (e : Entry) (es : List Entry) → places_of test n (e ∷ es) ≡ place_of test n e ++ places_of test (suc n) es
-places_of-cons test n e es = elim (test e) as (λ b. (if b then n ∷ places_of test (suc n) es else places_of test (suc n) es) ≡ (if b then n ∷ [] else []) ++ places_of test (suc n) es) [ true ↦ refl | false ↦ refl ]
+places_of-cons test n e es = elim (test e) as
+    (λ b. (if b then n ∷ places_of test (suc n) es else places_of test (suc n) es) ≡ (if b then n ∷ [] else [])
+    ++ places_of test (suc n) es) [ true ↦ refl | false ↦ refl ]
 
-pub places_of-append : (test : Entry → Bool) (n : ℕ) (es fs : List Entry) → places_of test n (es ++ fs) ≡ places_of test n es ++ places_of test (n + length es) fs
+pub places_of-append : (test : Entry → Bool) (n : ℕ) (es fs : List Entry)
+    → places_of test n (es ++ fs) ≡ places_of test n es ++ places_of test (n + length es) fs
 places_of-append test n [] fs = let same : n ≡ n + 0 = omega arith in ap (λ k. places_of test k fs) same
 places_of-append test n (e ∷ es) fs = grind (arith, places_of-cons, append_assoc, places_of-append test (suc n) es fs)
 
 -- the places among a list's front, and then those among the rest
 pub places_of-split : (test : Entry → Bool) (es fs : List Entry) → places_of test 0 (es ++ fs) ≡ places_of test 0 es ++ places_of test (length es) fs
-places_of-split test es fs = let same : 0 + length es ≡ length es = omega arith in places_of-append test 0 es fs ∙ ap (λ k. places_of test 0 es ++ places_of test k fs) same
+places_of-split test es fs = let same : 0 + length es ≡ length es = omega arith in
+    places_of-append test 0 es fs ∙ ap (λ k. places_of test 0 es ++ places_of test k fs) same
 
-pub performed_after-append : (all before es fs : List Entry) → performed_after all before (es ++ fs) ≡ performed_after all before es ++ performed_after all (before ++ es) fs
+pub performed_after-append : (all before es fs : List Entry)
+    → performed_after all before (es ++ fs) ≡ performed_after all before es ++ performed_after all (before ++ es) fs
 performed_after-append all before [] fs = ap (λ b. performed_after all b fs) (sym (append-nil before))
 performed_after-append all before (e ∷ es) fs = grind (arith, append_assoc, performed_after-append all (before ++ e ∷ []) es fs)
 

@@ -1,6 +1,8 @@
 -- What the entries of a trace perform: of each hart its stores in order, as many as it has landings,
 -- and each load and AMO at its place.
-use Rattle.std.proofs.Common.{◌≡◌, ℕ, zero, suc, ◌+◌, ◌≤◌, ◌<◌, ◌==◌, Bool, true, false, not, ◌||◌, if◌then◌else◌, nat_lt, List, [], ◌∷◌, ◌++◌, length, take, drop, Some, refl, sym, ◌∙◌, ap, arith, append-nil, append_assoc, length-append}
+use Rattle.std.proofs.Common.{◌≡◌, ℕ, zero, suc, ◌+◌, ◌≤◌, ◌<◌, ◌==◌, Bool, true, false, not, ◌||◌, if◌then◌else◌}
+use Rattle.std.proofs.Common.{nat_lt, List, [], ◌∷◌, ◌++◌, length, take, drop, Some, refl, sym, ◌∙◌, ap, arith}
+use Rattle.std.proofs.Common.{append-nil, append_assoc, length-append}
 use Rattle.std.specs.Prelude.{filter, option_to_list}
 use Rattle.std.specs.List.{AllPass, slice_get}
 use Rattle.std.proofs.lemmas.Bool.{eqb-true, eqb-false, ne_eqb, and_parts, ltb-true, ltb-false}
@@ -34,7 +36,8 @@ at_here test all us e ws split = ap (λ es. passes test (slice_get es (length us
 take_next : (xs : List ℕ) (k n : ℕ) → option_to_list (slice_get xs k) ++ take n (drop (k + 1) xs) ≡ take (1 + n) (drop k xs)
 take_next [] k n = ap (take n) (drop-nil (k + 1)) ∙ take-nil n ∙ sym (ap (take (1 + n)) (drop-nil k) ∙ take-nil (1 + n))
 take_next (x ∷ xs) zero n = let one : 1 + n ≡ suc n = omega arith in ap (λ m. take m (x ∷ xs)) (sym one)
-take_next (x ∷ xs) (suc k) n = let one : suc k + 1 ≡ suc (k + 1) = omega arith in ap (λ m. option_to_list (slice_get xs k) ++ take n (drop m (x ∷ xs))) one ∙ take_next xs k n
+take_next (x ∷ xs) (suc k) n = let one : suc k + 1 ≡ suc (k + 1) = omega arith in
+    ap (λ m. option_to_list (slice_get xs k) ++ take n (drop m (x ∷ xs))) one ∙ take_next xs k n
 
 -- a store of one hart is none of another's
 others_not : (all : List Entry) (h g : ℕ) → (g ≡ h → ⊥) → (x : ℕ) → stores_at all g x ≡ true → not (stores_at all h x) ≡ true
@@ -55,13 +58,18 @@ left_own : (all : List Entry) (h : ℕ) → AllPass (stores_at all h) (left_plac
 left_own all h = All-drop (IsPassed (stores_at all h)) (lands h all) (store_places h all) (AllPass-places (is_store_of h) all)
 
 -- what one entry performs of hart h's stores
-stores_by : (all us : List Entry) (e : Entry) (ws : List Entry) (h : ℕ) → all ≡ us ++ e ∷ ws → (n : ℕ) → filter (stores_at all h) (performed_by all us e) ++ take n (drop (lands h us + land_of h e) (store_places h all)) ≡ take (land_of h e + n) (drop (lands h us) (store_places h all))
+stores_by : (all us : List Entry) (e : Entry) (ws : List Entry) (h : ℕ) → all ≡ us ++ e ∷ ws → (n : ℕ)
+    → filter (stores_at all h) (performed_by all us e) ++ take n (drop (lands h us + land_of h e) (store_places h all))
+    ≡ take (land_of h e + n) (drop (lands h us) (store_places h all))
 stores_by all us e ws h split n = at e (at_here (is_store_of h) all us e ws split)
   where
     still : take n (drop (lands h us + 0) (store_places h all)) ≡ take (0 + n) (drop (lands h us) (store_places h all))
-    still = let a : lands h us + 0 ≡ lands h us = omega arith in let b : n ≡ 0 + n = omega arith in ap (λ k. take n (drop k (store_places h all))) a ∙ ap (λ m. take m (drop (lands h us) (store_places h all))) b
+    still = let a : lands h us + 0 ≡ lands h us = omega arith in
+        let b : n ≡ 0 + n = omega arith in
+        ap (λ k. take n (drop k (store_places h all))) a ∙ ap (λ m. take m (drop (lands h us) (store_places h all))) b
 
-    alone : stores_at all h (length us) ≡ false → filter (stores_at all h) (length us ∷ []) ++ take n (drop (lands h us + 0) (store_places h all)) ≡ take (0 + n) (drop (lands h us) (store_places h all))
+    alone : stores_at all h (length us) ≡ false → filter (stores_at all h) (length us ∷ [])
+        ++ take n (drop (lands h us + 0) (store_places h all)) ≡ take (0 + n) (drop (lands h us) (store_places h all))
     alone off = ap (λ b. (if b then length us ∷ [] else []) ++ take n (drop (lands h us + 0) (store_places h all))) off ∙ still
 
     landing : (g : ℕ) (b : Bool) → (g == h) ≡ b
@@ -69,7 +77,8 @@ stores_by all us e ws h split n = at e (at_here (is_store_of h) all us e ws spli
         ≡ take ((if b then 1 else 0) + n) (drop (lands h us) (store_places h all))
     landing g true is =
         let mine : g ≡ h = eqb-true g h is in
-        ap (λ k. filter (stores_at all h) (option_to_list (slice_get (store_places k all) (lands k us))) ++ take n (drop (lands h us + 1) (store_places h all))) mine
+        ap (λ k. filter (stores_at all h) (option_to_list (slice_get (store_places k all) (lands k us)))
+        ++ take n (drop (lands h us + 1) (store_places h all))) mine
         ∙ ap (λ zs. zs ++ take n (drop (lands h us + 1) (store_places h all))) (filter-every (stores_at all h) (landed_store all us h) (landed_own all us h))
         ∙ take_next (store_places h all) (lands h us) n
     landing g false is =
@@ -77,14 +86,18 @@ stores_by all us e ws h split n = at e (at_here (is_store_of h) all us e ws spli
         (filter_others all h g (landed_store all us g) (eqb-false g h is) (landed_own all us g))
         ∙ still
 
-    at : (d : Entry) → stores_at all h (length us) ≡ is_store_of h d → filter (stores_at all h) (performed_by all us d) ++ take n (drop (lands h us + land_of h d) (store_places h all)) ≡ take (land_of h d + n) (drop (lands h us) (store_places h all))
+    at : (d : Entry) → stores_at all h (length us) ≡ is_store_of h d
+        → filter (stores_at all h) (performed_by all us d)
+        ++ take n (drop (lands h us + land_of h d) (store_places h all))
+        ≡ take (land_of h d + n) (drop (lands h us) (store_places h all))
     at (entry.Load g a width v) here = alone here
     at (entry.Amo g a old new) here = alone here
     at (entry.Land g) here = landing g (g == h) refl
     at other here = still
 
 -- of a hart's stores, those are performed that its landings number
-pub stores_performed : (all us es ws : List Entry) (h : ℕ) → all ≡ us ++ (es ++ ws) → filter (stores_at all h) (performed_after all us es) ≡ take (lands h es) (drop (lands h us) (store_places h all))
+pub stores_performed : (all us es ws : List Entry) (h : ℕ) → all ≡ us ++ (es ++ ws)
+    → filter (stores_at all h) (performed_after all us es) ≡ take (lands h es) (drop (lands h us) (store_places h all))
 stores_performed all us [] ws h split = refl
 stores_performed all us (e ∷ es) ws h split = grind (arith, filter-append, append_assoc, lands-last, stores_by, stores_performed all (us ++ e ∷ []) es ws h)
 
@@ -108,7 +121,8 @@ store_kinds all h x is = grind arith
 no_reads : (all : List Entry) (h : ℕ) (xs : List ℕ) → AllPass (stores_at all h) xs → filter (reads_at all) xs ≡ []
 no_reads all h xs each = grind (arith, filter-none, All-weaker, IsPassed, store_kinds)
 
-reads_by : (all us : List Entry) (e : Entry) (ws : List Entry) → all ≡ us ++ e ∷ ws → filter (reads_at all) (performed_by all us e) ≡ place_of is_reader (length us) e
+reads_by : (all us : List Entry) (e : Entry) (ws : List Entry) → all ≡ us ++ e ∷ ws
+    → filter (reads_at all) (performed_by all us e) ≡ place_of is_reader (length us) e
 reads_by all us e ws split = at e (at_here is_reader all us e ws split)
   where
     at : (d : Entry) → reads_at all (length us) ≡ is_reader d → filter (reads_at all) (performed_by all us d) ≡ place_of is_reader (length us) d
@@ -118,9 +132,11 @@ reads_by all us e ws split = at e (at_here is_reader all us e ws split)
     at other here = refl
 
 -- the loads and AMOs are performed at their places
-pub reads_performed : (all us es ws : List Entry) → all ≡ us ++ (es ++ ws) → filter (reads_at all) (performed_after all us es) ≡ places_of is_reader (length us) es
+pub reads_performed : (all us es ws : List Entry) → all ≡ us ++ (es ++ ws)
+    → filter (reads_at all) (performed_after all us es) ≡ places_of is_reader (length us) es
 reads_performed all us [] ws split = refl
-reads_performed all us (e ∷ es) ws split = grind (arith, length-append, filter-append, reads_by, place_of, append_assoc, places_of-cons, reads_performed all (us ++ e ∷ []) es ws)
+reads_performed all us (e ∷ es) ws split =
+    grind (arith, length-append, filter-append, reads_by, place_of, append_assoc, places_of-cons, reads_performed all (us ++ e ∷ []) es ws)
 
 pub reads_left : (all : List Entry) (n : ℕ) → filter (reads_at all) (left_below n all) ≡ []
 reads_left all zero = refl
@@ -173,8 +189,11 @@ order-stores es h =
     ∙ ap (λ zs. zs ++ filter (stores_at es h) (left_below (hart_bound es) es)) (stores_performed es [] es [] h (whole_split es))
     ∙ at (nat_lt h (hart_bound es)) refl
   where
-    at : (b : Bool) → nat_lt h (hart_bound es) ≡ b → take (lands h es) (store_places h es) ++ filter (stores_at es h) (left_below (hart_bound es) es) ≡ store_places h es
-    at true is = ap (λ zs. take (lands h es) (store_places h es) ++ zs) (stores_left es h (hart_bound es) (ltb-true h (hart_bound es) is)) ∙ take-append-drop (lands h es) (store_places h es)
+    at : (b : Bool) → nat_lt h (hart_bound es) ≡ b → take (lands h es) (store_places h es)
+        ++ filter (stores_at es h) (left_below (hart_bound es) es) ≡ store_places h es
+    at true is = ap (λ zs. take (lands h es) (store_places h es) ++ zs)
+        (stores_left es h (hart_bound es) (ltb-true h (hart_bound es) is))
+        ∙ take-append-drop (lands h es) (store_places h es)
     at false is =
         let none : store_places h es ≡ [] = stores_past es h (ltb-false h (hart_bound es) is) in
         ap (λ zs. take (lands h es) (store_places h es) ++ zs) (left_past es h (hart_bound es) (ltb-false h (hart_bound es) is))

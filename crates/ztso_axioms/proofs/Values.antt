@@ -1,5 +1,7 @@
 -- In the order of performing, a read has the value of the Load Value Axiom.
-use Rattle.std.proofs.Common.{◌≡◌, ℕ, zero, suc, ◌+◌, ◌-◌, ◌≤◌, ◌<◌, Bool, true, false, not, ◌&&◌, ◌||◌, if◌then◌else◌, nat_lt, List, [], ◌∷◌, ◌++◌, length, take, drop, Option, Some, None, unwrap_or, refl, sym, ◌∙◌, ap, subst, arith, append-nil, append_assoc, length-drop, ◌^◌}
+use Rattle.std.proofs.Common.{◌≡◌, ℕ, zero, suc, ◌+◌, ◌-◌, ◌≤◌, ◌<◌, Bool, true, false, not, ◌&&◌, ◌||◌, if◌then◌else◌}
+use Rattle.std.proofs.Common.{nat_lt, List, [], ◌∷◌, ◌++◌, length, take, drop, Option, Some, None, unwrap_or, refl, sym}
+use Rattle.std.proofs.Common.{◌∙◌, ap, subst, arith, append-nil, append_assoc, length-drop, ◌^◌}
 use Rattle.std.specs.Prelude.{filter, option_to_list, option_and_then, slice_index, ◌%◌, ◌/◌}
 use Rattle.std.specs.List.{AllPass, slice_get}
 use Rattle.std.specs.Option.{option_map_or}
@@ -25,7 +27,8 @@ use Rattle.ztso_axioms.proofs.Listing.{times-append, times-none, times-some, nam
 use Rattle.ztso_axioms.proofs.Checked.{once_of, last_written-append}
 use Rattle.ztso_axioms.proofs.Members.{IsPassed, passes_by_name, named_passes, AllPass-places, filter-every, filter-none, filter-same, filter-both, times-low}
 use Rattle.ztso_axioms.proofs.Performs.{is_reader, stores_at, reads_at, stores_performed, order-stores, order-operations}
-use Rattle.ztso_axioms.proofs.Fronts.{split_entry, at_past, order-front, AreWritten, AreWritten-length, AreWritten-drop, front_written, front_balanced, front_stores, front_allows}
+use Rattle.ztso_axioms.proofs.Fronts.{split_entry, at_past, order-front, AreWritten, AreWritten-length, AreWritten-drop}
+use Rattle.ztso_axioms.proofs.Fronts.{front_written, front_balanced, front_stores, front_allows}
 use Rattle.ztso_axioms.proofs.Ordered.{performed_order, kind_at, order-once, order-program, read_performed, read_not_yet}
 use Rattle.memory.specs.declared.writes.Write.{Write}
 use Rattle.std.proofs.Math.Nat.{pow-le-pow_right}
@@ -36,7 +39,8 @@ use Rattle.memory.proofs.Joined.{byte_of_joined-any, joined-below, number_of_byt
 chosen : (b : Bool) (v w : ℕ) (found : Option ℕ) → unwrap_or (if b then Some v else None) (unwrap_or found w) ≡ unwrap_or (if b then Some v else found) w
 chosen b v w found = grind arith
 
-written_values : (all : List Entry) (a w : ℕ) (found : Option ℕ) (gs : List ℕ) (ps : List Write) → AreWritten all gs ps → last_written all a (unwrap_or found w) gs ≡ unwrap_or (newest_of a found ps) w
+written_values : (all : List Entry) (a w : ℕ) (found : Option ℕ) (gs : List ℕ) (ps : List Write)
+    → AreWritten all gs ps → last_written all a (unwrap_or found w) gs ≡ unwrap_or (newest_of a found ps) w
 written_values all a w found [] [] written = refl
 written_values all a w found (g ∷ gs) (p ∷ ps) written =
     ap (λ so. last_written all a (unwrap_or so (unwrap_or found w)) gs) (written.0 a)
@@ -53,27 +57,37 @@ written_first : (all : List Entry) (gs : List ℕ) (ps : List Write) → AreWrit
 written_first all gs ps written = grind arith
 
 -- what one entry performs writes what it writes to memory
-writes_by : (B : ℕ) (o : OpeningValue) (all us : List Entry) (e : Entry) (ws : List Entry) (a w : ℕ) (found : Option ℕ) → all ≡ us ++ e ∷ ws → Allowed B o us e → last_written all a (unwrap_or found w) (performed_by all us e) ≡ unwrap_or (newest_of a found (write_of us e)) w
+writes_by : (B : ℕ) (o : OpeningValue) (all us : List Entry) (e : Entry) (ws : List Entry) (a w : ℕ)
+    (found : Option ℕ) → all ≡ us ++ e ∷ ws → Allowed B o us e
+    → last_written all a (unwrap_or found w) (performed_by all us e) ≡ unwrap_or (newest_of a found (write_of us e)) w
 writes_by B o all us e ws a w found split = at e split
   where
     written : (d : Entry) → all ≡ us ++ d ∷ ws → written_at all a (length us) ≡ written_to a d
     written d here = ap (λ zs. written_at zs a (length us)) here ∙ ap (option_and_then (written_to a)) (entry_there us d ws)
 
-    at : (d : Entry) → all ≡ us ++ d ∷ ws → Allowed B o us d → last_written all a (unwrap_or found w) (performed_by all us d) ≡ unwrap_or (newest_of a found (write_of us d)) w
+    at : (d : Entry) → all ≡ us ++ d ∷ ws → Allowed B o us d
+        → last_written all a (unwrap_or found w) (performed_by all us d)
+        ≡ unwrap_or (newest_of a found (write_of us d)) w
     at (entry.Load g b width v) here may = ap (λ so. unwrap_or so (unwrap_or found w)) (written (entry.Load g b width v) here)
-    at (entry.Amo g b old new) here may = ap (λ so. unwrap_or so (unwrap_or found w)) (written (entry.Amo g b old new) here) ∙ chosen (covers (write b 4 new) a) (byte_at (a - b) new) w found
+    at (entry.Amo g b old new) here may = ap (λ so. unwrap_or so (unwrap_or found w))
+        (written (entry.Amo g b old new) here) ∙ chosen (covers (write b 4 new) a) (byte_at (a - b) new) w found
     at (entry.Land g) here may =
         let pairs_written : AreWritten all (store_places g us) (stores g us) = front_written all us (entry.Land g ∷ ws) g here in
         let same : length (store_places g us) ≡ length (stores g us) = AreWritten-length all (store_places g us) (stores g us) pairs_written in
         let some : lands g us < length (store_places g us) = omega (arith, length-drop (lands g us) (stores g us)) in
         ap (λ zs. last_written all a (unwrap_or found w) (option_to_list (slice_get zs (lands g us)))) (front_stores all us (entry.Land g ∷ ws) g here)
-        ∙ ap (last_written all a (unwrap_or found w)) (first_of (store_places g us) (places_of (is_store_of g) (length us) (entry.Land g ∷ ws)) (lands g us) some)
+        ∙ ap (last_written all a (unwrap_or found w))
+        (first_of (store_places g us) (places_of (is_store_of g) (length us) (entry.Land g ∷ ws)) (lands g us) some)
         ∙ written_values all a w found (take 1 (drop (lands g us) (store_places g us))) (take 1 (drop (lands g us) (stores g us)))
-        (written_first all (drop (lands g us) (store_places g us)) (drop (lands g us) (stores g us)) (AreWritten-drop all (lands g us) (store_places g us) (stores g us) pairs_written))
+        (written_first all (drop (lands g us) (store_places g us)) (drop (lands g us) (stores g us))
+        (AreWritten-drop all (lands g us) (store_places g us) (stores g us) pairs_written))
     at other here may = refl
 
 -- what entries perform writes what reaches memory
-writes_after : (B : ℕ) (o : OpeningValue) (all us es ws : List Entry) (a w : ℕ) (found : Option ℕ) → all ≡ us ++ (es ++ ws) → LegalAfter B o us es → last_written all a (unwrap_or found w) (performed_after all us es) ≡ unwrap_or (newest_of a found (landed_after us es)) w
+writes_after : (B : ℕ) (o : OpeningValue) (all us es ws : List Entry) (a w : ℕ) (found : Option ℕ)
+    → all ≡ us ++ (es ++ ws) → LegalAfter B o us es
+    → last_written all a (unwrap_or found w) (performed_after all us es)
+    ≡ unwrap_or (newest_of a found (landed_after us es)) w
 writes_after B o all us [] ws a w found split legal = refl
 writes_after B o all us (e ∷ es) ws a w found split legal =
     last_written-append all a (unwrap_or found w) (performed_by all us e) (performed_after all (us ++ e ∷ []) es)
@@ -81,20 +95,27 @@ writes_after B o all us (e ∷ es) ws a w found split legal =
     ∙ writes_after B o all (us ++ e ∷ []) es ws a w (newest_of a found (write_of us e)) (split ∙ sym (append_assoc us (e ∷ []) (es ++ ws))) legal.1
     ∙ ap (λ so. unwrap_or so w) (sym (newest_of-append a found (write_of us e) (landed_after (us ++ e ∷ []) es)))
 
-front_memory : (B : ℕ) (o : OpeningValue) (es us ws : List Entry) (a : ℕ) → LegalAfter B o [] es → es ≡ us ++ ws → last_written es a (opening_byte o a) (performed_after es [] us) ≡ memory_byte o us a
+front_memory : (B : ℕ) (o : OpeningValue) (es us ws : List Entry) (a : ℕ) → LegalAfter B o [] es → es ≡ us ++ ws
+    → last_written es a (opening_byte o a) (performed_after es [] us) ≡ memory_byte o us a
 front_memory B o es us ws a legal split =
     writes_after B o es [] us ws a (opening_byte o a) None split (LegalAfter-front B o [] us ws (subst (λ (zs : List Entry). LegalAfter B o [] zs) split legal))
 
 -- what a read sees
 
 -- of what a hart's read does not find performed, it sees its own stores before it
-sees_own : (es : List Entry) (q x : ℕ) (us ws : List Entry) → es ≡ us ++ ws → length us ≡ q → is_named x (performed_after es [] us) ≡ false → is_at is_operation es x ≡ true → in_program_order es x q ≡ (stores_at es (hart_at es q) x && nat_lt x q)
+sees_own : (es : List Entry) (q x : ℕ) (us ws : List Entry) → es ≡ us ++ ws → length us ≡ q
+    → is_named x (performed_after es [] us) ≡ false → is_at is_operation es x ≡ true
+    → in_program_order es x q ≡ (stores_at es (hart_at es q) x && nat_lt x q)
 sees_own es q x us ws split len out op = grind (arith, kind_at, reads_at, stores_at, nat_lt, false_from_ne_true, ltb-true, read_performed, and_right)
 
 -- the stores of a hart that the front has not performed
-back_stores : (es us ws : List Entry) (h : ℕ) → es ≡ us ++ ws → filter (stores_at es h) (performed_after es us ws ++ left_below (hart_bound es) es) ≡ drop (lands h us) (store_places h es)
+back_stores : (es us ws : List Entry) (h : ℕ) → es ≡ us ++ ws
+    → filter (stores_at es h) (performed_after es us ws ++ left_below (hart_bound es) es)
+    ≡ drop (lands h us) (store_places h es)
 back_stores es us ws h split =
-    append_cancel_left (take (lands h us) (store_places h es)) (filter (stores_at es h) (performed_after es us ws ++ left_below (hart_bound es) es)) (drop (lands h us) (store_places h es))
+    append_cancel_left (take (lands h us) (store_places h es))
+    (filter (stores_at es h) (performed_after es us ws ++ left_below (hart_bound es) es))
+    (drop (lands h us) (store_places h es))
     (ap (λ zs. zs ++ filter (stores_at es h) (performed_after es us ws ++ left_below (hart_bound es) es)) (sym (stores_performed es [] us ws h split))
     ∙ sym (filter-append (stores_at es h) (performed_after es [] us) (performed_after es us ws ++ left_below (hart_bound es) es))
     ∙ ap (filter (stores_at es h)) (sym (order-front es us ws split))
@@ -102,10 +123,14 @@ back_stores es us ws h split =
     ∙ sym (take-append-drop (lands h us) (store_places h es)))
 
 -- those of them before place q are the pending ones
-pending_places : (B : ℕ) (o : OpeningValue) (es us ws : List Entry) (h q : ℕ) → LegalAfter B o [] es → es ≡ us ++ ws → length us ≡ q → filter (λ x. nat_lt x q) (drop (lands h us) (store_places h es)) ≡ drop (lands h us) (store_places h us)
+pending_places : (B : ℕ) (o : OpeningValue) (es us ws : List Entry) (h q : ℕ) → LegalAfter B o [] es → es ≡ us ++ ws
+    → length us ≡ q
+    → filter (λ x. nat_lt x q) (drop (lands h us) (store_places h es)) ≡ drop (lands h us) (store_places h us)
 pending_places B o es us ws h q legal split len =
     ap (λ zs. filter (λ x. nat_lt x q) (drop (lands h us) zs)) (front_stores es us ws h split)
-    ∙ ap (filter (λ x. nat_lt x q)) (drop-append-le (lands h us) (store_places h us) (places_of (is_store_of h) (length us) ws) (front_balanced B o es us ws h legal split))
+    ∙ ap (filter (λ x. nat_lt x q))
+    (drop-append-le (lands h us) (store_places h us) (places_of (is_store_of h) (length us) ws)
+    (front_balanced B o es us ws h legal split))
     ∙ filter-append (λ x. nat_lt x q) (drop (lands h us) (store_places h us)) (places_of (is_store_of h) (length us) ws)
     ∙ ap (λ zs. zs ++ filter (λ x. nat_lt x q) (places_of (is_store_of h) (length us) ws))
     (filter-every (λ x. nat_lt x q) (drop (lands h us) (store_places h us)) (All-drop (IsPassed (λ y. nat_lt y q)) (lands h us) (store_places h us) early))
@@ -132,22 +157,30 @@ reader_performs : (es us : List Entry) (e : Entry) → is_reader e ≡ true → 
 reader_performs es us e is = grind arith
 
 -- what stands before a read is what the front performed
-before-read : (es us : List Entry) (e : Entry) (ws : List Entry) (q : ℕ) → es ≡ us ++ e ∷ ws → length us ≡ q → is_reader e ≡ true → reads_at es q ≡ true → before q (performed_order es) ≡ performed_after es [] us
+before-read : (es us : List Entry) (e : Entry) (ws : List Entry) (q : ℕ) → es ≡ us ++ e ∷ ws → length us ≡ q
+    → is_reader e ≡ true → reads_at es q ≡ true → before q (performed_order es) ≡ performed_after es [] us
 before-read es us e ws q split len reader reads =
-    let absent : times_named q (performed_after es [] us) ≡ 0 = times-none q (performed_after es [] us) (read_not_yet es us (e ∷ ws) q split reads (omega arith)) in
+    let absent : times_named q (performed_after es [] us) ≡ 0 =
+    times-none q (performed_after es [] us) (read_not_yet es us (e ∷ ws) q split reads (omega arith)) in
     let itself : performed_by es us e ≡ q ∷ [] = reader_performs es us e reader ∙ ap (λ n. n ∷ []) len in
     ap (before q) (order-front es us (e ∷ ws) split)
     ∙ ap (λ zs. before q (performed_after es [] us ++ ((zs ++ performed_after es (us ++ e ∷ []) ws) ++ left_below (hart_bound es) es))) itself
     ∙ before-at q (performed_after es [] us) (performed_after es (us ++ e ∷ []) ws ++ left_below (hart_bound es) es) absent
 
 -- a read sees what the front performed, and then its hart's pending stores
-seen_by_read : (B : ℕ) (o : OpeningValue) (es us : List Entry) (e : Entry) (ws : List Entry) (q : ℕ) → LegalAfter B o [] es → es ≡ us ++ e ∷ ws → length us ≡ q → is_reader e ≡ true → reads_at es q ≡ true → filter (is_seen es (performed_order es) q) (performed_order es) ≡ performed_after es [] us ++ drop (lands (hart_at es q) us) (store_places (hart_at es q) us)
+seen_by_read : (B : ℕ) (o : OpeningValue) (es us : List Entry) (e : Entry) (ws : List Entry) (q : ℕ)
+    → LegalAfter B o [] es → es ≡ us ++ e ∷ ws → length us ≡ q → is_reader e ≡ true → reads_at es q ≡ true
+    → filter (is_seen es (performed_order es) q) (performed_order es) ≡ performed_after es [] us
+    ++ drop (lands (hart_at es q) us) (store_places (hart_at es q) us)
 seen_by_read B o es us e ws q legal split len reader reads =
     ap (filter (is_seen es (performed_order es) q)) (order-front es us (e ∷ ws) split)
     ∙ filter-append (is_seen es (performed_order es) q) (performed_after es [] us) (performed_after es us (e ∷ ws) ++ left_below (hart_bound es) es)
-    ∙ ap (λ zs. zs ++ filter (is_seen es (performed_order es) q) (performed_after es us (e ∷ ws) ++ left_below (hart_bound es) es)) (filter-every (is_seen es (performed_order es) q) (performed_after es [] us) front)
+    ∙ ap (λ zs. zs
+    ++ filter (is_seen es (performed_order es) q) (performed_after es us (e ∷ ws) ++ left_below (hart_bound es) es))
+    (filter-every (is_seen es (performed_order es) q) (performed_after es [] us) front)
     ∙ ap (λ zs. performed_after es [] us ++ zs)
-    (filter-same (is_seen es (performed_order es) q) (λ x. stores_at es (hart_at es q) x && nat_lt x q) (performed_after es us (e ∷ ws) ++ left_below (hart_bound es) es) back
+    (filter-same (is_seen es (performed_order es) q) (λ x. stores_at es (hart_at es q) x && nat_lt x q)
+    (performed_after es us (e ∷ ws) ++ left_below (hart_bound es) es) back
     ∙ filter-both (stores_at es (hart_at es q)) (λ x. nat_lt x q) (performed_after es us (e ∷ ws) ++ left_below (hart_bound es) es)
     ∙ ap (filter (λ x. nat_lt x q)) (back_stores es us (e ∷ ws) (hart_at es q) split)
     ∙ pending_places B o es us (e ∷ ws) (hart_at es q) q legal split len)
@@ -160,10 +193,13 @@ seen_by_read B o es us e ws q legal split len reader reads =
 
     not_in_front : (x : ℕ) → is_named x (performed_after es us (e ∷ ws) ++ left_below (hart_bound es) es) ≡ true → is_named x (performed_after es [] us) ≡ false
     not_in_front x named = false_from_ne_true _ (λ is.
-        let whole : times_named x (performed_order es) ≡ times_named x (performed_after es [] us) + times_named x (performed_after es us (e ∷ ws) ++ left_below (hart_bound es) es)
-        = ap (times_named x) (order-front es us (e ∷ ws) split) ∙ times-append x (performed_after es [] us) (performed_after es us (e ∷ ws) ++ left_below (hart_bound es) es) in
+        let whole : times_named x (performed_order es) ≡ times_named x (performed_after es [] us) + times_named x
+        (performed_after es us (e ∷ ws) ++ left_below (hart_bound es) es)
+        = ap (times_named x) (order-front es us (e ∷ ws) split) ∙ times-append x (performed_after es [] us)
+        (performed_after es us (e ∷ ws) ++ left_below (hart_bound es) es) in
         let some : 1 ≤ times_named x (performed_after es [] us) = times-some x (performed_after es [] us) is in
-        let more : 1 ≤ times_named x (performed_after es us (e ∷ ws) ++ left_below (hart_bound es) es) = times-some x (performed_after es us (e ∷ ws) ++ left_below (hart_bound es) es) named in
+        let more : 1 ≤ times_named x (performed_after es us (e ∷ ws) ++ left_below (hart_bound es) es) =
+        times-some x (performed_after es us (e ∷ ws) ++ left_below (hart_bound es) es) named in
         let few : times_named x (performed_order es) ≤ 1 = (once_of es (performed_order es) (order-once es)).once x in
         omega arith)
 
@@ -174,21 +210,28 @@ seen_by_read B o es us e ws q legal split len reader reads =
         ∙ named-append x (performed_after es [] us) (performed_after es us (e ∷ ws) ++ left_below (hart_bound es) es)
         ∙ or_right (is_named x (performed_after es [] us)) _ named)
 
-    back : (x : ℕ) → is_named x (performed_after es us (e ∷ ws) ++ left_below (hart_bound es) es) ≡ true → is_seen es (performed_order es) q x ≡ (stores_at es (hart_at es q) x && nat_lt x q)
+    back : (x : ℕ) → is_named x (performed_after es us (e ∷ ws) ++ left_below (hart_bound es) es) ≡ true
+        → is_seen es (performed_order es) q x ≡ (stores_at es (hart_at es q) x && nat_lt x q)
     back x named =
         let out : is_named x (performed_after es [] us) ≡ false = not_in_front x named in
         seen_is x ∙ ap (λ b. b || in_program_order es x q) out ∙ sees_own es q x us (e ∷ ws) split len out (operation x named)
 
 -- so each byte is what the store buffers and memory give it
-byte_of_read : (B : ℕ) (o : OpeningValue) (es us : List Entry) (e : Entry) (ws : List Entry) (q a : ℕ) → LegalAfter B o [] es → es ≡ us ++ e ∷ ws → length us ≡ q → is_reader e ≡ true → reads_at es q ≡ true → byte_for o es (performed_order es) q a ≡ read_byte o us (hart_at es q) a
+byte_of_read : (B : ℕ) (o : OpeningValue) (es us : List Entry) (e : Entry) (ws : List Entry) (q a : ℕ)
+    → LegalAfter B o [] es → es ≡ us ++ e ∷ ws → length us ≡ q → is_reader e ≡ true → reads_at es q ≡ true
+    → byte_for o es (performed_order es) q a ≡ read_byte o us (hart_at es q) a
 byte_of_read B o es us e ws q a legal split len reader reads =
     ap (last_written es a (opening_byte o a)) (seen_by_read B o es us e ws q legal split len reader reads)
     ∙ last_written-append es a (opening_byte o a) (performed_after es [] us) (drop (lands (hart_at es q) us) (store_places (hart_at es q) us))
     ∙ ap (λ w. last_written es a w (drop (lands (hart_at es q) us) (store_places (hart_at es q) us))) (front_memory B o es us (e ∷ ws) a legal split)
-    ∙ written_values es a (memory_byte o us a) None (drop (lands (hart_at es q) us) (store_places (hart_at es q) us)) (drop (lands (hart_at es q) us) (stores (hart_at es q) us))
-    (AreWritten-drop es (lands (hart_at es q) us) (store_places (hart_at es q) us) (stores (hart_at es q) us) (front_written es us (e ∷ ws) (hart_at es q) split))
+    ∙ written_values es a (memory_byte o us a) None
+    (drop (lands (hart_at es q) us) (store_places (hart_at es q) us))
+    (drop (lands (hart_at es q) us) (stores (hart_at es q) us))
+    (AreWritten-drop es (lands (hart_at es q) us) (store_places (hart_at es q) us) (stores (hart_at es q) us)
+    (front_written es us (e ∷ ws) (hart_at es q) split))
 
-reads_what : (B : ℕ) (o : OpeningValue) (us : List Entry) (e : Entry) (a n v : ℕ) → read_of e ≡ Some (a, n, v) → Allowed B o us e → (is_reader e ≡ true) × (v ≡ read o us (hart_of e) a n)
+reads_what : (B : ℕ) (o : OpeningValue) (us : List Entry) (e : Entry) (a n v : ℕ) → read_of e ≡ Some (a, n, v)
+    → Allowed B o us e → (is_reader e ≡ true) × (v ≡ read o us (hart_of e) a n)
 reads_what B o us e a n v is may = grind arith
 
 pub order-values : (B : ℕ) (o : OpeningValue) (es : List Entry) → LegalAfter B o [] es → (q : ℕ) → HasLoadValue o es (performed_order es) q
@@ -206,7 +249,9 @@ order-values B o es legal q a width v is = at (slice_get es q) refl is
         let reads : reads_at es q ≡ true = ap (passes is_reader) here ∙ what.0 in
         let mine : hart_at es q ≡ hart_of e = ap (λ so. option_map_or hart_of so 0) here in
         what.1 ∙ ap (λ h. read o us h a width) (sym mine)
-        ∙ joined-same (λ i. read_byte o us (hart_at es q) (a + i)) (λ i. byte_for o es (performed_order es) q (a + i)) width (λ i lt. sym (byte_of_read B o es us e ws q (a + i) legal split len what.0 reads))
+        ∙ joined-same (λ i. read_byte o us (hart_at es q) (a + i))
+        (λ i. byte_for o es (performed_order es) q (a + i)) width
+        (λ i lt. sym (byte_of_read B o es us e ws q (a + i) legal split len what.0 reads))
 
 -- a legal trace satisfies the axioms in the order in which it performed
 pub legal-ztso : (B : ℕ) (t : History) → Legal B t → Ztso t (order t)
@@ -228,14 +273,17 @@ pub byte_for-below : (o : OpeningValue) (es : List Entry) (gs : List ℕ) (q a :
 byte_for-below o es gs q a = last_below es a (opening_byte o a) (filter (is_seen es gs q) gs) (byte_below (a % 4) (slice_index o.words (a / 4)))
 
 -- the value is the number of the bytes, where each is right and nothing is above them
-pub value_from_bytes : (o : OpeningValue) (es : List Entry) (gs : List ℕ) (q a width v : ℕ) → v < 256 ^ width → ((i : ℕ) → i < width → byte_at i v ≡ byte_for o es gs q (a + i)) → v ≡ value_for o es gs q a width
+pub value_from_bytes : (o : OpeningValue) (es : List Entry) (gs : List ℕ) (q a width v : ℕ) → v < 256 ^ width
+    → ((i : ℕ) → i < width → byte_at i v ≡ byte_for o es gs q (a + i)) → v ≡ value_for o es gs q a width
 value_from_bytes o es gs q a width v below same = number_of_bytes (λ i. byte_for o es gs q (a + i)) v width below same
 
-pub bytes_from_value : (o : OpeningValue) (es : List Entry) (gs : List ℕ) (q a width v i : ℕ) → v ≡ value_for o es gs q a width → i < width → byte_at i v ≡ byte_for o es gs q (a + i)
+pub bytes_from_value : (o : OpeningValue) (es : List Entry) (gs : List ℕ) (q a width v i : ℕ)
+    → v ≡ value_for o es gs q a width → i < width → byte_at i v ≡ byte_for o es gs q (a + i)
 bytes_from_value o es gs q a width v i is lt = grind (arith, byte_of_joined-any, byte_for-below)
 
 pub below_from_value : (o : OpeningValue) (es : List Entry) (gs : List ℕ) (q a width v : ℕ) → v ≡ value_for o es gs q a width → v < 256 ^ width
-below_from_value o es gs q a width v is = subst (λ (n : ℕ). n < 256 ^ width) (sym is) (joined-below (λ j. byte_for o es gs q (a + j)) (λ j. byte_for-below o es gs q (a + j)) width)
+below_from_value o es gs q a width v is = subst (λ (n : ℕ). n < 256 ^ width) (sym is)
+    (joined-below (λ j. byte_for o es gs q (a + j)) (λ j. byte_for-below o es gs q (a + j)) width)
 
 pub below_all : (n v : ℕ) → 4 ≤ n → v < 2 ^ 32 → v < 256 ^ n
 below_all n v four small = let large : 256 ^ 4 ≤ 256 ^ n = pow-le-pow_right (omega arith) four in omega arith

@@ -1,10 +1,12 @@
 //! Whether a list is a global memory order that the axioms allow.
 
-ghost use Rattle.std.specs.Prelude.{◌≡◌, ℕ, ◌^◌, ◌<◌, ◌≤◌, ◌↔◌, IsTrue, true, false, nat_lt, if◌then◌else◌, [], All, suc, drop, filter, length, slice_index, None};
+ghost use Rattle.std.specs.Prelude.{◌≡◌, ℕ, ◌^◌, ◌<◌, ◌≤◌, ◌↔◌, IsTrue, true, false, nat_lt, if◌then◌else◌, [], All};
+ghost use Rattle.std.specs.Prelude.{suc, drop, filter, length, slice_index, None};
 ghost use Rattle.std.specs.List.{list_any};
 ghost use Rattle.step_machine.specs.Entries.{hart_of, opening_byte};
 ghost use Rattle.ztso_axioms.specs.Operations.{is_load, is_operation, is_at, written_at, hart_at};
-ghost use Rattle.ztso_axioms.specs.Axioms.{times_named, is_barrier, is_fenced, is_preserved, in_program_order, is_seen, byte_for, value_for, NamesEachOnce, KeepsProgramOrder, HasLoadValue, Ztso};
+ghost use Rattle.ztso_axioms.specs.Axioms.{times_named, is_barrier, is_fenced, is_preserved, in_program_order, is_seen};
+ghost use Rattle.ztso_axioms.specs.Axioms.{byte_for, value_for, NamesEachOnce, KeepsProgramOrder, HasLoadValue, Ztso};
 
 use crate::operation::{
     Op, byte_at, byte_named, entry_at, hart_named, is_memory_operation, is_operation_named,
@@ -228,7 +230,9 @@ fn byte_seen(entries: &[Entry], order: &[Op], index: usize, place: usize, addr: 
     requires once { NamesEachOnce entries.now order.now }
     requires index { index < length order.now }
     requires place { place < length order.now }
-    ensures { result ≡ (if is_seen entries.now order.now (slice_index order.now index) (slice_index order.now place) then written_at entries.now addr (slice_index order.now place) else None) }
+    ensures { result
+        ≡ (if is_seen entries.now order.now (slice_index order.now index) (slice_index order.now place)
+        then written_at entries.now addr (slice_index order.now place) else None) }
 {
     if sees(entries, order, index, place) {
         byte_named(entries, order[place], addr)

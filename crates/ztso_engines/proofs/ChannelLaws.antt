@@ -136,7 +136,8 @@ module _ (ring : Ring) (B M : ℕ) (place : Place) (finish : Bool) (first second
     schedule_fault view = handed_on (λ (a : Result ScheduleValue Refusal). OfInput first (λ bytes. IsReadAsSchedule bytes a))
         Answers view seen result fault answers_no_schedule is
 
-    pub lists_fault : {Y : Type 0} (view : Y → List (List ℕ)) (said : ScheduleValue) → ReadsSchedule said → FindsByUpToReads IsReadAsLists view second (Err fault)
+    pub lists_fault : {Y : Type 0} (view : Y → List (List ℕ)) (said : ScheduleValue) → ReadsSchedule said
+        → FindsByUpToReads IsReadAsLists view second (Err fault)
         → FindsUpToReads Answers seen result
     lists_fault view said schedule =
         handed_on (λ (a : Result (List (List ℕ)) Refusal). OfInput second (λ bytes. IsReadAsLists bytes a)) Answers view seen result fault

@@ -52,7 +52,11 @@ words_written : (code : List ℕ) → AllByRecursion (λ word. word < 2 ^ 32) co
 words_written [] small = tt
 words_written (word ∷ code) small =
     let said = hex_word-said word small.0 in
-    rw (append_assoc (hex_word word) (10 ∷ []) (flat_map hex_line code), lines_after (hex_word word) (flat_map hex_line code) said.1.0.1, one_word (hex_word word) said.1.0.0 said.1.0.1)
+    rw (
+      append_assoc (hex_word word) (10 ∷ []) (flat_map hex_line code),
+      lines_after (hex_word word) (flat_map hex_line code) said.1.0.1,
+      one_word (hex_word word) said.1.0.0 said.1.0.1,
+    )
     (said, words_written code small.1)
 
 pub written_says : (code : List ℕ) → All (λ word. word < 2 ^ 32) code → SaysCode (flat_map hex_line code) code

@@ -13,7 +13,8 @@ record Within (M : ℕ) (t : ScriptValue) : Type 0 where
   code : AllByRecursion IsShort t.harts
   memory : length t.words ≡ M
 
-short_added : (harts : List HartOpeningValue) (code : List ℕ) → AllByRecursion IsShort harts → length code ≤ 4096 → AllByRecursion IsShort (harts ++ fresh code ∷ [])
+short_added : (harts : List HartOpeningValue) (code : List ℕ) → AllByRecursion IsShort harts → length code ≤ 4096
+    → AllByRecursion IsShort (harts ++ fresh code ∷ [])
 short_added [] code all short = (short, tt)
 short_added (h ∷ harts) code all short = (all.0, short_added harts code all.1 short)
 

@@ -94,10 +94,12 @@ module _ (B M : ℕ) where
   one_moved q said (Err r) (Ok b) differs (steps, records, is, read) = equal_alike _ _ (one_record B M q.opening said (Err r) (Ok steps) differs records)
   one_moved q said (Err r) (Err s) differs other = equal_alike _ _ (one_record B M q.opening said (Err r) (Err s) differs other)
 
-  pub one_run : (file schedule : List ℕ) (a b : Result (List ℕ × Verdict) Refusal) → IsRunAnswer B M file schedule a → IsRunAnswer B M file schedule b → AreOneAnswer a b
+  pub one_run : (file schedule : List ℕ) (a b : Result (List ℕ × Verdict) Refusal) → IsRunAnswer B M file schedule a
+      → IsRunAnswer B M file schedule b → AreOneAnswer a b
   one_run = alike_by_schedule AreOneAnswer (λ r s e. e) (AnswersRun B M (IsJudged M)) (one_of_history B M (IsJudged M) (one_judged M))
 
-  pub one_replay : (file schedule : List ℕ) (a b : Result Output Refusal) → IsReplayAnswer B M file schedule a → IsReplayAnswer B M file schedule b → AreOneAnswer a b
+  pub one_replay : (file schedule : List ℕ) (a b : Result Output Refusal) → IsReplayAnswer B M file schedule a
+      → IsReplayAnswer B M file schedule b → AreOneAnswer a b
   one_replay = alike_by_schedule AreOneAnswer (λ r s e. e) (AnswersRun B M IsReplay) (one_of_history B M IsReplay one_replayed)
 
   pub one_move : (file schedule : List ℕ) (a b : Result Output Refusal)
@@ -110,10 +112,12 @@ module _ (B M : ℕ) where
 
   -- ---- `try`
 
-  one_tried_of : (stream : Stream) (runs size : ℕ) (q : LitmusTest) (a b : Result (List ℕ × Bool) Refusal) → IsTriedOf B M stream runs size q a → IsTriedOf B M stream runs size q b → AreOneAnswer a b
+  one_tried_of : (stream : Stream) (runs size : ℕ) (q : LitmusTest) (a b : Result (List ℕ × Bool) Refusal)
+      → IsTriedOf B M stream runs size q a → IsTriedOf B M stream runs size q b → AreOneAnswer a b
   one_tried_of stream runs size q (Ok a) (Ok b) is other = one_try B M stream runs size q a b is other
   one_tried_of stream runs size q (Ok a) (Err s) is none = absurd none
   one_tried_of stream runs size q (Err r) b none other = absurd none
 
-  pub one_tried : (stream : Stream) (runs size : ℕ) (file : List ℕ) (a b : Result (List ℕ × Bool) Refusal) → IsTryAnswer B M stream runs size file a → IsTryAnswer B M stream runs size file b → AreOneAnswer a b
+  pub one_tried : (stream : Stream) (runs size : ℕ) (file : List ℕ) (a b : Result (List ℕ × Bool) Refusal)
+      → IsTryAnswer B M stream runs size file a → IsTryAnswer B M stream runs size file b → AreOneAnswer a b
   one_tried stream runs size = alike_by_test AreOneAnswer (λ r s e. e) (IsTriedOf B M stream runs size) (one_tried_of stream runs size)

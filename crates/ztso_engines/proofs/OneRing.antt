@@ -124,7 +124,8 @@ module _ (d : Draws) (own also : Own) (rings : ring_of own ≡ ring_of also) (li
       let counts : length is.totals ≡ length other.totals =
       first.count ∙ ap (λ (ls : List (List ℕ)). length ls) lists ∙ sym second.count in
       is.text_is ∙ ap (λ (ls : List (List ℕ)). clean_text d.runs is.totals ls) lists
-      ∙ ap (λ (lines : List ℕ). codes "clean " ++ decimal d.runs ++ codes " runs" ++ 10 ∷ lines) (one_lines ts 0 is.totals other.totals (lists_of also) counts firsts seconds)
+      ∙ ap (λ (lines : List ℕ). codes "clean " ++ decimal d.runs ++ codes " runs" ++ 10 ∷ lines)
+      (one_lines ts 0 is.totals other.totals (lists_of also) counts firsts seconds)
       ∙ sym other.text_is
 
 -- what is told of both
@@ -160,7 +161,8 @@ module _ (d : Draws) (sender receiver input : List ℕ) where
     same_layouts = ap (λ (p : Place). layout_of p []) (is.lies ∙ sym other.lies)
 
     -- what holds of the one's words holds of the other's
-    moved : (P : Ring → List (List ℕ) → Layout → Type 0) → P (ring_of also) (lists_of also) (layout_from also) → P (ring_of own) (lists_of own) (layout_from own)
+    moved : (P : Ring → List (List ℕ) → Layout → Type 0) → P (ring_of also) (lists_of also) (layout_from also)
+        → P (ring_of own) (lists_of own) (layout_from own)
     moved P holds =
         subst (λ (r : Ring). P r (lists_of own) (layout_from own)) (sym same_rings)
         (subst (λ (ls : List (List ℕ)). P (ring_of also) ls (layout_from own)) (sym same_lists)

@@ -64,6 +64,15 @@ threads_refused B M n q o seats fault.NoThread is opening fails = (refl, inr (in
 threads_refused B M n q o seats (fault.Missing h) is opening (inl first) =
     let missing : is_missing (length o.harts) (seats_of M o) h ≡ true = subst (λ (l : List SeatView). is_missing (length o.harts) l h ≡ true) is first.here in
     let e : true ≡ false = sym missing ∙ seats_complete M o h (length o.harts) in cc
-threads_refused B M n q o seats (fault.Missing h) is opening (inr lost) =
-    (refl, inr (inl (refl, (h, subst (λ (x : OpeningValue). IsLost B M n x (seats_of M x) h) opening (subst (λ (l : List SeatView). IsLost B M n o l h) is lost)))))
+threads_refused B M n q o seats (fault.Missing h) is opening (inr lost) = (
+  refl,
+  inr (inl (
+    refl,
+    (
+      h,
+      subst (λ (x : OpeningValue). IsLost B M n x (seats_of M x) h) opening
+          (subst (λ (l : List SeatView). IsLost B M n o l h) is lost),
+    ),
+  )),
+)
 threads_refused B M n q o seats (fault.Mismatch h es) is opening fails = (refl, inl refl)

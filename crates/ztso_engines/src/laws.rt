@@ -41,8 +41,11 @@ pub fn laws_of_steps_texts()
 /// What `show --steps` writes of a text's test is a steps text that opens as the test does, without events; with a
 /// line of events after it, it tells these events from there. It does nothing.
 pub fn shown_steps_open_alike()
-    ensures opens { (M : ℕ) (file : List ℕ) (test : LitmusTest) → IsTestOf file test → length test.opening.words ≤ M → Describes M (steps_text test.opening) (script_from M test.opening []) }
-    ensures steps { (M : ℕ) (file : List ℕ) (test : LitmusTest) (more : List ℕ) (events : List Event) → IsTestOf file test → length test.opening.words ≤ M → IsStepsLine more events → length events ≤ MAX_EVENTS → Describes M (steps_text test.opening ++ more) (script_from M test.opening events) }
+    ensures opens { (M : ℕ) (file : List ℕ) (test : LitmusTest) → IsTestOf file test
+        → length test.opening.words ≤ M → Describes M (steps_text test.opening) (script_from M test.opening []) }
+    ensures steps { (M : ℕ) (file : List ℕ) (test : LitmusTest) (more : List ℕ) (events : List Event)
+        → IsTestOf file test → length test.opening.words ≤ M → IsStepsLine more events → length events ≤ MAX_EVENTS
+        → Describes M (steps_text test.opening ++ more) (script_from M test.opening events) }
 {}
 
 /// A text of words in hex says one code at most, and reading it from the top finds that; an input is
@@ -73,15 +76,26 @@ pub fn one_answer()
     ensures steps { (B M : ℕ) (input : List ℕ) (a b : Result Output Refusal) → IsStepsAnswer B M input a → IsStepsAnswer B M input b → a ≡ b }
     ensures asm { (input : List ℕ) (a b : Result Output Refusal) → IsAsmAnswer input a → IsAsmAnswer input b → a ≡ b }
     ensures dis { (input : List ℕ) (a b : Result Output Refusal) → IsDisAnswer input a → IsDisAnswer input b → a ≡ b }
-    ensures run { (B M : ℕ) (file schedule : List ℕ) (a b : Result (List ℕ × Verdict) Refusal) → IsRunAnswer B M file schedule a → IsRunAnswer B M file schedule b → AreOneAnswer a b }
-    ensures replay { (B M : ℕ) (file schedule : List ℕ) (a b : Result Output Refusal) → IsReplayAnswer B M file schedule a → IsReplayAnswer B M file schedule b → AreOneAnswer a b }
-    ensures moved { (B M : ℕ) (file schedule : List ℕ) (a b : Result Output Refusal) → IsMoveAnswer B M file schedule a → IsMoveAnswer B M file schedule b → AreOneAnswer a b }
-    ensures debug { (B M : ℕ) (input file schedule : List ℕ) (a b : Result Output Refusal) → IsDebugAnswer B M (Some input) file schedule a → IsDebugAnswer B M (Some input) file schedule b → AreOneAnswer a b }
-    ensures trials { (B M : ℕ) (stream : Stream) (runs size : ℕ) (file : List ℕ) (a b : Result (List ℕ × Bool) Refusal) → IsTryAnswer B M stream runs size file a → IsTryAnswer B M stream runs size file b → AreOneAnswer a b }
-    ensures channel { (ring : Ring) (B M : ℕ) (l : Layout) (schedule input : List ℕ) (a b : Result Output Refusal) → IsChannelAnswer ring B M l false schedule input a → IsChannelAnswer ring B M l false schedule input b → a ≡ b }
+    ensures run { (B M : ℕ) (file schedule : List ℕ) (a b : Result (List ℕ × Verdict) Refusal)
+        → IsRunAnswer B M file schedule a → IsRunAnswer B M file schedule b → AreOneAnswer a b }
+    ensures replay { (B M : ℕ) (file schedule : List ℕ) (a b : Result Output Refusal)
+        → IsReplayAnswer B M file schedule a → IsReplayAnswer B M file schedule b → AreOneAnswer a b }
+    ensures moved { (B M : ℕ) (file schedule : List ℕ) (a b : Result Output Refusal)
+        → IsMoveAnswer B M file schedule a → IsMoveAnswer B M file schedule b → AreOneAnswer a b }
+    ensures debug { (B M : ℕ) (input file schedule : List ℕ) (a b : Result Output Refusal)
+        → IsDebugAnswer B M (Some input) file schedule a → IsDebugAnswer B M (Some input) file schedule b
+        → AreOneAnswer a b }
+    ensures trials { (B M : ℕ) (stream : Stream) (runs size : ℕ) (file : List ℕ)
+        (a b : Result (List ℕ × Bool) Refusal) → IsTryAnswer B M stream runs size file a
+        → IsTryAnswer B M stream runs size file b → AreOneAnswer a b }
+    ensures channel { (ring : Ring) (B M : ℕ) (l : Layout) (schedule input : List ℕ) (a b : Result Output Refusal)
+        → IsChannelAnswer ring B M l false schedule input a → IsChannelAnswer ring B M l false schedule input b
+        → a ≡ b }
     ensures own { (B M : ℕ) (l : Layout) (sender receiver schedule input : List ℕ) (v w : Option Role) (a b : Result Output Refusal)
         → IsOwnAnswer B M l sender receiver schedule input v a → IsOwnAnswer B M l sender receiver schedule input w b → (v ≡ w) × (a ≡ b) }
     ensures ring { (d : Draws) (sender receiver input : List ℕ) (v w : Option Role) (a b : Result (List ℕ × Bool) Refusal)
         → IsRingAnswer d sender receiver input v a → IsRingAnswer d sender receiver input w b → (v ≡ w) × AreAlikeRuns a b }
-    ensures finished { (ring : Ring) (B M : ℕ) (l : Layout) (schedule input : List ℕ) (a b : Result Output Refusal) → IsChannelAnswer ring B M l true schedule input a → IsChannelAnswer ring B M l true schedule input b → AreAlike a b }
+    ensures finished { (ring : Ring) (B M : ℕ) (l : Layout) (schedule input : List ℕ)
+        (a b : Result Output Refusal) → IsChannelAnswer ring B M l true schedule input a
+        → IsChannelAnswer ring B M l true schedule input b → AreAlike a b }
 {}

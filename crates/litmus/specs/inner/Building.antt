@@ -39,19 +39,44 @@ all_closed mark steps = or_closed mark.or_at (and_closed mark.and_at steps)
 
 -- the steps are those of an operand, except for its negations
 abbrev pub with_operand : List Step → List Frame → Frame → Build
-with_operand steps around here = record { steps = steps ++ replicate here.negations step.Not; around = around; here = record { or_at = here.or_at; and_at = here.and_at; negations = 0 }; has_operand = true }
+with_operand steps around here = record {
+  steps = steps ++ replicate here.negations step.Not;
+  around = around;
+  here = record { or_at = here.or_at; and_at = here.and_at; negations = 0 };
+  has_operand = true;
+}
 
 abbrev pub with_negation : Build → Build
-with_negation b = record { steps = b.steps; around = b.around; here = record { or_at = b.here.or_at; and_at = b.here.and_at; negations = b.here.negations + 1 }; has_operand = b.has_operand }
+with_negation b = record {
+  steps = b.steps;
+  around = b.around;
+  here = record { or_at = b.here.or_at; and_at = b.here.and_at; negations = b.here.negations + 1 };
+  has_operand = b.has_operand;
+}
 
 abbrev pub with_group : Build → Build
 with_group b = record { steps = b.steps; around = b.around ++ b.here ∷ []; here = empty_mark; has_operand = b.has_operand }
 
 abbrev pub with_and : Build → Build
-with_and b = record { steps = and_closed b.here.and_at b.steps ++ step.And 0 ∷ []; around = b.around; here = record { or_at = b.here.or_at; and_at = Some (length (and_closed b.here.and_at b.steps)); negations = b.here.negations }; has_operand = false }
+with_and b = record {
+  steps = and_closed b.here.and_at b.steps ++ step.And 0 ∷ [];
+  around = b.around;
+  here = record {
+    or_at =
+        b.here.or_at;
+    and_at = Some (length (and_closed b.here.and_at b.steps));
+    negations = b.here.negations;
+  };
+  has_operand = false;
+}
 
 abbrev pub with_or : Build → Build
-with_or b = record { steps = all_closed b.here b.steps ++ step.Or 0 ∷ []; around = b.around; here = record { or_at = Some (length (all_closed b.here b.steps)); and_at = None; negations = 0 }; has_operand = false }
+with_or b = record {
+  steps = all_closed b.here b.steps ++ step.Or 0 ∷ [];
+  around = b.around;
+  here = record { or_at = Some (length (all_closed b.here b.steps)); and_at = None; negations = 0 };
+  has_operand = false;
+}
 
 abbrev pub with_close : Build → Option Frame → Option Build
 with_close b None = None
@@ -101,15 +126,29 @@ end_of start (Some f) = Some (start + length (steps_of f))
 
 -- the mark of a group in front of which these steps stand
 abbrev pub mark_of : List Step → Group → Frame
-mark_of front g = record { or_at = end_of (length front) g.disjuncts; and_at = end_of (length (front ++ or_steps g.disjuncts)) g.conjuncts; negations = g.negations }
+mark_of front g = record {
+  or_at = end_of (length front) g.disjuncts;
+  and_at = end_of (length (front ++ or_steps g.disjuncts)) g.conjuncts;
+  negations = g.negations;
+}
 
 abbrev pub marks_around : List Group → List Frame
 marks_around [] = []
 marks_around (g ∷ around) = marks_around around ++ mark_of (steps_around around) g ∷ []
 
 abbrev pub build_of : Stage → Build
-build_of (awaits around here) = record { steps = steps_around (here ∷ around); around = marks_around around; here = mark_of (steps_around around) here; has_operand = false }
-build_of (has around here f) = record { steps = steps_around (here ∷ around) ++ steps_of f; around = marks_around around; here = mark_of (steps_around around) here; has_operand = true }
+build_of (awaits around here) = record {
+  steps = steps_around (here ∷ around);
+  around = marks_around around;
+  here = mark_of (steps_around around) here;
+  has_operand = false;
+}
+build_of (has around here f) = record {
+  steps = steps_around (here ∷ around) ++ steps_of f;
+  around = marks_around around;
+  here = mark_of (steps_around around) here;
+  has_operand = true;
+}
 
 abbrev pub build_at : Option Stage → Option Build
 build_at None = None

@@ -47,7 +47,8 @@ step_with-parts (step.And skip) = refl
 step_with-parts (step.Or skip) = refl
 
 abbrev pub step_code : Coded Step
-step_code = code_by ((Place × ℕ) ⊎ Option (Bool × ℕ)) (coded⊎ (coded× place_code coded_ℕ) (coded_option (coded× coded_bool coded_ℕ))) step_parts step_with step_with-parts
+step_code = code_by ((Place × ℕ) ⊎ Option (Bool × ℕ))
+    (coded⊎ (coded× place_code coded_ℕ) (coded_option (coded× coded_bool coded_ℕ))) step_parts step_with step_with-parts
 
 abbrev pub formula_code : Coded Formula
 formula_code = code_by (List Step) (coded_list step_code) steps_of formula_of formula_of-steps_of

@@ -1,7 +1,8 @@
 -- Store buffers and memory at one moment, and what a hart's need or an entry makes of them: plain functions,
 -- which the code of `stores.rt` meets and `proofs/` ties to histories. Of public clauses those about positions alone
 -- read them.
-use Rattle.std.specs.Prelude.{ℕ, ◌≡◌, ◌+◌, ◌*◌, ◌/◌, ◌<◌, ◌==◌, Bool, true, false, not, ◌&&◌, nat_lt, List, [], ◌∷◌, ◌++◌, All, length, drop, map, replicate, slice_index, slice_set, None, unwrap_or}
+use Rattle.std.specs.Prelude.{ℕ, ◌≡◌, ◌+◌, ◌*◌, ◌/◌, ◌<◌, ◌==◌, Bool, true, false, not, ◌&&◌, nat_lt, List, [], ◌∷◌}
+use Rattle.std.specs.Prelude.{◌++◌, All, length, drop, map, replicate, slice_index, slice_set, None, unwrap_or}
 use Rattle.std.specs.List.{slice_index_or}
 use Rattle.memory.specs.Words.{opened_words}
 use Rattle.memory.specs.Writes.{write, newest_of, joined, over, byte_of, IsInWord}

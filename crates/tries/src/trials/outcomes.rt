@@ -11,7 +11,8 @@ use std::alloc::{AllocError, Global};
 
 /// The lines of all outcomes, and how many runs did not finish.
 pub fn tally_text(alloc: Global, test: &Test, tally: &Tally) -> Result<String, AllocError>
-    ensures { IfOk result (λ text. (lines : List ℕ) × AreLines test.now (counted tally.now.outcomes) lines × (string_bytes text ≡ lines ++ unfinished_line tally.now.unfinished)) }
+    ensures { IfOk result (λ text. (lines : List ℕ) × AreLines test.now (counted tally.now.outcomes) lines
+        × (string_bytes text ≡ lines ++ unfinished_line tally.now.unfinished)) }
 {
     let mut text = String::new(alloc);
     tally.outcomes.push_lines(&mut text, test)?;

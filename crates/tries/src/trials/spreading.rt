@@ -31,7 +31,9 @@ fn tally_of_job<const B: usize, const M: usize, G: Jump + Drop>(
     requires size { M ≤ 65536 }
     requires most { jobs ≤ 4294967295 }
     requires job { job < jobs }
-    ensures { IfOk result (λ tally. IsTallyFrom (record { B = B; M = M; test = test.now; stream = G.Rng.stream generator.now; size = length }) (first_of runs jobs job) (first_of runs jobs (job + 1)) tally) }
+    ensures { IfOk result (λ tally.
+        IsTallyFrom (record { B = B; M = M; test = test.now; stream = G.Rng.stream generator.now; size = length })
+        (first_of runs jobs job) (first_of runs jobs (job + 1)) tally) }
 {
     let first = first_run(runs, jobs, job);
     let end = first_run(runs, jobs, job + 1);
@@ -55,7 +57,10 @@ fn tallies_of<const B: usize, const M: usize, G: Jump + Sync + Drop, T: Threads 
     requires size { M ≤ 65536 }
     requires most { jobs ≤ 4294967295 }
     ensures len { IfOk result (λ tallies. vec_len tallies ≡ jobs) }
-    ensures each { IfOk result (λ tallies. (job : ℕ) (d : _) → job < jobs → IfOk (slice_index_or tallies.items job d) (λ tally. IsTallyFrom (record { B = B; M = M; test = test.now; stream = G.Rng.stream generator.now; size = length }) (first_of runs jobs job) (first_of runs jobs (job + 1)) tally)) }
+    ensures each { IfOk result
+        (λ tallies. (job : ℕ) (d : _) → job < jobs → IfOk (slice_index_or tallies.items job d) (λ tally.
+        IsTallyFrom (record { B = B; M = M; test = test.now; stream = G.Rng.stream generator.now; size = length })
+        (first_of runs jobs job) (first_of runs jobs (job + 1)) tally)) }
 {
     map_indices(
         rt,
@@ -63,7 +68,15 @@ fn tallies_of<const B: usize, const M: usize, G: Jump + Sync + Drop, T: Threads 
         jobs,
         &|job: usize| -> Result<Tally, AllocError>
             requires { (1 ≤ B) × (B ≤ 64) × (MAX_LOCATIONS ≤ M) × (M ≤ 65536) × (jobs ≤ 4294967295) × (job < jobs) }
-            ensures { IfOk result (λ tally. IsTallyFrom (record { B = B; M = M; test = test.entry.now; stream = G.Rng.stream generator.entry.now; size = length }) (first_of runs jobs job) (first_of runs jobs (job + 1)) tally) }
+            ensures { IfOk result (λ tally. IsTallyFrom (record {
+              B =
+                  B;
+              M = M;
+              test = test.entry.now;
+              stream = G.Rng.stream generator.entry.now;
+              size = length;
+            })
+                (first_of runs jobs job) (first_of runs jobs (job + 1)) tally) }
         { tally_of_job::<B, M, G>(alloc, test, generator, runs, length, jobs, job) },
     )
 }

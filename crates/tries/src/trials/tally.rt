@@ -62,7 +62,8 @@ pub fn run_anew<const B: usize, const M: usize>(
     machine: &mut MachineState<B, M>,
     events: &[Event],
 ) -> Result<(), AllocError>
-    ensures { OnOk result ((o : OpeningValue) → RepresentsRunFrom B M o machine.old → (u : History) × Run B M o events.now u × RepresentsHistory B M u machine.new × (u.opening ≡ o)) }
+    ensures { OnOk result ((o : OpeningValue) → RepresentsRunFrom B M o machine.old
+        → (u : History) × Run B M o events.now u × RepresentsHistory B M u machine.new × (u.opening ≡ o)) }
 {
     machine.restart();
     match machine.run(events) {
@@ -74,7 +75,9 @@ pub fn run_anew<const B: usize, const M: usize>(
 impl Tally {
     /// Takes in the runs of a later tally, after its own.
     pub fn take_in(&mut self, later: Tally) -> Result<(), AllocError>
-        requires counts { (outcome : List ℕ) → IfSome (counted_both (counted self.old.outcomes outcome) (counted later.outcomes outcome)) (λ seen. seen.0 < 18446744073709551616) }
+        requires counts { (outcome : List ℕ)
+            → IfSome (counted_both (counted self.old.outcomes outcome) (counted later.outcomes outcome))
+            (λ seen. seen.0 < 18446744073709551616) }
         requires unfinished { self.old.unfinished + later.unfinished < 4294967296 }
         ensures { OnOk result (Merges self.old later self.new) }
     {

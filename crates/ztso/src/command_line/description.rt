@@ -3,7 +3,10 @@
 ghost use Rattle.std.specs.Prelude.{◌≡◌, List, IfOk};
 ghost use Rattle.std.specs.List.{AllZip};
 ghost use Rattle.clap.specs.Words.{App, Rule, new_app, with_subcommand};
-ghost use Rattle.ztso.specs.Descriptions.{HasRule, IsDescribed, buffer_option, channel_command, chart_command, check_command, find_command, flag, option_or, option_said, option_wanted, ring_command, schedule_command, show_command, steps_command, threads_command, try_command, with_rules, word_wanted, ztso_command};
+ghost use Rattle.ztso.specs.Descriptions.{HasRule, IsDescribed, buffer_option, channel_command, chart_command};
+ghost use Rattle.ztso.specs.Descriptions.{check_command, find_command, flag, option_or, option_said, option_wanted};
+ghost use Rattle.ztso.specs.Descriptions.{ring_command, schedule_command, show_command, steps_command, threads_command};
+ghost use Rattle.ztso.specs.Descriptions.{try_command, with_rules, word_wanted, ztso_command};
 
 use clap::{Arg, ArgAction, Command};
 use std::alloc::{AllocError, Global};
@@ -61,7 +64,8 @@ fn command_with<'a>(
     name: &'a str,
     args: Vec<Arg<'a>>,
 ) -> Result<Command<'a>, AllocError>
-    ensures { (rules : List Rule) → AllZip HasRule args.entry.items rules → IfOk result (λ command. IsDescribed command (with_rules (new_app name.entry.now) rules)) }
+    ensures { (rules : List Rule) → AllZip HasRule args.entry.items rules
+        → IfOk result (λ command. IsDescribed command (with_rules (new_app name.entry.now) rules)) }
 {
     new_command(alloc, name).args(args)
 }
@@ -202,7 +206,9 @@ fn and<'a>(
     command: Result<Command<'a>, AllocError>,
     subcommand: Result<Command<'a>, AllocError>,
 ) -> Result<Command<'a>, AllocError>
-    ensures { (app sub : App) → IfOk command.entry (λ made. IsDescribed made app) → IfOk subcommand.entry (λ made. IsDescribed made sub) → IfOk result (λ whole. IsDescribed whole (with_subcommand app sub.top)) }
+    ensures { (app sub : App) → IfOk command.entry (λ made. IsDescribed made app)
+        → IfOk subcommand.entry (λ made. IsDescribed made sub)
+        → IfOk result (λ whole. IsDescribed whole (with_subcommand app sub.top)) }
 {
     command?.subcommand(subcommand?)
 }

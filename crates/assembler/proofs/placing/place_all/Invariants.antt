@@ -9,5 +9,7 @@ invariant-loop-index l = record {
   few : vec_len l.words + words_of (map line_of (drop l.index l.lines)) ≤ 4096;
   fit : AllFit (map line_of (drop l.index l.lines));
   plain : AllPlain l.words.items;
-  so_far : onto (map meaning l.words.items) (all_placed (place_in l.places) (vec_len l.words) (l.index + 1) (map line_of (drop l.index l.lines))) ≡ all_placed (place_in l.places) 0 1 (map line_of l.lines);
+  so_far : onto (map meaning l.words.items)
+      (all_placed (place_in l.places) (vec_len l.words) (l.index + 1) (map line_of (drop l.index l.lines)))
+      ≡ all_placed (place_in l.places) 0 1 (map line_of l.lines);
 }

@@ -12,7 +12,8 @@ overflow_add-row c =
 pub returns-in-Some : goal.returns-in-Some
 returns-in-Some c =
     rw ((c.get_mut.follows.holds _).0, c.as_slice.ensures.value)
-    (row-again (counted_by c.args.later) c.args.rows.now.entries c.args.outcome.items c.in-Some.row.now (rw c.as_slice.ensures.value at c.in-Some.ensures.value))
+    (row-again (counted_by c.args.later) c.args.rows.now.entries c.args.outcome.items c.in-Some.row.now
+    (rw c.as_slice.ensures.value at c.in-Some.ensures.value))
 
 pub returns-in_ok-insert-in-None : goal.returns-in_ok-insert-in-None
 returns-in_ok-insert-in-None c =

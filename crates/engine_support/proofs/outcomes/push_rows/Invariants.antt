@@ -6,4 +6,6 @@ use Rattle.engine_support.proofs.outcomes.push_rows.Given as goal
 
 -- what is written, and what is left to write, is all
 abbrev pub invariant-loop-outcome : goal.invariant-loop-outcome
-invariant-loop-outcome l = string_bytes l.out ++ flat_map (row_line l.test) l.outcome-iterator ≡ string_bytes l.fn.out ++ flat_map (row_line l.test) l.rows.entries
+invariant-loop-outcome l =
+    string_bytes l.out ++ flat_map (row_line l.test) l.outcome-iterator ≡ string_bytes l.fn.out
+    ++ flat_map (row_line l.test) l.rows.entries

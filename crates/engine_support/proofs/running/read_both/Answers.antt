@@ -8,7 +8,8 @@ use Rattle.engine_support.proofs.running.read_both.Goals as goal
 
 pub returns-in_err-test-clause-read : goal.returns-in_err-test-clause-read
 returns-in_err-test-clause-read g c =
-    test_fault _ _ AreRead test_and_said c.from_residual.result (λ (q : LitmusTest). q) c.in_err-test.field-0.0 (is_handed c.from_residual.result _ c.from_residual.ensures.1) c.in_err-test.ensures.test
+    test_fault _ _ AreRead test_and_said c.from_residual.result (λ (q : LitmusTest). q) c.in_err-test.field-0.0
+    (is_handed c.from_residual.result _ c.from_residual.ensures.1) c.in_err-test.ensures.test
 
 pub returns-in_err-said-clause-read : goal.returns-in_err-said-clause-read
 returns-in_err-said-clause-read g c =
@@ -17,4 +18,5 @@ returns-in_err-said-clause-read g c =
 
 pub returns-clause-read : goal.returns-clause-read
 returns-clause-read g c =
-    both_read _ _ AreRead c.in_ok-test.test (said_of c.in_ok-said.said) (Ok (c.in_ok-test.test, said_of c.in_ok-said.said)) c.in_ok-test.ensures.test c.in_ok-said.ensures.schedule refl
+    both_read _ _ AreRead c.in_ok-test.test (said_of c.in_ok-said.said)
+    (Ok (c.in_ok-test.test, said_of c.in_ok-said.said)) c.in_ok-test.ensures.test c.in_ok-said.ensures.schedule refl

@@ -12,4 +12,5 @@ returns-in-Plain-clause-harts g c =
 pub returns-clause-harts : goal.returns-clause-harts
 returns-clause-harts g c =
     let ran = rw c.in_ok-opening.ensures.copy at c.in_ok-check_record-in-Record.ensures.checked in
-    ran.2.count ∙ ap (λ (o : OpeningValue). length o.harts) (opening_stays g.row.B g.row.M c.args.test.now.opening (recorded c.deref-in-Record.result.now) ran.0 ran.1)
+    ran.2.count ∙ ap (λ (o : OpeningValue). length o.harts)
+    (opening_stays g.row.B g.row.M c.args.test.now.opening (recorded c.deref-in-Record.result.now) ran.0 ran.1)

@@ -13,5 +13,7 @@ returns g c =
     let count = length c.pending-pending.result.now in
     two_added (λ (t : History). RepresentsHistory g.row.B g.row.M t c.args.machine.now) _ _ _ _ _
     (λ t. registers_shown (state_of g.row.M t c.args.hart) 32) (λ t. hart_shown g.row.M t c.args.hart) c.in_ok-push_hart_line.ensures c.push_registers.ensures
-    (λ t stands. (let text = hart_text-is c.args.hart count c.pc.result c.status.result (state_of g.row.M t c.args.hart) (c.status.ensures t stands) (c.pc.ensures t stands) in
+    (λ t stands.
+    (let text = hart_text-is c.args.hart count c.pc.result c.status.result (state_of g.row.M t c.args.hart)
+    (c.status.ensures t stands) (c.pc.ensures t stands) in
     ap (λ n. hart_text c.args.hart (state_of g.row.M t c.args.hart) n) (ap length (sym (c.pending-pending.ensures t stands))) ∙ text))

@@ -20,16 +20,25 @@ for_each P N Q S none some (Ok (Some x)) known = some x known
 for_each P N Q S none some (Err e) known = known
 
 -- the entries that are placed
-whole_is : (o : OpeningValue) (us es : List Entry) (seats : List SeatView) (n : ℕ) (ds : List (List Entry)) → es ≡ placed ds us → ds ≡ diaries_of n seats → n ≡ length o.harts
+whole_is : (o : OpeningValue) (us es : List Entry) (seats : List SeatView) (n : ℕ) (ds : List (List Entry))
+    → es ≡ placed ds us → ds ≡ diaries_of n seats → n ≡ length o.harts
     → es ≡ placed (diaries_in o seats) us
 whole_is o us es seats n ds entries diaries harts = entries ∙ ap (λ (xs : List (List Entry)). placed xs us) (diaries ∙ ap (λ k. diaries_of k seats) harts)
 
 pub record_of-requires : goal.record_of-requires
 record_of-requires g c =
     let parts : All (HasPart c.args.memory.now) c.args.seats.now = MatchBool-at_true _ _ c.if-not-have_parts.false c.have_parts.ensures in
-    let known : ArePuttable c.args.opening.now c.args.memory.now c.args.seats.now = record { complete = c.requires.complete; parts = parts; harts = c.requires.harts; memory = c.requires.memory } in
-    let whole = whole_is c.args.opening.now c.args.memory.now _ c.args.seats.now _ _ c.in_ok-entries.ensures c.in_ok-diaries.ensures c.harts_of.ensures in
-    (lit< tt, (c.requires.opens, subst (ArePlaced (length c.args.opening.now.harts)) (sym whole) (are_placed c.args.opening.now c.args.memory.now c.args.seats.now known)))
+    let known : ArePuttable c.args.opening.now c.args.memory.now c.args.seats.now =
+    record { complete = c.requires.complete; parts = parts; harts = c.requires.harts; memory = c.requires.memory }
+    in
+    let whole = whole_is c.args.opening.now c.args.memory.now _ c.args.seats.now _ _ c.in_ok-entries.ensures c.in_ok-diaries.ensures c.harts_of.ensures in (
+      lit< tt,
+      (
+        c.requires.opens,
+        subst (ArePlaced (length c.args.opening.now.harts)) (sym whole)
+            (are_placed c.args.opening.now c.args.memory.now c.args.seats.now known),
+      ),
+    )
 
 pub returns : goal.returns
 returns g c =

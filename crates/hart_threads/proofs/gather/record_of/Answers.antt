@@ -9,11 +9,14 @@ use Rattle.hart_threads.proofs.gather.record_of.Goals as goal
 
 pub returns : goal.returns
 returns g c =
-    let known : IsRunAgain g.row.B g.row.M (history_of c.args.opening.now c.deref.result.now) c.in-Some.events.items c.in-Some.machine.history = rw c.in-Some.is at c.in_ok-events.ensures in
+    let known : IsRunAgain g.row.B g.row.M (history_of c.args.opening.now c.deref.result.now) c.in-Some.events.items
+    c.in-Some.machine.history =
+    rw c.in-Some.is at c.in_ok-events.ensures in
     let whole : History = history_of c.in_ok-start.start c.args.entries.items in
     let stands : c.in-Some.machine.history ≡ whole = known.stands ∙ ap₂ history_of (sym c.in_ok-start.ensures) c.deref.ensures.value in
     let each : c.in-Some.events.items ≡ map event_of c.args.entries.items = known.each ∙ ap (map event_of) c.deref.ensures.value in
-    let own = subst (λ (o : OpeningValue). Run g.row.B g.row.M o (map event_of c.args.entries.items) whole) c.in_ok-start.ensures (subst (IsOwnRun g.row.B g.row.M) stands known.own) in (
+    let own = subst (λ (o : OpeningValue). Run g.row.B g.row.M o (map event_of c.args.entries.items) whole)
+    c.in_ok-start.ensures (subst (IsOwnRun g.row.B g.row.M) stands known.own) in (
       record {
         opening = c.in_ok-start.ensures;
         run = subst (λ (evs : List Event). Run g.row.B g.row.M c.args.opening.now evs whole) (sym each) own;

@@ -22,7 +22,9 @@ pub returns-in_err-record-clause-fault : goal.returns-in_err-record-clause-fault
 returns-in_err-record-clause-fault g c =
     let p = err_from_is_err_and c.from_residual-in_err-record.result c.from_residual-in_err-record.ensures.1 in
     let come = come_back (λ r. r.0.seat) (λ r. r.1) (λ r. r.2) _ _ _ _ _ c.in_ok-back.ensures.ran c.release_all.ensures in
-    rw (p.1, p.2) (fails_from g.row.B g.row.M c.args.turns c.args.shared c.args.seats.items c.release_all.result.items c.in_err-record.field-0.0 c.in_ok-back.ensures.complete come c.in_err-record.ensures.refused)
+    rw (p.1, p.2)
+    (fails_from g.row.B g.row.M c.args.turns c.args.shared c.args.seats.items c.release_all.result.items
+    c.in_err-record.field-0.0 c.in_ok-back.ensures.complete come c.in_err-record.ensures.refused)
 
 pub returns-in-Some-clause-missing : goal.returns-in-Some-clause-missing
 returns-in-Some-clause-missing g c h first = absurd (none_is_first _ h _ c.in_ok-back.ensures.complete first)
@@ -32,12 +34,19 @@ returns-in-Some-clause-fault g c =
     let ran = c.in_ok-back.ensures.ran in
     let come = come_back (λ r. r.0.seat) (λ r. r.1) (λ r. r.2) _ _ _ _ _ ran c.release_all.ensures in
     inr (record {
-      within = lost_within (λ r. r.0.seat) (λ r. r.1) (λ r. r.2) _ c.args.turns c.args.seats.items c.in_ok-back.back.items ran (length c.args.shared.harts) c.in-Some.hart _ _ c.in_ok-back.ensures.complete (rw c.as_slice.ensures.value at c.in-Some.ensures);
+      within = lost_within (λ r. r.0.seat) (λ r. r.1) (λ r. r.2) _ c.args.turns c.args.seats.items
+          c.in_ok-back.back.items ran (length c.args.shared.harts) c.in-Some.hart _ _ c.in_ok-back.ensures.complete
+          (rw c.as_slice.ensures.value at c.in-Some.ensures);
       made = c.in_ok-record.record;
       record_of = c.in_ok-record.ensures.record;
-      merge = merged_from c.args.turns c.args.shared c.in_ok-record.record.trace.entries c.args.seats.items c.release_all.result.items c.in_ok-back.ensures.complete come c.in_ok-record.ensures.merge;
-      asks = lost_asks (λ r. r.0.seat) (λ r. r.1) (λ r. r.2) _ c.args.turns c.args.seats.items c.in_ok-back.back.items ran g.row.M c.args.shared c.in_ok-record.record.trace c.in-Some.hart _ c.in_ok-record.ensures.record.opening
-          (rw c.as_slice.ensures.value at c.in-Some.ensures) (subst (Merge (length c.args.shared.harts) c.in_ok-record.record.trace.entries) c.release_all.ensures c.in_ok-record.ensures.merge);
+      merge = merged_from c.args.turns c.args.shared c.in_ok-record.record.trace.entries c.args.seats.items
+          c.release_all.result.items c.in_ok-back.ensures.complete come c.in_ok-record.ensures.merge;
+      asks =
+          lost_asks (λ r. r.0.seat) (λ r. r.1) (λ r. r.2) _ c.args.turns c.args.seats.items c.in_ok-back.back.items ran
+          g.row.M c.args.shared c.in_ok-record.record.trace c.in-Some.hart _ c.in_ok-record.ensures.record.opening
+          (rw c.as_slice.ensures.value at c.in-Some.ensures)
+          (subst (Merge (length c.args.shared.harts) c.in_ok-record.record.trace.entries) c.release_all.ensures
+          c.in_ok-record.ensures.merge);
     })
 
 pub returns-in-None-clause-missing : goal.returns-in-None-clause-missing
@@ -46,11 +55,14 @@ returns-in-None-clause-missing g c h first = absurd (none_is_first _ h _ c.in_ok
 pub returns-in-None-clause-merge : goal.returns-in-None-clause-merge
 returns-in-None-clause-merge g c =
     let come = come_back (λ r. r.0.seat) (λ r. r.1) (λ r. r.2) _ _ _ _ _ c.in_ok-back.ensures.ran c.release_all.ensures in
-    merged_from c.args.turns c.args.shared c.in_ok-record.record.trace.entries c.args.seats.items c.release_all.result.items c.in_ok-back.ensures.complete come c.in_ok-record.ensures.merge
+    merged_from c.args.turns c.args.shared c.in_ok-record.record.trace.entries c.args.seats.items
+    c.release_all.result.items c.in_ok-back.ensures.complete come c.in_ok-record.ensures.merge
 
 pub returns-in-None-clause-gets_on : goal.returns-in-None-clause-gets_on
 returns-in-None-clause-gets_on g c unheld opens =
-    all_get_on (λ r. r.0.seat) (λ r. r.1) (λ r. r.2) _ c.args.turns c.args.seats.items c.in_ok-back.back.items c.in_ok-back.ensures.ran g.row.M c.args.shared c.in_ok-record.record.trace c.in_ok-record.ensures.record.opening unheld opens
+    all_get_on (λ r. r.0.seat) (λ r. r.1) (λ r. r.2) _ c.args.turns c.args.seats.items c.in_ok-back.back.items
+    c.in_ok-back.ensures.ran g.row.M c.args.shared c.in_ok-record.record.trace c.in_ok-record.ensures.record.opening
+    unheld opens
     c.in_ok-back.ensures.found
     (rw c.as_slice.ensures.value at c.in-None.ensures)
     (subst (Merge (length c.args.shared.harts) c.in_ok-record.record.trace.entries) c.release_all.ensures c.in_ok-record.ensures.merge)

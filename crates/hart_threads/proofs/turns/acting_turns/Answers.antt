@@ -8,11 +8,14 @@ pub loop-calls-preserved : goal.loop-calls-preserved
 loop-calls-preserved g c =
     let before = c.loop-calls.invariant in
     let made : c.count.new.self.made ≡ c.loop-calls.calls.made + 1 = c.count.ensures.made in
-    let on = notes_on c.loop-calls.calls.made c.args.seat.now c.loop-calls.seat c.turn-answer.new.seat c.turn-answer.result before.on c.turn-answer.ensures.diary in
+    let on = notes_on c.loop-calls.calls.made c.args.seat.now c.loop-calls.seat c.turn-answer.new.seat
+    c.turn-answer.result before.on c.turn-answer.ensures.diary in
     record {
       few = omega arith;
       acts = same_role _ c.args.seat.now c.turn-answer.new.seat on ∙ c.requires;
       on = subst (λ (n : ℕ). Continues n c.args.seat.now c.turn-answer.new.seat) (sym made) on;
       goes = subst (λ (n : ℕ). Goes n c.args.seat.now c.turn-answer.new.seat) (sym made)
-          (goes_on c.loop-calls.calls.made c.args.seat.now c.loop-calls.seat c.turn-answer.new.seat c.turn-answer.result before.goes c.turn-answer.ensures.diary c.turn-answer.ensures.answers (sym c.count.ensures.ending ∙ c.in_default.is));
+          (goes_on c.loop-calls.calls.made c.args.seat.now c.loop-calls.seat c.turn-answer.new.seat
+          c.turn-answer.result before.goes c.turn-answer.ensures.diary c.turn-answer.ensures.answers
+          (sym c.count.ensures.ending ∙ c.in_default.is));
     }

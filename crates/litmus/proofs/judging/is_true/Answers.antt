@@ -6,8 +6,12 @@ use Rattle.litmus.proofs.RunLaws.{all_done-condition, AsksThere-steps_of}
 use Rattle.litmus.proofs.judging.is_true.Goals as goal
 
 pub run_steps-requires : goal.run_steps-requires
-run_steps-requires g c =
-    (lit< tt, subst (λ (steps : List Step). All (AsksThere (length c.args.machine.now.harts) g.row.M) steps) (sym c.steps.ensures) (AsksThere-steps_of (length c.args.machine.now.harts) g.row.M c.args.condition.now c.requires))
+run_steps-requires g c = (
+  lit< tt,
+  subst (λ (steps : List Step). All (AsksThere (length c.args.machine.now.harts) g.row.M) steps)
+      (sym c.steps.ensures)
+      (AsksThere-steps_of (length c.args.machine.now.harts) g.row.M c.args.condition.now c.requires),
+)
 
 pub returns : goal.returns
 returns g c = λ t stands.

@@ -7,7 +7,11 @@ use Rattle.litmus.proofs.judging.run_steps.Goals.{then-skip-gt0, else-skip-gt0}
 pub loop-step-preserved : goal.loop-step-preserved
 loop-step-preserved g c = λ t stands.
     (elim c.if-skip-gt0.branch [
-      | then-skip-gt0 w ↦ rw (w.so_far-is, w.skip-is) (all_done-skips (final_value g.row.M t) c.loop-step.so_far c.loop-step.skip c.loop-step.step-index c.args.steps.now w.if-skip-gt0.true c.loop-step-test.true ∙ c.loop-step.invariant t stands)
-      | else-skip-gt0 w ↦ all_done-next (final_value g.row.M t) c.loop-step.so_far c.if-skip-gt0.so_far c.loop-step.skip c.if-skip-gt0.skip c.loop-step.step-index c.args.steps.now _ w.after_step.result c.loop-step-test.true w.if-skip-gt0.false (w.after_step.ensures t stands) w.so_far-is w.skip-is
+      | then-skip-gt0 w ↦ rw (w.so_far-is, w.skip-is)
+          (all_done-skips (final_value g.row.M t) c.loop-step.so_far c.loop-step.skip c.loop-step.step-index
+          c.args.steps.now w.if-skip-gt0.true c.loop-step-test.true ∙ c.loop-step.invariant t stands)
+      | else-skip-gt0 w ↦ all_done-next (final_value g.row.M t) c.loop-step.so_far c.if-skip-gt0.so_far
+          c.loop-step.skip c.if-skip-gt0.skip c.loop-step.step-index c.args.steps.now _ w.after_step.result
+          c.loop-step-test.true w.if-skip-gt0.false (w.after_step.ensures t stands) w.so_far-is w.skip-is
           ∙ c.loop-step.invariant t stands
     ])

@@ -13,16 +13,19 @@ new-requires c =
     let registers = c.args.values.registers.ok.0 in
     let words = c.pad.new.words.ok.0 in
     rw (c.in_ok-harts.ensures, c.deref.ensures.value, c.into_names-names.ensures) (
-    is_test c.args.codes.items c.args.values.registers.items c.pad.new.words.items c.args.locations c.args.final_condition.quantifier c.args.final_condition.condition
+    is_test c.args.codes.items c.args.values.registers.items c.pad.new.words.items c.args.locations
+    c.args.final_condition.quantifier c.args.final_condition.condition
     (omega (arith, codes, registers, c.requires.harts)) (omega (arith, codes, c.requires.some)) (omega (arith, codes, c.requires.few)) c.requires.short
-    (omega (arith, words, c.in_ok-pad.ensures.len, c.count.ensures.count, c.count.ensures.few, c.len.ensures, c.requires.words)) (omega (arith, c.count.ensures.count, c.count.ensures.few))
+    (omega (arith, words, c.in_ok-pad.ensures.len, c.count.ensures.count, c.count.ensures.few, c.len.ensures, c.requires.words))
+    (omega (arith, c.count.ensures.count, c.count.ensures.few))
     (subst (λ (n : ℕ). All (IsThere n (length c.args.locations)) (places c.args.final_condition.condition)) codes c.requires.there))
 
 pub returns-clause-exact : goal.returns-clause-exact
 returns-clause-exact c =
     let starts = c.in_ok-harts.ensures ∙ ap (starts_of c.args.codes.items) c.deref.ensures.value in
     let words = c.args.values.words.ok.0 in
-    let more : c.count.result - c.len.result ≡ length c.args.locations - length c.args.values.words.items = omega (arith, words, c.count.ensures.count, c.len.ensures) in
+    let more : c.count.result - c.len.result ≡ length c.args.locations - length c.args.values.words.items =
+    omega (arith, words, c.count.ensures.count, c.len.ensures) in
     made_content c.new.result _ _ c.new.ensures
     (same_content _ _ _ _ _ _ c.args.final_condition.quantifier c.args.final_condition.condition
     (ap (λ (hs : List HartOpeningValue). map hart_content hs) starts ∙ starts_content c.args.codes.items c.args.values.registers.items)

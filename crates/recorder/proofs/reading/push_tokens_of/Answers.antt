@@ -13,7 +13,11 @@ returns-in_err-read-clause-only c read is few =
     only_pushed (vec_len c.args.events.now) c.args.text.now old old read c.from_residual.result refused is few
 
 pub returns-clause-found : goal.returns-clause-found
-returns-clause-found c = (c.in_ok-read.read.items, tokens_after-found c.len.result c.args.text.now c.in_ok-read.read.items c.in_ok-read.ensures, c.in_ok-push_list.ensures.ok)
+returns-clause-found c = (
+  c.in_ok-read.read.items,
+  tokens_after-found c.len.result c.args.text.now c.in_ok-read.read.items c.in_ok-read.ensures,
+  c.in_ok-push_list.ensures.ok,
+)
 
 pub returns-clause-only : goal.returns-clause-only
 returns-clause-only c read is few =

@@ -15,4 +15,7 @@ returns-then-len-room c =
 
 pub returns : goal.returns
 returns c =
-    rw (tokens_after-read c.args.before c.args.text.now c.in_ok-events.events.items c.in_ok-events.ensures, ← c.saturating_sub-room.ensures) c.tokens_within-2.ensures
+    rw (
+      tokens_after-read c.args.before c.args.text.now c.in_ok-events.events.items c.in_ok-events.ensures,
+      ← c.saturating_sub-room.ensures,
+    ) c.tokens_within-2.ensures

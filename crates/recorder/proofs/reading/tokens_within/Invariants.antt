@@ -11,7 +11,9 @@ abbrev pub invariant-loop-rest : goal.invariant-loop-rest
 invariant-loop-rest l = record {
   few : vec_len l.events ≤ l.room;
   where_it_is : l.place + bytes_left (option_copied l.rest) ≡ length l.text + 1;
-  so_far : following l.events.items (in_turn (piece_at (length l.text)) step_over l.place (l.room - vec_len l.events) (pieces_after BlanksAndLineEnds (option_copied l.rest))) ≡ tokens_from l.fn.start l.room l.text;
+  so_far : following l.events.items
+      (in_turn (piece_at (length l.text)) step_over l.place (l.room - vec_len l.events)
+      (pieces_after BlanksAndLineEnds (option_copied l.rest))) ≡ tokens_from l.fn.start l.room l.text;
 }
 
 abbrev pub decreases-loop-rest : goal.decreases-loop-rest

@@ -10,5 +10,7 @@ abbrev pub invariant-loop-next : goal.invariant-loop-next
 invariant-loop-next l = record {
   few : l.times ≤ l.next-index;
   words : AreWords (take l.next-index l.steps);
-  so_far : string_bytes l.text ++ flat_map record_line (joined is_same_step (l.step, l.times) (runs_of is_same_step (drop l.next-index l.steps))) ≡ flat_map record_line (runs_of is_same_step l.steps);
+  so_far : string_bytes l.text
+      ++ flat_map record_line (joined is_same_step (l.step, l.times) (runs_of is_same_step (drop l.next-index l.steps)))
+      ≡ flat_map record_line (runs_of is_same_step l.steps);
 }

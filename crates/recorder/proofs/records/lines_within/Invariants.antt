@@ -11,7 +11,8 @@ abbrev pub invariant-loop-rest : goal.invariant-loop-rest
 invariant-loop-rest l = record {
   few : vec_len l.steps ≤ 1048576;
   where_it_is : l.place + bytes_left (option_copied l.rest) ≡ length l.text + 1;
-  so_far : following l.steps.items (in_turn (steps_at (length l.text)) line_size l.place (1048576 - vec_len l.steps) (lines_after (option_copied l.rest))) ≡ records_from l.fn.start l.text;
+  so_far : following l.steps.items (in_turn (steps_at (length l.text)) line_size l.place (1048576 - vec_len l.steps)
+      (lines_after (option_copied l.rest))) ≡ records_from l.fn.start l.text;
 }
 
 abbrev pub decreases-loop-rest : goal.decreases-loop-rest

@@ -27,7 +27,9 @@ returns-clause-own c = λ B M t kept. own_run B M t kept
 
 pub returns-clause-induction : goal.returns-clause-induction
 returns-clause-induction c = λ B M holds o opens keeps evs t run.
-    run_induction B M (λ (u : History). IsTrue (holds u)) (λ u ev out new kept is happens. keeps u ev out new is happens) (at_opening o) evs t (kept-at_opening B M o) opens run
+    run_induction B M (λ (u : History). IsTrue (holds u))
+    (λ u ev out new kept is happens. keeps u ev out new is happens) (at_opening o) evs t (kept-at_opening B M o)
+    opens run
 
 pub returns-clause-landings : goal.returns-clause-landings
 returns-clause-landings c = λ B t l. landed-counted B t l

@@ -9,9 +9,12 @@ pub loop-index-preserved : goal.loop-index-preserved
 loop-index-preserved g c =
     let within : c.loop-index.index < length c.args.saved.now = omega (arith, c.loop-index-test.true, c.requires) in
     ap (set c.loop-index.buffers c.loop-index.index) c.restore.ensures
-    ∙ changed_more (λ old new. new) c.args.buffers.now c.loop-index.buffers c.args.saved.now c.loop-index.index c.index-buffers-index.result c.index-saved-index.result within c.loop-index.invariant c.index-buffers-index.is c.index-saved-index.is
+    ∙ changed_more (λ old new. new) c.args.buffers.now c.loop-index.buffers c.args.saved.now c.loop-index.index
+    c.index-buffers-index.result c.index-saved-index.result within c.loop-index.invariant c.index-buffers-index.is
+    c.index-saved-index.is
 
 pub returns : goal.returns
 returns g c =
-    changed_all (λ old new. new) c.args.buffers.now c.loop-index.buffers c.args.saved.now c.loop-index.index c.loop-index.invariant (omega (arith, c.loop-index-test.false, c.loop-index.auto.index-end, c.requires))
+    changed_all (λ old new. new) c.args.buffers.now c.loop-index.buffers c.args.saved.now c.loop-index.index
+    c.loop-index.invariant (omega (arith, c.loop-index-test.false, c.loop-index.auto.index-end, c.requires))
     ∙ all_others c.args.buffers.now c.args.saved.now c.requires

@@ -12,4 +12,5 @@ returns-in-Some-clause-line c =
 pub returns-in-None-clause-line : goal.returns-in-None-clause-line
 returns-in-None-clause-line c =
     let some : 0 < length c.args.bytes.now = search rules in
-    rw (take_rest c.args.bytes.now (length c.args.bytes.now), drop-length c.args.bytes.now) (lines_whole c.args.bytes.now (sym c.line_feed_in.ensures ∙ c.in-None.is) some)
+    rw (take_rest c.args.bytes.now (length c.args.bytes.now), drop-length c.args.bytes.now)
+    (lines_whole c.args.bytes.now (sym c.line_feed_in.ensures ∙ c.in-None.is) some)

@@ -12,5 +12,7 @@ returns g c =
     let tallied = c.in_ok-tally.ensures in
     let wrote = c.in_ok-text.ensures in
     let are = subst (λ (s : Stream). AreTrials g.row.B g.row.M c.args.test.now s runs.number runs.length tallied.0) c.in_ok-start.ensures tallied.1 in
-    tried g.row.B g.row.M (left_after (runs.skip * runs.length) (g.G.Rng.stream c.args.generator.now)) runs.number runs.length c.args.test.now tallied.0 c.in_ok-tally.tally wrote.0 (string_bytes c.in_ok-text.text) c.is_good.result
+    tried g.row.B g.row.M (left_after (runs.skip * runs.length) (g.G.Rng.stream c.args.generator.now)) runs.number
+    runs.length c.args.test.now tallied.0 c.in_ok-tally.tally wrote.0 (string_bytes c.in_ok-text.text)
+    c.is_good.result
     are tallied.2 wrote.1 wrote.2 c.is_good.ensures

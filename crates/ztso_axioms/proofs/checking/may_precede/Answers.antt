@@ -7,7 +7,10 @@ use Rattle.ztso_axioms.proofs.checking.may_precede.Goals as goal
 
 pub loop-other-preserved : goal.loop-other-preserved
 loop-other-preserved c =
-    All-more (λ (p : ℕ). is_preserved c.args.entries.now p c.args.op ≡ false) c.args.others.now c.loop-other.other-index c.other-item.result c.loop-other-test.true c.loop-other.invariant (subst (λ (x : ℕ). is_preserved c.args.entries.now x c.args.op ≡ false) c.other-item.is (sym c.is_kept.ensures ∙ c.if-is_kept.false))
+    All-more (λ (p : ℕ). is_preserved c.args.entries.now p c.args.op ≡ false) c.args.others.now
+    c.loop-other.other-index c.other-item.result c.loop-other-test.true c.loop-other.invariant
+    (subst (λ (x : ℕ). is_preserved c.args.entries.now x c.args.op ≡ false) c.other-item.is
+    (sym c.is_kept.ensures ∙ c.if-is_kept.false))
 
 pub returns : goal.returns
 returns c =

@@ -17,14 +17,21 @@ loop-place-preserved c =
     elim c.if-is_landing.branch [
       | then-is_landing w ↦
           let stands : w.store_at.result ≡ landed_at c.args.entries.now c.args.hart c.loop-place.place
-          = w.store_at.ensures ∙ ap (λ zs. slice_get zs c.loop-place.count) c.requires.places ∙ ap (slice_get (store_places c.args.hart c.args.entries.now)) c.loop-place.invariant.counted in
+          = w.store_at.ensures ∙ ap (λ zs. slice_get zs c.loop-place.count) c.requires.places
+          ∙ ap (slice_get (store_places c.args.hart c.args.entries.now)) c.loop-place.invariant.counted in
           subst (λ (n : ℕ). Naming c.args.entries.now c.args.hart (c.loop-place.place + 1) n c.args.landed.now c.if-is_landing.landed) (sym w.count-is)
-          (subst (λ (zs : List (Option ℕ)). Naming c.args.entries.now c.args.hart (c.loop-place.place + 1) (c.loop-place.count + 1) c.args.landed.now zs) (sym w.landed-is)
-          (naming_hit c.args.entries.now c.args.hart c.loop-place.place c.loop-place.count c.args.landed.now c.loop-place.landed _ w.store_at.result c.loop-place.invariant c.loop-place-test.true (c.is_landing.ensures.0 w.if-is_landing.true) stands))
+          (subst (λ (zs : List (Option ℕ)). Naming c.args.entries.now c.args.hart (c.loop-place.place + 1)
+          (c.loop-place.count + 1) c.args.landed.now zs) (sym w.landed-is)
+          (naming_hit c.args.entries.now c.args.hart c.loop-place.place c.loop-place.count c.args.landed.now
+          c.loop-place.landed _ w.store_at.result c.loop-place.invariant c.loop-place-test.true (c.is_landing.ensures.0 w.if-is_landing.true)
+          stands))
       | else-is_landing w ↦
           subst (λ (n : ℕ). Naming c.args.entries.now c.args.hart (c.loop-place.place + 1) n c.args.landed.now c.if-is_landing.landed) (sym w.count-is)
-          (subst (λ (zs : List (Option ℕ)). Naming c.args.entries.now c.args.hart (c.loop-place.place + 1) c.loop-place.count c.args.landed.now zs) (sym w.landed-is)
-          (naming_missed c.args.entries.now c.args.hart c.loop-place.place c.loop-place.count c.args.landed.now c.loop-place.landed _ c.loop-place.invariant c.loop-place-test.true (λ is. let so = c.is_landing.ensures.1 is in cc)))
+          (subst (λ (zs : List (Option ℕ)).
+          Naming c.args.entries.now c.args.hart (c.loop-place.place + 1) c.loop-place.count c.args.landed.now zs)
+          (sym w.landed-is)
+          (naming_missed c.args.entries.now c.args.hart c.loop-place.place c.loop-place.count c.args.landed.now
+          c.loop-place.landed _ c.loop-place.invariant c.loop-place-test.true (λ is. let so = c.is_landing.ensures.1 is in cc)))
     ]
 
 pub returns-clause-landed : goal.returns-clause-landed

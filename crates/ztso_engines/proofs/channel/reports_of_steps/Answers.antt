@@ -9,7 +9,8 @@ use Rattle.ztso_engines.proofs.channel.reports_of_steps.Goals as goal
 
 pub replay_checked-requires : goal.replay_checked-requires
 replay_checked-requires g c =
-    let fits = subst (λ (o : OpeningValue). FitsIn g.row.M o) (sym c.in-Ok.ensures.value) (c.laws_of_channels.ensures.fits g.row.M _ _ c.in-Ok.ensures.accepted) in
+    let fits = subst (λ (o : OpeningValue). FitsIn g.row.M o) (sym c.in-Ok.ensures.value)
+    (c.laws_of_channels.ensures.fits g.row.M _ _ c.in-Ok.ensures.accepted) in
     (lit< tt, (c.requires.some_capacity, (c.requires.capacity, (c.requires.some_word, (c.requires.size, fits)))))
 
 pub whole_reports_of-requires : goal.whole_reports_of-requires
@@ -38,7 +39,8 @@ returns-then-finish g c =
 
 pub check_record-requires : goal.check_record-requires
 check_record-requires g c =
-    let fits = subst (λ (o : OpeningValue). FitsIn g.row.M o) (sym c.in-Ok.ensures.value) (c.laws_of_channels.ensures.fits g.row.M _ _ c.in-Ok.ensures.accepted) in
+    let fits = subst (λ (o : OpeningValue). FitsIn g.row.M o) (sym c.in-Ok.ensures.value)
+    (c.laws_of_channels.ensures.fits g.row.M _ _ c.in-Ok.ensures.accepted) in
     (lit< tt, (c.requires.capacity, (c.requires.size, fits)))
 
 pub reports_of-requires : goal.reports_of-requires

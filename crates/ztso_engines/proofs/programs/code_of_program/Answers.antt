@@ -5,6 +5,12 @@ pub returns-in-Ok : goal.returns-in-Ok
 returns-in-Ok c =
     let found = c.in-Ok.ensures.found in
     record {
-      code = record { instrs = found.0; program = found.1; meant = found.2; plain = c.in-Ok.ensures.plain; small = rw c.deref.ensures.value at c.words_fit.ensures };
+      code = record {
+        instrs = found.0;
+        program = found.1;
+        meant = found.2;
+        plain = c.in-Ok.ensures.plain;
+        small = rw c.deref.ensures.value at c.words_fit.ensures;
+      };
       short = program_short _ _ found.0 found.1 found.2;
     }

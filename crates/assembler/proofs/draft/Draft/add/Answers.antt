@@ -18,8 +18,12 @@ overflow_add-words c =
 pub invariant_of-self-2 : goal.invariant_of-self-2
 invariant_of-self-2 c =
     let line : KeptLine = record { label = c.in_ok-keep_name.field-0; statement = c.in_ok-keep_statement.field-0 } in
-    let defined : (name : List ℕ) → place_in c.define_label.new.places name ≡ cond (is_label name (line_of line).label) (Some c.self.inside.words) (place_in c.self.inside.places name) = λ name. rw c.in_ok-keep_name.ensures (c.in_ok-define_label.ensures.defined name) in
-    let fresh : is_twice (map line_of c.self.inside.lines.items) (line_of line).label ≡ false = rw (c.in_ok-keep_name.ensures, c.self.view_is) c.requires.fresh in
+    let defined : (name : List ℕ) → place_in c.define_label.new.places name
+    ≡ cond (is_label name (line_of line).label) (Some c.self.inside.words) (place_in c.self.inside.places name) =
+    λ name. rw c.in_ok-keep_name.ensures (c.in_ok-define_label.ensures.defined name) in
+    let fresh : is_twice (map line_of c.self.inside.lines.items) (line_of line).label ≡ false =
+    rw (c.in_ok-keep_name.ensures, c.self.view_is) c.requires.fresh in
     let fits : Fitting (line_of line).made = rw c.in_ok-keep_statement.ensures c.requires.fits in
     rw (c.append.ensures, c.reserve.ensures.items, lines-push c.self.inside.lines.items line, c.size.ensures.value)
-    (kept_more (place_in c.self.inside.places) (place_in c.define_label.new.places) c.self.inside.words (map line_of c.self.inside.lines.items) (line_of line) c.self.invariant defined fresh fits)
+    (kept_more (place_in c.self.inside.places) (place_in c.define_label.new.places) c.self.inside.words
+    (map line_of c.self.inside.lines.items) (line_of line) c.self.invariant defined fresh fits)

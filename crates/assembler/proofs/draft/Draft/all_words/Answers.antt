@@ -9,9 +9,15 @@ returns-then-self-gt-MAX_CODE-clause-exact c =
     (finished-long (map line_of c.self.inside.lines.items) (omega (arith, c.self.invariant.size)))
 
 pub place_all-requires-clause-near : goal.place_all-requires-clause-near
-place_all-requires-clause-near c = λ name. place_within (map line_of c.self.inside.lines.items) name 4096 (omega (arith, c.self.invariant.size)) _ (c.self.invariant.places name)
+place_all-requires-clause-near c = λ name. place_within (map line_of c.self.inside.lines.items) name 4096
+    (omega (arith, c.self.invariant.size)) _ (c.self.invariant.places name)
 
 pub returns-clause-exact : goal.returns-clause-exact
 returns-clause-exact c =
-    rw (← c.self.view_is, ← finished-short (place_in c.self.inside.places) (map line_of c.self.inside.lines.items) (omega (arith, c.self.invariant.size)) c.self.invariant.places, ← c.deref-2.ensures.value)
+    rw (
+      ← c.self.view_is,
+      ← finished-short (place_in c.self.inside.places) (map line_of c.self.inside.lines.items)
+          (omega (arith, c.self.invariant.size)) c.self.invariant.places,
+      ← c.deref-2.ensures.value,
+    )
     c.place_all.ensures.exact

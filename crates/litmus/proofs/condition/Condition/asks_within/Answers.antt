@@ -6,6 +6,10 @@ use Rattle.litmus.proofs.condition.Condition.asks_within.Goals as goal
 
 pub returns : goal.returns
 returns c = (
-  λ true_there. steps_of-AsksThere c.args.harts c.args.locations c.args.self.now (subst (λ (steps : List Step). All (AsksThere c.args.harts c.args.locations) steps) c.steps.ensures (c.all_ask_there.ensures.0 true_there)),
-  λ there. c.all_ask_there.ensures.1 (subst (λ (steps : List Step). All (AsksThere c.args.harts c.args.locations) steps) (sym c.steps.ensures) (AsksThere-steps_of c.args.harts c.args.locations c.args.self.now there)),
+  λ true_there. steps_of-AsksThere c.args.harts c.args.locations c.args.self.now
+      (subst (λ (steps : List Step). All (AsksThere c.args.harts c.args.locations) steps) c.steps.ensures
+      (c.all_ask_there.ensures.0 true_there)),
+  λ there. c.all_ask_there.ensures.1
+      (subst (λ (steps : List Step). All (AsksThere c.args.harts c.args.locations) steps) (sym c.steps.ensures)
+      (AsksThere-steps_of c.args.harts c.args.locations c.args.self.now there)),
 )

@@ -11,7 +11,9 @@ abbrev pub invariant-loop-rest : goal.invariant-loop-rest
 invariant-loop-rest l = record {
   count : l.hart + length (pieces_after (Byte 124) (option_copied l.rest)) ≡ vec_len l.self-inside.columns;
   same : vec_len l.self-inside.columns ≡ length l.fn.self;
-  so_far : onto (take l.hart l.self-inside.columns.items) (cells_added (drop l.hart l.self-inside.columns.items) (pieces_after (Byte 124) (option_copied l.rest))) ≡ cells_added l.fn.self (cells_of l.row);
+  so_far : onto (take l.hart l.self-inside.columns.items)
+      (cells_added (drop l.hart l.self-inside.columns.items) (pieces_after (Byte 124) (option_copied l.rest)))
+      ≡ cells_added l.fn.self (cells_of l.row);
 }
 
 abbrev pub decreases-loop-rest : goal.decreases-loop-rest

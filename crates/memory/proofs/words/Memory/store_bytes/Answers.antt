@@ -5,4 +5,5 @@ use Rattle.memory.proofs.words.Memory.store_bytes.Goals as goal
 
 pub invariant_of-self : goal.invariant_of-self
 invariant_of-self g c =
-    written_before g.row.M c.self.inside.words.items c.self.inside.first.items c.self.inside.untouched (c.args.addr / 4 + 1) (c.args.addr / 4) c.over.result c.self.invariant (omega arith) (omega arith) (omega arith)
+    written_before g.row.M c.self.inside.words.items c.self.inside.first.items c.self.inside.untouched
+    (c.args.addr / 4 + 1) (c.args.addr / 4) c.over.result c.self.invariant (omega arith) (omega arith) (omega arith)

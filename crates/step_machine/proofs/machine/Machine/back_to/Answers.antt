@@ -25,6 +25,7 @@ invariant_of-self g c =
     let taken : IsTakenAt g.row.B g.row.M (up_to s.count (history_of o es)) s =
     subst (λ (p : HistoryWithRoom). IsTakenAt g.row.B g.row.M (up_to s.count p.history) s) (sym c.self.view_is) c.requires in
     let cut : c.truncate.new.self.entries ≡ take s.count es = c.truncate.ensures.entries ∙ ap (λ (x : Taken). take x.count es) c.snapshot.view_is in (
-      sound_put_to g.row.B g.row.M c.self.inside.room o es c.truncate.new.self.entries c.self.inside.machine_state c.restore.new.self s c.self.invariant.0 taken cut c.restore.ensures,
+      sound_put_to g.row.B g.row.M c.self.inside.room o es c.truncate.new.self.entries c.self.inside.machine_state
+          c.restore.new.self s c.self.invariant.0 taken cut c.restore.ensures,
       omega arith,
     )

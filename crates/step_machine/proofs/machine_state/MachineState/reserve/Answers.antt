@@ -6,7 +6,8 @@ use Rattle.step_machine.proofs.machine_state.MachineState.reserve.Goals as goal
 
 pub returns-in_err-reserve_at-clause-more : goal.returns-in_err-reserve_at-clause-more
 returns-in_err-reserve_at-clause-more g c = λ r all.
-    more_whichever c.loop-index.self c.reserve_at.new.self c.loop-index.index c.args.n r c.reserve_at.result c.reserve_at.ensures.ok c.reserve_at.ensures.err (c.loop-index.invariant.more r all)
+    more_whichever c.loop-index.self c.reserve_at.new.self c.loop-index.index c.args.n r c.reserve_at.result
+    c.reserve_at.ensures.ok c.reserve_at.ensures.err (c.loop-index.invariant.more r all)
 
 pub loop-index-preserved : goal.loop-index-preserved
 loop-index-preserved g c =
@@ -14,7 +15,8 @@ loop-index-preserved g c =
     same_whichever c.loop-index.self c.reserve_at.new.self c.loop-index.index c.args.n c.reserve_at.result c.reserve_at.ensures.ok c.reserve_at.ensures.err in
     record {
       below = room_below_next c.loop-index.self c.reserve_at.new.self c.loop-index.index c.args.n c.in_ok-reserve_at.ensures.ok c.loop-index.invariant.below;
-      more = λ r all. more_whichever c.loop-index.self c.reserve_at.new.self c.loop-index.index c.args.n r c.reserve_at.result c.reserve_at.ensures.ok c.reserve_at.ensures.err (c.loop-index.invariant.more r all);
+      more = λ r all. more_whichever c.loop-index.self c.reserve_at.new.self c.loop-index.index c.args.n r
+          c.reserve_at.result c.reserve_at.ensures.ok c.reserve_at.ensures.err (c.loop-index.invariant.more r all);
       same = same_after _ _ _ c.loop-index.invariant.same same;
       count = same-length c.loop-index.self c.reserve_at.new.self same ∙ c.loop-index.invariant.count;
     }

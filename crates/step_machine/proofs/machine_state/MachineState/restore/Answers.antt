@@ -14,5 +14,7 @@ invariant_of-self g c =
       stored = c.restore.new.self;
     } in
     let is : left ≡ restored_config c.args.saved.now held = grind (arith, common_steps) in
-    let count : length c.args.saved.now.buffers ≡ length held.stored.buffers = subst (λ (k : Config). length c.args.saved.now.buffers ≡ length k.stored.buffers) (sym c.self.view_is) c.requires.count in
+    let count : length c.args.saved.now.buffers ≡ length held.stored.buffers =
+    subst (λ (k : Config). length c.args.saved.now.buffers ≡ length k.stored.buffers) (sym c.self.view_is)
+    c.requires.count in
     (c.self.invariant.0, subst (Fit g.row.M) (sym is) (fit_back g.row.M held c.args.saved.now c.self.invariant.1 count c.requires.few c.requires.pending))

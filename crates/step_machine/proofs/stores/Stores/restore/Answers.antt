@@ -14,5 +14,9 @@ invariant_of-self g c =
       words = c.restore.new.self.words;
       first = c.restore.new.self.first;
     } in
-    let is : left ≡ restored_stored c.args.buffers.now c.args.words.now held = grind (arith, common_steps) in
-    (c.self.invariant.0, subst (FitStored g.row.M) (sym is) (fit_stored_back g.row.M c.args.buffers.now c.args.words.now held c.self.invariant.1 c.requires.few c.requires.pending))
+    let is : left ≡ restored_stored c.args.buffers.now c.args.words.now held = grind (arith, common_steps) in (
+      c.self.invariant.0,
+      subst (FitStored g.row.M) (sym is)
+          (fit_stored_back g.row.M c.args.buffers.now c.args.words.now held c.self.invariant.1 c.requires.few
+          c.requires.pending),
+    )
