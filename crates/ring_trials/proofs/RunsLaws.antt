@@ -9,7 +9,7 @@ use Rattle.std.proofs.Math.Seq.{take-length}
 use Rattle.std.proofs.lemmas.Bool.Decides.{nat_tests}
 use Rattle.std.proofs.lemmas.List.Elements.{All-append, All-cons, All-nil}
 use Rattle.std.proofs.lemmas.Option.{slice_get_within}
-use Rattle.rand_core.specs.Stream.{Stream, next_u32}
+use Rattle.rand_core.specs.Stream.{Stream}
 use Rattle.step_machine.specs.History.{History, OpeningValue}
 use Rattle.step_machine.specs.Entries.{reported}
 use Rattle.step_machine.specs.Runs.{Run}

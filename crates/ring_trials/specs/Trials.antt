@@ -1,12 +1,12 @@
 -- Runs of a channel, by schedules that a generator draws, and their totals.
-use Rattle.std.specs.Prelude.{ℕ, ◌≡◌, ◌+◌, ◌*◌, ◌<◌, max, List, [], ◌∷◌, ◌++◌, length, map, if◌then◌else◌, All, Option, Some, None}
+use Rattle.std.specs.Prelude.{ℕ, ◌≡◌, ◌+◌, ◌*◌, ◌<◌, max, List, [], ◌∷◌, ◌++◌, length, if◌then◌else◌, All, Option, Some, None}
 use Rattle.std.specs.List.{slice_get}
 use Rattle.rand_core.specs.Stream.{Stream}
 use Rattle.step_machine.specs.declared.events.Event.{Event}
 use Rattle.step_machine.specs.declared.events.Entry.{Entry}
 use Rattle.step_machine.specs.declared.events.Outcome.{Outcome}
 use Rattle.step_machine.specs.declared.events.Outcome.TheVariants as outcome
-use Rattle.step_machine.specs.History.{OpeningValue, History}
+use Rattle.step_machine.specs.History.{History}
 use Rattle.step_machine.specs.Entries.{reported}
 use Rattle.step_machine.specs.Runs.{Run}
 use Rattle.step_machine.specs.Standing.{RepresentsHistory}

@@ -1,6 +1,5 @@
 -- A machine stays fit for its memory, whatever the event.
-use Rattle.std.proofs.Common.{◌≡◌, ℕ, ◌<◌, Bool, true, false, List, [], ◌∷◌, ◌++◌, length, get_or, drop, Option, Some, None, refl, ◌∙◌, arith}
-use Rattle.std.specs.Prelude.{All}
+use Rattle.std.proofs.Common.{◌≡◌, ℕ, ◌<◌, Bool, true, false, List, [], ◌∷◌, ◌++◌, length, drop, Option, Some, None, refl, ◌∙◌, arith}
 use Rattle.std.specs.List.{slice_get}
 use Rattle.std.proofs.lemmas.List.{length-set}
 use Rattle.std.proofs.lemmas.List.Elements.{All-append, All-cons, All-drop, All-get_or, All-nil, All-set}
@@ -25,17 +24,14 @@ use Rattle.step_machine.specs.Entries.{hart_of}
 use Rattle.step_machine.specs.Paths.{value_of}
 use Rattle.step_machine.specs.Banks.{is_over}
 use Rattle.step_machine.specs.Ranges.{IsInRange}
-use Rattle.step_machine.specs.inner.Stored.{Stored, buffer_of, word_at, if_waits, outcome_for, land_in, written, write_first}
-use Rattle.step_machine.specs.inner.Stored.{stored_after, stored_after_outcome, HasAddress, FitStored}
+use Rattle.step_machine.specs.inner.Stored.{Stored, buffer_of, word_at, if_waits, outcome_for, land_in, write_first}
+use Rattle.step_machine.specs.inner.Stored.{stored_after, stored_after_outcome, HasAddress, InMemory, FitStored}
 use Rattle.step_machine.specs.inner.Config.{Config, Fit, act_in, act_outcome, land_outcome, outcome_of, after_outcome}
 use Rattle.step_machine.proofs.Decides.{need_of-in_range}
 use Rattle.step_machine.proofs.Fitting.{fit_step}
 use Rattle.step_machine.proofs.Standings.{hart_at}
 
 -- ---- buffers and memory
-
-abbrev InMemory : ℕ → List Write → Type 0
-InMemory M ps = All (HasAddress M) ps
 
 buffer_fits : (M : ℕ) (s : Stored) (h : ℕ) → FitStored M s → h < length s.buffers → InMemory M (buffer_of s h)
 buffer_fits M s h fit within = All-get_or (InMemory M) s.buffers h [] within fit.pending

@@ -14,7 +14,7 @@ use Rattle.hart.specs.declared.status.Status.{Status}
 use Rattle.hart.specs.declared.status.Status.TheVariants as status
 use Rattle.hart.proofs.Advances.{advanced-words}
 use Rattle.step_machine.specs.Ranges.{IsInRange}
-use Rattle.step_machine.specs.inner.Stored.{Stored, HasAddress, FitStored, stored_after_outcome, land_in, outcome_for}
+use Rattle.step_machine.specs.inner.Stored.{Stored, HasAddress, InMemory, FitStored, stored_after_outcome, land_in, outcome_for}
 use Rattle.step_machine.specs.inner.Config.{after_outcome, Config, step_at, step_hart, Fit, IsNext, act_in, act_outcome}
 use Rattle.step_machine.proofs.Decides.{need_of-in_range}
 
@@ -71,6 +71,7 @@ fit_landed M bs ws us first h ps qs fit within is rest same = record {
   words = same ∙ fit.words;
   first = fit.first;
   pending =
-      let Fits : List Write → Type 0 = All (HasAddress M) in
-      All-set Fits bs h qs (subst Fits (sym rest) (All-drop (HasAddress M) 1 ps (subst Fits (sym is) (fit.pending h ps within)))) fit.pending;
+      All-set (InMemory M) bs h qs
+      (subst (InMemory M) (sym rest) (All-drop (HasAddress M) 1 ps (subst (InMemory M) (sym is) (fit.pending h ps within))))
+      fit.pending;
 }

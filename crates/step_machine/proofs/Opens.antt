@@ -10,7 +10,7 @@ use Rattle.hart.specs.State.{HartView}
 use Rattle.step_machine.specs.History.{HartOpeningValue, OpeningValue, at_opening, FitsIn}
 use Rattle.step_machine.specs.Paths.{opens_as}
 use Rattle.step_machine.specs.inner.Opened.{opened_hart}
-use Rattle.step_machine.specs.inner.Stored.{HasAddress, FitStored, opened_stored}
+use Rattle.step_machine.specs.inner.Stored.{HasAddress, InMemory, FitStored, opened_stored}
 use Rattle.step_machine.specs.inner.Config.{Config, Fit, beginning, opened_config}
 use Rattle.step_machine.specs.inner.Representation.{view_state, StoresRepresent, Represents}
 use Rattle.memory.specs.declared.writes.Write.{Write}
@@ -19,7 +19,7 @@ pub fit_stored : (M : ℕ) (first : List ℕ) (harts : ℕ) → length first ≤
 fit_stored M first harts few = record {
   words = count;
   first = count;
-  pending = All-replicate (λ (ps : List Write). All (HasAddress M) ps) harts [] (All-nil (HasAddress M));
+  pending = All-replicate (InMemory M) harts [] (All-nil (HasAddress M));
 }
   where
     rest : (n : ℕ) → n ≤ M → n + length {A = ℕ} (drop n (replicate M 0)) ≡ M

@@ -17,7 +17,7 @@ use Rattle.hart.proofs.PutBack.{same_state}
 use Rattle.hart.specs.declared.status.Status.{Status}
 use Rattle.hart.specs.declared.status.Status.TheVariants as status
 use Rattle.hart.specs.declared.status.Stop.TheVariants as stop
-use Rattle.step_machine.specs.inner.Stored.{Stored, HasAddress}
+use Rattle.step_machine.specs.inner.Stored.{Stored, HasAddress, InMemory}
 use Rattle.step_machine.specs.inner.Config.{Config, beginning}
 use Rattle.step_machine.specs.Positions.{Position, position_of, hart_position, Change, unless_same, changed, pair_words}
 use Rattle.step_machine.specs.Positions.{packed_changes, packed_hart, packed_buffer, packed_stored, packed, store_words}
@@ -143,7 +143,7 @@ stored_last B M stores w room has =
     ∙ ap (λ b. if true && b && nat_lt (w.addr / 4) M then stores ++ w ∷ [] else stores) second
     ∙ ap (λ b. if true && true && b then stores ++ w ∷ [] else stores) third
 
-stores-back : (B M : ℕ) (stores before : List Write) (rest : List ℕ) → length before + length stores ≤ B → All (HasAddress M) stores
+stores-back : (B M : ℕ) (stores before : List Write) (rest : List ℕ) → length before + length stores ≤ B → InMemory M stores
     → unpacked_stores B M (length stores) before (flat_map store_words stores ++ rest) ≡ (before ++ stores, rest)
 stores-back B M [] before rest room has = ap (λ (ps : List Write). (ps, rest)) (sym (append-nil before))
 stores-back B M (w ∷ stores) before rest room has =
@@ -155,9 +155,6 @@ stores-back B M (w ∷ stores) before rest room has =
 
 abbrev Within : ℕ → List Write → Type 0
 Within B ps = length ps ≤ B
-
-abbrev InMemory : ℕ → List Write → Type 0
-InMemory M ps = All (HasAddress M) ps
 
 buffers_back : (B M : ℕ) (old bs : List (List Write)) (rest : List ℕ) → length old ≡ length bs → All (Within B) bs → All (InMemory M) bs
     → unpacked_buffers B M old (flat_map packed_buffer bs ++ rest) ≡ (bs, rest)

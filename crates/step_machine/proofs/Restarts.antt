@@ -10,7 +10,7 @@ use Rattle.hart.specs.State.{HartView}
 use Rattle.hart.specs.Steps.{restarted}
 use Rattle.step_machine.specs.declared.events.Entry.{Entry}
 use Rattle.step_machine.specs.History.{OpeningValue, History, at_opening}
-use Rattle.step_machine.specs.inner.Stored.{Stored, HasAddress, FitStored, no_stores, restarted_stored}
+use Rattle.step_machine.specs.inner.Stored.{Stored, HasAddress, InMemory, FitStored, no_stores, restarted_stored}
 use Rattle.step_machine.specs.inner.Config.{Config, Fit, beginning, restarted_config}
 use Rattle.step_machine.specs.inner.Representation.{view_state, StoresRepresent, Represents, IsMachineAt}
 use Rattle.step_machine.proofs.Opens.{holds_opened}
@@ -37,7 +37,7 @@ pub fit_put_back : (M : ℕ) (s : Stored) → FitStored M s → FitStored M (res
 fit_put_back M s fit = record {
   words = fit.first;
   first = fit.first;
-  pending = All-map (λ (ps : List Write). All (HasAddress M) ps) no_stores s.buffers (λ h d within. All-nil (HasAddress M));
+  pending = All-map (InMemory M) no_stores s.buffers (λ h d within. All-nil (HasAddress M));
 }
 
 pub fit_restarted : (M : ℕ) (c : Config) → Fit M c → Fit M (restarted_config c)

@@ -16,7 +16,7 @@ use Rattle.step_machine.specs.History.{HartOpeningValue, OpeningValue, History, 
 use Rattle.step_machine.specs.Entries.{own, reported}
 use Rattle.step_machine.specs.Paths.{state_of}
 use Rattle.step_machine.specs.Snapshots.{Taken, AreSaved, IsSavedFrom, IsTakenAt}
-use Rattle.step_machine.specs.inner.Stored.{Stored, HasAddress, FitStored}
+use Rattle.step_machine.specs.inner.Stored.{Stored, InMemory, FitStored}
 use Rattle.step_machine.specs.inner.Config.{Config, Fit, SameButRoom, without_room, beginning}
 use Rattle.step_machine.specs.inner.Restored.{restored_harts, restored_stored, restored_config, AreWithin}
 use Rattle.step_machine.specs.inner.Representation.{view_state, IsMachineAt}
@@ -146,17 +146,17 @@ pub buffers_back : (B M n : ℕ) (t : History) (c : Config) (s : Taken) → IsMa
     → length s.buffers ≡ length c.stored.buffers
 buffers_back B M n t c s now taken = ap length taken.saved.buffers ∙ taken.stands.fit.buffers ∙ taken.stands.count ∙ sym now.count ∙ sym now.fit.buffers
 
-pub pending_back : (B M : ℕ) (t : History) (s : Taken) → IsTakenAt B M t s → All (λ (ps : List Write). All (HasAddress M) ps) s.buffers
-pending_back B M t s taken = subst (All (λ (ps : List Write). All (HasAddress M) ps)) (sym taken.saved.buffers) taken.stands.fit.stored.pending
+pub pending_back : (B M : ℕ) (t : History) (s : Taken) → IsTakenAt B M t s → All (InMemory M) s.buffers
+pending_back B M t s taken = subst (All (InMemory M)) (sym taken.saved.buffers) taken.stands.fit.stored.pending
 
 -- what is put back fits
 
 pub fit_stored_back : (M : ℕ) (bs : List (List Write)) (ws : List ℕ) (s : Stored) → FitStored M s → length ws ≤ M
-    → All (λ (ps : List Write). All (HasAddress M) ps) bs → FitStored M (restored_stored bs ws s)
+    → All (InMemory M) bs → FitStored M (restored_stored bs ws s)
 fit_stored_back M bs ws s fit few pending = grind (arith, length-append, length-drop)
 
 pub fit_back : (M : ℕ) (c : Config) (s : Taken) → Fit M c → length s.buffers ≡ length c.stored.buffers → length s.words ≤ M
-    → All (λ (ps : List Write). All (HasAddress M) ps) s.buffers → Fit M (restored_config s c)
+    → All (InMemory M) s.buffers → Fit M (restored_config s c)
 fit_back M c s fit count few pending = record {
   buffers = count ∙ fit.buffers ∙ sym (length-changed put_back c.harts s.harts);
   harts = all_kept put_back (λ v. v.state.words ≡ M) (λ v x is. is) c.harts s.harts fit.harts;

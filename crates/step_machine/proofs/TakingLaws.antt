@@ -11,7 +11,7 @@ use Rattle.std.proofs.lemmas.List.Concat.{flat_map-append}
 use Rattle.memory.specs.declared.writes.Write.{Write}
 use Rattle.memory.specs.Writes.{write}
 use Rattle.hart.specs.State.{HartView}
-use Rattle.step_machine.specs.inner.Stored.{Stored, HasAddress, FitStored}
+use Rattle.step_machine.specs.inner.Stored.{Stored, HasAddress, InMemory, FitStored}
 use Rattle.step_machine.specs.inner.Config.{Config, Fit}
 use Rattle.step_machine.specs.Positions.{unpacked_hart, unpacked_harts, unpacked_buffer, unpacked_buffers, unpacked_stored, put_at, with_words}
 use Rattle.step_machine.specs.Positions.{changed, unless_same, pair_words, unpacked_changes, with_store, unpacked_stores}
@@ -136,10 +136,7 @@ stores_fit B M (suc n) ps ws all =
     (store_fits B M ps w all (nat_lt (length ps) B) (nat_le w.width (4 - w.addr % 4)) (nat_lt (w.addr / 4) M) refl
     refl)
 
-abbrev InMemory : ℕ → List Write → Type 0
-InMemory M ps = All (HasAddress M) ps
-
-pub buffers_fit : (B M : ℕ) (bs : List (List Write)) (ws : List ℕ) → All (λ (ps : List Write). All (HasAddress M) ps) (unpacked_buffers B M bs ws).0
+pub buffers_fit : (B M : ℕ) (bs : List (List Write)) (ws : List ℕ) → All (InMemory M) (unpacked_buffers B M bs ws).0
 buffers_fit B M [] ws = All-nil (InMemory M)
 buffers_fit B M (b ∷ bs) ws =
     All-cons (InMemory M) (unpacked_buffer B M ws).0 (unpacked_buffers B M bs (unpacked_buffer B M ws).1).0

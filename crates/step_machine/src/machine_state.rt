@@ -7,7 +7,7 @@ ghost use Rattle.memory.specs.Words.{IsAddress};
 ghost use Rattle.hart.specs.Steps.{reads, restarted};
 ghost use Rattle.step_machine.specs.Snapshots.{AreSaved, IsSavedFrom};
 ghost use Rattle.step_machine.specs.inner.Opened.{opened_hart};
-ghost use Rattle.step_machine.specs.inner.Stored.{HasAddress};
+ghost use Rattle.step_machine.specs.inner.Stored.{InMemory};
 ghost use Rattle.step_machine.specs.inner.Restored.{AreWithin, restored_harts, restored_config};
 ghost use Rattle.rv_decode.specs.declared.instruction.TheConstants.{MAX_CODE};
 
@@ -180,7 +180,7 @@ impl<const B: usize, const M: usize> MachineState<B, M> {
         requires harts { AreWithin self.old.harts saved.now.harts }
         requires count { length saved.now.buffers ≡ length self.old.stored.buffers }
         requires few { length saved.now.words ≤ M }
-        requires pending { All (λ ps. All (HasAddress M) ps) saved.now.buffers }
+        requires pending { All (InMemory M) saved.now.buffers }
         ensures { self.new ≡ restored_config saved.now self.old }
     {
         restore_harts(&mut self.harts, &saved.harts);

@@ -1,9 +1,8 @@
 -- What answers `channel own` is one answer.
-use Rattle.std.proofs.Common.{arith, ◌≡◌, ℕ, Bool, cond, ltb, List, length, Result, Ok, Err, refl, sym, ap, ap₂, subst, ◌∙◌}
-use Rattle.std.specs.Prelude.{Option, Some, None}
+use Rattle.std.proofs.Common.{arith, ◌≡◌, ℕ, Bool, cond, ltb, List, length, Result, Ok, Err, refl, sym, ap, subst, ◌∙◌}
+use Rattle.std.specs.Prelude.{Option, None}
 use Rattle.std.specs.List.{flat_map}
 use Rattle.std.specs.Str.{is_utf8}
-use Rattle.hart.specs.declared.need.Report.{Report}
 use Rattle.step_machine.specs.Entries.{reported}
 use Rattle.step_machine.specs.History.{History}
 use Rattle.assembler.specs.Program.{IsCode}
@@ -15,7 +14,6 @@ use Rattle.poll_close.specs.Layout.{Layout}
 use Rattle.engine_support.specs.declared.fault.Refusal.{Refusal}
 use Rattle.engine_support.specs.Engines.{Accepted, Output, decoded}
 use Rattle.engine_support.specs.Faults.{not_text, too_large}
-use Rattle.engine_support.specs.Histories.{Runs}
 use Rattle.engine_support.specs.Schedules.{schedule_of}
 use Rattle.engine_support.proofs.Judging.{decoded-text}
 use Rattle.engine_support.proofs.OneInput.{one_refusal, said-or_refusal, same_output}

@@ -1,5 +1,5 @@
 -- What answers `ring` is one answer where all runs are clean, and where they aren't each answer tells of that.
-use Rattle.std.proofs.Common.{◌≡◌, ℕ, zero, suc, ◌+◌, ◌<◌, ◌≤◌, Bool, true, false, List, [], ◌∷◌, ◌++◌, All, length, Result, Ok, Err}
+use Rattle.std.proofs.Common.{◌≡◌, ℕ, zero, suc, ◌+◌, ◌<◌, ◌≤◌, Bool, true, false, List, [], ◌∷◌, ◌++◌, All, length, Result, Ok}
 use Rattle.std.proofs.Common.{refl, sym, ap, ap₂, subst, ◌∙◌, arith}
 use Rattle.std.specs.Prelude.{Option, Some, None, codes}
 use Rattle.std.specs.Fmt.{decimal}
@@ -9,7 +9,6 @@ use Rattle.step_machine.specs.History.{History, OpeningValue, at_opening}
 use Rattle.step_machine.specs.Runs.{Run}
 use Rattle.step_machine.proofs.Running.{run-one}
 use Rattle.recorder.specs.Drawing.{schedule_drawn}
-use Rattle.assembler.specs.Program.{IsCode}
 use Rattle.assembler.proofs.OneCode as assembler
 use Rattle.poll_close.specs.Breaches.{first_breach}
 use Rattle.poll_close.specs.Laws.{Ring, opening_over}
@@ -19,15 +18,15 @@ use Rattle.poll_close.specs.declared.clean.Breach.{Breach}
 use Rattle.poll_close.specs.declared.place.Place.{Place}
 use Rattle.poll_close.proofs.BreachLaws.{first_law}
 use Rattle.engine_support.specs.declared.fault.Refusal.{Refusal}
-use Rattle.engine_support.specs.Engines.{Accepted, decoded}
+use Rattle.engine_support.specs.Engines.{decoded}
 use Rattle.engine_support.proofs.OneInput.{one_refusal}
-use Rattle.ring_trials.specs.Answers.{IsTold, IsToldClean, IsToldUnclean, clean_text, sender_line, sender_lines}
+use Rattle.ring_trials.specs.Answers.{IsTold, IsToldClean, clean_text, sender_line, sender_lines}
 use Rattle.ring_trials.specs.Own.{ring_of, lists_of, layout_from, start_of}
 use Rattle.ring_trials.specs.Trials.{AreAllClean, AreRuns, AreTotals, IsFirstUnclean, IsRunOf, KeepsAll, closed_in, most_of, schedule_of}
 use Rattle.ring_trials.specs.declared.own.Own.{Own}
 use Rattle.ring_trials.specs.declared.runs.Total.{Total}
 use Rattle.ztso_engines.specs.Channels.{HasNoChannel}
-use Rattle.ztso_engines.specs.Lists.{SaysLists, lists_at}
+use Rattle.ztso_engines.specs.Lists.{lists_at}
 use Rattle.ztso_engines.specs.Rings.{AreAlikeRuns, Draws, IsOwn, IsRingAnswer, source_of}
 use Rattle.ztso_engines.specs.Rings.IsRingAnswer.{no_programs, no_lists, no_channel, told}
 use Rattle.ztso_engines.specs.declared.programs.Role.{Role}

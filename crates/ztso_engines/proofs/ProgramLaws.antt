@@ -1,5 +1,5 @@
 -- What answers inputs that are a user's own programs.
-use Rattle.std.proofs.Common.{◌≡◌, ◌⊎◌, inl, inr, ℕ, ◌≤◌, List, [], ◌∷◌, length, refl, sym, ap, subst, ◌∙◌, Result, Ok, Err, arith}
+use Rattle.std.proofs.Common.{◌≡◌, ◌⊎◌, ℕ, ◌≤◌, List, [], ◌∷◌, length, refl, sym, ap, subst, ◌∙◌, Result, Ok, Err, arith}
 use Rattle.std.specs.Prelude.{Option, Some, None, IsErrAnd}
 use Rattle.std.specs.Result.{IsErr}
 use Rattle.std.proofs.lemmas.Result.{err_from_is_err_and}
@@ -13,7 +13,7 @@ use Rattle.engine_support.specs.inner.Inputs.{IsReadAsText}
 use Rattle.engine_support.specs.inner.Making.{FindsUpToReads, FindsByUpToReads, IsEndOf}
 use Rattle.engine_support.proofs.Endings.{ended, handed_on, weaker}
 use Rattle.engine_support.proofs.Judging.{decoded-as_text}
-use Rattle.ztso_engines.specs.Programs.{EndsAs, HasNoProgram, IsNoCode, IsNoProgram, IsNoPrograms, fault_in, role_in}
+use Rattle.ztso_engines.specs.Programs.{EndsAs, HasNoProgram, IsNoCode, IsNoProgram, fault_in, role_in}
 use Rattle.ztso_engines.specs.Programs.IsNoProgram.{no_text, no_code}
 use Rattle.ztso_engines.specs.Programs.IsNoPrograms.{no_sender, no_receiver}
 use Rattle.ztso_engines.specs.declared.programs.Role.{Role}

@@ -1,10 +1,9 @@
 -- What answers two programs and lists of words.
-use Rattle.std.proofs.Common.{◌≡◌, inl, inr, ℕ, Bool, List, refl, sym, subst, ◌∙◌, Result, Ok, Err}
+use Rattle.std.proofs.Common.{◌≡◌, inl, inr, ℕ, Bool, List, sym, subst, ◌∙◌, Result, Ok, Err}
 use Rattle.std.specs.Prelude.{Option, None}
 use Rattle.poll_close.specs.Laws.{AcceptedAt}
 use Rattle.poll_close.specs.Refusals.{RefusesAt}
 use Rattle.poll_close.specs.declared.faults.RefusedAt.{RefusedAt}
-use Rattle.poll_close.specs.declared.place.Place.{Place}
 use Rattle.engine_support.specs.declared.fault.Fault.{Fault}
 use Rattle.engine_support.specs.declared.fault.Refusal.{Refusal}
 use Rattle.engine_support.specs.Engines.{OfInput}
@@ -22,7 +21,7 @@ use Rattle.ztso_engines.specs.declared.programs.OwnFault.TheVariants.{Other}
 use Rattle.ztso_engines.specs.inner.Inputs.{IsReadAsLists}
 use Rattle.ztso_engines.specs.inner.ReadPrograms.{FindsAs}
 use Rattle.ztso_engines.proofs.ChannelLaws.{refusal_as}
-use Rattle.ztso_engines.proofs.ProgramLaws.{HasCode, ReadsPrograms, handed_as, of_any, other_as}
+use Rattle.ztso_engines.proofs.ProgramLaws.{ReadsPrograms, handed_as, of_any, other_as}
 
 module _ (d : Draws) (first second third : Option (List ℕ)) where
   abbrev Answers : Option Role → Result (List ℕ × Bool) Refusal → Type 0

@@ -83,11 +83,14 @@ stored_after_outcome s other = s
 abbrev pub HasAddress : ℕ → Write → Type 0
 HasAddress M w = IsInWord w.width w.addr × (w.addr < 4 * M)
 
+abbrev pub InMemory : ℕ → List Write → Type 0
+InMemory M ps = All (HasAddress M) ps
+
 -- a memory and its opening of M words, and pending stores to addresses of words
 pub record FitStored (M : ℕ) (s : Stored) : Type 0 where
   pub words : length s.words ≡ M
   pub first : length s.first ≡ M
-  pub pending : All (λ (ps : List Write). All (HasAddress M) ps) s.buffers
+  pub pending : All (InMemory M) s.buffers
 
 -- what an opening gives
 abbrev pub opened_stored : ℕ → List ℕ → ℕ → Stored

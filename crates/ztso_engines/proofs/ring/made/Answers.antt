@@ -1,4 +1,4 @@
-use Rattle.std.proofs.Common.{ℕ, List, map, ◌*◌, refl}
+use Rattle.std.proofs.Common.{ℕ, List, ◌*◌, refl}
 use Rattle.std.specs.Global.{Vec}
 use Rattle.rand_core.specs.Stream.{Stream}
 use Rattle.jumping.specs.declared.Runs.{Runs}
