@@ -1,7 +1,8 @@
 -- What was found of runs, and of those that the generator draws after them.
-use Rattle.std.proofs.Common.{ℕ, ◌≡◌, ◌+◌, ◌-◌, ◌<◌, ◌≤◌, List, [], ◌∷◌, ◌++◌, length, max, Vec, Global, sym, ap, subst, ◌∙◌, arith, length-append}
+use Rattle.std.proofs.Common.{ℕ, ◌≡◌, ◌+◌, ◌-◌, ◌<◌, ◌≤◌, List, [], ◌∷◌, ◌++◌, length, max, Result, Ok, Vec, Global, sym, ap, subst, ◌∙◌, arith, length-append}
 use Rattle.std.specs.Prelude.{if◌then◌else◌, Some}
 use Rattle.std.specs.List.{slice_get}
+use Rattle.std.specs.declared.alloc.AllocError.{AllocError}
 use Rattle.std.proofs.lemmas.List.Elements.{All-append}
 use Rattle.std.proofs.lemmas.Option.{slice_get_within}
 use Rattle.step_machine.specs.declared.events.Event.{Event}
@@ -9,8 +10,8 @@ use Rattle.step_machine.specs.History.{History}
 use Rattle.step_machine.specs.Entries.{reported}
 use Rattle.step_machine.specs.Runs.{Run}
 use Rattle.recorder.proofs.Drawn.{left_after-sum}
-use Rattle.jumping.specs.Sharing.{first_of}
-use Rattle.jumping.proofs.SharingLaws.{placed_later, placed_within}
+use Rattle.jumping.specs.Sharing.{first_of, AreOfJobs}
+use Rattle.jumping.proofs.SharingLaws.{placed_later, placed_within, job_first}
 use Rattle.poll_close.specs.Reports.{taken}
 use Rattle.poll_close.specs.Plans.{is_closed}
 use Rattle.poll_close.specs.declared.clean.Breach.{Breach}
@@ -104,6 +105,15 @@ pub record NextJob (s : Source) (runs jobs job : ℕ) (given : Found) (totals : 
   pub here : job + 1 ≤ jobs
   pub mine : IsFoundByJob s runs jobs job given
   pub clean : AreAllClean s (first_of runs jobs job) totals
+
+pub next_job : (s : Source) (runs jobs job : ℕ) (given : Found) {all rest : List (Result Found AllocError)} {first : Result Found AllocError}
+    {totals : List Total} → all ≡ first ∷ rest → first ≡ Ok given → job + 1 ≤ jobs → AreOfJobs (IsFoundByJob s runs jobs) job all
+    → AreAllClean s (first_of runs jobs job) totals → NextJob s runs jobs job given totals
+next_job s runs jobs job given {all} {rest} is was here found clean = record {
+  here = here;
+  mine = job_first (IsFoundByJob s runs jobs) job all rest given (is ∙ ap (λ (r : Result Found AllocError). r ∷ rest) was) found;
+  clean = clean;
+}
 
 module _ {s : Source} {runs jobs job : ℕ} {given : Found} {totals : List Total} (next : NextJob s runs jobs job given totals) where
   abbrev begin : ℕ

@@ -63,6 +63,9 @@ pub record Source : Type 0 where
   pub stream : Stream
   pub size : ℕ
 
+abbrev pub source_of : (B M : ℕ) → Own → Stream → (size : ℕ) → Source
+source_of B M own stream size = record { B = B; M = M; own = own; stream = stream; size = size }
+
 abbrev pub schedule_of : Source → (number : ℕ) → List Event
 schedule_of s number = schedule_drawn (length (start_of s.own).harts) s.size s.stream number
 

@@ -8,7 +8,7 @@ ghost use Rattle.step_machine.specs.Standing.{RepresentsRunFrom};
 ghost use Rattle.poll_close.specs.Layout.{base_of};
 ghost use Rattle.poll_close.specs.Breaches.{AreNotes};
 ghost use Rattle.ring_trials.specs.Own.{lists_of, layout_from, start_of};
-ghost use Rattle.ring_trials.specs.Trials.{AreTotals, IsFound};
+ghost use Rattle.ring_trials.specs.Trials.{AreTotals, IsFound, source_of};
 
 use crate::judging::judge;
 use crate::own::{Own, senders};
@@ -80,7 +80,7 @@ pub fn find_on<const B: usize, const M: usize, G: Rng>(
 ) -> Result<Found, AllocError>
     requires stands { RepresentsRunFrom B M (start_of own.now) machine.old }
     requires ends { base_of (layout_from own.now) (length (lists_of own.now)) < 2 ^ 32 }
-    ensures { IfOk result (λ found. IsFound (record { B = B; M = M; own = own.now; stream = G.stream generator.old; size = size }) runs found) }
+    ensures { IfOk result (λ found. IsFound (source_of B M own.now (G.stream generator.old) size) runs found) }
 {
     let harts = machine.harts();
     let count = senders(own);

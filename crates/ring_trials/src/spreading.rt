@@ -4,7 +4,7 @@ ghost use Rattle.std.specs.Prelude.{◌≡◌, ◌≤◌, ◌<◌, ◌+◌, ◌+
 ghost use Rattle.std.specs.List.{slice_get};
 ghost use Rattle.step_machine.specs.History.{History};
 ghost use Rattle.ring_trials.specs.Own.{OpensOver};
-ghost use Rattle.ring_trials.specs.Trials.{AreTotals, IsFound};
+ghost use Rattle.ring_trials.specs.Trials.{AreTotals, IsFound, source_of};
 ghost use Rattle.ring_trials.specs.inner.Joining.{IsFoundByJob};
 
 use crate::own::{Own, senders};
@@ -30,8 +30,7 @@ fn find_of_job<const B: usize, const M: usize, G: Jump + Drop>(
     requires opens { OpensOver M own.now opening.now }
     requires most { jobs ≤ 4294967295 }
     requires job { job < jobs }
-    ensures { IfOk result (λ found. IsFoundByJob (record { B = B; M = M; own = own.now; stream = G.Rng.stream generator.now; size = size })
-        runs jobs job found) }
+    ensures { IfOk result (λ found. IsFoundByJob (source_of B M own.now (G.Rng.stream generator.now) size) runs jobs job found) }
 {
     let first = first_run(runs, jobs, job);
     let end = first_run(runs, jobs, job + 1);
@@ -57,7 +56,7 @@ fn found_by_each<const B: usize, const M: usize, G: Jump + Sync + Drop, T: Threa
     requires most { jobs ≤ 4294967295 }
     ensures len { IfOk result (λ all. vec_len all ≡ jobs) }
     ensures each { IfOk result (λ all. (job : ℕ) (d : _) → job < jobs → IfOk (slice_index_or all.items job d)
-        (λ found. IsFoundByJob (record { B = B; M = M; own = own.now; stream = G.Rng.stream generator.now; size = size }) runs jobs job found)) }
+        (λ found. IsFoundByJob (source_of B M own.now (G.Rng.stream generator.now) size) runs jobs job found)) }
 {
     map_indices(
         rt,
@@ -65,7 +64,7 @@ fn found_by_each<const B: usize, const M: usize, G: Jump + Sync + Drop, T: Threa
         jobs,
         &|job: usize| -> Result<Found, AllocError>
             requires { (B ≤ 64) × (M ≤ 65536) × OpensOver M own.now opening.now × (jobs ≤ 4294967295) × (job < jobs) }
-            ensures { IfOk result (λ found. IsFoundByJob (record { B = B; M = M; own = own.entry.now; stream = G.Rng.stream generator.entry.now; size = size })
+            ensures { IfOk result (λ found. IsFoundByJob (source_of B M own.entry.now (G.Rng.stream generator.entry.now) size)
                 runs jobs job found) }
         { find_of_job::<B, M, G>(alloc, own, opening, generator, runs, size, jobs, job) },
     )
@@ -104,7 +103,7 @@ pub fn find_by_jobs<const B: usize, const M: usize, G: Jump + Sync + Drop, T: Th
     requires capacity { B ≤ 64 }
     requires memory { M ≤ 65536 }
     requires opens { OpensOver M own.now opening.now }
-    ensures { IfOk result (λ found. IsFound (record { B = B; M = M; own = own.now; stream = G.Rng.stream generator.now; size = size }) runs found) }
+    ensures { IfOk result (λ found. IsFound (source_of B M own.now (G.Rng.stream generator.now) size) runs found) }
 {
     let jobs = jobs.max(1) as usize;
     let all = found_by_each::<B, M, G, T>(rt, alloc, own, opening, generator, runs, size, jobs)?;

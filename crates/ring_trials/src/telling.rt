@@ -8,7 +8,7 @@ ghost use Rattle.poll_close.specs.Layout.{base_of};
 ghost use Rattle.poll_close.specs.Laws.{AcceptedAt, AreShort};
 ghost use Rattle.poll_close.specs.Refusals.{RefusesAt};
 ghost use Rattle.ring_trials.specs.Own.{ring_of, lists_of, layout_from, start_of, OpensOver};
-ghost use Rattle.ring_trials.specs.Trials.{Source, schedule_of, IsUnclean};
+ghost use Rattle.ring_trials.specs.Trials.{schedule_of, source_of, IsUnclean};
 ghost use Rattle.ring_trials.specs.Answers.{IsPartText, IsShortText, IsTold};
 
 use crate::judging::judge;
@@ -58,10 +58,9 @@ fn short_text<const B: usize, const M: usize, G: Jump + Drop>(
     requires capacity { B ≤ 64 }
     requires memory { M ≤ 65536 }
     requires opens { OpensOver M own.now opening.now }
-    requires unclean { let s : Source = record { B = B; M = M; own = own.now; stream = G.Rng.stream generator.now; size = size } in
-        IsUnclean B M own.now (schedule_of s number) }
-    ensures { IfOk result (λ text. let s : Source = record { B = B; M = M; own = own.now; stream = G.Rng.stream generator.now; size = size } in
-        IsShortText B M own.now (schedule_of s number) (string_bytes text)) }
+    requires unclean { IsUnclean B M own.now (schedule_of (source_of B M own.now (G.Rng.stream generator.now) size) number) }
+    ensures { IfOk result (λ text. IsShortText B M own.now
+        (schedule_of (source_of B M own.now (G.Rng.stream generator.now) size) number) (string_bytes text)) }
 {
     let mut there = generator.ahead(u64::from(number), size)?;
     let mut machine = MachineState::<B, M>::open(alloc, opening)?;
@@ -85,13 +84,9 @@ fn tell<const B: usize, const M: usize, G: Jump + Sync + Drop, T: Threads + Sync
     requires capacity { B ≤ 64 }
     requires memory { M ≤ 65536 }
     requires opens { OpensOver M own.now opening.now }
-    ensures { IfOk result (λ t. IsTold (record {
-      B = B;
-      M = M;
-      own = own.now;
-      stream = left_after (runs.skip * runs.length) (G.Rng.stream generator.now);
-      size = runs.length;
-    }) runs.number (string_bytes t.0, t.1)) }
+    ensures { IfOk result (λ t. IsTold
+        (source_of B M own.now (left_after (runs.skip * runs.length) (G.Rng.stream generator.now)) runs.length)
+        runs.number (string_bytes t.0, t.1)) }
 {
     let start = generator.ahead(runs.skip, runs.length)?;
     let Runs {
@@ -132,13 +127,9 @@ pub fn told<const B: usize, const M: usize, G: Jump + Sync + Drop, T: Threads + 
     requires memory { M ≤ 65536 }
     requires short { AreShort (ring_of own.now) }
     ensures accepted { OnOk result (AcceptedAt (ring_of own.now) M (lists_of own.now) (layout_from own.now)) }
-    ensures told { IfOk result (λ t. IsTold (record {
-      B = B;
-      M = M;
-      own = own.now;
-      stream = left_after (runs.skip * runs.length) (G.Rng.stream generator.now);
-      size = runs.length;
-    }) runs.number (string_bytes t.0, t.1)) }
+    ensures told { IfOk result (λ t. IsTold
+        (source_of B M own.now (left_after (runs.skip * runs.length) (G.Rng.stream generator.now)) runs.length)
+        runs.number (string_bytes t.0, t.1)) }
     ensures refused { IfErr result (λ e. RefusesAt (ring_of own.now) M (lists_of own.now) (layout_from own.now) e) }
 {
     let opening = open_own(alloc, own, M)?;

@@ -34,7 +34,7 @@ use Rattle.jumping.specs.declared.Runs.{Runs}
 use Rattle.ztso_engines.specs.Channels.{IsChannelAnswer}
 use Rattle.ztso_engines.specs.Threads.{IsThreadsAnswer}
 use Rattle.ztso_engines.specs.OwnChannels.{EndsOwn}
-use Rattle.ztso_engines.specs.Rings.{Draws, EndsRing}
+use Rattle.ztso_engines.specs.Rings.{Draws, draws, EndsRing}
 use Rattle.ztso_engines.specs.declared.programs.OwnFault.{OwnFault}
 use Rattle.poll_close.specs.Laws.{Ring as RingTables}
 use Rattle.lamport_ring.specs.Listing.{lamport}
@@ -65,14 +65,7 @@ drawn_from seed = stream_of (steps_u32 pcg32) (pcg32_of_seed (pcg32_seed 16 seed
 
 -- the runs of a channel at this place that the generator of this seed draws, with buffers of B stores
 abbrev pub drawn_runs : (B seed : ℕ) → Runs → Place → Draws
-drawn_runs B seed runs place = record {
-  B = B;
-  M = WORDS;
-  place = place;
-  stream = left_after (runs.skip * runs.length) (drawn_from seed);
-  size = runs.length;
-  runs = runs.number;
-}
+drawn_runs B seed runs place = draws B WORDS place (drawn_from seed) runs
 
 -- the tables and the least size of the rings of a kind
 abbrev pub tables_of : Ring → RingTables

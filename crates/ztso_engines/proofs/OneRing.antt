@@ -27,7 +27,7 @@ use Rattle.ring_trials.specs.declared.own.Own.{Own}
 use Rattle.ring_trials.specs.declared.runs.Total.{Total}
 use Rattle.ztso_engines.specs.Channels.{HasNoChannel}
 use Rattle.ztso_engines.specs.Lists.{lists_at}
-use Rattle.ztso_engines.specs.Rings.{AreAlikeRuns, Draws, IsOwn, IsRingAnswer, source_of}
+use Rattle.ztso_engines.specs.Rings.{AreAlikeRuns, Draws, IsOwn, IsRingAnswer, runs_of}
 use Rattle.ztso_engines.specs.Rings.IsRingAnswer.{no_programs, no_lists, no_channel, told}
 use Rattle.ztso_engines.specs.declared.programs.Role.{Role}
 use Rattle.ztso_engines.proofs.ListTexts.{one_lists}
@@ -73,12 +73,12 @@ module _ (d : Draws) (own also : Own) (rings : ring_of own ≡ ring_of also) (li
   starts : start_of own ≡ start_of also
   starts = λ i. opening_over (rings i) (lists i) (layouts i)
 
-  one_run : (n : ℕ) (t u : History) → IsRunOf (source_of d own) n t → IsRunOf (source_of d also) n u → t ≡ u
+  one_run : (n : ℕ) (t u : History) → IsRunOf (runs_of d own) n t → IsRunOf (runs_of d also) n u → t ≡ u
   one_run n t u is other =
-      run-one d.B d.M (at_opening (start_of own)) (schedule_of (source_of d own) n) t u is
+      run-one d.B d.M (at_opening (start_of own)) (schedule_of (runs_of d own) n) t u is
       (subst (λ (o : OpeningValue). Run d.B d.M o (schedule_drawn (length o.harts) d.size d.stream n) u) (sym starts) other)
 
-  one_list : (n : ℕ) (ts us : List History) → AreRuns (source_of d own) n ts → AreRuns (source_of d also) n us → length ts ≡ length us → ts ≡ us
+  one_list : (n : ℕ) (ts us : List History) → AreRuns (runs_of d own) n ts → AreRuns (runs_of d also) n us → length ts ≡ length us → ts ≡ us
   one_list n [] [] is other e = refl
   one_list n [] (u ∷ us) is other e = absurd (omega (arith, e))
   one_list n (t ∷ ts) [] is other e = absurd (omega (arith, e))
@@ -86,24 +86,24 @@ module _ (d : Draws) (own also : Own) (rings : ring_of own ≡ ring_of also) (li
       ap₂ (λ (x : History) (xs : List History). x ∷ xs) (one_run n t u run other) (one_list (n + 1) ts us rest others (omega (arith, e)))
 
   -- a run among clean ones keeps what a ring must
-  kept_at : (n k : ℕ) (ts : List History) (u : History) → AreRuns (source_of d own) n ts → All (KeepsAll own) ts → k < length ts
-      → IsRunOf (source_of d also) (n + k) u → KeepsAll own u
+  kept_at : (n k : ℕ) (ts : List History) (u : History) → AreRuns (runs_of d own) n ts → All (KeepsAll own) ts → k < length ts
+      → IsRunOf (runs_of d also) (n + k) u → KeepsAll own u
   kept_at n k [] u is kept less other = absurd (omega (arith, less))
   kept_at n zero (t ∷ ts) u (run, rest) kept less other =
       let here : n + 0 ≡ n = omega arith in
-      subst (KeepsAll own) (one_run n t u run (subst (λ (m : ℕ). IsRunOf (source_of d also) m u) here other)) (All-head (KeepsAll own) t ts kept)
+      subst (KeepsAll own) (one_run n t u run (subst (λ (m : ℕ). IsRunOf (runs_of d also) m u) here other)) (All-head (KeepsAll own) t ts kept)
   kept_at n (suc k) (t ∷ ts) u (run, rest) kept less other =
       let here : n + suc k ≡ n + 1 + k = omega arith in
       kept_at (n + 1) k ts u rest (All-tail (KeepsAll own) t ts kept) (omega (arith, less))
-      (subst (λ (m : ℕ). IsRunOf (source_of d also) m u) here other)
+      (subst (λ (m : ℕ). IsRunOf (runs_of d also) m u) here other)
 
   -- so the runs of one aren't all clean where those of the other aren't
-  clean_or_not : (totals : List Total) (number : ℕ) (found : Breach) → AreAllClean (source_of d own) d.runs totals → number < d.runs
-      → IsFirstUnclean (source_of d also) number found → ⊥
+  clean_or_not : (totals : List Total) (number : ℕ) (found : Breach) → AreAllClean (runs_of d own) d.runs totals → number < d.runs
+      → IsFirstUnclean (runs_of d also) number found → ⊥
   clean_or_not totals number found clean within first =
       let here : number ≡ 0 + number = omega arith in
       let kept = kept_at 0 number clean.histories first.history clean.clean.runs clean.clean.kept (omega (arith, clean.clean.count, within))
-      (subst (λ (m : ℕ). IsRunOf (source_of d also) m first.history) here first.run) in
+      (subst (λ (m : ℕ). IsRunOf (runs_of d also) m first.history) here first.run) in
       let none : first_breach (layout_from own) (lists_of own) first.history.entries ≡ None =
       (first_law (layout_from own) (lists_of own) first.history.entries).1 kept in
       let same : first_breach (layout_from own) (lists_of own) first.history.entries
@@ -111,7 +111,7 @@ module _ (d : Draws) (own also : Own) (rings : ring_of own ≡ ring_of also) (li
       ap₂ (λ (l : Layout) (ls : List (List ℕ)). first_breach l ls first.history.entries) layouts lists in
       let breaks = first.breaks in absurd cc
 
-  one_clean : (a b : List ℕ) → IsToldClean (source_of d own) d.runs a → IsToldClean (source_of d also) d.runs b → a ≡ b
+  one_clean : (a b : List ℕ) → IsToldClean (runs_of d own) d.runs a → IsToldClean (runs_of d also) d.runs b → a ≡ b
   one_clean a b is other =
       let first = is.clean in
       let second = other.clean in
@@ -129,7 +129,7 @@ module _ (d : Draws) (own also : Own) (rings : ring_of own ≡ ring_of also) (li
 
 -- what is told of both
 told_alike : (d : Draws) (own also : Own) → ring_of own ≡ ring_of also → lists_of own ≡ lists_of also → layout_from own ≡ layout_from also
-    → (a b : List ℕ × Bool) → IsTold (source_of d own) d.runs a → IsTold (source_of d also) d.runs b → AreAlikeRuns (Ok a) (Ok b)
+    → (a b : List ℕ × Bool) → IsTold (runs_of d own) d.runs a → IsTold (runs_of d also) d.runs b → AreAlikeRuns (Ok a) (Ok b)
 told_alike d own also rings lists layouts (a, true) (b, true) is other = one_clean d own also rings lists layouts a b is other
 told_alike d own also rings lists layouts (a, true) (b, false) is other =
     clean_or_not d own also rings lists layouts is.totals other.number other.found is.clean other.within other.first

@@ -13,7 +13,7 @@ use Rattle.ring_trials.specs.Answers.{IsTold}
 use Rattle.ring_trials.specs.Own.{ring_of, lists_of, layout_from}
 use Rattle.ring_trials.specs.declared.own.Own.{Own}
 use Rattle.ztso_engines.specs.Channels.{fault_from}
-use Rattle.ztso_engines.specs.Rings.{Draws, IsOwn, IsRingAnswer, OfInputs, source_of}
+use Rattle.ztso_engines.specs.Rings.{Draws, IsOwn, IsRingAnswer, OfInputs, runs_of}
 use Rattle.ztso_engines.specs.Rings.IsRingAnswer.{no_programs, no_lists, no_channel, told}
 use Rattle.ztso_engines.specs.declared.programs.Role.{Role}
 use Rattle.ztso_engines.specs.declared.programs.OwnFault.{OwnFault}
@@ -64,6 +64,6 @@ module _ (d : Draws) (first second third : Option (List ℕ)) where
         ]
 
     -- or this is told of it
-    pub own_told : (answer : List ℕ × Bool) → AcceptedAt (ring_of own) d.M (lists_of own) (layout_from own) → IsTold (source_of d own) d.runs answer
+    pub own_told : (answer : List ℕ × Bool) → AcceptedAt (ring_of own) d.M (lists_of own) (layout_from own) → IsTold (runs_of d own) d.runs answer
         → Answers None (Ok answer)
     own_told answer within is = from_own (Ok answer) (λ a b c says. told own answer says within is)

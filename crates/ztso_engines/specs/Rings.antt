@@ -1,6 +1,8 @@
 -- The command `ring`: two programs and the senders' lists in, totals of drawn runs or a short unclean one out.
-use Rattle.std.specs.Prelude.{ℕ, ◌≡◌, Bool, true, false, List, Option, None, Result, Ok, Err}
+use Rattle.std.specs.Prelude.{ℕ, ◌≡◌, ◌*◌, Bool, true, false, List, Option, None, Result, Ok, Err}
 use Rattle.rand_core.specs.Stream.{Stream}
+use Rattle.jumping.specs.declared.Runs.{Runs}
+use Rattle.recorder.specs.Drawing.{left_after}
 use Rattle.assembler.specs.Program.{IsCode}
 use Rattle.poll_close.specs.Laws.{AcceptedAt as IsWithin}
 use Rattle.poll_close.specs.declared.place.Place.{Place}
@@ -8,7 +10,7 @@ use Rattle.engine_support.specs.declared.fault.Refusal.{Refusal}
 use Rattle.engine_support.specs.Engines.{Accepted, OfInput}
 use Rattle.ring_trials.specs.Answers.{IsTold}
 use Rattle.ring_trials.specs.Own.{ring_of, lists_of, layout_from}
-use Rattle.ring_trials.specs.Trials.{Source}
+use Rattle.ring_trials.specs.Trials.{Source, source_of}
 use Rattle.ring_trials.specs.declared.own.Own.{Own}
 use Rattle.ztso_engines.specs.Channels.{HasNoChannel, IsNoLists}
 use Rattle.ztso_engines.specs.Lists.{SaysLists}
@@ -26,8 +28,19 @@ pub record Draws : Type 0 where
   pub size : ℕ
   pub runs : ℕ
 
-abbrev pub source_of : Draws → Own → Source
-source_of d own = record { B = d.B; M = d.M; own = own; stream = d.stream; size = d.size }
+-- what a generator of this stream draws
+abbrev pub draws : (B M : ℕ) → Place → Stream → Runs → Draws
+draws B M place stream runs = record {
+  B = B;
+  M = M;
+  place = place;
+  stream = left_after (runs.skip * runs.length) stream;
+  size = runs.length;
+  runs = runs.number;
+}
+
+abbrev pub runs_of : Draws → Own → Source
+runs_of d own = source_of d.B d.M own d.stream d.size
 
 -- The inputs say this channel at this place: its two programs, and the senders' lists.
 pub record IsOwn (place : Place) (sender receiver input : List ℕ) (own : Own) : Type 0 where
@@ -47,7 +60,7 @@ pub data IsRingAnswer (d : Draws) (sender receiver input : List ℕ) : Option Ro
   no_channel : (own : Own) (refusal : Refusal) → IsOwn d.place sender receiver input own
       → HasNoChannel (ring_of own) d.M (layout_from own) (lists_of own) refusal → IsRingAnswer d sender receiver input None (Err refusal)
   told : (own : Own) (answer : List ℕ × Bool) → IsOwn d.place sender receiver input own
-      → IsWithin (ring_of own) d.M (lists_of own) (layout_from own) → IsTold (source_of d own) d.runs answer
+      → IsWithin (ring_of own) d.M (lists_of own) (layout_from own) → IsTold (runs_of d own) d.runs answer
       → IsRingAnswer d sender receiver input None (Ok answer)
 
 -- Two answers are one output of clean runs, or both are of runs that aren't all clean, or they are one refusal.

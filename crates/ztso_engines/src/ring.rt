@@ -1,10 +1,9 @@
 //! The command `ring`: two programs and the senders' lists in, totals of drawn runs of their channel or a short unclean one out.
 
-ghost use Rattle.std.specs.Prelude.{◌≡◌, ◌≤◌, ◌*◌, ◌⊎◌};
+ghost use Rattle.std.specs.Prelude.{◌≡◌, ◌≤◌, ◌⊎◌};
 ghost use Rattle.engine_support.specs.inner.Making.{text_and_value};
-ghost use Rattle.recorder.specs.Drawing.{left_after};
 ghost use Rattle.ztso_engines.specs.Programs.{HasNoProgram};
-ghost use Rattle.ztso_engines.specs.Rings.{EndsRing, IsRingAnswer, OfInputs};
+ghost use Rattle.ztso_engines.specs.Rings.{EndsRing, IsRingAnswer, OfInputs, draws};
 ghost use Rattle.ztso_engines.specs.inner.ReadPrograms.{FindsAs};
 
 use crate::channel::channel_fault;
@@ -43,14 +42,7 @@ fn made<
     requires some_word { 1 ≤ M }
     requires size { M ≤ 65536 }
     ensures made { FindsAs (λ whose answer. OfInputs (S.remaining sender.old) (R.remaining receiver.old) (L.remaining lists.old) (λ a b c.
-        IsRingAnswer (record {
-          B = B;
-          M = M;
-          place = place;
-          stream = left_after (runs.skip * runs.length) (G.Rng.stream generator.now);
-          size = runs.length;
-          runs = runs.number;
-        }) a b c whose answer)) text_and_value result }
+        IsRingAnswer (draws B M place (G.Rng.stream generator.now) runs) a b c whose answer)) text_and_value result }
     ensures unread { HasNoProgram (S.remaining sender.old) → receiver.new ≡ receiver.old }
     ensures unread_lists { HasNoProgram (S.remaining sender.old) ⊎ HasNoProgram (R.remaining receiver.old) → lists.new ≡ lists.old }
 {
@@ -106,15 +98,8 @@ pub fn ring_engine<
     requires capacity { B ≤ 64 }
     requires some_word { 1 ≤ M }
     requires size { M ≤ 65536 }
-    ensures ends { EndsRing (record {
-      B = B;
-      M = M;
-      place = place;
-      stream = left_after (runs.skip * runs.length) (G.Rng.stream generator.now);
-      size = runs.length;
-      runs = runs.number;
-    }) result (S.remaining sender.old) (R.remaining receiver.old) (L.remaining lists.old)
-        W.contents writer.old writer.new }
+    ensures ends { EndsRing (draws B M place (G.Rng.stream generator.now) runs) result
+        (S.remaining sender.old) (R.remaining receiver.old) (L.remaining lists.old) W.contents writer.old writer.new }
     ensures unread { HasNoProgram (S.remaining sender.old) → receiver.new ≡ receiver.old }
     ensures unread_lists { HasNoProgram (S.remaining sender.old) ⊎ HasNoProgram (R.remaining receiver.old) → lists.new ≡ lists.old }
 {

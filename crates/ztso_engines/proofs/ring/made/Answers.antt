@@ -1,27 +1,13 @@
-use Rattle.std.proofs.Common.{ℕ, List, ◌*◌, refl}
+use Rattle.std.proofs.Common.{ℕ, List, refl}
 use Rattle.std.specs.Global.{Vec}
-use Rattle.rand_core.specs.Stream.{Stream}
-use Rattle.jumping.specs.declared.Runs.{Runs}
-use Rattle.poll_close.specs.declared.place.Place.{Place}
 use Rattle.engine_support.specs.inner.Making.{text_and_value}
-use Rattle.recorder.specs.Drawing.{left_after}
-use Rattle.ztso_engines.specs.Rings.{Draws}
+use Rattle.ztso_engines.specs.Rings.{draws}
 use Rattle.ztso_engines.proofs.ProgramLaws.{is_passed}
 use Rattle.ztso_engines.proofs.RingLaws.{channel_refused, lists_fault, own_told, programs_fault}
 use Rattle.ztso_engines.proofs.ring.made.Goals as goal
 
 abbrev codes_of : Vec ℕ × Vec ℕ → List ℕ × List ℕ
 codes_of codes = (codes.0.items, codes.1.items)
-
-abbrev draws : (B M : ℕ) → Place → Stream → Runs → Draws
-draws B M place stream runs = record {
-  B = B;
-  M = M;
-  place = place;
-  stream = left_after (runs.skip * runs.length) stream;
-  size = runs.length;
-  runs = runs.number;
-}
 
 pub returns-in_err-sender-clause-made : goal.returns-in_err-sender-clause-made
 returns-in_err-sender-clause-made g c =
