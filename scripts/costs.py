@@ -25,6 +25,12 @@ class Costs:
         rows = [[name, *(str(self.seconds[name].get(kind, 0)) for kind in KINDS)] for name in sorted(self.seconds)]
         FILE.write_text("".join("\t".join(row) + "\n" for row in [["crate", *KINDS], *rows]))
 
+    def renewed(self, other):
+        """These costs with those of `other` in their place, kind by kind: what `other` did not measure stays."""
+        return Costs(self.crates, {
+            name: {kind: other.seconds.get(name, {}).get(kind) or self.seconds.get(name, {}).get(kind, 0) for kind in KINDS}
+            for name in {**self.seconds, **other.seconds}})
+
     def proof(self, name):
         """What a crate's proof costs; for one that was never measured, a middle one."""
         known = [row["proof"] for row in self.seconds.values() if row.get("proof")]
