@@ -14,6 +14,9 @@ SB = (ROOT / "litmus/store-buffering/sb.litmus").read_text()
 # a hart that goes round for ever
 LOOP = SB.replace(" lw x7,0(x8) | lw x7,0(x8) ;", " lw x7,0(x8) | lw x7,0(x8) ;\n l: j l | nop ;")
 
+# A command in the background of a script ignores it, and so would the page that it starts: then no page would end.
+signal.signal(signal.SIGINT, signal.default_int_handler)
+
 
 class Served:
     def __init__(self, program=None, *words, page=TOOLS / "page", cwd=None, **environment):
