@@ -6,7 +6,7 @@ use Rattle.engine_support.specs.declared.fault.Fault.TheVariants.{ReadFailed, Wr
 use Rattle.engine_support.specs.declared.fault.Refusal.{Refusal}
 use Rattle.engine_support.specs.Engines.{Ends}
 use Rattle.debugger.specs.Transcripts.{EndsInteractive, OnRefused, OnStopped, OnUnwritten}
-use Rattle.ztso.specs.declared.job.MachineCommand.TheVariants.{Debug}
+use Rattle.command_line.specs.declared.job.MachineCommand.TheVariants.{Debug}
 use Rattle.ztso.specs.Work.{IsRefusal, LeavesCommands, WithStatus, done_status, ended_with}
 
 answered : {V W : Type 0} (status : V → ℕ) (IsAnswer : Result (List ℕ × V) Refusal → Type 0) (r : Result V Fault) (contents : W → Option (List ℕ)) (old new : W)

@@ -1,7 +1,2 @@
 pub mod Buffered
-pub mod Described
 pub mod Endings
-pub mod Matches
-pub mod NumberLaws
-pub mod Pieces
-pub mod Spellings

@@ -1,5 +1,7 @@
 -- How the program fails, and the exit statuses.
-use Rattle.std.specs.Prelude.{ℕ, ◌≡◌, ◌⊎◌, Bool, true, false, Result, Ok, Err}
+use Rattle.std.specs.Prelude.{ℕ, Bool, true, false, Result, Ok, Err}
+use Rattle.command_line.specs.declared.fault.CommandLineError.{CommandLineError}
+use Rattle.command_line.specs.declared.fault.CommandLineError.TheVariants as command_line
 use Rattle.finding.specs.declared.finds.Found.{Found}
 use Rattle.finding.specs.declared.finds.Found.TheVariants as found
 use Rattle.ztso.specs.declared.failure.Failure.{Failure}
@@ -16,6 +18,11 @@ status_of BadCommandLine = 2
 status_of (Engine fault) = fault_status_of fault
 status_of (NotFound states) = 1
 status_of (Program role refusal) = 2
+
+-- the failure where words give no job
+abbrev pub failure_of : CommandLineError → Failure
+failure_of command_line.BadCommandLine = BadCommandLine
+failure_of command_line.NoMemory = Engine NoMemory
 
 -- the exit status after a search that found what it looked for, or the failure to find it
 abbrev pub found_status : Result Found Fault → Result ℕ Failure
@@ -38,8 +45,3 @@ ring_status (Err fault) = Err (own_failure fault)
 abbrev pub own_status : Result (Unit {0}) OwnFault → Result ℕ Failure
 own_status (Ok done) = Ok 0
 own_status (Err fault) = Err (own_failure fault)
-
--- want of memory is reported as such, and every other error as a bad command line
-abbrev pub IsFailureFor : Type 0 → Failure → Type 0
-IsFailureFor WantOfMemory failure = (WantOfMemory × (failure ≡ Engine NoMemory))
-    ⊎ ((WantOfMemory → ⊥) × (failure ≡ BadCommandLine))

@@ -40,14 +40,14 @@ use Rattle.poll_close.specs.Laws.{Ring as RingTables}
 use Rattle.lamport_ring.specs.Listing.{lamport}
 use Rattle.fastforward.specs.Listing.{fastforward}
 use Rattle.lamport_cached.specs.Listing.{lamport_cached}
-use Rattle.ztso.specs.declared.job.Capacity.{Capacity}
-use Rattle.ztso.specs.declared.job.Capacity.TheVariants.{One, Two, Four, Sixteen}
-use Rattle.ztso.specs.declared.job.Ring.{Ring}
-use Rattle.ztso.specs.declared.job.Ring.TheVariants.{Lamport, FastForward, LamportCached}
-use Rattle.ztso.specs.declared.job.CodeCommand.{CodeCommand}
-use Rattle.ztso.specs.declared.job.CodeCommand.TheVariants.{Asm, Dis}
-use Rattle.ztso.specs.declared.job.MachineCommand.{MachineCommand}
-use Rattle.ztso.specs.declared.job.MachineCommand.TheVariants.{Steps, Run, Replay, Move, Shrink, Chart, Show, Check, Debug, Try, Channel}
+use Rattle.command_line.specs.declared.job.Capacity.{Capacity}
+use Rattle.command_line.specs.declared.job.Capacity.TheVariants.{One, Two, Four, Sixteen}
+use Rattle.command_line.specs.declared.job.Ring.{Ring}
+use Rattle.command_line.specs.declared.job.Ring.TheVariants.{Lamport, FastForward, LamportCached}
+use Rattle.command_line.specs.declared.job.CodeCommand.{CodeCommand}
+use Rattle.command_line.specs.declared.job.CodeCommand.TheVariants.{Asm, Dis}
+use Rattle.command_line.specs.declared.job.MachineCommand.{MachineCommand}
+use Rattle.command_line.specs.declared.job.MachineCommand.TheVariants.{Steps, Run, Replay, Move, Shrink, Chart, Show, Check, Debug, Try, Channel}
 use Rattle.ztso.specs.declared.failure.Failure.{Failure}
 use Rattle.ztso.specs.declared.work.TheConstants.{WORDS}
 use Rattle.ztso.specs.Failures.{found_status, own_status, ring_status}

@@ -1,19 +1,14 @@
 //! How the program fails.
 
 ghost use Rattle.std.specs.Prelude.{◌≡◌};
-ghost use Rattle.clap.specs.Words.{kind_of};
-ghost use Rattle.clap.specs.declared.error.kind.ErrorKind.TheVariants as kind;
-ghost use Rattle.std.specs.IoError.{error_kind};
-ghost use Rattle.std.specs.declared.io.ErrorKind.TheVariants as io_kind;
-ghost use Rattle.ztso.specs.Failures.{IsFailureFor, found_status, own_failure, own_status, ring_status, status_of};
+ghost use Rattle.ztso.specs.Failures.{failure_of, found_status, own_failure, own_status, ring_status, status_of};
 ghost use Rattle.ztso.specs.declared.failure.Failure.TheVariants.{Engine};
 ghost use Rattle.engine_support.specs.declared.fault.Fault.TheVariants.{NoMemory};
 
-use clap::error::ErrorKind;
+use command_line::CommandLineError;
 use engine_support::fault::{Fault, Refusal};
 use finding::Found;
 use std::alloc::AllocError;
-use std::io;
 use thiserror::Error;
 use ztso_engines::programs::{OwnFault, Role};
 
@@ -57,13 +52,13 @@ impl From<AllocError> for Failure {
     }
 }
 
-impl From<clap::Error> for Failure {
-    ghost from_gives = { λ error failure. IsFailureFor (kind_of error ≡ kind.OutOfMemory) failure };
+impl From<CommandLineError> for Failure {
+    ghost from_gives = { λ error failure. failure ≡ failure_of error };
 
-    fn from(error: clap::Error) -> Failure {
-        match error.kind() {
-            ErrorKind::OutOfMemory => Failure::Engine(Fault::NoMemory),
-            _ => Failure::BadCommandLine,
+    fn from(error: CommandLineError) -> Failure {
+        match error {
+            CommandLineError::BadCommandLine => Failure::BadCommandLine,
+            CommandLineError::NoMemory => Failure::Engine(Fault::NoMemory),
         }
     }
 }
@@ -108,17 +103,6 @@ impl Failure {
         match fault {
             OwnFault::Program { role, refusal } => Failure::Program { role, refusal },
             OwnFault::Other(fault) => Failure::Engine(fault),
-        }
-    }
-
-    /// The failure to read the arguments at all: one of them is no text, or there is no memory.
-    pub fn of_arguments(error: io::Error) -> Failure
-        ensures { IsFailureFor (error_kind error ≡ io_kind.OutOfMemory) result }
-    {
-        if error.kind() == io::ErrorKind::OutOfMemory {
-            Failure::Engine(Fault::NoMemory)
-        } else {
-            Failure::BadCommandLine
         }
     }
 }

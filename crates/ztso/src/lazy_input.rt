@@ -2,7 +2,7 @@
 
 ghost use Rattle.std.specs.Prelude.{◌≡◌, None};
 
-use crate::job::Input;
+use command_line::job::Input;
 use std::io::{ErrorKind, Input as StandardInput, Read};
 use std::rt::Files;
 use std::{fs, io};

@@ -1,6 +1,6 @@
-//! The program `ztso`: its command line, and the streams and files for the engine that a job wants.
+//! The program `ztso`: the streams and files for the engine that a job wants.
 //!
-//! The contract: [`command_line::job_of`] says which words ask for which job, [`work::do_code`],
+//! The contract: [`command_line::job_of`] states which words ask for which job, [`work::do_code`],
 //! [`work::do_machine`], [`work::do_find`], [`work::do_own`], [`work::do_ring`] and [`work::do_threads`] which
 //! engine does it with what capacity and with which exit status, and [`failure::Failure`] the exit status of each failure.
 //! This crate knows no text, no instruction and no machine. Only the command `threads` may wait, for the lock
@@ -11,19 +11,17 @@
 
 ghost use Rattle.std.specs.Prelude.{◌≤◌, IfOk};
 
-mod command_line;
 mod failure;
-mod job;
 mod lazy_input;
 mod progress_line;
 mod prompt_reader;
 mod search_line;
 mod work;
 
-use command_line::job_of;
+use command_line::job::{Command, Job};
+use command_line::{CommandLineError, job_of};
 use failure::Failure;
 use finding::SearchProgress;
-use job::{Command, Job};
 use lazy_input::LazyInput;
 use progress_line::ProgressLine;
 use prompt_reader::PromptReader;
@@ -62,7 +60,7 @@ where
     R::Reader: IsTerminal,
     ensures { IfOk result (λ status. status ≤ 1) }
 {
-    let arguments = env::args(rt).map_err(Failure::of_arguments)?;
+    let arguments = env::args(rt).map_err(CommandLineError::of_arguments)?;
     let words: Vec<String> = arguments.collect(rt.alloc())?;
     let job = job_of(rt.alloc(), &words)?;
     do_job(rt, job, progress, search)

@@ -22,7 +22,7 @@ ghost use Rattle.ztso_engines.specs.Programs.{HasNoProgram};
 ghost use Rattle.ztso_engines.specs.Rings.{EndsRing};
 
 use crate::failure::Failure;
-use crate::job::{Capacity, CodeCommand, MachineCommand, Ring};
+use command_line::job::{Capacity, CodeCommand, MachineCommand, Ring};
 use checking::check_engine;
 use debugger::debug::debug_engine;
 use engine_support::fault::Fault;

@@ -1,0 +1,5 @@
+pub mod Described
+pub mod Matches
+pub mod NumberLaws
+pub mod Pieces
+pub mod Spellings

@@ -1,0 +1,49 @@
+-- From what a parse found to the job.
+use Rattle.std.proofs.Common.{◌≡◌, List, [], ◌∷◌, inl, inr, Option, Some, None, refl, true}
+use Rattle.std.specs.Prelude.{option_and_then, option_map, Result, Ok, Err, IsErrAnd}
+use Rattle.std.specs.Option.{ok_or}
+use Rattle.clap.specs.Words.{HasKind, Kinds, Row, Text, fault_of, is_simple, is_simple_and_free, kind_of, subcommand_of}
+use Rattle.clap.specs.declared.error.Error.{Error}
+use Rattle.clap.specs.declared.error.kind.ErrorKind.TheVariants.{OutOfMemory}
+use Rattle.clap.proofs.OnLiterals.{clap_on_literals}
+use Rattle.command_line.specs.CommandLines.{Answers, job_at, job_said, job_without}
+use Rattle.command_line.specs.Descriptions.{ztso_command}
+use Rattle.command_line.specs.Jobs.{wanted_by}
+use Rattle.command_line.specs.Faults.{IsErrorFor}
+use Rattle.command_line.specs.declared.fault.CommandLineError.{CommandLineError}
+use Rattle.command_line.specs.declared.fault.CommandLineError.TheVariants.{BadCommandLine}
+use Rattle.command_line.specs.declared.job.Job.{Job}
+
+-- clap's clauses speak of the whole description
+pub is_simple_ztso : is_simple ztso_command ≡ true
+unfolding clap_on_literals
+is_simple_ztso = refl
+
+pub is_free_ztso : is_simple_and_free ztso_command ≡ true
+unfolding clap_on_literals
+is_free_ztso = refl
+
+failed : (kinds : Kinds) (found : Option (Text × List Row)) (error : Error) → HasKind kinds error
+    → (r : Result Job CommandLineError) → IsErrAnd r (IsErrorFor (kind_of error ≡ OutOfMemory)) → Answers (job_without kinds found) r
+failed kinds found error has (Ok job) fails = absurd fails
+failed kinds found error has (Err failure) (inl memory) = inl memory.1
+failed kinds found error (inl memory) (Err failure) (inr other) = absurd (other.0 memory)
+failed [] found error (inr among) (Err failure) (inr other) = absurd among
+failed (kind ∷ kinds) found error (inr among) (Err failure) (inr other) = inr (other.1, refl)
+
+-- a parse that fails ends as its kind says
+pub answers_failed : (words : List Text) (error : Error) → HasKind (fault_of ztso_command words) error
+    → (r : Result Job CommandLineError) → IsErrAnd r (IsErrorFor (kind_of error ≡ OutOfMemory)) → Answers (job_said words) r
+unfolding job_said
+answers_failed words = failed (fault_of ztso_command words) (subcommand_of ztso_command words)
+
+-- a parse that succeeds is answered by what it found
+pub answers_found : (words : List Text) → fault_of ztso_command words ≡ []
+    → (found : Option Job) → option_map wanted_by found ≡ option_and_then job_at (subcommand_of ztso_command words)
+    → (r : Result Job CommandLineError) → r ≡ ok_or found BadCommandLine → Answers (job_said words) r
+unfolding job_said
+answers_found words none found is_found r is_r = rw (none, ← is_found, is_r) (by_found found)
+  where
+    by_found : (o : Option Job) → Answers (option_map wanted_by o) (ok_or o BadCommandLine)
+    by_found None = inr (refl, refl)
+    by_found (Some job) = refl

@@ -1,0 +1,270 @@
+-- The job that words ask for.
+use Rattle.std.specs.Prelude.{ℕ, ◌≡◌, ◌⊎◌, Bool, List, [], ◌∷◌, Option, Some, None, Result, Ok, Err, codes, if◌then◌else◌, option_and_then, option_map}
+use Rattle.std.specs.Str.{bytes_eq}
+use Rattle.clap.specs.Words.{Kinds, Row, Text, fault_of, first_of, subcommand_of}
+use Rattle.recorder.specs.declared.reading.TheConstants.{MAX_EVENTS}
+use Rattle.command_line.specs.declared.fault.CommandLineError.{CommandLineError}
+use Rattle.command_line.specs.declared.fault.CommandLineError.TheVariants.{BadCommandLine, NoMemory}
+use Rattle.command_line.specs.declared.job.Capacity.{Capacity}
+use Rattle.command_line.specs.declared.job.Capacity.TheVariants.{One, Two, Four, Sixteen}
+use Rattle.command_line.specs.declared.job.Job.{Job}
+use Rattle.command_line.specs.Descriptions.{ztso_command}
+use Rattle.command_line.specs.declared.job.Ring.{Ring}
+use Rattle.command_line.specs.declared.job.Ring.TheVariants.{Lamport, FastForward, LamportCached}
+use Rattle.command_line.specs.declared.job.CodeCommand.TheVariants.{Asm, Dis}
+use Rattle.command_line.specs.declared.job.Command.{Command}
+use Rattle.command_line.specs.declared.job.Command.TheVariants.{Code, Machine, Find, Threads, Own, Ring as OwnRing}
+use Rattle.jumping.specs.declared.Runs.{Runs}
+use Rattle.poll_close.specs.declared.place.Place.{Place}
+use Rattle.command_line.specs.declared.job.MachineCommand.{MachineCommand}
+use Rattle.chart.specs.declared.scenes.Selection.{Selection}
+use Rattle.chart.specs.declared.scenes.Selection.TheVariants.{EveryRow, MemoryRows}
+use Rattle.view_engines.specs.declared.charting.Style.{Style}
+use Rattle.view_engines.specs.declared.charting.Style.TheVariants.{Svg}
+use Rattle.view_engines.specs.declared.charting.Style.TheVariants as style
+use Rattle.view_engines.specs.declared.showing.Form.{Form}
+use Rattle.view_engines.specs.declared.showing.Form.TheVariants as form
+use Rattle.command_line.specs.declared.job.MachineCommand.TheVariants.{Steps, Run, Replay, Move, Shrink, Chart, Show, Check, Debug, Try, Channel}
+use Rattle.command_line.specs.Jobs.{Input, Wanted, four_inputs, one_input, three_inputs, two_inputs, wanted_by}
+use Rattle.command_line.specs.Jobs.Input.{Standard, File}
+use Rattle.command_line.specs.Numbers.{number_within}
+
+infixl 10 ◌>>=◌
+abbrev pub ◌>>=◌ : {A B : Type 0} → Option A → (A → Option B) → Option B
+found >>= f = option_and_then f found
+
+abbrev pub capacity_said : Text → Option Capacity
+capacity_said text =
+    if bytes_eq text (codes "1") then Some One
+    else (if bytes_eq text (codes "2") then Some Two
+    else (if bytes_eq text (codes "4") then Some Four
+    else (if bytes_eq text (codes "16") then Some Sixteen else None)))
+
+-- the seed of the generator that draws schedules
+abbrev pub seed_in : List Row → Option ℕ
+seed_in options = first_of (codes "seed") options >>= number_within 0 18446744073709551615
+
+-- which runs are drawn
+abbrev pub runs_in : List Row → Option Runs
+runs_in options = do
+  skip_text ← first_of (codes "skip") options
+  skip ← number_within 0 18446744073709551615 skip_text
+  runs_text ← first_of (codes "runs") options
+  runs ← number_within 1 100000 runs_text
+  length_text ← first_of (codes "length") options
+  events ← number_within 0 MAX_EVENTS length_text
+  jobs_text ← first_of (codes "jobs") options
+  jobs ← number_within 1 64 jobs_text
+  Some (record { skip = skip; number = runs; length = events; jobs = jobs })
+
+-- the runs of `try`, from its options
+abbrev pub try_in : List Row → Option MachineCommand
+try_in options = do
+  seed ← seed_in options
+  runs ← runs_in options
+  Some (Try seed runs)
+
+abbrev pub ring_said : Text → Option Ring
+ring_said text =
+    if bytes_eq text (codes "lamport") then Some Lamport
+    else (if bytes_eq text (codes "fastforward") then Some FastForward else (if bytes_eq text (codes "cached") then Some LamportCached else None))
+
+-- whether a flag with this value is given
+abbrev pub flag_said : Text → Bool
+flag_said text = bytes_eq text (codes "true")
+
+-- a number of 32 bits, if one is said; none where that is no such number
+abbrev pub number_if_said : Option Text → Option (Option ℕ)
+number_if_said None = Some None
+number_if_said (Some text) = option_map (λ (number : ℕ). Some number) (number_within 0 4294967295 text)
+
+-- how `chart` draws, by its flag
+abbrev pub style_said : Text → Style
+style_said text = if flag_said text then Svg else style.Text
+
+-- which rows it draws, by its flag
+abbrev pub selection_said : Text → Selection
+selection_said text = if flag_said text then MemoryRows else EveryRow
+
+abbrev pub chart_in : List Row → Option MachineCommand
+chart_in options = do
+  svg ← first_of (codes "svg") options
+  memory ← first_of (codes "memory") options
+  Some (Chart (style_said svg) (selection_said memory))
+
+-- the form in which `show` tells a test, by its flag
+abbrev pub form_said : Text → Form
+form_said text = if flag_said text then form.Steps else form.Table
+
+abbrev pub show_in : List Row → Option MachineCommand
+show_in options = do
+  steps ← first_of (codes "steps") options
+  Some (Show (form_said steps))
+
+-- where a channel's blocks lie
+abbrev pub place_in : List Row → Option Place
+place_in options = do
+  slots_text ← first_of (codes "ring") options
+  slots ← number_within 0 4294967295 slots_text
+  base_text ← first_of (codes "base") options
+  base ← number_within 0 4294967295 base_text
+  stride ← number_if_said (first_of (codes "stride") options)
+  Some (record { slots = slots; base = base; stride = stride })
+
+-- the ring of `channel`, from its words, its place, and whether it is to be finished
+abbrev pub channel_in : List Row → Option MachineCommand
+channel_in options = do
+  kind ← first_of (codes "kind") options
+  ring ← ring_said kind
+  place ← place_in options
+  finish ← first_of (codes "finish") options
+  Some (Channel ring place (flag_said finish))
+
+-- the capacity that the options ask for
+abbrev pub capacity_in : List Row → Option Capacity
+capacity_in options = first_of (codes "buffer") options >>= capacity_said
+
+-- this command on a machine of this capacity
+abbrev pub machine_in : List Row → Option MachineCommand → Option Command
+machine_in options found = do
+  command ← found
+  capacity ← capacity_in options
+  Some (Machine command capacity)
+
+-- the search, from its options
+abbrev pub find_in : List Row → Option Command
+find_in options = do
+  states_text ← first_of (codes "states") options
+  states ← number_within 1 16777216 states_text
+  capacity ← capacity_in options
+  Some (Find states capacity)
+
+-- the run on threads, from its options
+abbrev pub threads_in : List Row → Option Command
+threads_in options = do
+  turns_text ← first_of (codes "turns") options
+  turns ← number_within 0 10000000 turns_text
+  capacity ← capacity_in options
+  Some (Threads turns capacity)
+
+-- the runs of `ring`, from its options, and of which channel
+abbrev pub ring_in : List Row → Option Command
+ring_in options = do
+  seed ← seed_in options
+  runs ← runs_in options
+  place ← place_in options
+  capacity ← capacity_in options
+  Some (OwnRing seed runs place capacity)
+
+-- the channel of a user's programs, from its words and its place; it isn't finished by a plan
+abbrev pub own_in : List Row → Option Command
+own_in options = do
+  place ← place_in options
+  finish ← first_of (codes "finish") options
+  if flag_said finish then None else (do
+    capacity ← capacity_in options
+    Some (Own place capacity))
+
+-- the file that a word names
+abbrev pub file_in : (id : Text) → List Row → Option Input
+file_in id options = do
+  path ← first_of id options
+  Some (File path)
+
+-- a command on the file `file`
+abbrev pub on_file : List Row → Option Command → Option Wanted
+on_file options found = do
+  command ← found
+  file ← file_in (codes "file") options
+  Some (one_input command file)
+
+-- a command on the files `file` and `schedule`
+abbrev pub on_file_and_schedule : List Row → Option Command → Option Wanted
+on_file_and_schedule options found = do
+  command ← found
+  file ← file_in (codes "file") options
+  schedule ← file_in (codes "schedule") options
+  Some (two_inputs command file schedule)
+
+-- a command on the file `file`, and then on standard input
+abbrev pub on_file_and_standard : List Row → Option Command → Option Wanted
+on_file_and_standard options found = do
+  command ← found
+  file ← file_in (codes "file") options
+  Some (two_inputs command file Standard)
+
+-- a command on the file `schedule`, and then on standard input
+abbrev pub on_schedule_and_standard : List Row → Option Command → Option Wanted
+on_schedule_and_standard options found = do
+  command ← found
+  schedule ← file_in (codes "schedule") options
+  Some (two_inputs command schedule Standard)
+
+-- a command on the files `sender` and `receiver`, and then on standard input
+abbrev pub on_programs_and_standard : List Row → Option Command → Option Wanted
+on_programs_and_standard options found = do
+  command ← found
+  sender ← file_in (codes "sender") options
+  receiver ← file_in (codes "receiver") options
+  Some (three_inputs command sender receiver Standard)
+
+-- what is found, where this option is left out
+abbrev pub where_left_out : {A : Type 0} → Option Text → Option A → Option A
+where_left_out None found = found
+where_left_out (Some said) found = None
+
+-- `channel own`, on the files `sender`, `receiver` and `schedule`, and then on standard input
+abbrev pub on_own_channel : List Row → Option Wanted
+on_own_channel options = do
+  sender ← file_in (codes "sender") options
+  receiver ← file_in (codes "receiver") options
+  command ← own_in options
+  schedule ← file_in (codes "schedule") options
+  Some (four_inputs command sender receiver schedule Standard)
+
+-- `channel`, with KIND `own` over the user's programs, else without them
+abbrev pub on_channel : List Row → Option Wanted
+on_channel options = do
+  kind ← first_of (codes "kind") options
+  if bytes_eq kind (codes "own") then on_own_channel options
+      else where_left_out (first_of (codes "sender") options) (where_left_out (first_of (codes "receiver") options)
+      (on_schedule_and_standard options (machine_in options (channel_in options))))
+
+-- a command on standard input
+abbrev pub on_standard : Option Command → Option Wanted
+on_standard found = do
+  command ← found
+  Some (one_input command Standard)
+
+-- The table of commands: what each asks for, by its options and words.
+abbrev pub job_at : Text × List Row → Option Wanted
+job_at p =
+    if bytes_eq p.0 (codes "steps") then on_standard (machine_in p.1 (Some Steps))
+    else (if bytes_eq p.0 (codes "asm") then on_standard (Some (Code Asm))
+    else (if bytes_eq p.0 (codes "dis") then on_standard (Some (Code Dis))
+    else (if bytes_eq p.0 (codes "run") then on_file_and_schedule p.1 (machine_in p.1 (Some Run))
+    else (if bytes_eq p.0 (codes "replay") then on_file_and_schedule p.1 (machine_in p.1 (Some Replay))
+    else (if bytes_eq p.0 (codes "move") then on_file_and_schedule p.1 (machine_in p.1 (Some Move))
+    else (if bytes_eq p.0 (codes "shrink") then on_file_and_schedule p.1 (machine_in p.1 (Some Shrink))
+    else (if bytes_eq p.0 (codes "chart") then on_file_and_schedule p.1 (machine_in p.1 (chart_in p.1))
+    else (if bytes_eq p.0 (codes "show") then on_file p.1 (machine_in p.1 (show_in p.1))
+    else (if bytes_eq p.0 (codes "check") then on_file_and_standard p.1 (machine_in p.1 (Some Check))
+    else (if bytes_eq p.0 (codes "find") then on_file p.1 (find_in p.1)
+    else (if bytes_eq p.0 (codes "debug") then on_file_and_schedule p.1 (machine_in p.1 (Some Debug))
+    else (if bytes_eq p.0 (codes "try") then on_file p.1 (machine_in p.1 (try_in p.1))
+    else (if bytes_eq p.0 (codes "channel") then on_channel p.1
+    else (if bytes_eq p.0 (codes "threads") then on_file p.1 (threads_in p.1)
+    else (if bytes_eq p.0 (codes "ring") then on_programs_and_standard p.1 (ring_in p.1) else None)))))))))))))))
+
+abbrev pub job_without : Kinds → Option (Text × List Row) → Option Wanted
+job_without [] found = option_and_then job_at found
+job_without (kind ∷ kinds) found = None
+
+-- what the words ask for, the first of which is the program's name
+unfoldable pub job_said : List Text → Option Wanted
+job_said words = job_without (fault_of ztso_command words) (subcommand_of ztso_command words)
+
+-- the job that is said, unless there was no memory, and a bad command line where none is said
+abbrev pub Answers : Option Wanted → Result Job CommandLineError → Type 0
+Answers said (Ok job) = said ≡ Some (wanted_by job)
+Answers said (Err error) = (error ≡ NoMemory) ⊎ ((error ≡ BadCommandLine) × (said ≡ None))

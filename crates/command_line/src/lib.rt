@@ -1,0 +1,16 @@
+//! The command line of `ztso`: which words ask for which job.
+//!
+//! The contract: [`job_of`] returns the job that words ask for, as `specs/CommandLines.antt` reads them by the
+//! description that `specs/Descriptions.antt` gives clap, and takes each spelling that `specs/Spellings.antt` lists.
+//! This crate does no job: it opens no file, and knows of an engine only the options that its command has.
+
+#![tactic(auto)]
+
+mod description;
+mod fault;
+pub mod job;
+mod numbers;
+mod reading;
+
+pub use fault::CommandLineError;
+pub use reading::job_of;

@@ -1,0 +1,442 @@
+//! The command line, read as a job.
+
+ghost use Rattle.std.specs.Prelude.{◌≡◌, ◌∷◌, ℕ, List, IfOk, map, option_and_then, option_map};
+ghost use Rattle.clap.specs.Words.{FailsBy, fault_of, first_of, found_of, rows_of, subcommand_of, subcommand_rows_of};
+ghost use Rattle.command_line.specs.CommandLines.{Answers, capacity_said, job_at, channel_in, chart_in, find_in, flag_said};
+ghost use Rattle.command_line.specs.CommandLines.{form_said, show_in, style_said, selection_said, job_said, number_if_said};
+ghost use Rattle.command_line.specs.CommandLines.{machine_in, own_in, on_file, on_file_and_schedule, on_channel};
+ghost use Rattle.command_line.specs.CommandLines.{on_file_and_standard, on_own_channel, on_programs_and_standard};
+ghost use Rattle.command_line.specs.CommandLines.{on_schedule_and_standard, on_standard, place_in, ring_in, ring_said, runs_in};
+ghost use Rattle.command_line.specs.CommandLines.{seed_in, threads_in, try_in};
+ghost use Rattle.command_line.specs.Descriptions.{ztso_command};
+ghost use Rattle.command_line.specs.Spellings.{IsSpelling};
+ghost use Rattle.command_line.specs.Jobs.{Wanted, wanted_by};
+
+use crate::fault::CommandLineError;
+use crate::job::{Capacity, CodeCommand, Command, Input, Job, MachineCommand, Ring};
+use clap::ArgMatches;
+use crate::description::ztso_command;
+use jumping::Runs;
+use crate::numbers::{count_of, number_of};
+use poll_close::Place;
+use recorder::MAX_EVENTS;
+use std::alloc::Global;
+use std::convert::AsStr;
+use view_engines::charting::{Selection, Style};
+use view_engines::showing::Form;
+
+/// The most runs that `try` and `ring` make.
+const MOST_RUNS: u32 = 100_000;
+
+/// The most threads that share them.
+const MOST_JOBS: u32 = 64;
+
+/// The most states that `find` sees.
+const MOST_STATES: u32 = 16_777_216;
+
+/// The most calls that a thread of `threads` makes.
+const MOST_TURNS: u32 = 10_000_000;
+
+/// The job that the words ask for, the first of which is the program's name.
+///
+/// Any other words are a bad command line, and so is a request for help; as clap has it, a last `--`
+/// is taken. The other failure is want of memory.
+pub fn job_of<'a, S: AsStr>(alloc: Global, words: &'a [S]) -> Result<Job<'a>, CommandLineError>
+    ensures said { Answers (job_said (map S.text words.entry.now)) result }
+
+    // Each way of writing a job is taken, whatever name the program is called by.
+    ensures spelled { (name : List ℕ) (rest : List (List ℕ)) (wanted : Wanted)
+        → map S.text words.entry.now ≡ name ∷ rest → IsSpelling wanted rest → Answers (Some wanted) result }
+{
+    let matches = matches_of(alloc, words)?;
+    job_at(&matches).ok_or(CommandLineError::BadCommandLine)
+}
+
+fn matches_of<'a, S: AsStr>(alloc: Global, words: &'a [S]) -> Result<ArgMatches<'a>, clap::Error>
+    ensures kinds { FailsBy (fault_of ztso_command (map S.text words.entry.now)) result }
+    ensures subcommand { IfOk result (λ matches.
+        subcommand_rows_of matches ≡ subcommand_of ztso_command (map S.text words.entry.now)) }
+{
+    let command = ztso_command(alloc)?;
+    command.try_get_matches_from(words)
+}
+
+/// The table of commands: what each asks for.
+fn job_at<'a>(matches: &ArgMatches<'a>) -> Option<Job<'a>>
+    ensures { option_map wanted_by result ≡ option_and_then job_at (subcommand_rows_of matches.now) }
+{
+    match matches.subcommand()? {
+        ("steps", options) => on_standard(machine_in(options, Some(MachineCommand::Steps))),
+        ("asm", _) => on_standard(Some(Command::Code(CodeCommand::Asm))),
+        ("dis", _) => on_standard(Some(Command::Code(CodeCommand::Dis))),
+        ("run", options) => on_file_and_schedule(
+            options,
+            machine_in(options, Some(MachineCommand::Run)),
+        ),
+        ("replay", options) => {
+            on_file_and_schedule(options, machine_in(options, Some(MachineCommand::Replay)))
+        }
+        ("move", options) => on_file_and_schedule(
+            options,
+            machine_in(options, Some(MachineCommand::Move)),
+        ),
+        ("shrink", options) => {
+            on_file_and_schedule(options, machine_in(options, Some(MachineCommand::Shrink)))
+        }
+        ("chart", options) => on_file_and_schedule(options, machine_in(options, chart_in(options))),
+        ("show", options) => on_file(options, machine_in(options, show_in(options))),
+        ("check", options) => on_file_and_standard(
+            options,
+            machine_in(options, Some(MachineCommand::Check)),
+        ),
+        ("find", options) => on_file(options, find_in(options)),
+        ("debug", options) => on_file_and_schedule(
+            options,
+            machine_in(options, Some(MachineCommand::Debug)),
+        ),
+        ("try", options) => on_file(options, machine_in(options, try_in(options))),
+        ("channel", options) => on_channel(options),
+        ("threads", options) => on_file(options, threads_in(options)),
+        ("ring", options) => on_programs_and_standard(options, ring_in(options)),
+        _ => None,
+    }
+}
+
+/// The command, if there is one, on standard input.
+fn on_standard<'a>(command: Option<Command>) -> Option<Job<'a>>
+    ensures { option_map wanted_by result ≡ on_standard command }
+{
+    let command = command?;
+    Some(Job {
+        command,
+        first: Input::Standard,
+        second: None,
+        third: None,
+        fourth: None,
+    })
+}
+
+/// The command, if there is one, on the file `file`.
+fn on_file<'a>(options: &ArgMatches<'a>, command: Option<Command>) -> Option<Job<'a>>
+    ensures { option_map wanted_by result ≡ on_file (rows_of (found_of options.now)) command }
+{
+    let command = command?;
+    let file = word_in(options, "file")?;
+    Some(Job {
+        command,
+        first: Input::File(file),
+        second: None,
+        third: None,
+        fourth: None,
+    })
+}
+
+/// The command, if there is one, on the files `file` and `schedule`.
+fn on_file_and_schedule<'a>(options: &ArgMatches<'a>, command: Option<Command>) -> Option<Job<'a>>
+    ensures { option_map wanted_by result ≡ on_file_and_schedule (rows_of (found_of options.now)) command }
+{
+    let command = command?;
+    let file = word_in(options, "file")?;
+    let schedule = word_in(options, "schedule")?;
+    Some(Job {
+        command,
+        first: Input::File(file),
+        second: Some(Input::File(schedule)),
+        third: None,
+        fourth: None,
+    })
+}
+
+/// The command, if there is one, on the file `file`, and then on standard input.
+fn on_file_and_standard<'a>(options: &ArgMatches<'a>, command: Option<Command>) -> Option<Job<'a>>
+    ensures { option_map wanted_by result ≡ on_file_and_standard (rows_of (found_of options.now)) command }
+{
+    let command = command?;
+    let file = word_in(options, "file")?;
+    Some(Job {
+        command,
+        first: Input::File(file),
+        second: Some(Input::Standard),
+        third: None,
+        fourth: None,
+    })
+}
+
+/// The command, if there is one, on the file `schedule`, and then on standard input.
+fn on_schedule_and_standard<'a>(
+    options: &ArgMatches<'a>,
+    command: Option<Command>,
+) -> Option<Job<'a>>
+    ensures { option_map wanted_by result ≡ on_schedule_and_standard (rows_of (found_of options.now)) command }
+{
+    let command = command?;
+    let schedule = word_in(options, "schedule")?;
+    Some(Job {
+        command,
+        first: Input::File(schedule),
+        second: Some(Input::Standard),
+        third: None,
+        fourth: None,
+    })
+}
+
+/// The command, if there is one, on the files `sender` and `receiver`, and then on standard input.
+fn on_programs_and_standard<'a>(
+    options: &ArgMatches<'a>,
+    command: Option<Command>,
+) -> Option<Job<'a>>
+    ensures { option_map wanted_by result ≡ on_programs_and_standard (rows_of (found_of options.now)) command }
+{
+    let command = command?;
+    let sender = word_in(options, "sender")?;
+    let receiver = word_in(options, "receiver")?;
+    Some(Job {
+        command,
+        first: Input::File(sender),
+        second: Some(Input::File(receiver)),
+        third: Some(Input::Standard),
+        fourth: None,
+    })
+}
+
+/// What `channel` asks for: with KIND `own` a run over the user's programs, which have to be there; else one of a known
+/// ring, without them.
+fn on_channel<'a>(options: &ArgMatches<'a>) -> Option<Job<'a>>
+    ensures { option_map wanted_by result ≡ on_channel (rows_of (found_of options.now)) }
+{
+    if word_in(options, "kind")? == "own" {
+        return on_own_channel(options);
+    }
+    if word_in(options, "sender").is_some() || word_in(options, "receiver").is_some() {
+        return None;
+    }
+    on_schedule_and_standard(options, machine_in(options, channel_in(options)))
+}
+
+/// `channel own`: the files `sender`, `receiver` and `schedule`, and then standard input.
+fn on_own_channel<'a>(options: &ArgMatches<'a>) -> Option<Job<'a>>
+    ensures { option_map wanted_by result ≡ on_own_channel (rows_of (found_of options.now)) }
+{
+    let sender = word_in(options, "sender")?;
+    let receiver = word_in(options, "receiver")?;
+    let command = own_in(options)?;
+    let schedule = word_in(options, "schedule")?;
+    Some(Job {
+        command,
+        first: Input::File(sender),
+        second: Some(Input::File(receiver)),
+        third: Some(Input::File(schedule)),
+        fourth: Some(Input::Standard),
+    })
+}
+
+/// The command, if there is one, on a machine of the capacity that the options ask for.
+fn machine_in(options: &ArgMatches<'_>, command: Option<MachineCommand>) -> Option<Command>
+    ensures { result ≡ machine_in (rows_of (found_of options.now)) command }
+{
+    let command = command?;
+    let capacity = capacity_of(word_in(options, "buffer")?)?;
+    Some(Command::Machine { command, capacity })
+}
+
+/// The search that `find` is to make.
+fn find_in(options: &ArgMatches<'_>) -> Option<Command>
+    ensures { result ≡ find_in (rows_of (found_of options.now)) }
+{
+    let states = count_of(word_in(options, "states")?, 1, MOST_STATES)?;
+    let capacity = capacity_of(word_in(options, "buffer")?)?;
+    Some(Command::Find { states, capacity })
+}
+
+/// The run on threads that `threads` is to make.
+fn threads_in(options: &ArgMatches<'_>) -> Option<Command>
+    ensures { result ≡ threads_in (rows_of (found_of options.now)) }
+{
+    let turns = count_of(word_in(options, "turns")?, 0, MOST_TURNS)?;
+    let capacity = capacity_of(word_in(options, "buffer")?)?;
+    Some(Command::Threads { turns, capacity })
+}
+
+/// The seed of the generator that draws schedules.
+fn seed_in(options: &ArgMatches<'_>) -> Option<u64>
+    ensures { result ≡ seed_in (rows_of (found_of options.now)) }
+{
+    number_of(word_in(options, "seed")?)
+}
+
+/// Which runs are drawn.
+fn runs_in(options: &ArgMatches<'_>) -> Option<Runs>
+    ensures { result ≡ runs_in (rows_of (found_of options.now)) }
+{
+    let skip = number_of(word_in(options, "skip")?)?;
+    let number = count_of(word_in(options, "runs")?, 1, MOST_RUNS)?;
+    let length = count_of(word_in(options, "length")?, 0, MAX_EVENTS as u32)?;
+    let jobs = count_of(word_in(options, "jobs")?, 1, MOST_JOBS)?;
+    Some(Runs {
+        skip,
+        number,
+        length,
+        jobs,
+    })
+}
+
+/// The runs that `try` is to make.
+fn try_in(options: &ArgMatches<'_>) -> Option<MachineCommand>
+    ensures { result ≡ try_in (rows_of (found_of options.now)) }
+{
+    let seed = seed_in(options)?;
+    let runs = runs_in(options)?;
+    Some(MachineCommand::Try { seed, runs })
+}
+
+/// The runs that `ring` is to make, and of which channel.
+fn ring_in(options: &ArgMatches<'_>) -> Option<Command>
+    ensures { result ≡ ring_in (rows_of (found_of options.now)) }
+{
+    let seed = seed_in(options)?;
+    let runs = runs_in(options)?;
+    let place = place_in(options)?;
+    let capacity = capacity_of(word_in(options, "buffer")?)?;
+    Some(Command::Ring {
+        seed,
+        runs,
+        place,
+        capacity,
+    })
+}
+
+/// The picture that is to be drawn.
+fn chart_in(options: &ArgMatches<'_>) -> Option<MachineCommand>
+    ensures { result ≡ chart_in (rows_of (found_of options.now)) }
+{
+    let style = style_of(word_in(options, "svg")?);
+    let selection = selection_of(word_in(options, "memory")?);
+    Some(MachineCommand::Chart { style, selection })
+}
+
+/// Which rows are drawn.
+fn selection_of(text: &str) -> Selection
+    ensures { result ≡ selection_said text.now }
+{
+    if flag_of(text) {
+        Selection::MemoryRows
+    } else {
+        Selection::EveryRow
+    }
+}
+
+fn style_of(text: &str) -> Style
+    ensures { result ≡ style_said text.now }
+{
+    if flag_of(text) {
+        Style::Svg
+    } else {
+        Style::Text
+    }
+}
+
+/// In which form a test is shown.
+fn show_in(options: &ArgMatches<'_>) -> Option<MachineCommand>
+    ensures { result ≡ show_in (rows_of (found_of options.now)) }
+{
+    let form = form_of(word_in(options, "steps")?);
+    Some(MachineCommand::Show { form })
+}
+
+fn form_of(text: &str) -> Form
+    ensures { result ≡ form_said text.now }
+{
+    if flag_of(text) {
+        Form::Steps
+    } else {
+        Form::Table
+    }
+}
+
+/// Where a channel's blocks lie.
+fn place_in(options: &ArgMatches<'_>) -> Option<Place>
+    ensures { result ≡ place_in (rows_of (found_of options.now)) }
+{
+    let slots = count_of(word_in(options, "ring")?, 0, u32::MAX)?;
+    let base = count_of(word_in(options, "base")?, 0, u32::MAX)?;
+    let stride = number_if_said(word_in(options, "stride"))?;
+    Some(Place {
+        slots,
+        base,
+        stride,
+    })
+}
+
+/// The channel that is to run.
+fn channel_in(options: &ArgMatches<'_>) -> Option<MachineCommand>
+    ensures { result ≡ channel_in (rows_of (found_of options.now)) }
+{
+    let kind = ring_of(word_in(options, "kind")?)?;
+    let place = place_in(options)?;
+    let finish = flag_of(word_in(options, "finish")?);
+    Some(MachineCommand::Channel {
+        kind,
+        place,
+        finish,
+    })
+}
+
+/// The channel of a user's programs that is to run. It isn't finished by a plan.
+fn own_in(options: &ArgMatches<'_>) -> Option<Command>
+    ensures { result ≡ own_in (rows_of (found_of options.now)) }
+{
+    let place = place_in(options)?;
+    let finish = word_in(options, "finish")?;
+    if flag_of(finish) {
+        return None;
+    }
+    let capacity = capacity_of(word_in(options, "buffer")?)?;
+    Some(Command::Own { place, capacity })
+}
+
+/// The number of 32 bits, if one is said; none where that is no such number.
+fn number_if_said(text: Option<&str>) -> Option<Option<u32>>
+    ensures { result ≡ number_if_said (option_map (λ said. said.now) text.entry) }
+{
+    match text {
+        Some(said) => Some(Some(count_of(said, 0, u32::MAX)?)),
+        None => Some(None),
+    }
+}
+
+/// Whether a flag with this value is given.
+fn flag_of(text: &str) -> bool
+    ensures { result ≡ flag_said text.now }
+{
+    text == "true"
+}
+
+fn ring_of(text: &str) -> Option<Ring>
+    ensures { result ≡ ring_said text.now }
+{
+    match text {
+        "lamport" => Some(Ring::Lamport),
+        "fastforward" => Some(Ring::FastForward),
+        "cached" => Some(Ring::LamportCached),
+        _ => None,
+    }
+}
+
+/// The word in this place, or after this option.
+fn word_in<'a>(options: &ArgMatches<'a>, id: &str) -> Option<&'a str>
+    ensures { option_map (λ word. word.now) result ≡ first_of id.now (rows_of (found_of options.now)) }
+{
+    options.get_str(id)
+}
+
+fn capacity_of(text: &str) -> Option<Capacity>
+    ensures { result ≡ capacity_said text.now }
+{
+    match text {
+        "1" => Some(Capacity::One),
+        "2" => Some(Capacity::Two),
+        "4" => Some(Capacity::Four),
+        "16" => Some(Capacity::Sixteen),
+        _ => None,
+    }
+}

@@ -1,6 +1,0 @@
-use Rattle.std.proofs.Common.{◌∙◌}
-use Rattle.ztso.proofs.NumberLaws.{seed_read}
-use Rattle.ztso.proofs.command_line.numbers.number_of.Goals as goal
-
-pub returns : goal.returns
-returns c = c.ok.ensures.value ∙ seed_read c.args.text.now c.parse.result c.parse.ensures.value.0
