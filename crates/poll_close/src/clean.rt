@@ -1,6 +1,6 @@
 //! Whether a channel's run keeps what a ring must: what breaks it, entry by entry.
 
-ghost use Rattle.std.specs.Prelude.{◌≡◌, ◌≢◌, ◌≤◌, ◌<◌, ◌*◌, ◌^◌, ◌↔◌, ◌++◌, ◌∷◌, ℕ, IsTrue, IfOk, List, Some, None, if◌then◌else◌, [], length, map};
+ghost use Rattle.std.specs.Prelude.{◌≡◌, ◌≢◌, ◌≤◌, ◌<◌, ◌*◌, ◌^◌, ◌↔◌, ◌++◌, ◌∷◌, ℕ, IsTrue, IfOk, IsSome, List, Some, None, if◌then◌else◌, [], length, map};
 ghost use Rattle.hart.specs.declared.need.Report.{Report};
 ghost use Rattle.hart.specs.declared.need.Report.TheVariants.{Took, Closed};
 ghost use Rattle.step_machine.specs.declared.events.Entry.{Entry};
@@ -103,6 +103,7 @@ fn note_word(shares: &mut [Share], lists: &[Vec<u32>], sender: u32, word: u32) -
     requires { length shares.old ≡ length lists.now }
     ensures breach { (rs : List Report) → AreNotes rs shares.old → result ≡ report_breach (map (λ v. v.items) lists.now) rs (Took sender word) }
     ensures notes { (rs : List Report) → AreNotes rs shares.old → result ≡ None → AreNotes (rs ++ Took sender word ∷ []) shares.new }
+    ensures kept { IsSome result → shares.new ≡ shares.old }
     ensures count { length shares.new ≡ length shares.old }
 {
     let index = sender as usize;
@@ -134,6 +135,7 @@ fn note_end(shares: &mut [Share], lists: &[Vec<u32>], sender: u32) -> Option<Bre
     requires { length shares.old ≡ length lists.now }
     ensures breach { (rs : List Report) → AreNotes rs shares.old → result ≡ report_breach (map (λ v. v.items) lists.now) rs (Closed sender) }
     ensures notes { (rs : List Report) → AreNotes rs shares.old → result ≡ None → AreNotes (rs ++ Closed sender ∷ []) shares.new }
+    ensures kept { IsSome result → shares.new ≡ shares.old }
     ensures count { length shares.new ≡ length shares.old }
 {
     let index = sender as usize;
@@ -164,6 +166,7 @@ pub fn note_report(shares: &mut [Share], lists: &[Vec<u32>], report: Report) -> 
     requires { length shares.old ≡ length lists.now }
     ensures breach { (rs : List Report) → AreNotes rs shares.old → result ≡ report_breach (map (λ v. v.items) lists.now) rs report }
     ensures notes { (rs : List Report) → AreNotes rs shares.old → result ≡ None → AreNotes (rs ++ report ∷ []) shares.new }
+    ensures kept { IsSome result → shares.new ≡ shares.old }
     ensures count { length shares.new ≡ length shares.old }
 {
     match report {
@@ -240,6 +243,7 @@ pub fn note_entry(
     ensures breach { (before : List Entry) → AreNotes (reported 0 before) shares.old → result ≡ breach_of (layout_of place []) (map
         (λ v. v.items) lists.now) before entry }
     ensures notes { (before : List Entry) → AreNotes (reported 0 before) shares.old → result ≡ None → AreNotes (reported 0 (before ++ entry ∷ [])) shares.new }
+    ensures kept { IsSome result → shares.new ≡ shares.old }
     ensures count { length shares.new ≡ length shares.old }
 {
     let count = lists.len();

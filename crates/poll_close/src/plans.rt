@@ -2,6 +2,8 @@
 
 ghost use Rattle.std.specs.Prelude.{◌≡◌, ◌≤◌, ◌<◌, ◌-◌, ℕ, Bool, List, [], true, length, IfOk, OnOk};
 ghost use Rattle.hart.specs.declared.need.Report.{Report};
+ghost use Rattle.step_machine.specs.declared.events.Event.{Event};
+ghost use Rattle.step_machine.specs.Entries.{reported};
 ghost use Rattle.step_machine.specs.Runs.{RunFrom};
 ghost use Rattle.poll_close.specs.Delivery.{DeliversWholeOver, ForEachRun};
 ghost use Rattle.poll_close.specs.Standing.{Stands};
@@ -171,8 +173,10 @@ pub fn whole_reports_of<K: Finish<B, M>, const B: usize, const M: usize>(
 ) -> Result<Vec<Report>, AllocError>
     requires some_capacity { 1 ≤ B }
     requires stands { Stands K.RingKind.ring K.RingKind.meaning B M machine.old.history }
-    ensures { IfOk result (λ r. ForEachRun K.RingKind.ring B M machine.old.history
+    ensures whole { IfOk result (λ r. ForEachRun K.RingKind.ring B M machine.old.history
         (λ lists l events. DeliversWholeOver K.RingKind.ring B M lists l events r.items)) }
+    ensures ran { OnOk result ((plan : List Event) × RunFrom B M machine.old.history plan machine.new.history) }
+    ensures reports { IfOk result (λ r. r.items ≡ reported 0 machine.new.history.entries) }
 {
     K::laws();
     plan_in::<K, B, M>(alloc, machine)?;

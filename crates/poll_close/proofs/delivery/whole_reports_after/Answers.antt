@@ -24,4 +24,4 @@ returns g c =
     (λ r holds. whole-as g.row.B g.row.M _ _ _ _ r.items (sym c.requires.opens.2)
     (holds _ c.requires.opens.0 c.args.events.now c.requires.opens.1
     (subst (λ (o : OpeningValue). Run g.row.B g.row.M o c.args.events.now c.run.new.self.history) c.requires.opens.2 run)))
-    c.whole_reports_of.result c.whole_reports_of.ensures
+    c.whole_reports_of.result c.whole_reports_of.ensures.whole
