@@ -12,7 +12,7 @@ ROOT = CASES.parent
 SUFFIXES = (".cases", ".expected")
 STREAMS = ("stdin", "stdout")
 # how the text of standard input is given: at a pseudoterminal, or by a pipe
-TYPED = ("at-a-terminal", "line-by-line", "byte-by-byte")
+TYPED = ("at-a-terminal", "line-by-line", "text-by-text", "byte-by-byte")
 NAME = re.compile(r"[^\s/]+")
 LIKE = re.compile(r"(\S+), with line ([1-9][0-9]*):(?: (.*))?")
 

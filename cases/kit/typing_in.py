@@ -25,49 +25,65 @@ class Taken(threading.Thread):
             self.content += more
 
 
-def is_waited_for(what, process, until):
-    """Whether something comes to hold while the program runs, within the time."""
-    while not what():
-        if process.poll() is not None or time.monotonic() > until:
-            return what()
+def wait_for(what, process, until):
+    """Waits until something holds, or the program has ended. A program that doesn't come to it in time has no end."""
+    while not what() and process.poll() is None:
+        if time.monotonic() > until:
+            raise subprocess.TimeoutExpired(process.args, until)
         time.sleep(0.001)
-    return True
 
 
 def unread(pipe):
     return int.from_bytes(fcntl.ioctl(pipe, termios.FIONREAD, bytes(4)), "little")
 
 
+def bits_of(how, text):
+    """What is given at once, in turn. A text of texts is cut after each line that is its first line again."""
+    lines = text.splitlines(keepends=True)
+    if how == "byte-by-byte":
+        return [bytes([byte]) for byte in text]
+    if how == "at-a-terminal":
+        return [*lines, END]
+    if how == "line-by-line":
+        return lines
+    heads = [at + 1 for at, line in enumerate(lines) if at and line == lines[0]]
+    return [b"".join(lines[begin:end]) for begin, end in zip([0, *heads], [*heads, len(lines)])]
+
+
 def run(how, text, words, folder, environment, seconds):
     """The status, standard error and standard output. A line is typed at a terminal once the prompt for
     it stands on standard error, and given by a pipe once the line before it was answered on standard
-    output; a byte is given once the one before it was read."""
+    output; a text of several is answered once the next one has begun; a byte is given once the one before
+    it was read."""
     inner, outer = os.pipe() if how != "at-a-terminal" else reversed(pty.openpty())
     until = time.monotonic() + seconds
     with subprocess.Popen(words, stdin=inner, stdout=subprocess.PIPE, stderr=subprocess.PIPE, cwd=folder,
                           env=environment) as process:
         answers, errors = Taken(process.stdout), Taken(process.stderr)
-        bits = [bytes([byte]) for byte in text] if how == "byte-by-byte" else text.splitlines(keepends=True)
-        if how == "at-a-terminal":
-            bits.append(END)
+        bits = bits_of(how, text)
         try:
-            for bit in bits:
+            for place, bit in enumerate(bits):
                 before = len(errors.content if how == "at-a-terminal" else answers.content)
                 if how == "at-a-terminal":
-                    is_waited_for(lambda: errors.content.endswith(b"> "), process, until)
+                    wait_for(lambda: errors.content.endswith(b"> "), process, until)
                     time.sleep(0.02)
                 os.write(outer, bit)
-                if how == "line-by-line":
-                    is_waited_for(lambda: len(answers.content) > before, process, until)
-                elif how == "byte-by-byte":
-                    is_waited_for(lambda: not unread(inner), process, until)
-                elif bit != END:
-                    is_waited_for(lambda: len(errors.content) > before, process, until)
+                if how == "byte-by-byte":
+                    wait_for(lambda: not unread(inner), process, until)
+                elif how == "at-a-terminal":
+                    if bit != END:
+                        wait_for(lambda: len(errors.content) > before, process, until)
+                elif how == "line-by-line" or place + 1 < len(bits):
+                    wait_for(lambda: len(answers.content) > before, process, until)
         except BrokenPipeError:
             pass  # the program reads no more
-        os.close(inner)
-        if how != "at-a-terminal":
-            os.close(outer)
+        except subprocess.TimeoutExpired:
+            process.kill()
+            raise
+        finally:
+            os.close(inner)
+            if how != "at-a-terminal":
+                os.close(outer)
         try:
             status = process.wait(max(0.1, until - time.monotonic()))
         finally:
