@@ -12,7 +12,8 @@
 //! (`specs/Layout.antt`, over `specs/Places.antt`, `specs/Scenes.antt` and `specs/Lines.antt`). [`pictures`]
 //! is a picture as a value, and [`text::text`] writes it (`specs/Pictures.antt`). [`charts::chart_svg`] writes
 //! the same picture in SVG (`specs/Svg.antt`). [`laws_of_texts`] states that no text of a row stands on another
-//! text or on a line, and [`laws_of_columns`] that columns stand still while a run grows.
+//! text or on a line, for at most 255 harts and fewer than 10^7 entries. [`laws_of_columns`] states that columns
+//! stand still while a run grows, where no row needs more than the test's least widths (`FitsColumns`).
 //! This crate runs no machine: it reads entries alone.
 
 #![tactic(auto)]

@@ -154,7 +154,7 @@ fn check_all<const B: usize, const M: usize, R: BufRead, W: Write>(
 /// before anything further is read: whether its outcomes are those of its run on a machine with store buffers of
 /// `B` stores and `M` words of memory, and whether the run finished; else the first event with another outcome,
 /// with both, or why it is no record. After the last line comes the table of the outcomes. It answers whether no
-/// record was refused: docs/records.md has the lines.
+/// record was refused: docs/formats.md has the lines.
 ///
 /// The litmus text is refused as `run` refuses it, before a record is read and with nothing written. The number
 /// of records has no limit, and the longest one determines the memory that is taken. After a failed read or

@@ -1,4 +1,4 @@
-//! The command `check`: records of a test, one after the other, each judged as soon as it was read.
+//! The command `check`: records of a test, one after the other, each judged by itself.
 //!
 //! The contract: what [`check_engine`] writes is what a relation says of the test and of the lines that its
 //! reader gives, byte for byte (`IsCheckAnswer` of `specs/Checking.antt`): a line for each record, which says

@@ -12,12 +12,12 @@ ghost use Rattle.command_line.specs.Descriptions.{ztso_command};
 ghost use Rattle.command_line.specs.Spellings.{IsSpelling};
 ghost use Rattle.command_line.specs.Jobs.{Wanted, wanted_by};
 
+use crate::description::ztso_command;
 use crate::fault::CommandLineError;
 use crate::job::{Capacity, CodeCommand, Command, Input, Job, MachineCommand, Ring};
-use clap::ArgMatches;
-use crate::description::ztso_command;
-use jumping::Runs;
 use crate::numbers::{count_of, number_of};
+use clap::ArgMatches;
+use jumping::Runs;
 use poll_close::Place;
 use recorder::MAX_EVENTS;
 use std::alloc::Global;

@@ -3,7 +3,7 @@
 //! The contract: a [`words::Memory`] is seen as the list of its words and a
 //! [`store_buffer::StoreBuffer`] as the list of its pending writes, oldest first; each call is one step on
 //! that list. A write covers 1, 2 or 4 bytes of one word, the lowest first. This crate knows no hart, no
-//! instruction and no order between buffers, and takes memory in `Memory::open` alone.
+//! instruction and no order between buffers, and takes memory in `Memory::open` and `Memory::save` alone.
 
 #![tactic(auto)]
 

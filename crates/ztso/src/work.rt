@@ -22,8 +22,8 @@ ghost use Rattle.ztso_engines.specs.Programs.{HasNoProgram};
 ghost use Rattle.ztso_engines.specs.Rings.{EndsRing};
 
 use crate::failure::Failure;
-use command_line::job::{Capacity, CodeCommand, MachineCommand, Ring};
 use checking::check_engine;
+use command_line::job::{Capacity, CodeCommand, MachineCommand, Ring};
 use debugger::debug::debug_engine;
 use engine_support::fault::Fault;
 use fastforward::FastForward;
