@@ -1,7 +1,7 @@
 -- One run more.
-use Rattle.std.proofs.Common.{ℕ, zero, suc, ◌≡◌, ◌+◌, ◌*◌, ◌<◌, ◌≤◌, inl, inr, List, [], ◌∷◌, ◌++◌, length, take, set, max, Bool, true}
+use Rattle.std.proofs.Common.{ℕ, suc, ◌≡◌, ◌+◌, ◌*◌, ◌<◌, ◌≤◌, inl, inr, List, [], ◌∷◌, ◌++◌, length, take, set, max, Bool, true}
 use Rattle.std.proofs.Common.{false, Option, Some, None, refl, sym, ap, subst, ◌∙◌, arith, length-append, append-nil, drop}
-use Rattle.std.proofs.Common.{drop_of_length-le, lt_of_mul-lt-mul_right}
+use Rattle.std.proofs.Common.{drop_of_length-le}
 use Rattle.std.specs.Prelude.{◌↔◌, IsTrue, if◌then◌else◌, map}
 use Rattle.std.specs.List.{slice_get}
 use Rattle.std.proofs.Math.Nat.{eq-or-lt_of_le}
@@ -22,8 +22,6 @@ use Rattle.poll_close.specs.Breaches.{first_breach, AreNotes}
 use Rattle.poll_close.specs.declared.clean.Breach.{Breach}
 use Rattle.poll_close.specs.declared.clean.Share.{Share}
 use Rattle.poll_close.proofs.BreachLaws.{first_law}
-use Rattle.shrink.specs.Shrinking.{without}
-use Rattle.shrink.proofs.PassLaws.{Passing}
 use Rattle.ring_trials.specs.Own.{lists_of, layout_from, start_of}
 use Rattle.ring_trials.specs.declared.own.Own.{Own}
 use Rattle.ring_trials.specs.declared.runs.Total.{Total}
@@ -191,12 +189,3 @@ unclean_none B M own events found shares judged none one = (
   (λ pass. cc),
   (λ unclean. absurd (let some = one_found B M own events found shares judged one unclean in cc)),
 )
-
--- after a pass in which nothing went no piece can go
-pub none_can_go : (Ends : List Event → Type 0) (old now : List Event) (size from : ℕ) (gone : Bool) → Passing Ends old now size from gone
-    → length now ≤ from → gone ≡ false → (k : ℕ) → k * size < length now → Ends (without (k * size) size now) → ⊥
-none_can_go Ends old now size from gone pass all none k within ends =
-    (pass.none_can none).none k (below k (pass.none_can none).pieces size (omega (arith, within, all, (pass.none_can none).there))) ends
-  where
-    below : (n m z : ℕ) → n * z < m * z → n < m
-    below n m z less = lt_of_mul-lt-mul_right z less

@@ -1,5 +1,5 @@
 -- Runs of a channel, by schedules that a generator draws, and their totals.
-use Rattle.std.specs.Prelude.{ℕ, ◌≡◌, ◌+◌, ◌*◌, ◌<◌, max, List, [], ◌∷◌, ◌++◌, length, if◌then◌else◌, All, Option, Some, None}
+use Rattle.std.specs.Prelude.{ℕ, ◌≡◌, ◌+◌, ◌^◌, ◌<◌, max, List, [], ◌∷◌, ◌++◌, length, if◌then◌else◌, All, Option, Some, None}
 use Rattle.std.specs.List.{slice_get}
 use Rattle.rand_core.specs.Stream.{Stream}
 use Rattle.step_machine.specs.declared.events.Event.{Event}
@@ -9,9 +9,10 @@ use Rattle.step_machine.specs.declared.events.Outcome.TheVariants as outcome
 use Rattle.step_machine.specs.History.{History}
 use Rattle.step_machine.specs.Entries.{reported}
 use Rattle.step_machine.specs.Runs.{Run}
-use Rattle.step_machine.specs.Standing.{RepresentsHistory}
+use Rattle.step_machine.specs.Standing.{RepresentsHistory, RepresentsRunFrom}
 use Rattle.step_machine.specs.inner.Config.{Config}
 use Rattle.recorder.specs.Drawing.{schedule_drawn}
+use Rattle.poll_close.specs.Layout.{base_of}
 use Rattle.poll_close.specs.Reports.{taken}
 use Rattle.poll_close.specs.Plans.{is_closed}
 use Rattle.poll_close.specs.Breaches.{first_breach, AreNotes, IsKept}
@@ -129,6 +130,12 @@ pub record IsUnclean (B M : ℕ) (own : Own) (events : List Event) : Type 0 wher
   pub run : Run B M (start_of own) events history
   pub breach : Breach
   pub breaks : first_breach (layout_from own) (lists_of own) history.entries ≡ Some breach
+
+-- the machine stands at the end of some run of this channel, whose blocks end within 32 bits, and each sender has a share
+pub record IsBenchOf (B M : ℕ) (own : Own) (machine : Config) (shares : List Share) : Type 0 where
+  pub stands : RepresentsRunFrom B M (start_of own) machine
+  pub ends : base_of (layout_from own) (length (lists_of own)) < 2 ^ 32
+  pub count : length shares ≡ length (lists_of own)
 
 -- the answer is a part of the given events and unclean; without any one event it isn't
 pub record IsShortened (B M : ℕ) (own : Own) (given answer : List Event) : Type 0 where

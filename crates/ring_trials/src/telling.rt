@@ -1,24 +1,22 @@
 //! The answer of many runs: that all are clean, or the first one that isn't, made short.
 
-ghost use Rattle.std.specs.Prelude.{◌≡◌, ◌≤◌, ◌<◌, ◌*◌, ◌^◌, IfOk, IfErr, OnOk, length};
+ghost use Rattle.std.specs.Prelude.{◌≡◌, ◌≤◌, ◌*◌, IfOk, IfErr, OnOk, length};
 ghost use Rattle.std.specs.String.{string_bytes};
-ghost use Rattle.step_machine.specs.Standing.{RepresentsRunFrom};
 ghost use Rattle.recorder.specs.Drawing.{left_after};
-ghost use Rattle.poll_close.specs.Layout.{base_of};
 ghost use Rattle.poll_close.specs.Laws.{AcceptedAt, AreShort};
 ghost use Rattle.poll_close.specs.Refusals.{RefusesAt};
-ghost use Rattle.ring_trials.specs.Own.{ring_of, lists_of, layout_from, start_of, OpensOver};
-ghost use Rattle.ring_trials.specs.Trials.{schedule_of, source_of, IsUnclean};
+ghost use Rattle.ring_trials.specs.Own.{ring_of, lists_of, layout_from, OpensOver};
+ghost use Rattle.ring_trials.specs.Trials.{schedule_of, source_of, IsBenchOf, IsUnclean};
 ghost use Rattle.ring_trials.specs.Answers.{IsPartText, IsShortText, IsTold};
 
 use crate::judging::judge;
 use crate::own::{Own, open_own, senders};
-use crate::passes::shorten;
+use crate::passes::{Bench, shorten};
 use crate::runs::Found;
 use crate::spreading::find_by_jobs;
 use crate::wording::{clean_text, unclean_text};
 use jumping::{Jump, Runs};
-use poll_close::{RefusedAt, Share, no_shares};
+use poll_close::{RefusedAt, no_shares};
 use recorder::draw;
 use std::alloc::{AllocError, Global};
 use std::thread::Threads;
@@ -29,18 +27,15 @@ use step_machine::{Event, MachineState, Opening};
 fn part_text<const B: usize, const M: usize>(
     alloc: Global,
     own: &Own,
-    machine: &mut MachineState<B, M>,
-    shares: &mut [Share],
+    bench: &mut Bench<B, M>,
     part: &[Event],
 ) -> Result<String, AllocError>
-    requires stands { RepresentsRunFrom B M (start_of own.now) machine.old }
-    requires ends { base_of (layout_from own.now) (length (lists_of own.now)) < 2 ^ 32 }
-    requires count { length shares.old ≡ length (lists_of own.now) }
+    requires stands { IsBenchOf B M own.now bench.old.machine bench.old.shares.items }
     requires unclean { IsUnclean B M own.now part.now }
     ensures { IfOk result (λ text. IsPartText B M own.now part.now (string_bytes text)) }
 {
     laws_of_runs();
-    match judge(own, machine, shares, part)? {
+    match judge(own, &mut bench.machine, &mut bench.shares, part)? {
         Some(breach) => unclean_text(alloc, part, breach),
         None => unreachable!(),
     }
@@ -63,13 +58,14 @@ fn short_text<const B: usize, const M: usize, G: Jump + Drop>(
         (schedule_of (source_of B M own.now (G.Rng.stream generator.now) size) number) (string_bytes text)) }
 {
     let mut there = generator.ahead(u64::from(number), size)?;
-    let mut machine = MachineState::<B, M>::open(alloc, opening)?;
-    let mut shares = no_shares(alloc, senders(own))?;
+    let machine = MachineState::<B, M>::open(alloc, opening)?;
+    let shares = no_shares(alloc, senders(own))?;
+    let mut bench = Bench { machine, shares };
     let mut events = Vec::new(alloc);
-    let harts = machine.harts();
+    let harts = bench.machine.harts();
     draw(&mut events, &mut there, harts, size)?;
-    let part = shorten(alloc, own, &mut machine, &mut shares, &events)?;
-    part_text(alloc, own, &mut machine, &mut shares, &part)
+    let part = shorten(alloc, own, &mut bench, &events)?;
+    part_text(alloc, own, &mut bench, &part)
 }
 
 /// The text for the runs of a channel with this opening, and whether all are clean.

@@ -1,5 +1,5 @@
 -- One pass over a list, in which pieces of one size are left out: what holds at the place it has come to.
-use Rattle.std.proofs.Common.{◌≡◌, ℕ, suc, ◌+◌, ◌-◌, ◌*◌, ◌<◌, ◌≤◌, Bool, true, false, List, ◌++◌, length, refl, ap, subst, arith, take, drop, min, inl, inr}
+use Rattle.std.proofs.Common.{◌≡◌, ℕ, suc, ◌+◌, ◌-◌, ◌*◌, ◌<◌, ◌≤◌, Bool, true, false, List, length, subst, arith, min, inl, inr}
 use Rattle.std.proofs.lemmas.List.{drop_min}
 use Rattle.std.proofs.lemmas.List.{length-append, length-take, length-drop}
 use Rattle.std.proofs.Math.Nat.{suc-mul, eq-or-lt_of_le}

@@ -1,12 +1,36 @@
-//! Passes over a list of events, in which pieces of it are left out.
+//! Passes over a list of events that leave out what it needn't have: pieces without which it is still wanted.
 
 ghost use Rattle.std.specs.Prelude.{◌≡◌, ◌≤◌, ◌<◌, ◌+◌, ◌*◌, ℕ, true, false, IfOk, Ok, OnOk, OnErr, length};
-ghost use Rattle.shrink.specs.Shrinking.{EndsWith, IsPartOf, without as events_without};
+ghost use Rattle.shrink.specs.Shrinking.{IsPartOf, without as events_without};
 
-use crate::trying::ends_with;
-use litmus::Test;
 use std::alloc::{AllocError, Global};
-use step_machine::{Event, Machine};
+use step_machine::Event;
+
+/// A question about lists of events, and what it takes to answer it.
+pub trait Question {
+    ghost use Rattle.std.specs.Prelude.{◌↔◌, List, IsTrue, IfOk, OnOk};
+    ghost use Rattle.step_machine.specs.declared.events.Event.{Event};
+
+    /// What lists of events are tried on, as a machine.
+    type Bench;
+
+    /// What a bench must meet before an answer, and meets after it.
+    ghost stands: { Self → Self.Bench → Type 0 };
+
+    /// That a list is one that is wanted.
+    ghost holds: { Self → List Event → Type 0 };
+
+    /// Whether the list is one that is wanted.
+    fn holds_of(
+        &self,
+        alloc: Global,
+        bench: &mut Self::Bench,
+        events: &[Event],
+    ) -> Result<bool, AllocError>
+        requires { stands self.now bench.old }
+        ensures holds { IfOk result (λ b. IsTrue b ↔ holds self.now events.now) }
+        ensures stands { OnOk result (stands self.now bench.new) };
+}
 
 /// The events without `count` of them, from `from` on.
 fn without(
@@ -24,34 +48,32 @@ fn without(
     Ok(left)
 }
 
-/// Leaves out each piece of `size` events without which the events end the same, the first piece first,
-/// and answers whether one went. An error leaves a part that ends the same.
-fn leave_out_pieces<const B: usize, const M: usize>(
+/// Leaves out each piece of `size` events without which the list is still wanted, the first piece first,
+/// and answers whether one went. An error leaves a part that is wanted.
+fn leave_out_pieces<Q: Question>(
     alloc: Global,
-    test: &Test,
-    machine: &mut Machine<B, M>,
-    last: &[u32],
+    question: &Q,
+    bench: &mut Q::Bench,
     events: &mut Vec<Event>,
     size: usize,
 ) -> Result<bool, AllocError>
-    requires opening { machine.old.history.opening ≡ test.now.opening }
-    requires names { length test.now.names ≤ M }
-    requires ends { EndsWith B M test.now events.old.items last.now }
+    requires stands { Q.stands question.now bench.old }
+    requires holds { Q.holds question.now events.old.items }
     requires some { 1 ≤ size }
-    ensures opening { machine.new.history.opening ≡ machine.old.history.opening }
-    ensures ends { EndsWith B M test.now events.new.items last.now }
+    ensures stands { OnOk result (Q.stands question.now bench.new) }
+    ensures holds { Q.holds question.now events.new.items }
     ensures part { IsPartOf events.new.items events.old.items }
     ensures went { result ≡ Ok true → length events.new.items < length events.old.items }
     ensures stayed { result ≡ Ok false → events.new.items ≡ events.old.items }
     ensures none_can { result ≡ Ok false → (k : ℕ) → k * size < length events.new.items
-        → EndsWith B M test.now (events_without (k * size) size events.new.items) last.now → ⊥ }
+        → Q.holds question.now (events_without (k * size) size events.new.items) → ⊥ }
 {
     let mut went = false;
     let mut from = 0;
     while from < events.len() {
         let count = size.min(events.len() - from);
         let left = without(alloc, events, from, count)?;
-        if ends_with(alloc, test, machine, &left, last)? {
+        if question.holds_of(alloc, bench, &left)? {
             *events = left;
             went = true;
         } else {
@@ -63,48 +85,47 @@ fn leave_out_pieces<const B: usize, const M: usize>(
 
 /// Leaves out pieces of half the events, of half that size and so on, while a piece has two events or more.
 /// Sizes are rounded down: the last one is 2 or 3, and of fewer than four events no piece is tried.
-fn halve_pieces<const B: usize, const M: usize>(
+#[tactic(auto, using(crate::proofs::PartLaws::part_whole, crate::proofs::PartLaws::part_of_part))]
+fn halve_pieces<Q: Question>(
     alloc: Global,
-    test: &Test,
-    machine: &mut Machine<B, M>,
-    last: &[u32],
+    question: &Q,
+    bench: &mut Q::Bench,
     events: &mut Vec<Event>,
 ) -> Result<(), AllocError>
-    requires opening { machine.old.history.opening ≡ test.now.opening }
-    requires names { length test.now.names ≤ M }
-    requires ends { EndsWith B M test.now events.old.items last.now }
-    ensures opening { machine.new.history.opening ≡ machine.old.history.opening }
-    ensures ends { EndsWith B M test.now events.new.items last.now }
+    requires stands { Q.stands question.now bench.old }
+    requires holds { Q.holds question.now events.old.items }
+    ensures stands { OnOk result (Q.stands question.now bench.new) }
+    ensures holds { Q.holds question.now events.new.items }
     ensures part { IsPartOf events.new.items events.old.items }
 {
     let mut size = events.len() / 2;
     while size > 1 {
-        leave_out_pieces(alloc, test, machine, last, events, size)?;
+        leave_out_pieces(alloc, question, bench, events, size)?;
         size /= 2;
     }
     Ok(())
 }
 
-/// Leaves out pieces of halving size, and then single events until none can go. An error leaves a part
-/// that ends the same.
-pub(crate) fn leave_out<const B: usize, const M: usize>(
+/// Leaves out pieces of halving size, and then single events until none can go. Err where memory runs out, or as
+/// the question is answered, and leaves a part that is wanted too.
+#[tactic(auto, using(crate::proofs::PartLaws::part_of_part))]
+pub fn leave_out<Q: Question>(
     alloc: Global,
-    test: &Test,
-    machine: &mut Machine<B, M>,
-    last: &[u32],
+    question: &Q,
+    bench: &mut Q::Bench,
     events: &mut Vec<Event>,
 ) -> Result<(), AllocError>
-    requires opening { machine.old.history.opening ≡ test.now.opening }
-    requires names { length test.now.names ≤ M }
-    requires ends { EndsWith B M test.now events.old.items last.now }
-    ensures ends { EndsWith B M test.now events.new.items last.now }
+    requires stands { Q.stands question.now bench.old }
+    requires holds { Q.holds question.now events.old.items }
+    ensures stands { OnOk result (Q.stands question.now bench.new) }
+    ensures holds { Q.holds question.now events.new.items }
     ensures part { IsPartOf events.new.items events.old.items }
-    ensures minimal { OnOk result ((i : ℕ) → i < length events.new.items → EndsWith B M test.now (events_without i 1 events.new.items) last.now → ⊥) }
+    ensures minimal { OnOk result ((i : ℕ) → i < length events.new.items → Q.holds question.now (events_without i 1 events.new.items) → ⊥) }
 {
-    halve_pieces(alloc, test, machine, last, events)?;
+    halve_pieces(alloc, question, bench, events)?;
     let mut went = true;
     while went {
-        went = leave_out_pieces(alloc, test, machine, last, events, 1)?;
+        went = leave_out_pieces(alloc, question, bench, events, 1)?;
     }
     Ok(())
 }

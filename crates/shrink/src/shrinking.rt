@@ -8,7 +8,7 @@ ghost use Rattle.shrink.specs.Shrinking.{IsShrunk, Refuses, RefusesRun};
 
 use crate::faults::ShrinkError;
 use crate::passes::leave_out;
-use crate::trying::{is_finished, run_again};
+use crate::trying::{SameEnd, is_finished, run_again};
 use litmus::Test;
 use std::alloc::{AllocError, Global};
 use step_machine::laws::laws_of_runs;
@@ -39,7 +39,8 @@ fn shrink_from_end<const B: usize, const M: usize>(
     }
     let last = test.values(alloc, machine.machine_state())?;
     let mut left = events_of(alloc, machine.entries())?;
-    leave_out(alloc, test, machine, &last, &mut left)?;
+    let same_end = SameEnd::<B, M> { test, last: &last };
+    leave_out(alloc, &same_end, machine, &mut left)?;
     Ok(left)
 }
 

@@ -1,10 +1,11 @@
 //! Whether a list of events ends as it should.
 
-ghost use Rattle.std.specs.Prelude.{◌≡◌, ◌≤◌, ◌↔◌, IsTrue, IfOk, OnOk, length};
+ghost use Rattle.std.specs.Prelude.{◌≡◌, ◌≤◌, ◌↔◌, IsTrue, OnOk, length};
 ghost use Rattle.step_machine.specs.Runs.{Run};
 ghost use Rattle.litmus.specs.Verdicts.{IsFinished};
 ghost use Rattle.shrink.specs.Shrinking.{EndsWith};
 
+use crate::passes::Question;
 use litmus::{Test, Verdict};
 use std::alloc::{AllocError, Global};
 use step_machine::laws::laws_of_runs;
@@ -47,24 +48,32 @@ fn are_same(values: &[u32], last: &[u32]) -> bool
     values == last
 }
 
-/// Whether the run of the events is finished and leaves the left sides with these values.
-pub(crate) fn ends_with<const B: usize, const M: usize>(
-    alloc: Global,
-    test: &Test,
-    machine: &mut Machine<B, M>,
-    events: &[Event],
-    last: &[u32],
-) -> Result<bool, AllocError>
-    requires opening { machine.old.history.opening ≡ test.now.opening }
-    requires names { length test.now.names ≤ M }
-    ensures ends { IfOk result (λ ends. IsTrue ends ↔ EndsWith B M test.now events.now last.now) }
-    ensures opening { machine.new.history.opening ≡ machine.old.history.opening }
-{
-    laws_of_runs();
-    run_again(machine, events)?;
-    if !is_finished(test, machine) {
-        return Ok(false);
+/// The question whether the run of a list of events is finished and leaves the test's left sides with these values.
+#[derive(Drop)]
+pub(crate) struct SameEnd<'a, const B: usize, const M: usize> {
+    pub(crate) test: &'a Test,
+    pub(crate) last: &'a [u32],
+}
+
+impl<'a, const B: usize, const M: usize> Question for SameEnd<'a, B, M> {
+    type Bench = Machine<B, M>;
+
+    ghost stands = { λ it machine. (machine.history.opening ≡ it.test.now.opening) × (length it.test.now.names ≤ M) };
+
+    ghost holds = { λ it events. EndsWith B M it.test.now events it.last.now };
+
+    fn holds_of(
+        &self,
+        alloc: Global,
+        machine: &mut Machine<B, M>,
+        events: &[Event],
+    ) -> Result<bool, AllocError> {
+        laws_of_runs();
+        run_again(machine, events)?;
+        if !is_finished(self.test, machine) {
+            return Ok(false);
+        }
+        let values = self.test.values(alloc, machine.machine_state())?;
+        Ok(are_same(&values, self.last))
     }
-    let values = test.values(alloc, machine.machine_state())?;
-    Ok(are_same(&values, last))
 }

@@ -1,14 +1,14 @@
 use Rattle.std.proofs.Common.{◌≡◌, ◌+◌, ◌<◌, ℕ, false, length}
 use Rattle.std.specs.Prelude.{if◌then◌else◌}
-use Rattle.shrink.specs.Shrinking.{EndsWith, IsPartOf, without}
+use Rattle.shrink.specs.Shrinking.{IsPartOf, without}
 use Rattle.shrink.proofs.passes.leave_out.Given as goal
 
 abbrev pub invariant-loop-went : goal.invariant-loop-went
 invariant-loop-went g l = record {
-  opening : l.machine.history.opening ≡ l.test.opening;
-  ends : EndsWith g.row.B g.row.M l.test l.events.items l.last;
+  stands : g.Q.Question.stands l.question l.bench;
+  holds : g.Q.Question.holds l.question l.events.items;
   part : IsPartOf l.events.items l.fn.events.items;
-  minimal : l.went ≡ false → (i : ℕ) → i < length l.events.items → EndsWith g.row.B g.row.M l.test (without i 1 l.events.items) l.last → ⊥;
+  minimal : l.went ≡ false → (i : ℕ) → i < length l.events.items → g.Q.Question.holds l.question (without i 1 l.events.items) → ⊥;
 }
 
 -- a pass in which something went leaves fewer events; the other one is the last
