@@ -124,6 +124,11 @@ abbrev pub IsFound : Source → (runs : ℕ) → Found → Type 0
 IsFound s runs (found.Clean totals) = AreAllClean s runs totals.items
 IsFound s runs (found.Unclean number breach) = (number < runs) × IsFirstUnclean s number breach
 
+-- how many of this number of runs are drawn until that is found
+abbrev pub runs_drawn : (runs : ℕ) → Found → ℕ
+runs_drawn runs (found.Clean totals) = runs
+runs_drawn runs (found.Unclean number breach) = number + 1
+
 -- the run of the events breaks something
 pub record IsUnclean (B M : ℕ) (own : Own) (events : List Event) : Type 0 where
   pub history : History

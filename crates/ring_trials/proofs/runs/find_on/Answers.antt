@@ -21,8 +21,8 @@ loop-number-init g c = record {
 }
 
 -- src/runs.rt:90:29
-pub returns-in-Some : goal.returns-in-Some
-returns-in-Some g c = (
+pub returns-in-Some-clause-found : goal.returns-in-Some-clause-found
+returns-in-Some-clause-found g c = (
   c.loop-number-test.true,
   one_unclean (source_of g.row.B g.row.M c.args.own.now (g.G.Rng.stream c.args.generator.now) c.args.size)
       c.loop-number.number c.loop-number.totals.items c.judge.new.shares c.in_ok-found.found c.in-Some.breach c.loop-number.invariant.all
@@ -66,3 +66,8 @@ loop-number-preserved g c =
           (g.G.Rng.stream c.draw.new.generator) c.loop-number.invariant.left c.in_ok-draw.ensures.rest;
       count = ap length shares ∙ c.judge.ensures.count;
     }
+
+pub returns-in-Some-clause-left : goal.returns-in-Some-clause-left
+returns-in-Some-clause-left g c =
+    left_after-more c.args.size c.loop-number.number (g.G.Rng.stream c.args.generator.now) (g.G.Rng.stream c.loop-number.generator)
+    (g.G.Rng.stream c.draw.new.generator) c.loop-number.invariant.left c.in_ok-draw.ensures.rest
