@@ -22,7 +22,6 @@ use Rattle.step_machine.proofs.Follows.{Path-hart, state_of-other}
 use Rattle.step_machine.proofs.Stays.{report_of-other, states_land}
 use Rattle.poll_close.specs.Layout.{Layout, sender_registers, senders_from, opening_at}
 use Rattle.poll_close.specs.Laws.{Ring, AreWords, AcceptedAt, Opens, Keeps, Cleans, Goes, Stays}
-use Rattle.poll_close.specs.Reports.{Clean}
 use Rattle.poll_close.specs.Going.{GoesOn, AllGoOn}
 use Rattle.poll_close.specs.Touching.{Touches, AllTouch}
 use Rattle.poll_close.specs.Invariant.Blocks.{block_of, as_writes}
