@@ -1,7 +1,7 @@
 -- What an opening gives is fit, and is what the history of no entry says.
 use Rattle.std.proofs.Common.{◌≡◌, ℕ, zero, suc, ◌+◌, ◌-◌, ◌≤◌, List, [], ◌∷◌, ◌++◌, length, drop, get_or, replicate}
 use Rattle.std.proofs.Common.{Option, Some, refl, sym, ◌∙◌, subst, arith, length-append, length-drop}
-use Rattle.std.specs.Prelude.{option_map, All}
+use Rattle.std.specs.Prelude.{option_map}
 use Rattle.std.proofs.lemmas.List.{length-map, length-replicate, drop-replicate}
 use Rattle.std.proofs.lemmas.List.Elements.{All-map, All-nil, All-replicate}
 use Rattle.std.proofs.lemmas.Option.{slice_get-map}

@@ -1,5 +1,5 @@
 -- The words that say where a machine stands lead back there.
-use Rattle.std.proofs.Common.{◌≡◌, ℕ, zero, suc, ◌+◌, ◌-◌, ◌*◌, ◌/◌, ◌%◌, ◌<◌, ◌≤◌, Bool, true, false, List, [], ◌∷◌}
+use Rattle.std.proofs.Common.{◌≡◌, ℕ, zero, suc, ◌+◌, ◌-◌, ◌/◌, ◌%◌, ◌<◌, ◌≤◌, Bool, true, false, List, [], ◌∷◌}
 use Rattle.std.proofs.Common.{◌++◌, length, take, drop, get_or, set, refl, sym, ◌∙◌, ap, subst, arith, append-nil}
 use Rattle.std.proofs.Common.{append_assoc, length-append, eqb-true, lt-ltb, le-leb}
 use Rattle.std.specs.Prelude.{◌==◌, ◌&&◌, nat_lt, nat_le, if◌then◌else◌, map, slice_index, slice_set, All}
@@ -8,19 +8,17 @@ use Rattle.std.proofs.lemmas.List.{length-map, take_all, drop_all, set_at, set-g
 use Rattle.std.proofs.Math.Seq.{take-suc, drop-cons}
 use Rattle.std.proofs.lemmas.List.Elements.{All-head, All-tail}
 use Rattle.memory.specs.declared.writes.Write.{Write}
-use Rattle.memory.specs.Writes.{write, IsInWord}
 use Rattle.memory.specs.Words.{written_since}
 use Rattle.memory.proofs.Written.{written_back, written_few}
 use Rattle.hart.specs.State.{HartState, HartView}
-use Rattle.hart.specs.Steps.{stop_number}
 use Rattle.hart.proofs.PutBack.{same_state}
 use Rattle.hart.specs.declared.status.Status.{Status}
 use Rattle.hart.specs.declared.status.Status.TheVariants as status
 use Rattle.hart.specs.declared.status.Stop.TheVariants as stop
 use Rattle.step_machine.specs.inner.Stored.{Stored, HasAddress, InMemory}
 use Rattle.step_machine.specs.inner.Config.{Config, beginning}
-use Rattle.step_machine.specs.Positions.{Position, position_of, hart_position, Change, unless_same, changed, pair_words}
-use Rattle.step_machine.specs.Positions.{packed_changes, packed_hart, packed_buffer, packed_stored, packed, store_words}
+use Rattle.step_machine.specs.Positions.{position_of, hart_position, Change, unless_same, changed, pair_words}
+use Rattle.step_machine.specs.Positions.{packed_hart, packed_buffer, packed_stored, packed, store_words}
 use Rattle.step_machine.specs.Positions.{status_number, status_named, unpacked_changes, unpacked_hart, unpacked_harts}
 use Rattle.step_machine.specs.Positions.{with_store, unpacked_stores, unpacked_buffer, unpacked_buffers, with_words}
 use Rattle.step_machine.specs.Positions.{unpacked_stored, put_at}

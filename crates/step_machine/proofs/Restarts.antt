@@ -1,6 +1,6 @@
 -- A machine that is put back holds what its opening gives.
 use Rattle.std.proofs.Common.{arith, ◌≡◌, ℕ, suc, ◌≤◌, List, [], ◌∷◌, length, get_or, Option, Some, refl, sym, ◌∙◌}
-use Rattle.std.specs.Prelude.{map, option_map, All}
+use Rattle.std.specs.Prelude.{map, option_map}
 use Rattle.std.specs.List.{slice_get}
 use Rattle.std.proofs.lemmas.List.{length-map}
 use Rattle.std.proofs.lemmas.List.Elements.{All-nil, All-map}

@@ -1,4 +1,4 @@
-use Rattle.std.proofs.Common.{◌≡◌, ℕ, suc, ◌-◌, ◌≤◌, arith, get_or, subst}
+use Rattle.std.proofs.Common.{◌≡◌, ℕ, ◌-◌, arith, get_or, subst}
 use Rattle.memory.proofs.Written.{written_is}
 use Rattle.memory.proofs.words.written_len.Goals as goal
 

@@ -1,4 +1,4 @@
-use Rattle.std.proofs.Common.{◌≡◌, ℕ, List, [], ◌∷◌, ◌++◌, get_or, Vec, Global, sym, ◌∙◌, ap, append-nil, append_assoc}
+use Rattle.std.proofs.Common.{ℕ, List, [], ◌∷◌, ◌++◌, get_or, Vec, Global, sym, ◌∙◌, ap, append-nil, append_assoc}
 use Rattle.std.proofs.lemmas.List.{flat_map_more}
 use Rattle.std.specs.List.{flat_map}
 use Rattle.step_machine.specs.Positions.{changed, pair_words}

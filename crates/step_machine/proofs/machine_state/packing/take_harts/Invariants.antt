@@ -1,4 +1,3 @@
-use Rattle.std.proofs.Common.{◌≡◌, ◌++◌, take, drop, length}
 use Rattle.step_machine.specs.Positions.{unpacked_harts}
 use Rattle.step_machine.proofs.TakingLaws.{AreTaken}
 use Rattle.step_machine.proofs.machine_state.packing.take_harts.Given as goal

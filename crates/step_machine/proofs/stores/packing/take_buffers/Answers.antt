@@ -1,4 +1,4 @@
-use Rattle.std.proofs.Common.{◌<◌, length, refl, arith}
+use Rattle.std.proofs.Common.{refl, arith}
 use Rattle.step_machine.specs.Positions.{unpacked_buffer, unpacked_buffers}
 use Rattle.step_machine.proofs.TakingLaws.{taken_none, taken_more, taken_all}
 use Rattle.step_machine.proofs.stores.packing.take_buffers.Goals as goal
