@@ -1,15 +1,14 @@
 -- A tally of judgements, and one judgement more.
 use Rattle.std.proofs.Common.{◌≡◌, ℕ, ◌+◌, ◌<◌, Bool, true, false, cond, List, [], ◌∷◌, ◌++◌, length, length-append}
 use Rattle.std.proofs.Common.{Option, Some, None, refl, sym, ap, ◌∙◌, arith}
-use Rattle.std.specs.Prelude.{OnOk, Result, is_some, unwrap_or}
+use Rattle.std.specs.Prelude.{is_some, unwrap_or}
 use Rattle.std.specs.List.{list_any, position_from}
 use Rattle.std.specs.Option.{option_or}
 use Rattle.std.proofs.lemmas.List.Sums.{count_by-le-length}
-use Rattle.engine_support.specs.Counting.{counted, counted_both, Counts, seen_of}
+use Rattle.engine_support.specs.Counting.{counted, counted_both, seen_of}
 use Rattle.engine_support.proofs.OutcomeTables.{count_more, seen_few, seen_more, seen_none}
 use Rattle.checking.specs.declared.tally.Tally.{Tally}
 use Rattle.checking.specs.Judgements.{Judged}
-use Rattle.checking.specs.Judgements.Judged.{finished}
 use Rattle.checking.specs.Outcomes.{first_record, gave, is_refused, is_unfinished, record_end}
 use Rattle.checking.specs.inner.Tallies.{HasRoom, IsTallyOf, Tallies}
 
@@ -76,10 +75,3 @@ nothing_counted tally nothing none unfinished refused =
       unfinished_are = unfinished;
       refused_are = refused;
     }
-
--- a finished run whose outcome was counted is tallied
-pub finished-tallied : {E : Type 0} (result : Result (Unit {0}) E) (values : List ℕ) (old new : Tally)
-    → new.judged ≡ old.judged + 1 → new.unfinished ≡ old.unfinished
-    → new.refused ≡ old.refused → OnOk result (Counts values (1, record_end (old.judged + 1)) (counted old.outcomes) (counted new.outcomes))
-    → OnOk result (Tallies (finished values) old new)
-finished-tallied result values old new judged unfinished refused counts = grind arith

@@ -1,9 +1,10 @@
 -- The texts in an input, line by line.
-use Rattle.std.proofs.Common.{arith, ◌≡◌, ℕ, ◌==◌, Bool, true, false, ◌&&◌, List, [], ◌∷◌, ◌++◌, length, refl, sym, ap, subst, ◌∙◌, append_assoc, inl, inr}
+use Rattle.std.proofs.Common.{arith, ◌≡◌, ℕ, ◌==◌, Bool, true, false, List, [], ◌∷◌, ◌++◌, length, length-append, refl}
+use Rattle.std.proofs.Common.{sym, ap, subst, ◌∙◌, append_assoc, inl, inr}
 use Rattle.std.specs.Prelude.{nat_eq, nat_le, if◌then◌else◌}
 use Rattle.std.specs.Io.BufRead.{take_through, drop_through}
 use Rattle.std.proofs.Math.Bool.{and-false}
-use Rattle.std.proofs.lemmas.Bool.{eqb-true, lt-leb}
+use Rattle.std.proofs.lemmas.Bool.{cases_Bool, eqb-true, lt-leb}
 use Rattle.std.proofs.lemmas.List.{append-nil}
 use Rattle.step_machine.proofs.Placing.{and_left}
 use Rattle.litmus.specs.LitmusTests.{LitmusTest}
@@ -12,7 +13,7 @@ use Rattle.engine_support.proofs.Judging.{judged-large}
 use Rattle.checking.specs.RecordTexts.{whole_lines, before_lines, begins_record, before_record, records_in, is_left_out, unless_blank}
 use Rattle.checking.specs.Judgements.{Judged, IsJudged, record_of}
 use Rattle.checking.specs.Judgements.IsJudged.{none, record_is}
-use Rattle.checking.specs.inner.Holding.{IsHeld}
+use Rattle.checking.specs.inner.Holding.{held_with, IsHeld}
 
 -- ---- lines
 
@@ -65,6 +66,9 @@ pub text_is_last : (text : List ℕ) → texts_from text [] ≡ unless_blank tex
 text_is_last text = rw (append-nil text, append-nil (unless_blank text)) refl
 
 -- ---- what is held of a text
+
+pub held_more : (line whole held : List ℕ) → IsHeld whole held → IsHeld (whole ++ line) (held_with held line)
+held_more line whole held is = grind (arith, length-append, cases_Bool)
 
 pub held_left_out : (text held : List ℕ) → IsHeld text held → is_left_out held ≡ is_left_out text
 held_left_out text held (inl same) = ap is_left_out same

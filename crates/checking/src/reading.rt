@@ -1,9 +1,9 @@
 //! The text that is being read, line by line.
 
-ghost use Rattle.std.specs.Prelude.{◌≡◌, ◌++◌, ℕ, List, IfErr, IfSome, OnOk};
+ghost use Rattle.std.specs.Prelude.{◌≡◌, IfErr, IfSome, OnErr, OnOk};
 ghost use Rattle.std.specs.Io.BufRead.{take_through, DropsThrough};
 ghost use Rattle.checking.specs.RecordTexts.{begins_record, is_left_out};
-ghost use Rattle.checking.specs.inner.Holding.{IsHeld};
+ghost use Rattle.checking.specs.inner.Holding.{held_with};
 ghost use Rattle.engine_support.specs.inner.Failures.{IsReadFailure};
 
 use engine_support::fault::Fault;
@@ -44,7 +44,8 @@ pub fn is_left_out(text: &[u8]) -> bool
 
 /// Appends a line to a text. Of one that is too large already nothing more is kept.
 pub fn hold(text: &mut Vec<u8>, line: &[u8]) -> Result<(), AllocError>
-    ensures { OnOk result ((whole : List ℕ) → IsHeld whole text.old.items → IsHeld (whole ++ line.now) text.new.items) }
+    ensures exact { OnOk result (text.new.items ≡ held_with text.old.items line.now) }
+    ensures err { OnErr result (text.new.items ≡ text.old.items) }
 {
     if text.len() > INPUT_BYTES {
         return Ok(());

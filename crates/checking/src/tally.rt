@@ -1,10 +1,10 @@
 //! What is kept of the texts that were judged.
 
-ghost use Rattle.std.specs.Prelude.{◌≡◌, ◌<◌, [], IfOk, IfSome, OnOk};
+ghost use Rattle.std.specs.Prelude.{◌≡◌, ◌<◌, ℕ, List, [], IfOk, IfSome, OnErr, OnOk};
 ghost use Rattle.std.specs.String.{string_bytes};
 ghost use Rattle.engine_support.specs.Counting.{counted, Counts};
 ghost use Rattle.checking.specs.Outcomes.{record_end as end_of_record};
-ghost use Rattle.checking.specs.inner.Tallies.{HasRoom, IsTallyOf, judged_by, Tallies};
+ghost use Rattle.checking.specs.inner.Tallies.{CountsAlike, HasRoom, IsTallyOf, judged_by, Tallies};
 
 use crate::judging::Judgement;
 use engine_support::outcomes::Outcomes;
@@ -38,7 +38,8 @@ fn count_outcome(
     number: u64,
 ) -> Result<(), AllocError>
     requires { IfSome (counted outcomes.old outcome.now) (λ seen. seen.0 < 18446744073709551615) }
-    ensures { OnOk result (Counts outcome.now (1, end_of_record number) (counted outcomes.old) (counted outcomes.new)) }
+    ensures counts { OnOk result (Counts outcome.now (1, end_of_record number) (counted outcomes.old) (counted outcomes.new)) }
+    ensures err { OnErr result ((other : List ℕ) → counted outcomes.new other ≡ counted outcomes.old other) }
 {
     if outcomes.count_again(outcome) {
         return Ok(());
@@ -69,19 +70,16 @@ impl Tally {
         values: &[u32],
     ) -> Result<(), AllocError>
         requires { HasRoom self.old }
-        ensures { OnOk result (Tallies (judged_by judgement values.now) self.old self.new) }
+        ensures tallies { OnOk result (Tallies (judged_by judgement values.now) self.old self.new) }
+        ensures err { OnErr result (CountsAlike self.old self.new) }
     {
-        self.judged += 1;
+        let number = self.judged + 1;
         match judgement {
-            Judgement::Finished => count_outcome(alloc, &mut self.outcomes, values, self.judged),
-            Judgement::Unfinished => {
-                self.unfinished += 1;
-                Ok(())
-            }
-            Judgement::Differs(_) | Judgement::NoRecord(_) => {
-                self.refused += 1;
-                Ok(())
-            }
+            Judgement::Finished => count_outcome(alloc, &mut self.outcomes, values, number)?,
+            Judgement::Unfinished => self.unfinished += 1,
+            Judgement::Differs(_) | Judgement::NoRecord(_) => self.refused += 1,
         }
+        self.judged = number;
+        Ok(())
     }
 }

@@ -1,5 +1,6 @@
 -- How an engine ends, from what it made of its inputs.
-use Rattle.std.proofs.Common.{◌≡◌, ℕ, ◌+◌, ◌<◌, ◌≤◌, List, length, take, Result, Ok, Err, refl, sym, ap, ◌∙◌, subst, arith, length-append, length-take}
+use Rattle.std.proofs.Common.{◌≡◌, ℕ, ◌+◌, ◌<◌, ◌≤◌, List, ◌++◌, length, take, Result, Ok, Err, refl, sym, ap, ◌∙◌}
+use Rattle.std.proofs.Common.{subst, arith, append_assoc, length-append, length-take}
 use Rattle.std.specs.Prelude.{Option, Some, None, IfSome, IsErrAnd, replicate}
 use Rattle.std.specs.Io.KnownBytes.{Consumes}
 use Rattle.std.proofs.lemmas.List.{length-replicate}
@@ -8,7 +9,7 @@ use Rattle.engine_support.specs.declared.fault.Fault.{Fault}
 use Rattle.engine_support.specs.declared.fault.Fault.TheVariants.{ReadFailed, WriteFailed, NoMemory, Refused}
 use Rattle.engine_support.specs.declared.fault.Refusal.{Refusal}
 use Rattle.engine_support.specs.Faults.{too_large, AnswersAs}
-use Rattle.engine_support.specs.Input.{IsInput}
+use Rattle.engine_support.specs.Input.{IsInput, TakesFew}
 use Rattle.engine_support.specs.Engines.{OfInput, Ends}
 use Rattle.engine_support.specs.inner.Making.{FindsUpToReads, IsEndOf}
 
@@ -23,11 +24,23 @@ pub too_large-found : (known : Option (List ℕ)) (fault : Fault) → fault ≡ 
 too_large-found None fault is many = let large = some_longer 1048576 in (large.0, rw is (refl, large.1))
 too_large-found (Some bytes) fault is many = rw is (refl, many)
 
+consumes_more : (old mid new : Option (List ℕ)) (xs ys : List ℕ) → Consumes old mid xs → Consumes mid new ys → Consumes old new (xs ++ ys)
+consumes_more old mid new xs ys a b = grind (arith, append_assoc)
+
 -- what was read and this chunk are too many
 pub too_many : (known left after : Option (List ℕ)) (before chunk : List ℕ) (count : ℕ) → Consumes known left before
     → Consumes left after (take count chunk) → count ≤ length chunk → 1048576 < length before + count
     → IfSome known (λ bytes. 1048576 < length bytes)
 too_many known left after before chunk count was is within many = grind (arith, length-append, length-take)
+
+-- with this chunk at most one chunk past the limit was taken
+pub taken_chunk : (known left after : Option (List ℕ)) (before chunk : List ℕ) (count : ℕ) → Consumes known left before
+    → Consumes left after (take count chunk) → length before ≤ 1048576 → count ≤ length chunk → length chunk ≤ 4096 → TakesFew known after
+taken_chunk known left after before chunk count was is few within small = (
+  before ++ take count chunk,
+  consumes_more known left after before (take count chunk) was is,
+  omega (arith, length-append before (take count chunk), length-take count chunk),
+)
 
 -- what holds of the bytes more weakly
 pub weaker : (known : Option (List ℕ)) (P Q : List ℕ → Type 0) → ((bytes : List ℕ) → P bytes → Q bytes) → OfInput known P → OfInput known Q

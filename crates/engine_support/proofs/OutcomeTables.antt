@@ -1,5 +1,5 @@
 -- Tables of runs: what is counted of them, and that they have one table.
-use Rattle.std.proofs.Common.{◌≡◌, ℕ, zero, ◌+◌, ◌<◌, Bool, true, false, cond, ◌||◌, List, [], ◌∷◌, ◌++◌, length, count_by}
+use Rattle.std.proofs.Common.{◌≡◌, ℕ, ◌+◌, ◌<◌, Bool, true, false, cond, ◌||◌, List, [], ◌∷◌, ◌++◌, length, count_by}
 use Rattle.std.proofs.Common.{All, Option, Some, None, refl, sym, ap, ap₂, ◌∙◌, arith}
 use Rattle.std.specs.Prelude.{◌↔◌, is_some, Contains, IfSome, IsTrue}
 use Rattle.std.specs.BTreeSet.{BTreeSet, contains}

@@ -1,10 +1,11 @@
 -- What is read of a reader whose bytes are known.
-use Rattle.std.specs.Prelude.{ℕ, ◌≡◌, ◌<◌, List, length, Result, Ok, Err}
+use Rattle.std.specs.Prelude.{ℕ, ◌≡◌, ◌+◌, ◌<◌, ◌≤◌, List, length, Option, Result, Ok, Err}
+use Rattle.std.specs.Io.KnownBytes.{Consumes}
 use Rattle.std.specs.Global.{Vec}
 use Rattle.engine_support.specs.declared.fault.Fault.{Fault}
 use Rattle.engine_support.specs.declared.fault.Fault.TheVariants.{ReadFailed, WriteFailed, NoMemory, Refused}
 use Rattle.engine_support.specs.Faults.{too_large}
-use Rattle.engine_support.specs.declared.input.TheConstants.{INPUT_BYTES}
+use Rattle.engine_support.specs.declared.input.TheConstants.{CHUNK_BYTES, INPUT_BYTES}
 
 -- all of the bytes; refused only as too large, and only past the limit
 abbrev pub IsInput : List ℕ → Result (Vec ℕ) Fault → Type 0
@@ -13,3 +14,8 @@ IsInput bytes (Err (Refused refusal)) = (refusal ≡ too_large) × (INPUT_BYTES 
 IsInput bytes (Err ReadFailed) = Unit {0}
 IsInput bytes (Err NoMemory) = Unit {0}
 IsInput bytes (Err WriteFailed) = ⊥
+
+-- A reader gave up at most the bytes of the largest input and one chunk, so one that gives more is refused soon
+-- after the limit.
+abbrev pub TakesFew : (before after : Option (List ℕ)) → Type 0
+TakesFew before after = (bytes : List ℕ) × Consumes before after bytes × (length bytes ≤ INPUT_BYTES + CHUNK_BYTES)

@@ -2,8 +2,9 @@
 
 ghost use Rattle.std.specs.Prelude.{◌≤◌, IfOk, length};
 ghost use Rattle.std.specs.String.{string_bytes};
+ghost use Rattle.std.specs.Io.KnownBytes.{IsAtEnd};
 ghost use Rattle.engine_support.specs.Engines.{OfInput};
-ghost use Rattle.engine_support.specs.Input.{IsInput};
+ghost use Rattle.engine_support.specs.Input.{IsInput, TakesFew};
 ghost use Rattle.engine_support.specs.inner.Inputs.{IsReadAsText};
 ghost use Rattle.engine_support.specs.inner.Making.{FindsByUpToReads};
 ghost use Rattle.engine_support.specs.declared.input.TheConstants.{INPUT_BYTES};
@@ -15,13 +16,16 @@ use std::io::{ErrorKind, Read};
 /// The most bytes of an input.
 pub const INPUT_BYTES: usize = 1_048_576;
 
-const CHUNK_BYTES: usize = 4096;
+/// The most bytes that one read takes.
+pub const CHUNK_BYTES: usize = 4096;
 
 /// All that the reader gives, where that is within the limit. A reader without end is refused soon
 /// after the limit.
 fn read_input<R: Read>(alloc: Global, reader: &mut R) -> Result<Vec<u8>, Fault>
     ensures input { OfInput (R.remaining reader.old) (λ bytes. IsInput bytes result) }
     ensures few { IfOk result (λ input. length input.items ≤ INPUT_BYTES) }
+    ensures taken { TakesFew (R.remaining reader.old) (R.remaining reader.new) }
+    ensures end { IfOk result (λ input. IsAtEnd (R.remaining reader.new)) }
 {
     let mut input = Vec::new(alloc);
     let mut chunk = [0; CHUNK_BYTES];
@@ -39,9 +43,11 @@ fn read_input<R: Read>(alloc: Global, reader: &mut R) -> Result<Vec<u8>, Fault>
     Err(Fault::ReadFailed)
 }
 
-/// All that the reader gives, where that is a text.
+/// All that the reader gives, where that is a text. No more than one chunk is taken past the limit.
 pub fn read_text<R: Read>(alloc: Global, reader: &mut R) -> Result<String, Fault>
-    ensures { FindsByUpToReads IsReadAsText string_bytes (R.remaining reader.old) result }
+    ensures text { FindsByUpToReads IsReadAsText string_bytes (R.remaining reader.old) result }
+    ensures taken { TakesFew (R.remaining reader.old) (R.remaining reader.new) }
+    ensures end { IfOk result (λ text. IsAtEnd (R.remaining reader.new)) }
 {
     let input = read_input(alloc, reader)?;
     match String::from_utf8(input) {

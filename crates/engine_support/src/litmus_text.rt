@@ -1,10 +1,12 @@
 //! Inputs that are litmus texts.
 
 ghost use Rattle.std.specs.Prelude.{ℕ, IfOk, IsErr};
+ghost use Rattle.std.specs.Io.KnownBytes.{IsAtEnd};
 ghost use Rattle.litmus_reader.specs.Reading.{content_of};
 ghost use Rattle.litmus_reader.specs.Grammar.{IsTestOf};
 ghost use Rattle.engine_support.specs.Faults.{Answers};
 ghost use Rattle.engine_support.specs.Tests.{test_of, HasNoTest};
+ghost use Rattle.engine_support.specs.Input.{TakesFew};
 ghost use Rattle.engine_support.specs.inner.Making.{FindsByUpToReads};
 ghost use Rattle.engine_support.specs.inner.Inputs.{IsReadAsTest};
 
@@ -27,6 +29,8 @@ fn test_of_text(alloc: Global, text: &str) -> Result<Test, Fault>
 pub fn read_test<R: Read>(alloc: Global, reader: &mut R) -> Result<Test, Fault>
     ensures test { FindsByUpToReads IsReadAsTest (λ test. test) (R.remaining reader.old) result }
     ensures refused { HasNoTest (R.remaining reader.old) → IsErr result }
+    ensures taken { TakesFew (R.remaining reader.old) (R.remaining reader.new) }
+    ensures end { IfOk result (λ test. IsAtEnd (R.remaining reader.new)) }
 {
     let text = read_text(alloc, reader)?;
     test_of_text(alloc, &text)

@@ -1,6 +1,6 @@
 //! The outcomes of a test's runs, and the rows of their table.
 
-ghost use Rattle.std.specs.Prelude.{◌≡◌, ◌++◌, ◌+◌, ◌<◌, ℕ, List, Option, None, false, length, zip, IfSome, IsTrue, OnOk};
+ghost use Rattle.std.specs.Prelude.{◌≡◌, ◌++◌, ◌+◌, ◌<◌, ℕ, List, Option, None, false, length, zip, IfSome, IsTrue, OnErr, OnOk};
 ghost use Rattle.std.specs.List.{flat_map};
 ghost use Rattle.std.specs.String.{string_bytes};
 ghost use Rattle.std.specs.BTreeMap.{IsOrdered};
@@ -36,7 +36,8 @@ fn count_row(
     later: Row,
 ) -> Result<(), AllocError>
     requires { IfSome (counted_of rows.old.entries outcome.items) (λ seen. seen.0 + later.count < 18446744073709551616) }
-    ensures { OnOk result (Counts outcome.items (counted_by later) (counted_of rows.old.entries) (counted_of rows.new.entries)) }
+    ensures counts { OnOk result (Counts outcome.items (counted_by later) (counted_of rows.old.entries) (counted_of rows.new.entries)) }
+    ensures err { OnErr result (rows.new.entries ≡ rows.old.entries) }
 {
     match rows.get_mut(outcome.as_slice()) {
         Some(row) => row.count += later.count,
@@ -130,7 +131,8 @@ impl Outcomes {
     /// Counts the first run with this outcome, whose row ends with this text.
     pub fn count_first(&mut self, outcome: Vec<u32>, end: String) -> Result<(), AllocError>
         requires { counted self.old outcome.items ≡ None }
-        ensures { OnOk result (Counts outcome.items (1, string_bytes end) (counted self.old) (counted self.new)) }
+        ensures counts { OnOk result (Counts outcome.items (1, string_bytes end) (counted self.old) (counted self.new)) }
+        ensures err { OnErr result ((other : List ℕ) → counted self.new other ≡ counted self.old other) }
     {
         count_row(&mut self.rows, outcome, Row { count: 1, end })
     }

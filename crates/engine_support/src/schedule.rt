@@ -1,11 +1,13 @@
 //! Inputs that are schedules.
 
 ghost use Rattle.std.specs.Prelude.{◌≡◌, ◌≤◌, IfOk, IsErr, length};
+ghost use Rattle.std.specs.Io.KnownBytes.{IsAtEnd};
 ghost use Rattle.recorder.specs.Schedule.{OfHarts};
 ghost use Rattle.recorder.specs.Versions.{Says, events_said, said_of};
 ghost use Rattle.recorder.specs.declared.reading.TheConstants.{MAX_EVENTS};
 ghost use Rattle.engine_support.specs.Faults.{Answers, fault_for};
 ghost use Rattle.engine_support.specs.Schedules.{refused_at_byte, schedule_of as schedule_said, HasNoSchedule};
+ghost use Rattle.engine_support.specs.Input.{TakesFew};
 ghost use Rattle.engine_support.specs.inner.Making.{FindsByUpToReads};
 ghost use Rattle.engine_support.specs.inner.Inputs.{IsReadAsSchedule};
 
@@ -44,6 +46,8 @@ fn schedule_of_text(alloc: Global, text: &str) -> Result<Schedule, Fault>
 pub fn read_schedule<R: Read>(alloc: Global, reader: &mut R) -> Result<Schedule, Fault>
     ensures schedule { FindsByUpToReads IsReadAsSchedule said_of (R.remaining reader.old) result }
     ensures refused { HasNoSchedule (R.remaining reader.old) → IsErr result }
+    ensures taken { TakesFew (R.remaining reader.old) (R.remaining reader.new) }
+    ensures end { IfOk result (λ schedule. IsAtEnd (R.remaining reader.new)) }
     ensures harts { IfOk result (λ schedule. OfHarts (events_said (said_of schedule))) }
     ensures few { IfOk result (λ schedule. length (events_said (said_of schedule)) ≤ MAX_EVENTS) }
 {

@@ -36,6 +36,13 @@ pub record Tallies (answer : Judged) (old new : Tally) : Type 0 where
   pub unfinished_are : new.unfinished ≡ old.unfinished + (if is_unfinished answer then 1 else 0)
   pub refused_are : new.refused ≡ old.refused + (if is_refused answer then 1 else 0)
 
+-- two tallies count the same
+pub record CountsAlike (old new : Tally) : Type 0 where
+  pub counts : (outcome : List ℕ) → counted new.outcomes outcome ≡ counted old.outcomes outcome
+  pub judged_are : new.judged ≡ old.judged
+  pub unfinished_are : new.unfinished ≡ old.unfinished
+  pub refused_are : new.refused ≡ old.refused
+
 -- one more text can be counted in 64 bits
 pub record HasRoom (tally : Tally) : Type 0 where
   pub counts : (outcome : List ℕ) → IfSome (counted tally.outcomes outcome) (λ seen. seen.0 < 18446744073709551615)

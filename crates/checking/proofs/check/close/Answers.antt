@@ -17,7 +17,7 @@ returns-in_err-judgement-clause-err g c =
 pub returns-clause-closed : goal.returns-clause-closed
 returns-clause-closed g c =
     let values = c.judge.new.values.items in
-    let tallies = rw c.deref.ensures.value at c.in_ok-add.ensures in
+    let tallies = rw c.deref.ensures.value at c.in_ok-add.ensures.tallies in
     ok_some c.end_with.result _ _
     (λ v written. closes_by g.row.B g.row.M c.args.test.now c.args.text.now c.args.tally.now c.add.new.self _ _ (judged_by c.in_ok-judgement.judgement values) _
     (sym c.is_left_out.ensures ∙ c.if-is_left_out.false) c.in_ok-judgement.ensures.judged tallies (c.in_ok-line.ensures values) written.1)

@@ -9,13 +9,13 @@ overflow_add-row c =
     (Some c.in-Some.row.now) (rw c.as_slice.ensures.value at c.in-Some.ensures.value) c.requires in
     omega (arith, small)
 
-pub returns-in-Some : goal.returns-in-Some
-returns-in-Some c =
+pub returns-in-Some-clause-counts : goal.returns-in-Some-clause-counts
+returns-in-Some-clause-counts c =
     rw ((c.get_mut.follows.holds _).0, c.as_slice.ensures.value)
     (row-again (counted_by c.args.later) c.args.rows.now.entries c.args.outcome.items c.in-Some.row.now
     (rw c.as_slice.ensures.value at c.in-Some.ensures.value))
 
-pub returns-in_ok-insert-in-None : goal.returns-in_ok-insert-in-None
-returns-in_ok-insert-in-None c =
+pub returns-in_ok-insert-in-None-clause-counts : goal.returns-in_ok-insert-in-None-clause-counts
+returns-in_ok-insert-in-None-clause-counts c =
     rw (c.in_ok-insert-in-None.ensures.entries, c.get_mut.follows.holds-at-none)
     (row-first c.args.rows.now.entries c.args.outcome c.args.later (rw c.as_slice.ensures.value at c.in-None.ensures.value))

@@ -7,4 +7,4 @@ use Rattle.view_engines.proofs.showing.made.Goals as goal
 
 pub returns-in-Err : goal.returns-in-Err
 returns-in-Err g c =
-    no_text text_and_value (λ (text : String Global). string_bytes text) c.args.form (g.R.Read.remaining c.args.reader.now) c.in-Err.fault c.in-Err.ensures
+    no_text text_and_value (λ (text : String Global). string_bytes text) c.args.form (g.R.Read.remaining c.args.reader.now) c.in-Err.fault c.in-Err.ensures.text

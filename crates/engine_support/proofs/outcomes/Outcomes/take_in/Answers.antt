@@ -19,7 +19,7 @@ loop-outcome-preserved c =
     let so_far = c.loop-outcome.invariant in
     let taken : c.loop-outcome.outcome-iterator ≡ (c.in-Some.outcome, c.in-Some.row) ∷ c.next.new.self = search rules in
     record {
-      left = row_taken c.in-Some.outcome c.in-Some.row _ _ _ _ _ taken so_far.sorted c.in_ok-count_row.ensures so_far.left;
+      left = row_taken c.in-Some.outcome c.in-Some.row _ _ _ _ _ taken so_far.sorted c.in_ok-count_row.ensures.counts so_far.left;
       sorted = sorted_tail order c.in-Some.outcome (keys_of c.next.new.self)
           (subst (λ (rows : List (Vec ℕ × Row)). IsStrictlySortedBy order (keys_of rows)) taken so_far.sorted);
     }
