@@ -17,7 +17,7 @@ pub struct Arrival {
 }
 
 impl Arrival {
-    ghost use Rattle.finding.specs.inner.Arriving.{event_of};
+    ghost use Rattle.finding.specs.inner.Arriving.{event_of, way};
 
     /// By this event, from the state of this number.
     pub fn new(from: u32, event: Event) -> Arrival
@@ -50,27 +50,28 @@ impl Arrival {
             Event::Act(hart)
         }
     }
-}
 
-/// The last `depth` events by which a search came to the state of this number, oldest first. The arrival at
-/// state `k` stands at place `k`.
-pub fn way_to(
-    alloc: Global,
-    arrivals: &[Arrival],
-    state: usize,
-    depth: u32,
-) -> Result<Vec<Event>, AllocError>
-    ensures few { IfOk result (λ events. length events.items ≤ depth) }
-    ensures harts { IfOk result (λ events. OfHarts events.items) }
-{
-    let mut events = Vec::new(alloc);
-    let mut at = state;
-    for _ in 0..depth {
-        if let Some(arrival) = arrivals.get(at) {
-            events.push(arrival.event())?;
-            at = arrival.from as usize;
+    /// The last `depth` events by which a search came to the state of this number, oldest first. The arrival at
+    /// state `k` stands at place `k`.
+    pub fn way_to(
+        alloc: Global,
+        arrivals: &[Arrival],
+        state: usize,
+        depth: u32,
+    ) -> Result<Vec<Event>, AllocError>
+        ensures way { IfOk result (λ events. events.items ≡ way arrivals.now state depth) }
+        ensures few { IfOk result (λ events. length events.items ≤ depth) }
+        ensures harts { IfOk result (λ events. OfHarts events.items) }
+    {
+        let mut events = Vec::new(alloc);
+        let mut at = state;
+        for _ in 0..depth {
+            if let Some(arrival) = arrivals.get(at) {
+                events.push(arrival.event())?;
+                at = arrival.from as usize;
+            }
         }
+        events.reverse();
+        Ok(events)
     }
-    events.reverse();
-    Ok(events)
 }

@@ -6,9 +6,9 @@ ghost use Rattle.std.specs.Prelude.{◌≡◌, ◌≤◌, ◌<◌, ◌+◌, IfOk
 ghost use Rattle.recorder.specs.Schedule.{OfHarts};
 ghost use Rattle.step_machine.specs.declared.opening.TheConstants.{MAX_HARTS};
 ghost use Rattle.litmus.specs.declared.litmus_test.TheConstants.{MAX_LOCATIONS};
-ghost use Rattle.finding.specs.inner.Arriving.{IsWithin};
+ghost use Rattle.finding.specs.inner.Arriving.{IsWithin, Meets, events_with};
 
-use crate::arrivals::{Arrival, way_to};
+use crate::arrivals::Arrival;
 use crate::finds::ends_as_wanted;
 use crate::progress::SearchProgress;
 use litmus::Test;
@@ -33,7 +33,8 @@ pub struct Searched {
 /// comes first in this order.
 fn events_of(alloc: Global, harts: u32) -> Result<Vec<Event>, AllocError>
     requires { harts ≤ MAX_HARTS }
-    ensures { IfOk result (λ events. OfHarts events.items) }
+    ensures all { IfOk result (λ events. events.items ≡ events_with harts) }
+    ensures harts { IfOk result (λ events. OfHarts events.items) }
 {
     let mut events = Vec::new(alloc);
     for hart in 0..harts {
@@ -55,6 +56,7 @@ fn meet<const B: usize, const M: usize>(
 ) -> Result<bool, AllocError>
     requires harts { length machine.now.harts ≡ length test.now.opening.harts }
     requires names { length test.now.names ≤ M }
+    ensures met { IfOk result (Meets B M test.now machine.now states.old states.new arrivals.old.items arrivals.new.items arrival) }
     ensures kept { length states.old ≤ length states.new }
     ensures next { length states.new ≤ length states.old + 1 }
     ensures some { IfOk result (λ _. 1 ≤ length states.new) }
@@ -121,7 +123,8 @@ fn search_from<const B: usize, const M: usize, P: SearchProgress>(
     requires names { length test.now.names ≤ M }
     requires none { length states.old ≡ 0 }
     requires some_states { 1 ≤ limit }
-    ensures { IfOk result (IsWithin limit) }
+    ensures within { IfOk result (IsWithin limit) }
+    ensures count { IfOk result (λ searched. searched.states ≡ length states.new) }
 {
     let events = events_of(alloc, machine.harts())?;
     let mut arrivals = Vec::new(alloc);
@@ -158,7 +161,7 @@ fn search_from<const B: usize, const M: usize, P: SearchProgress>(
             &words,
             limit,
         )? {
-            let way = way_to(alloc, &arrivals, states.len() - 1, depth + 1)?;
+            let way = Arrival::way_to(alloc, &arrivals, states.len() - 1, depth + 1)?;
             return Ok(Searched {
                 states: states.len() as u32,
                 way: Some(way),

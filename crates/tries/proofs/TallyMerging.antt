@@ -1,6 +1,6 @@
 -- Runs after runs: their schedules, and the tally of them all from the tallies of the two parts.
-use Rattle.std.proofs.Common.{◌≡◌, ℕ, zero, suc, ◌+◌, ◌*◌, Bool, cond, ◌||◌, not, List, [], ◌∷◌, ◌++◌, length, map}
-use Rattle.std.proofs.Common.{Option, sym, ap, ◌∙◌, arith, append-nil, append_assoc, subst, ◌-◌, ◌≤◌, ◌<◌, rules}
+use Rattle.std.proofs.Common.{◌≡◌, ℕ, zero, suc, ◌+◌, ◌*◌, Bool, cond, ◌||◌, not, List, [], ◌++◌, length, map}
+use Rattle.std.proofs.Common.{Option, sym, ap, ◌∙◌, arith, append-nil, append_assoc, subst, ◌-◌, ◌≤◌, ◌<◌}
 use Rattle.std.specs.List.{list_any, range_with_len}
 use Rattle.std.specs.Prelude.{IfSome}
 use Rattle.std.proofs.lemmas.List.{map-append, length-map}

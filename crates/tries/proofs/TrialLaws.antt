@@ -1,11 +1,11 @@
 -- Runs by drawn schedules, one more at a time.
-use Rattle.std.proofs.Common.{◌≡◌, ℕ, zero, suc, ◌+◌, ◌*◌, List, [], ◌∷◌, ◌++◌, length, refl, ◌∙◌, arith}
+use Rattle.std.proofs.Common.{◌≡◌, ℕ, ◌+◌, List, [], ◌∷◌, ◌++◌, length, refl, arith}
 use Rattle.std.proofs.lemmas.List.{map-append}
 use Rattle.std.proofs.lemmas.List.FromFn.{map-range_with_len_more}
 use Rattle.std.proofs.lemmas.List.Elements.{All-append, All-cons, All-nil}
 use Rattle.rand_core.specs.Stream.{Stream}
 use Rattle.litmus.specs.LitmusTests.{LitmusTest}
-use Rattle.recorder.specs.Drawing.{left_after, schedule_drawn}
+use Rattle.recorder.specs.Drawing.{schedule_drawn}
 use Rattle.tries.specs.Trials.{Trial, IsTrial, AreTrials}
 
 -- no run

@@ -1,5 +1,5 @@
 -- Runs of a test from schedules that a generator draws, and the outcomes that they show.
-use Rattle.std.specs.Prelude.{ℕ, ◌≡◌, ◌*◌, ◌&&◌, Bool, true, false, not, List, length, map, All}
+use Rattle.std.specs.Prelude.{ℕ, ◌≡◌, ◌&&◌, Bool, true, false, not, List, length, map, All}
 use Rattle.std.specs.List.{range_with_len, list_any}
 use Rattle.std.specs.Str.{bytes_eq as are_equal}
 use Rattle.rand_core.specs.Stream.{Stream}

@@ -1,5 +1,13 @@
 -- By which event a search came to a state, and what it hands over.
-use Rattle.std.specs.Prelude.{ℕ, ◌≤◌, if◌then◌else◌, length, IfSome}
+use Rattle.std.specs.Prelude.{ℕ, zero, suc, ◌≡◌, ◌≤◌, ◌⊎◌, ◌↔◌, if◌then◌else◌, Bool, false, IsTrue}
+use Rattle.std.specs.Prelude.{List, [], ◌∷◌, ◌++◌, length, map, Option, Some, None, IfSome}
+use Rattle.std.specs.List.{range_with_len, slice_get}
+use Rattle.step_machine.specs.Positions.{packed}
+use Rattle.step_machine.specs.Standing.{ForEachHistory}
+use Rattle.step_machine.specs.inner.Config.{Config}
+use Rattle.states.specs.Numbered.{GetsNextNumber, KeepsNumber}
+use Rattle.litmus.specs.LitmusTests.{LitmusTest}
+use Rattle.finding.specs.Find.{EndsAsWanted}
 use Rattle.step_machine.specs.declared.events.Event.{Event}
 use Rattle.step_machine.specs.declared.events.Event.TheVariants.{Act, Land}
 use Rattle.recorder.specs.Schedule.{OfHarts}
@@ -10,6 +18,28 @@ use Rattle.finding.specs.declared.searching.Searched.{Searched}
 -- the event of an arrival
 abbrev pub event_of : Arrival → Event
 event_of arrival = if arrival.lands then Land arrival.hart else Act arrival.hart
+
+-- the events of a machine with this number of harts: the acts of all, then their landings
+abbrev pub events_with : (harts : ℕ) → List Event
+events_with harts = map Act (range_with_len 0 harts) ++ map Land (range_with_len 0 harts)
+
+-- the last `depth` events of the way that ends with this arrival, oldest first; the arrival at state k stands at place k
+abbrev pub way_by : List Arrival → Option Arrival → (depth : ℕ) → List Event
+way_by arrivals None depth = []
+way_by arrivals (Some arrival) zero = []
+way_by arrivals (Some arrival) (suc depth) = way_by arrivals (slice_get arrivals arrival.from) depth ++ event_of arrival ∷ []
+
+-- the last `depth` events of the way to the state of this number
+abbrev pub way : List Arrival → (state depth : ℕ) → List Event
+way arrivals state depth = way_by arrivals (slice_get arrivals state) depth
+
+-- A machine's state was numbered. Where it was known nothing changes, and else it gets the next number and its arrival
+-- stands last. It is `found` where it is new and ends as wanted.
+abbrev pub Meets : (B M : ℕ) → LitmusTest → Config → (old new : List (List ℕ)) → (before after : List Arrival) → Arrival → (found : Bool) → Type 0
+Meets B M test machine old new before after arrival found =
+    ((number : ℕ) × KeepsNumber old (packed machine) new number × (after ≡ before) × (found ≡ false))
+    ⊎ (GetsNextNumber old (packed machine) new (length old) × (after ≡ before ++ arrival ∷ [])
+    × ForEachHistory B M machine (λ t. IsTrue found ↔ EndsAsWanted M test t))
 
 -- A search saw a state and no more than it might, and what it came to can be written as a schedule.
 pub record IsWithin (limit : ℕ) (searched : Searched) : Type 0 where

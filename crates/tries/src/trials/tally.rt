@@ -5,6 +5,7 @@ ghost use Rattle.std.specs.String.{string_bytes};
 ghost use Rattle.step_machine.specs.History.{History, OpeningValue};
 ghost use Rattle.step_machine.specs.Runs.{Run};
 ghost use Rattle.step_machine.specs.Standing.{RepresentsHistory, RepresentsRunFrom};
+ghost use Rattle.tries.specs.Trials.{is_finished};
 ghost use Rattle.tries.specs.Outcomes.{schedule_text as text_of_schedule};
 ghost use Rattle.engine_support.specs.Counting.{counted, counted_both, Counts};
 ghost use Rattle.tries.specs.inner.Tallies.{IsTallyOf, Tallies};
@@ -135,6 +136,8 @@ impl Tally {
         requires unfinished { self.old.unfinished < 4294967295 }
         ensures again { IsTrue result → (events : List Event) → Tallies (record { events = events; verdict = verdict; values = values.now }) self.old self.new }
         ensures none { result ≡ false → self.new ≡ self.old }
+        ensures new { result ≡ false → counted self.old.outcomes values.now ≡ None }
+        ensures finished { result ≡ false → IsTrue (is_finished verdict) }
     {
         if verdict == Verdict::Unfinished {
             self.unfinished += 1;
