@@ -29,7 +29,7 @@ returns-in-Ok-replay_checked g c =
     (steps_reported g.K.RingKind.ring g.row.B g.row.M c.args.place lists true steps c.in-Ok.opening c.in-Ok-replay_checked.machine.history _
     (λ o is. c.records_are_runs.ensures.runs g.row.B g.row.M o steps _ is) c.in-Ok.ensures.value c.in-Ok.ensures.accepted
     c.in-Ok-replay_checked.ensures.checked
-    (λ run. c.in_ok-whole_reports_of-in-Ok-replay_checked.ensures lists _ (events_in steps) c.in-Ok.ensures.accepted run))
+    (λ run. c.in_ok-whole_reports_of-in-Ok-replay_checked.ensures.whole lists _ (events_in steps) c.in-Ok.ensures.accepted run))
 
 pub returns-then-finish : goal.returns-then-finish
 returns-then-finish g c =
