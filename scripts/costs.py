@@ -8,6 +8,8 @@ FILE = TOP / "scripts/costs.tsv"
 KINDS = ("proof", "tests", "mutants")
 # by how much a crate's proof may become dearer, and how many seconds it must be at least
 DEARER, SECONDS = 1.2, 10
+# from so many crates on their middle ratio is that of two machines, and not of what became dearer
+MACHINES = 10
 
 
 class Costs:
@@ -53,11 +55,16 @@ class Costs:
             left.remove(name)
         return max(free)
 
+    def both(self, other):
+        """The crates whose proofs both have measured."""
+        return [name for name, row in self.seconds.items() if row.get("proof") and other.seconds.get(name, {}).get("proof")]
+
+    def ratio(self, other):
+        """How many of these seconds are one of `other`: 1 where too few crates tell."""
+        ratios = [self.seconds[name]["proof"] / other.seconds[name]["proof"] for name in self.both(other)]
+        return median(ratios) if len(ratios) >= MACHINES else 1
+
     def dearer(self, other):
         """The crates whose proofs became dearer than in `other`, with both numbers, after the machines' ratio."""
-        both = [name for name, row in self.seconds.items() if row.get("proof") and other.seconds.get(name, {}).get("proof")]
-        if not both:
-            return []
-        ratio = median(self.seconds[name]["proof"] / other.seconds[name]["proof"] for name in both)
-        rows = [(name, other.seconds[name]["proof"] * ratio, self.seconds[name]["proof"]) for name in both]
+        rows = [(name, other.seconds[name]["proof"] * self.ratio(other), self.seconds[name]["proof"]) for name in self.both(other)]
         return [(name, round(was), now) for name, was, now in rows if now > DEARER * was and now > was + SECONDS]

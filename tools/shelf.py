@@ -1,6 +1,7 @@
 """The shelf of litmus tests below litmus/: each test with its witnesses, and what a program shows of it."""
 
 import os
+import re
 import subprocess
 import sys
 import tempfile
@@ -112,6 +113,18 @@ def values_in(text):
                 ("register", hart, int(place[1:]))
             values[key] = int(value)
     return values
+
+
+def table():
+    """The outcomes that the table of the shelf's README names, by test: those with a witness, and those
+    that a source excludes."""
+    row = re.compile(r"\| \[[^]]*\]\([a-z-]*/(.*)\.litmus\) \|[^|]*\|[^|]*\|([^|]*)\|([^|]*)\|")
+    rows = filter(None, map(row.fullmatch, (SHELF / "README.md").read_text().splitlines()))
+    return {row[1]: (outcomes_in(row[2]), outcomes_in(row[3])) for row in rows}
+
+
+def outcomes_in(cell):
+    return {tuple(map(int, values.split("-"))) for values in re.findall(r"`([0-9-]+)`", cell)}
 
 
 def settled(work, entry):
