@@ -17,9 +17,9 @@ use Rattle.step_machine.specs.Entries.{own, reported}
 use Rattle.step_machine.specs.Paths.{state_of}
 use Rattle.step_machine.specs.Snapshots.{SnapshotView, AreSaved, IsSavedFrom, IsTakenAt}
 use Rattle.step_machine.specs.inner.Stored.{Stored, InMemory, FitStored}
-use Rattle.step_machine.specs.inner.Config.{Config, Fit, SameButRoom, without_room, beginning}
+use Rattle.step_machine.specs.inner.Config.{Config, Fit, SameButRoom, without_room, beginning, view_state}
 use Rattle.step_machine.specs.inner.Restored.{restored_harts, restored_stored, restored_config, AreWithin}
-use Rattle.step_machine.specs.inner.Representation.{view_state, IsMachineAt}
+use Rattle.step_machine.specs.inner.Representation.{IsMachineAt}
 use Rattle.step_machine.proofs.Appended.{reported-append}
 use Rattle.step_machine.proofs.Changed.{length-changed, kept_at, all_kept}
 use Rattle.step_machine.proofs.Follows.{state_after}
