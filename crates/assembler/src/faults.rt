@@ -27,9 +27,9 @@ pub enum AsmFault {
 }
 
 impl Numbered for AsmFault {
-    ghost use Rattle.assembler.specs.Faults.{fault_number};
+    ghost use Rattle.assembler.specs.Faults.{asm_number};
 
-    ghost number = { fault_number };
+    ghost number = { asm_number };
 
     fn number(self) -> u8 {
         match self {

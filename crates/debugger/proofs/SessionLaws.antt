@@ -4,12 +4,12 @@ use Rattle.step_machine.specs.declared.events.Event.{Event}
 use Rattle.step_machine.specs.declared.events.Outcome.{Outcome}
 use Rattle.step_machine.specs.History.{OpeningValue, History, at_opening}
 use Rattle.step_machine.specs.Runs.{Happens, Run}
-use Rattle.step_machine.specs.Snapshots.{Taken}
+use Rattle.step_machine.specs.Snapshots.{SnapshotView}
 use Rattle.step_machine.proofs.Running.{RunFrom-more}
 use Rattle.debugger.specs.inner.SnapshotsHeld.{HasSnapshots}
 
 -- the run of all events, and the snapshots that are held for it
-pub went_on : (B M : ℕ) (t : History) (evs : List Event) (ev : Event) (o : Outcome) (new : History) (ss : List Taken)
+pub went_on : (B M : ℕ) (t : History) (evs : List Event) (ev : Event) (o : Outcome) (new : History) (ss : List SnapshotView)
     → Run B M t.opening evs t → Happens B M t ev o new → new.opening ≡ t.opening
     → (Run B M t.opening (evs ++ ev ∷ []) new → HasSnapshots B M t.opening (evs ++ ev ∷ []) ss)
     → Run B M new.opening (evs ++ ev ∷ []) new × HasSnapshots B M new.opening (evs ++ ev ∷ []) ss

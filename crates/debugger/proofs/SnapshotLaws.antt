@@ -14,7 +14,7 @@ use Rattle.step_machine.specs.declared.events.Event.{Event}
 use Rattle.step_machine.specs.declared.events.Outcome.{Outcome}
 use Rattle.step_machine.specs.History.{OpeningValue, History, history_of, up_to}
 use Rattle.step_machine.specs.Runs.{Happens, RunFrom, Run}
-use Rattle.step_machine.specs.Snapshots.{Taken, IsTakenAt}
+use Rattle.step_machine.specs.Snapshots.{SnapshotView, IsTakenAt}
 use Rattle.step_machine.proofs.Running.{shape_of, run-one, RunFrom-append}
 use Rattle.debugger.specs.Sessions.{Past, GoesBack}
 use Rattle.debugger.specs.Nearest.{snapshot_before, IsNearest}
@@ -48,20 +48,21 @@ run_front B M t evs more new mid run first = grind (arith, run_cut, run-one, goe
 -- ---- the snapshots
 
 -- an event more leaves those that were taken
-still_taken : (B M : ℕ) (o : OpeningValue) (evs : List Event) (ev : Event) (ss : List Taken) (k : ℕ) (d : Taken) → HasSnapshots B M o evs ss → k < length ss
+still_taken : (B M : ℕ) (o : OpeningValue) (evs : List Event) (ev : Event) (ss : List SnapshotView) (k : ℕ) (d : SnapshotView)
+    → HasSnapshots B M o evs ss → k < length ss
     → IsTakenAfter B M o (take (k * SNAPSHOT_EVENTS) (evs ++ ev ∷ [])) (get_or ss k d)
 still_taken B M o evs ev ss k d has within =
     let before : k * SNAPSHOT_EVENTS ≤ length evs = omega (arith, has.count, within) in
     subst (λ (es : List Event). IsTakenAfter B M o es (get_or ss k d)) (sym (take-append-le (k * SNAPSHOT_EVENTS) evs (ev ∷ []) before)) (has.taken k d within)
 
 -- an event more, after which none is taken
-pub none_taken : (B M : ℕ) (o : OpeningValue) (evs : List Event) (ev : Event) (ss : List Taken) → HasSnapshots B M o evs ss
+pub none_taken : (B M : ℕ) (o : OpeningValue) (evs : List Event) (ev : Event) (ss : List SnapshotView) → HasSnapshots B M o evs ss
     → ((length evs + 1) % SNAPSHOT_EVENTS ≡ 0 → ⊥)
     → HasSnapshots B M o (evs ++ ev ∷ []) ss
 none_taken B M o evs ev ss has between = grind (arith, length-append, still_taken)
 
 -- an event more, after which one is taken
-pub one_taken : (B M : ℕ) (o : OpeningValue) (evs : List Event) (ev : Event) (ss : List Taken) (t : History) (s : Taken)
+pub one_taken : (B M : ℕ) (o : OpeningValue) (evs : List Event) (ev : Event) (ss : List SnapshotView) (t : History) (s : SnapshotView)
     → HasSnapshots B M o evs ss → (length evs + 1) % SNAPSHOT_EVENTS ≡ 0
     → Run B M o (evs ++ ev ∷ []) t → IsTakenAt B M t s → HasSnapshots B M o (evs ++ ev ∷ []) (ss ++ s ∷ [])
 one_taken B M o evs ev ss t s has due ran taken =
@@ -69,7 +70,7 @@ one_taken B M o evs ev ss t s has due ran taken =
     let one_more : length (ss ++ s ∷ []) ≡ length ss + 1 = length-append ss (s ∷ []) in
     record { count = omega (arith, has.count, longer, one_more, due); taken = λ k d within. at k d longer one_more within (cases_lt k (length ss)) }
   where
-    at : (k : ℕ) (d : Taken) → length (evs ++ ev ∷ []) ≡ length evs + 1 → length (ss ++ s ∷ []) ≡ length ss + 1
+    at : (k : ℕ) (d : SnapshotView) → length (evs ++ ev ∷ []) ≡ length evs + 1 → length (ss ++ s ∷ []) ≡ length ss + 1
         → k < length (ss ++ s ∷ []) → (k < length ss) ⊎ (length ss ≤ k)
         → IsTakenAfter B M o (take (k * SNAPSHOT_EVENTS) (evs ++ ev ∷ [])) (get_or (ss ++ s ∷ []) k d)
     at k d longer one_more within (inl old) = rw (get_or_append_left ss (s ∷ []) d k old) (still_taken B M o evs ev ss k d has old)
@@ -79,7 +80,7 @@ one_taken B M o evs ev ss t s has due ran taken =
         rw (get_or_push ss s d k last) (rw (take_all (k * SNAPSHOT_EVENTS) (evs ++ ev ∷ []) all) (t, ran, taken))
 
 -- fewer events, with the snapshots that were taken by then
-cut_to : (B M : ℕ) (o : OpeningValue) (evs : List Event) (ss : List Taken) (n : ℕ) → HasSnapshots B M o evs ss → n ≤ length evs
+cut_to : (B M : ℕ) (o : OpeningValue) (evs : List Event) (ss : List SnapshotView) (n : ℕ) → HasSnapshots B M o evs ss → n ≤ length evs
     → HasSnapshots B M o (take n evs) (take (n / SNAPSHOT_EVENTS + 1) ss)
 cut_to B M o evs ss n has within =
     let few : length (take n evs) ≡ n = length-take-le n evs within in
@@ -87,7 +88,7 @@ cut_to B M o evs ss n has within =
     length-take-le (n / SNAPSHOT_EVENTS + 1) ss (omega (arith, has.count, within)) in
     record { count = held ∙ ap (λ (m : ℕ). m / SNAPSHOT_EVENTS + 1) (sym few); taken = λ k d below. at k d (omega (arith, held, below)) }
   where
-    at : (k : ℕ) (d : Taken) → k < n / SNAPSHOT_EVENTS + 1
+    at : (k : ℕ) (d : SnapshotView) → k < n / SNAPSHOT_EVENTS + 1
         → IsTakenAfter B M o (take (k * SNAPSHOT_EVENTS) (take n evs)) (get_or (take (n / SNAPSHOT_EVENTS + 1) ss) k d)
     at k d below =
         rw (get_or-take (n / SNAPSHOT_EVENTS + 1) ss k d below)
@@ -96,7 +97,7 @@ cut_to B M o evs ss n has within =
 -- ---- the nearest one
 
 -- what was taken after the first events is of the front of what all of them make
-pub nearest_of : (B M : ℕ) (p : Past) (ss : List Taken) (place : ℕ) (evs rest : List Event) (s : Taken) → Run B M p.opening p.events p.history
+pub nearest_of : (B M : ℕ) (p : Past) (ss : List SnapshotView) (place : ℕ) (evs rest : List Event) (s : SnapshotView) → Run B M p.opening p.events p.history
     → HasSnapshots B M p.opening p.events ss → place ≤ length p.events → evs ≡ take place p.events → slice_get ss (length evs / SNAPSHOT_EVENTS) ≡ Some s
     → rest ≡ drop (snapshot_before (length evs)) evs → IsNearest B M p place s rest
 nearest_of B M p ss place evs rest s ran has within cut is since =
@@ -120,13 +121,13 @@ nearest_of B M p ss place evs rest s ran has within cut is since =
     }
 
 -- one of those that are left
-get_front : (m : ℕ) (ss : List Taken) (k : ℕ) (s : Taken) → slice_get (take m ss) k ≡ Some s → slice_get ss k ≡ Some s
+get_front : (m : ℕ) (ss : List SnapshotView) (k : ℕ) (s : SnapshotView) → slice_get (take m ss) k ≡ Some s → slice_get ss k ≡ Some s
 get_front (suc m) (x ∷ ss) zero s is = is
 get_front (suc m) (x ∷ ss) (suc k) s is = get_front m ss k s is
 get_front x y k s is = cc
 
 -- the events since the nearest snapshot, run from there, make what all up to the place make
-run_from_nearest : (B M : ℕ) (p : Past) (place : ℕ) (s : Taken) (rest : List Event) (new : History) → IsNearest B M p place s rest
+run_from_nearest : (B M : ℕ) (p : Past) (place : ℕ) (s : SnapshotView) (rest : List Event) (new : History) → IsNearest B M p place s rest
     → RunFrom B M (up_to s.count p.history) rest new → Run B M p.opening (take place p.events) new
 run_from_nearest B M p place s rest new near run =
     let n : ℕ = snapshot_before place in
@@ -139,18 +140,18 @@ run_from_nearest B M p place s rest new near run =
 -- ---- a session that goes back
 
 -- of what it was given, the first n events stay
-module _ (B M : ℕ) (t : History) (evs : List Event) (ss : List Taken) (k n : ℕ) (count : n ≡ length evs - k) (ran : Run B M t.opening evs t)
+module _ (B M : ℕ) (t : History) (evs : List Event) (ss : List SnapshotView) (k n : ℕ) (count : n ≡ length evs - k) (ran : Run B M t.opening evs t)
     (has : HasSnapshots B M t.opening evs ss) where
   abbrev past : Past
   past = record { opening = t.opening; events = evs; history = t }
 
   -- the latest of the snapshots that stay is the nearest one
-  pub nearest_left : (m : ℕ) (left rest : List Event) (s : Taken) → left ≡ take n evs → slice_get (take m ss) (length left / SNAPSHOT_EVENTS) ≡ Some s
+  pub nearest_left : (m : ℕ) (left rest : List Event) (s : SnapshotView) → left ≡ take n evs → slice_get (take m ss) (length left / SNAPSHOT_EVENTS) ≡ Some s
       → rest ≡ drop (snapshot_before (length left)) left → IsNearest B M past n s rest
   nearest_left m left rest s is at since = nearest_of B M past ss n left rest s ran has (omega arith) is (get_front m ss _ s at) since
 
   -- a machine that was put back to it, and run from there
-  pub went_back : (s : Taken) (rest : List Event) (from new : History) → IsNearest B M past n s rest → from ≡ up_to s.count t
+  pub went_back : (s : SnapshotView) (rest : List Event) (from new : History) → IsNearest B M past n s rest → from ≡ up_to s.count t
       → RunFrom B M from rest new → new.opening ≡ from.opening
       → GoesBack B M past k (record { opening = new.opening; events = take n evs; history = new })
       × Run B M new.opening (take n evs) new × HasSnapshots B M new.opening (take n evs) (take (n / SNAPSHOT_EVENTS + 1) ss)

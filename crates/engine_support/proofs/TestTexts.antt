@@ -8,7 +8,7 @@ use Rattle.litmus_reader.specs.declared.faults.LitmusFault.{LitmusFault}
 use Rattle.texts.specs.declared.errors.AtLine.{AtLine}
 use Rattle.texts.specs.declared.errors.TextError.{TextError}
 use Rattle.texts.specs.declared.errors.TextError.TheVariants as error
-use Rattle.litmus_reader.specs.Faults.{fault_of, fault_number}
+use Rattle.litmus_reader.specs.Faults.{fault_of, litmus_number}
 use Rattle.litmus_reader.specs.Reading.{Content, content_of, test_at}
 use Rattle.engine_support.specs.declared.fault.Fault.{Fault}
 use Rattle.engine_support.specs.declared.fault.Fault.TheVariants.{ReadFailed, WriteFailed, NoMemory, Refused}
@@ -24,7 +24,7 @@ use Rattle.engine_support.proofs.TextInputs.{answered_text}
 -- an error tells the fault at some line
 pub answered_refusal : {X : Type 0} (view : X → Content) (text : List ℕ) (e : TextError (AtLine LitmusFault))
     → IfSome (fault_of e) (λ f. test_at text ≡ Err f)
-    → (line : ℕ) × Answers view (Err (fault_for (refused_at fault_number) e)) (test_of line text)
+    → (line : ℕ) × Answers view (Err (fault_for (refused_at litmus_number) e)) (test_of line text)
 unfolding test_of
 answered_refusal view text error.NoMemory is = (0, tt)
 answered_refusal view text (error.Refused refusal) is = (refusal.line, rw is refl)

@@ -2,7 +2,7 @@
 use Rattle.std.specs.Prelude.{ℕ, ◌≡◌, List, Option, IsSomeAnd, Result, Err}
 use Rattle.texts.specs.Results.{map_err}
 use Rattle.recorder.specs.declared.faults.AtByte.{AtByte}
-use Rattle.recorder.specs.Faults.{fault_number}
+use Rattle.recorder.specs.Faults.{schedule_number}
 use Rattle.recorder.specs.Versions.{ScheduleValue, said_at}
 use Rattle.engine_support.specs.declared.fault.Refusal.{Refusal}
 use Rattle.engine_support.specs.declared.fault.Position.TheVariants.{Byte}
@@ -10,7 +10,7 @@ use Rattle.engine_support.specs.Engines.{decoded}
 
 -- a fault of a schedule is refused at its byte, by its number
 abbrev pub refused_at_byte : AtByte → Refusal
-refused_at_byte refusal = record { number = fault_number refusal.fault; place = Byte refusal.place }
+refused_at_byte refusal = record { number = schedule_number refusal.fault; place = Byte refusal.place }
 
 abbrev pub refused_schedule : {V : Type 0} → Result V AtByte → Result V Refusal
 refused_schedule result = map_err refused_at_byte result

@@ -3,7 +3,7 @@ use Rattle.std.specs.Prelude.{ℕ, ◌≡◌, List, Option, IsSomeAnd, Result, E
 use Rattle.texts.specs.Results.{map_err}
 use Rattle.litmus.specs.LitmusTests.{LitmusTest}
 use Rattle.litmus_reader.specs.declared.faults.LitmusFault.{LitmusFault}
-use Rattle.litmus_reader.specs.Faults.{fault_number}
+use Rattle.litmus_reader.specs.Faults.{litmus_number}
 use Rattle.litmus_reader.specs.Reading.{Content, test_at}
 use Rattle.litmus_reader.specs.Grammar.{IsTestOf}
 use Rattle.engine_support.specs.declared.fault.Refusal.{Refusal}
@@ -12,7 +12,7 @@ use Rattle.engine_support.specs.Engines.{Accepted, decoded}
 
 -- a fault of a litmus text, refused by its number at this line
 abbrev pub refused_test : {V : Type 0} → (line : ℕ) → Result V LitmusFault → Result V Refusal
-refused_test line result = map_err (λ fault. refused_at fault_number (record { fault = fault; line = line })) result
+refused_test line result = map_err (λ fault. refused_at litmus_number (record { fault = fault; line = line })) result
 
 -- what a litmus text has for its test, or its refusal, where its first fault is on this line
 unfoldable pub test_of : (line : ℕ) → List ℕ → Result Content Refusal

@@ -15,7 +15,7 @@ use Rattle.poll_close.specs.Rankings.{Decreases, runs, rank_of, next_by, ready_i
 use Rattle.poll_close.specs.Invariant.Blocks.{Block, slot, slot_store, tail_store}
 use Rattle.poll_close.specs.Invariant.SenderState.{SenderRegisters}
 use Rattle.poll_close.specs.Invariant.BlockInvariant.{unsent_of, unread_of}
-use Rattle.poll_close.specs.Invariant.Outlines.{stands, Holds, Standing}
+use Rattle.poll_close.specs.Invariant.Outlines.{stands, SenderIs, Standing}
 use Rattle.poll_close.proofs.Windows.{none_left, singles-length, pairs-length}
 use Rattle.poll_close.proofs.Blocks.{IsBlock, offset_low}
 use Rattle.poll_close.proofs.Outlines.{stands_at, has_ended, nearer}
@@ -49,7 +49,7 @@ module _ (k : Block) (n : Counters) (order : CounterInvariant k n) where
 
 -- about to read its slot
 at_10 : (k : Block) (n : Counters) (s : HartState) → (st : Standing sender k n.sender s) → s.pc ≡ 0x10
-    → (s ≡ stands sender k 0x10 n.sender st.written) × Holds sender 0x10 k n.sender st.written
+    → (s ≡ stands sender k 0x10 n.sender st.written) × SenderIs sender 0x10 k n.sender st.written
 at_10 k n s st is = stands_at sender k n.sender s st 0x10 is (omega arith) (omega arith)
 
 -- a slot that is not empty when all has landed holds a word that the receiver has not taken

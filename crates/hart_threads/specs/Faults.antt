@@ -11,19 +11,19 @@ use Rattle.hart_threads.specs.declared.fault.ChannelFaultAt.TheVariants as chann
 use Rattle.poll_close.specs.declared.faults.RefusedAt.TheVariants as refused_at
 use Rattle.poll_close.specs.Refusals as refusals
 
-abbrev pub fault_number : Fault → ℕ
-fault_number fault.NoMemory = 0
-fault_number (fault.Mismatch h es) = 32
-fault_number (fault.Missing h) = 33
-fault_number fault.NoThread = 35
+abbrev pub threads_number : Fault → ℕ
+threads_number fault.NoMemory = 0
+threads_number (fault.Mismatch h es) = 32
+threads_number (fault.Missing h) = 33
+threads_number fault.NoThread = 35
 
 abbrev pub channel_number : ChannelFault → ℕ
-channel_number (channel.Lists refused) = refusals.fault_number refused
-channel_number (channel.Threads fault) = fault_number fault
+channel_number (channel.Lists refused) = refusals.refusal_number refused
+channel_number (channel.Threads fault) = threads_number fault
 
 abbrev pub channel_number_at : ChannelFaultAt → ℕ
-channel_number_at (channel_at.Place refused) = refusals.fault_number_at refused
-channel_number_at (channel_at.Threads fault) = fault_number fault
+channel_number_at (channel_at.Place refused) = refusals.refusal_number_at refused
+channel_number_at (channel_at.Threads fault) = threads_number fault
 
 abbrev pub fault_of : Gather → Fault
 fault_of gather.NoMemory = fault.NoMemory

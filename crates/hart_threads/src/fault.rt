@@ -30,11 +30,11 @@ pub enum Fault {
 }
 
 impl Fault {
-    ghost use Rattle.hart_threads.specs.Faults.{fault_number};
+    ghost use Rattle.hart_threads.specs.Faults.{threads_number};
 
     /// The number by which texts name the fault, 0 where memory ran out.
     pub fn number(&self) -> u8
-        ensures { result ≡ fault_number self.now }
+        ensures { result ≡ threads_number self.now }
     {
         match self {
             Fault::NoMemory => 0,

@@ -15,7 +15,7 @@ use Rattle.poll_close.proofs.Blocks.{IsBlock, offset_low}
 use Rattle.poll_close.proofs.BlockLaws.{found_in}
 use Rattle.lamport_ring.specs.Invariant.Stores.{head_store, sender_stores}
 use Rattle.lamport_ring.specs.Invariant.Counters.{Sent, Counters, sent, gone, CounterInvariant, Words}
-use Rattle.lamport_ring.specs.Invariant.Assertions.{Between, Holds, Asked, HasRead, Room, Stored, Marked}
+use Rattle.lamport_ring.specs.Invariant.Assertions.{Between, HoldsWord, Asked, HasRead, Room, Stored, Marked}
 use Rattle.lamport_ring.proofs.Stores.{store_slot, store_head, store_mark}
 
 -- a store that the sender makes: its numbers are in order, and it is the next one of its list
@@ -58,7 +58,7 @@ module _ (k : Block) (n : Counters) (is : IsBlock k) (order : CounterInvariant k
   -- which of the two it was
   pub holds : {x5 x10 x11 : ℕ} → Asked k n.sender x5 x10 x11
       → (n.sender.asked ≡ n.sender.stored + 1) × (n.sender.stored < length k.list) × (x10 ≡ slice_index k.list n.sender.stored)
-      → Holds k n.sender x5 x10
+      → HoldsWord k n.sender x5 x10
   holds h some = record { taken = some.0; heads = h.heads; unmarked = h.unmarked; within = some.1; word = some.2; index = h.index }
 
   -- the offset after the next word's: one slot on, or the first
@@ -86,7 +86,7 @@ module _ (k : Block) (n : Counters) (is : IsBlock k) (order : CounterInvariant k
       (λ j less. (λ same. omega arith, λ same. omega arith)) (λ same. omega arith) t x) ∙ words.tail
 
   -- it reads the tail that landed last, and holds its word as before
-  pub same_word : {x5 x10 : ℕ} (tails : ℕ) → Holds k n.sender x5 x10 → Holds k (record n.sender { seen = tails }) x5 x10
+  pub same_word : {x5 x10 : ℕ} (tails : ℕ) → HoldsWord k n.sender x5 x10 → HoldsWord k (record n.sender { seen = tails }) x5 x10
   same_word tails h = record {
     taken = h.taken;
     heads = h.heads;
@@ -115,17 +115,17 @@ module _ (k : Block) (n : Counters) (is : IsBlock k) (order : CounterInvariant k
       ]
 
   -- the word into its slot
-  pub slot_is : {x5 x10 x28 : ℕ} → Holds k n.sender x5 x10 → x28 ≡ k.base + x5 → slot k.size k.base n.sender.stored ≡ x28 + 16
+  pub slot_is : {x5 x10 x28 : ℕ} → HoldsWord k n.sender x5 x10 → x28 ≡ k.base + x5 → slot k.size k.base n.sender.stored ≡ x28 + 16
   slot_is h place = omega (arith, h.index, place)
 
-  pub stores_word : {x5 x10 x28 : ℕ} → Holds k n.sender x5 x10 → Room k n.sender → x28 ≡ k.base + x5
+  pub stores_word : {x5 x10 x28 : ℕ} → HoldsWord k n.sender x5 x10 → Room k n.sender → x28 ≡ k.base + x5
       → Stores k n (record n.sender { stored = n.sender.stored + 1 }) (x28 + 16, x10)
   stores_word h free place = record {
     order = omega (arith, h.heads, h.unmarked, h.within, free);
     next = (omega arith, store_slot k n.sender.stored (sent n.sender) h.within (omega (arith, h.heads, h.unmarked)) ∙ rw (slot_is h place, h.word) refl);
   }
 
-  pub is_stored : {x5 x6 x10 : ℕ} → Holds k n.sender x5 x10 → x6 ≡ offset k (n.sender.stored + 1)
+  pub is_stored : {x5 x6 x10 : ℕ} → HoldsWord k n.sender x5 x10 → x6 ≡ offset k (n.sender.stored + 1)
       → Stored k (record n.sender { stored = n.sender.stored + 1 }) x6
   is_stored h next = record { taken = h.taken; heads = omega (arith, h.heads); unmarked = h.unmarked; next = next }
 

@@ -7,13 +7,13 @@ use Rattle.litmus_reader.specs.declared.faults.LitmusFault.{LitmusFault}
 use Rattle.litmus_reader.specs.declared.faults.LitmusFault.TheVariants.{NoHeader, BadInit, BadTable, BadInstr, BadCondition, TooMany}
 use Rattle.litmus_reader.specs.declared.refusals.AtLeft.{AtLeft}
 
-abbrev pub fault_number : LitmusFault → ℕ
-fault_number NoHeader = 21
-fault_number BadInit = 22
-fault_number BadTable = 23
-fault_number BadInstr = 24
-fault_number BadCondition = 25
-fault_number TooMany = 26
+abbrev pub litmus_number : LitmusFault → ℕ
+litmus_number NoHeader = 21
+litmus_number BadInit = 22
+litmus_number BadTable = 23
+litmus_number BadInstr = 24
+litmus_number BadCondition = 25
+litmus_number TooMany = 26
 
 -- the text's fault that an error carries; its line is no part of it
 abbrev pub fault_of : TextError (AtLine LitmusFault) → Option LitmusFault

@@ -29,9 +29,9 @@ pub enum LitmusFault {
 }
 
 impl Numbered for LitmusFault {
-    ghost use Rattle.litmus_reader.specs.Faults.{fault_number};
+    ghost use Rattle.litmus_reader.specs.Faults.{litmus_number};
 
-    ghost number = { fault_number };
+    ghost number = { litmus_number };
 
     fn number(self) -> u8 {
         match self {

@@ -2,6 +2,7 @@
 -- the store that lands. All rings go by these two records and by nothing else of the machine.
 use Rattle.std.proofs.Common.{ℕ, ◌<◌, ◌≡◌, ◌≢◌, ◌==◌, Bool, true, false, List, [], ◌∷◌, ◌++◌, length, Some}
 use Rattle.std.proofs.Common.{if◌then◌else◌, refl, sym, subst, arith, eq-eqb, append-nil}
+use Rattle.std.specs.Prelude.{T}
 use Rattle.std.proofs.lemmas.Bool.Decides.{nat_tests}
 use Rattle.hart.specs.State.{HartState}
 use Rattle.hart.specs.Steps.{need_of, advanced}
@@ -55,15 +56,11 @@ said_by (need.Report r) = r ∷ []
 said_by need.Exit = []
 said_by (need.Stop why) = []
 
-abbrev pub Holds : Bool → Type 0
-Holds true = Unit {0}
-Holds false = ⊥
-
 -- an act that leaves memory as it is, and loads or stores a whole word at such an address if any
 abbrev pub IsNoAmo : (ℕ → Type 0) → Need → Type 0
 IsNoAmo P need.Inner = Unit {0}
-IsNoAmo P (need.Load a width) = Holds (width == 4) × P a
-IsNoAmo P (need.Store a width w) = Holds (width == 4) × P a
+IsNoAmo P (need.Load a width) = T (width == 4) × P a
+IsNoAmo P (need.Store a width w) = T (width == 4) × P a
 IsNoAmo P (need.Amo a op rs2) = ⊥
 IsNoAmo P (need.Fence full) = Unit {0}
 IsNoAmo P (need.Next w) = Unit {0}
@@ -71,7 +68,7 @@ IsNoAmo P (need.Report r) = Unit {0}
 IsNoAmo P need.Exit = Unit {0}
 IsNoAmo P (need.Stop why) = ⊥
 
-whole_width : (width : ℕ) (b : Bool) → (width == 4) ≡ b → Holds b → width ≡ 4
+whole_width : (width : ℕ) (b : Bool) → (width == 4) ≡ b → T b → width ≡ 4
 whole_width width b is plain = grind (arith, nat_tests)
 
 -- the entry that hart h makes of a need, as each definition sees it

@@ -17,7 +17,7 @@ use Rattle.poll_close.specs.Rankings.{runs, some_open, receiver_rank}
 use Rattle.poll_close.specs.Invariant.Outlines.{Standing, Reasons}
 use Rattle.poll_close.specs.Invariant.Blocks.{Block, offset, AreNext}
 use Rattle.poll_close.specs.Invariant.ReceiverState.{ReceiverRegisters, receiver_of, whole_of, receives, closings_due}
-use Rattle.poll_close.specs.Invariant.BlockInvariant.{BlockInvariant, Taken, Count, unsent_of, unread_of, AllReported}
+use Rattle.poll_close.specs.Invariant.BlockInvariant.{BlockInvariant, ReceiverCounts, Count, unsent_of, unread_of, AllReported}
 use Rattle.poll_close.specs.Invariant.BlockInvariant.{ReceiverRow, ReceiverIs, opened_rows, ranking_of}
 use Rattle.poll_close.proofs.Acts.{stored_by, said_by, IsNoAmo}
 use Rattle.poll_close.proofs.Lines.{loads}
@@ -41,7 +41,7 @@ pub record Sends (m : BlockInvariant) (k : Block) (n : Count m) (s : HartState) 
   pub stores : AreNext (m.sender_stores k) (m.sent n.sender) (m.sent after) (stored_by (need_of s))
 
 -- the receiver stored these to the block, or reported
-pub record Changes (m : BlockInvariant) (k : Block) (n : Count m) (after : Taken m.Own) (stored : List (ℕ × ℕ)) : Type 0 where
+pub record Changes (m : BlockInvariant) (k : Block) (n : Count m) (after : ReceiverCounts m.Own) (stored : List (ℕ × ℕ)) : Type 0 where
   pub order : m.CounterInvariant k (record n { receiver = after })
   pub stores : AreNext (m.receiver_stores k) (m.taken n.receiver) (m.taken after) stored
 
@@ -54,7 +54,7 @@ pub record Lands (m : BlockInvariant) (k : Block) (n : Count m) (new : ℕ → �
   pub theirs : m.freed after ≡ freed
 
 -- what is reported, by the numbers before and after
-abbrev pub Says : (m : BlockInvariant) → Block → ℕ → Taken m.Own → Taken m.Own → List Report → Type 0
+abbrev pub Says : (m : BlockInvariant) → Block → ℕ → ReceiverCounts m.Own → ReceiverCounts m.Own → List Report → Type 0
 Says m k i n after rs =
     ((rs ≡ []) × (after.took ≡ n.took) × (after.closings ≡ n.closings))
     ⊎ (((rs ≡ report.Took i (slice_index k.list n.took) ∷ []) × (after.took ≡ n.took + 1)
@@ -62,7 +62,7 @@ Says m k i n after rs =
     ⊎ ((rs ≡ report.Closed i ∷ []) × (after.took ≡ n.took) × (after.closings ≡ 1) × (n.took ≡ length k.list) × (n.closings ≡ 0)))
 
 -- the receiver comes to a block: its own assertion there is that all is quiet
-pub record Comes (m : BlockInvariant) (k : Block) (count : ℕ) (there : ℕ) (n : Taken m.Own) (r : ReceiverRegisters) : Type 0 where
+pub record Comes (m : BlockInvariant) (k : Block) (count : ℕ) (there : ℕ) (n : ReceiverCounts m.Own) (r : ReceiverRegisters) : Type 0 where
   pub block : ℕ
   pub known : block < count
   pub quiet : AllReported m n
@@ -92,7 +92,7 @@ pub record Receives (m : BlockInvariant) (k : Block) (i count : ℕ) (here : ℕ
   pub wanted : Need
   pub there : ℕ
   pub noted : ReceiverRegisters
-  pub after : Taken m.Own
+  pub after : ReceiverCounts m.Own
   pub plain : IsNoAmo (IsWordOf k) wanted
   pub wants : need_of (receives m.ring_lines (whole_of k count) here r) ≡ wanted
   pub leaves : advanced (receives m.ring_lines (whole_of k count) here r) v ≡ receives m.ring_lines (whole_of k count) there noted
@@ -123,7 +123,7 @@ abbrev pub Right_at : (m : BlockInvariant) → Block → ℕ → ℕ → Count m
 Right_at m k i count n word r v here = ReceiverIs m k i here n.receiver r → Runs m k count here n word r v → Receives m k i count here n r v
 
 -- the receiver stored a tail or a done word, or reported, and has no step half done
-pub record Stepped (m : BlockInvariant) (k : Block) (n : Count m) (after : Taken m.Own) (stored : List (ℕ × ℕ)) : Type 0 where
+pub record Stepped (m : BlockInvariant) (k : Block) (n : Count m) (after : ReceiverCounts m.Own) (stored : List (ℕ × ℕ)) : Type 0 where
   pub changes : Changes m k n after stored
   pub level : m.Level after
 

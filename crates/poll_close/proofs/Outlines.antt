@@ -17,7 +17,7 @@ use Rattle.poll_close.specs.Rankings.{runs}
 use Rattle.poll_close.specs.Invariant.Blocks.{Block, AreNext}
 use Rattle.poll_close.specs.Invariant.SenderState.{SenderRegisters, fixed, running, ended}
 use Rattle.poll_close.specs.Invariant.BlockInvariant.{BlockInvariant, Count, unsent_of}
-use Rattle.poll_close.specs.Invariant.Outlines.{Row, SenderRow, Reasons, Outline, either, stands, HoldsIn, Holds, Standing, left_of}
+use Rattle.poll_close.specs.Invariant.Outlines.{Row, SenderRow, Reasons, Outline, either, stands, HoldsIn, SenderIs, Standing, left_of}
 use Rattle.poll_close.proofs.Acts.{stored_by, IsNoAmo}
 use Rattle.poll_close.proofs.Lines.{Line, loads, at_line}
 use Rattle.poll_close.proofs.Blocks.{IsBlock, IsWordOf}
@@ -51,10 +51,10 @@ module _ (o : Outline) (k : Block) (here : ℕ) (n : o.Own) (r : SenderRegisters
 
 -- what a state tells: its line, and that all holds that does at its end
 module _ (o : Outline) (k : Block) (n : o.Own) (s : HartState) (st : Standing o k n s) where
-  pub stands_at : (pc : ℕ) → s.pc ≡ pc → o.over ≢ pc + 4 → 4 ≤ o.over → (s ≡ stands o k pc n st.written) × Holds o pc k n st.written
+  pub stands_at : (pc : ℕ) → s.pc ≡ pc → o.over ≢ pc + 4 → 4 ≤ o.over → (s ≡ stands o k pc n st.written) × SenderIs o pc k n st.written
   stands_at pc is other some =
       let place : st.place ≡ pc = at (st.place == o.over) refl in
-      (st.is ∙ ap (λ p. stands o k p n st.written) place, subst (λ (p : ℕ). Holds o p k n st.written) place st.holds)
+      (st.is ∙ ap (λ p. stands o k p n st.written) place, subst (λ (p : ℕ). SenderIs o p k n st.written) place st.holds)
     where
       at : (b : Bool) → (st.place == o.over) ≡ b → st.place ≡ pc
       at true over =
@@ -110,7 +110,7 @@ module _ (m : BlockInvariant) (g : Sender m) (k : Block) (n : Count m) (word : �
     pub leaves : advanced (now here) v ≡ stands m.sender k there made written
     pub order : m.CounterInvariant k (record n { sender = made })
     pub stores : AreNext (m.sender_stores k) (m.sent n.sender) (m.sent made) (stored_by wanted)
-    pub holds : Holds m.sender there k made written
+    pub holds : SenderIs m.sender there k made written
     pub nearer : Free here → Nearer here there made written
 
   -- the reason why a row is right
@@ -118,20 +118,20 @@ module _ (m : BlockInvariant) (g : Sender m) (k : Block) (n : Count m) (word : �
   Right row = row.holds k n.sender r → Finds row.at → Goes row.at
 
   abbrev pub Right_at : ℕ → Type 0
-  Right_at here = Holds m.sender here k n.sender r → Finds here → Goes here
+  Right_at here = SenderIs m.sender here k n.sender r → Finds here → Goes here
 
   -- an act by a line; and by one that changes no number
   abbrev pub GoesBy : ℕ → Type 0
   GoesBy here = (there : ℕ) (wanted : Need) (made : m.sender.Own) (written : ℕ → SenderRegisters)
       → IsNoAmo (IsWordOf k) wanted → Line (now here) wanted (λ w. stands m.sender k there made (written w))
       → m.CounterInvariant k (record n { sender = made }) → AreNext (m.sender_stores k) (m.sent n.sender) (m.sent made) (stored_by wanted)
-      → Holds m.sender there k made (written v) → (Free here → Nearer here there made (written v)) → Finds here
+      → SenderIs m.sender there k made (written v) → (Free here → Nearer here there made (written v)) → Finds here
       → Goes here
 
   abbrev pub Still : ℕ → Type 0
   Still here = (there : ℕ) (written : SenderRegisters)
       → Line (now here) need.Inner (λ w. stands m.sender k there n.sender written)
-      → Holds m.sender there k n.sender written → Nearer here there n.sender written → Finds here → Goes here
+      → SenderIs m.sender there k n.sender written → Nearer here there n.sender written → Finds here → Goes here
 
   pub goes : (here : ℕ) → GoesBy here
   goes here there wanted made written plain line order stores holds nearer find = record {

@@ -13,7 +13,7 @@ use Rattle.hart.proofs.Instructions.{IsAt, took_need, took_after, closed_need, c
 use Rattle.poll_close.specs.Listing.{RingLines, lines_of, receiver_with}
 use Rattle.poll_close.specs.Invariant.Blocks.{Block, offset}
 use Rattle.poll_close.specs.Invariant.ReceiverState.{ReceiverRegisters, ReceiverConstants, whole_of, receiving, receives, closings_due}
-use Rattle.poll_close.specs.Invariant.BlockInvariant.{BlockInvariant, Taken, Count, ReceiverIs, Flag, rows_of}
+use Rattle.poll_close.specs.Invariant.BlockInvariant.{BlockInvariant, ReceiverCounts, Count, ReceiverIs, Flag, rows_of}
 use Rattle.poll_close.proofs.Acts.{stored_by, said_by, IsNoAmo}
 use Rattle.poll_close.proofs.Lines.{Line, loads, at_line, stores, word-plus, word-minus, add_line, sum_line, load_line}
 use Rattle.poll_close.proofs.Lines.{store_line, jump_line, same_jumps, other_goes_on, other_jumps, same_goes_on}
@@ -39,14 +39,14 @@ module _ (m : BlockInvariant) (k : Block) (i count : ℕ) (n : Count m) (order :
   abbrev pub now : ℕ → ReceiverRegisters → HartState
   now here noted = receives m.ring_lines (whole_of k count) here noted
 
-  abbrev pub Counts : ℕ → ℕ → ReceiverRegisters → Taken m.Own → Type 0
+  abbrev pub Counts : ℕ → ℕ → ReceiverRegisters → ReceiverCounts m.Own → Type 0
   Counts here there noted after = noted.x20 + after.closings + closings_due here ≡ r.x20 + n.receiver.closings + closings_due there
 
   pub unchanged : Changes m k n n.receiver []
   unchanged = record { order = order; stores = refl }
 
   -- an act by a line
-  pub acts : (here there : ℕ) (wanted : Need) (noted : ℕ → ReceiverRegisters) (after : Taken m.Own)
+  pub acts : (here there : ℕ) (wanted : Need) (noted : ℕ → ReceiverRegisters) (after : ReceiverCounts m.Own)
       → IsNoAmo (IsWordOf k) wanted → Line (now here r) wanted (λ w. now there (noted w))
       → Changes m k n after (stored_by wanted)
       → ReceiverIs m k i there after (noted v) ⊎ Comes m k count there after (noted v)
@@ -87,7 +87,7 @@ module _ (m : BlockInvariant) (k : Block) (i count : ℕ) (n : Count m) (order :
     abbrev Right_here : ℕ → Type 0
     Right_here here = Right_at m k i count n word_at r v here
 
-    abbrev o : Taken m.Own
+    abbrev o : ReceiverCounts m.Own
     o = n.receiver
 
     at : (j : ℕ) {instr : Instr} → slice_get (map Some (lines_of (receiver_with m.ring_lines))) j ≡ Some (Some instr)
@@ -174,7 +174,7 @@ module _ (m : BlockInvariant) (k : Block) (i count : ℕ) (n : Count m) (order :
     keeps_at_34 h z =
         let line = store_line (at 13 refl) (omega (arith, is.even, h.0.visits.base)) refl (omega (arith, is.inside, is.some_slot, h.0.visits.base)) is.small in
         let made = laws.stores_tail k n order h.0.filled h.0.open_yet in
-        let after : Taken m.Own = record o { tails = o.tails + 1; mark = m.marks n.landed } in
+        let after : ReceiverCounts m.Own = record o { tails = o.tails + 1; mark = m.marks n.landed } in
         acts 0x34 0x38 (stores (r.x8 + 8) r.x7) (λ w. r) after (tt, word_from k is r.x8 8 h.0.visits.base (omega arith) refl) line
         (subst (λ (x : ℕ × ℕ). Changes m k n after (x ∷ []))
         (ap (λ b. (b + 8, offset k (o.tails + 1))) (sym h.0.visits.base) ∙ ap (λ j. (r.x8 + 8, j)) (sym h.1))
@@ -231,7 +231,7 @@ module _ (m : BlockInvariant) (k : Block) (i count : ℕ) (n : Count m) (order :
     keeps_at_50 h z =
         let line = store_line (at 20 refl) (omega (arith, is.even, h.0.visits.base)) refl (omega (arith, is.inside, is.some_slot, h.0.visits.base)) is.small in
         let made = laws.stores_done k n order h.0.quiet.level h.1 h.0.open_yet in
-        let after : Taken m.Own = record o { done = 1; mark = m.marks n.landed } in
+        let after : ReceiverCounts m.Own = record o { done = 1; mark = m.marks n.landed } in
         acts 0x50 0x54 (stores (r.x8 + 12) r.x5) (λ w. r) after (tt, word_from k is r.x8 12 h.0.visits.base (omega arith) refl) line
         (subst (λ (x : ℕ × ℕ). Changes m k n after (x ∷ []))
         (ap (λ b. (b + 12, 1)) (sym h.0.visits.base) ∙ ap (λ j. (r.x8 + 12, j)) (sym h.2)) made.changes)
@@ -346,7 +346,7 @@ module _ (m : BlockInvariant) (k : Block) (i count : ℕ) (n : Count m) (order :
         (and_intro keeps_at_58 (and_intro keeps_at_5C (and_intro keeps_at_60 (and_intro keeps_at_64 last))))))) in
         let take = and_intro keeps_at_28 (and_intro keeps_at_2C (and_intro keeps_at_30 (and_intro keeps_at_34
         (and_intro keeps_at_38 (and_intro keeps_at_3C (and_intro keeps_at_40 (and_intro keeps_at_44 close))))))) in
-        found (λ (H : Block → ℕ → Taken m.Own → ReceiverRegisters → Type 0). H k i o r)
+        found (λ (H : Block → ℕ → ReceiverCounts m.Own → ReceiverRegisters → Type 0). H k i o r)
         (λ at. Runs m k count at n word_at r v → Receives m k i count at n r v) (rows_of m)
         (and_intro keeps_at_00 (and_intro keeps_at_04 (and_intro keeps_at_08
         (and_intro keeps_at_0C (and_intro keeps_at_10 (and_intro (laws.moves_14 k i count n word_at r v is order words) take)))))) here h

@@ -5,7 +5,7 @@ use Rattle.step_machine.specs.History.{History}
 use Rattle.step_machine.specs.Paths.{state_of}
 use Rattle.poll_close.specs.Layout.{Layout}
 use Rattle.poll_close.specs.Invariant.Blocks.{block_of}
-use Rattle.poll_close.specs.Invariant.BlockInvariant.{BlockInvariant, Taken, Count, AllReported, ReceiverIs}
+use Rattle.poll_close.specs.Invariant.BlockInvariant.{BlockInvariant, ReceiverCounts, Count, AllReported, ReceiverIs}
 use Rattle.poll_close.specs.Invariant.Channels.{ReceiverPart, ReportPart, all_closings}
 use Rattle.poll_close.proofs.AllBlocks.{BlocksAfter}
 
@@ -26,11 +26,11 @@ module _ (m : BlockInvariant) (M : ℕ) (S : Layout) (lists : List (List ℕ)) (
     known = part.known;
     state = same ∙ part.state;
     holds =
-        subst (λ (o : Taken m.Own). ReceiverIs m (block_of M S lists part.block) part.block part.place o part.noted)
+        subst (λ (o : ReceiverCounts m.Own). ReceiverIs m (block_of M S lists part.block) part.block part.place o part.noted)
         (sym (after.same part.block part.known)) part.holds;
     others = λ j within other. subst (AllReported m) (sym (after.same j within)) (part.others j within other);
     count = (let same : all_closings m after.numbers (length lists) ≡ all_closings m f (length lists) =
-        shuts_same m f after.numbers (length lists) (λ j within. ap (λ (o : Taken m.Own). o.closings) (after.same j within)) in
+        shuts_same m f after.numbers (length lists) (λ j within. ap (λ (o : ReceiverCounts m.Own). o.closings) (after.same j within)) in
         omega (arith, same, part.count));
   }
 

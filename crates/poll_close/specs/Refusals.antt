@@ -9,13 +9,13 @@ use Rattle.poll_close.specs.declared.faults.RefusedAt.{RefusedAt}
 use Rattle.poll_close.specs.declared.faults.RefusedAt.TheVariants.{Lists, UnevenBase, UnevenStride, BlocksMeet, FilledBlock}
 use Rattle.poll_close.specs.declared.faults.Refused.TheVariants.{NoMemory, ZeroWord, NoSenders, TooManySenders, RingTooSmall, DoesNotFit}
 
-abbrev pub fault_number : Refused → ℕ
-fault_number NoMemory = 0
-fault_number (ZeroWord sender place) = 16
-fault_number NoSenders = 17
-fault_number TooManySenders = 18
-fault_number RingTooSmall = 19
-fault_number DoesNotFit = 20
+abbrev pub refusal_number : Refused → ℕ
+refusal_number NoMemory = 0
+refusal_number (ZeroWord sender place) = 16
+refusal_number NoSenders = 17
+refusal_number TooManySenders = 18
+refusal_number RingTooSmall = 19
+refusal_number DoesNotFit = 20
 
 -- the first zero of a list stands at place j
 pub record ZeroAt (ws : List ℕ) (j : ℕ) : Type 0 where
@@ -35,12 +35,12 @@ pub record HasRing (ring : Ring) (lists : List (List ℕ)) (S : ℕ) : Type 0 wh
   pub senders : length lists ≤ 63
   pub size : ring.least ≤ S
 
-abbrev pub fault_number_at : RefusedAt → ℕ
-fault_number_at (Lists refused) = fault_number refused
-fault_number_at UnevenBase = 41
-fault_number_at UnevenStride = 42
-fault_number_at BlocksMeet = 43
-fault_number_at (FilledBlock word) = 44
+abbrev pub refusal_number_at : RefusedAt → ℕ
+refusal_number_at (Lists refused) = refusal_number refused
+refusal_number_at UnevenBase = 41
+refusal_number_at UnevenStride = 42
+refusal_number_at BlocksMeet = 43
+refusal_number_at (FilledBlock word) = 44
 
 -- the blocks begin at words, and none meets the next
 pub record HasPlace (ring : Ring) (lists : List (List ℕ)) (l : Layout) : Type 0 where

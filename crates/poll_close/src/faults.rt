@@ -31,11 +31,11 @@ pub enum Refused {
 }
 
 impl Refused {
-    ghost use Rattle.poll_close.specs.Refusals.{fault_number};
+    ghost use Rattle.poll_close.specs.Refusals.{refusal_number};
 
     /// The number by which texts name it.
     pub fn number(self) -> u8
-        ensures { result ≡ fault_number self }
+        ensures { result ≡ refusal_number self }
     {
         match self {
             Refused::NoMemory => 0,
@@ -86,11 +86,11 @@ pub enum RefusedAt {
 }
 
 impl RefusedAt {
-    ghost use Rattle.poll_close.specs.Refusals.{fault_number_at, IsOfLists};
+    ghost use Rattle.poll_close.specs.Refusals.{refusal_number_at, IsOfLists};
 
     /// The number by which texts name it.
     pub fn number(self) -> u8
-        ensures { result ≡ fault_number_at self }
+        ensures { result ≡ refusal_number_at self }
     {
         match self {
             RefusedAt::Lists(refused) => refused.number(),

@@ -5,13 +5,13 @@ use Rattle.recorder.specs.declared.faults.ScheduleFault.TheVariants.{BadHead, Ba
 use Rattle.recorder.specs.declared.replaying.CheckError.{CheckError}
 use Rattle.recorder.specs.declared.replaying.CheckError.TheVariants.{NoMemory, Differs}
 
-abbrev pub fault_number : ScheduleFault → ℕ
-fault_number BadHead = 27
-fault_number BadToken = 28
-fault_number BadHart = 29
-fault_number BadCount = 30
-fault_number Truncated = 31
-fault_number BadOutcome = 39
+abbrev pub schedule_number : ScheduleFault → ℕ
+schedule_number BadHead = 27
+schedule_number BadToken = 28
+schedule_number BadHart = 29
+schedule_number BadCount = 30
+schedule_number Truncated = 31
+schedule_number BadOutcome = 39
 
 abbrev pub check_number : CheckError → ℕ
 check_number NoMemory = 0

@@ -30,9 +30,9 @@ pub enum ScheduleFault {
 }
 
 impl Numbered for ScheduleFault {
-    ghost use Rattle.recorder.specs.Faults.{fault_number};
+    ghost use Rattle.recorder.specs.Faults.{schedule_number};
 
-    ghost number = { fault_number };
+    ghost number = { schedule_number };
 
     fn number(self) -> u8 {
         match self {

@@ -43,6 +43,6 @@ abbrev pub Refuses : (B M : ℕ) → LitmusTest → List Event → ShrinkError �
 Refuses B M q given why = (t : History) → Run B M q.opening given t → RefusesRun M t why
 
 -- the number by which texts name a refusal
-abbrev pub fault_number : ShrinkError → ℕ
-fault_number NoMemory = 0
-fault_number NotFinished = 40
+abbrev pub shrink_number : ShrinkError → ℕ
+shrink_number NoMemory = 0
+shrink_number NotFinished = 40

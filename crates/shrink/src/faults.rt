@@ -17,11 +17,11 @@ pub enum ShrinkError {
 }
 
 impl ShrinkError {
-    ghost use Rattle.shrink.specs.Shrinking.{fault_number};
+    ghost use Rattle.shrink.specs.Shrinking.{shrink_number};
 
     /// The number by which texts name it.
     pub fn number(self) -> u8
-        ensures { result ≡ fault_number self }
+        ensures { result ≡ shrink_number self }
     {
         match self {
             ShrinkError::NoMemory => 0,

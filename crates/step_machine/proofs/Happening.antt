@@ -20,8 +20,8 @@ use Rattle.step_machine.specs.Banks.{is_over}
 use Rattle.step_machine.specs.Runs.{CanFollow, NoEntry, idle_in, Happens}
 use Rattle.step_machine.specs.Ranges.{IsInRange}
 use Rattle.step_machine.specs.inner.Stored.{outcome_for, land_in}
-use Rattle.step_machine.specs.inner.Config.{Config, entries_after, act_in, act_outcome, land_outcome, outcome_of}
-use Rattle.step_machine.specs.inner.Representation.{view_state, Represents}
+use Rattle.step_machine.specs.inner.Config.{Config, entries_after, act_in, act_outcome, land_outcome, outcome_of, view_state}
+use Rattle.step_machine.specs.inner.Representation.{Represents}
 use Rattle.step_machine.proofs.Follows.{state_after, follows, act_only, land_follows, Path-hart, Legal-last}
 use Rattle.step_machine.proofs.Decides.{need_of-in_range, Decided, StoresRepresent-sees, outcome_for-decided}
 use Rattle.memory.specs.declared.writes.Write.{Write}

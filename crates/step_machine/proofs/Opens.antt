@@ -11,8 +11,8 @@ use Rattle.step_machine.specs.History.{HartOpeningValue, OpeningValue, at_openin
 use Rattle.step_machine.specs.Paths.{opens_as}
 use Rattle.step_machine.specs.inner.Opened.{opened_hart}
 use Rattle.step_machine.specs.inner.Stored.{HasAddress, InMemory, FitStored, opened_stored}
-use Rattle.step_machine.specs.inner.Config.{Config, Fit, beginning, opened_config}
-use Rattle.step_machine.specs.inner.Representation.{view_state, StoresRepresent, Represents}
+use Rattle.step_machine.specs.inner.Config.{Config, Fit, beginning, opened_config, view_state}
+use Rattle.step_machine.specs.inner.Representation.{StoresRepresent, Represents}
 use Rattle.memory.specs.declared.writes.Write.{Write}
 
 pub fit_stored : (M : ℕ) (first : List ℕ) (harts : ℕ) → length first ≤ M → FitStored M (opened_stored M first harts)

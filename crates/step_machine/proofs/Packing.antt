@@ -16,8 +16,8 @@ use Rattle.hart.specs.declared.status.Status.{Status}
 use Rattle.hart.specs.declared.status.Status.TheVariants as status
 use Rattle.hart.specs.declared.status.Stop.TheVariants as stop
 use Rattle.step_machine.specs.inner.Stored.{Stored, HasAddress, InMemory}
-use Rattle.step_machine.specs.inner.Config.{Config, beginning}
-use Rattle.step_machine.specs.Positions.{position_of, hart_position, Change, unless_same, changed, pair_words}
+use Rattle.step_machine.specs.inner.Config.{Config, beginning, view_state}
+use Rattle.step_machine.specs.Positions.{position_of, Change, unless_same, changed, pair_words}
 use Rattle.step_machine.specs.Positions.{packed_hart, packed_buffer, packed_stored, packed, store_words}
 use Rattle.step_machine.specs.Positions.{status_number, status_named, unpacked_changes, unpacked_hart, unpacked_harts}
 use Rattle.step_machine.specs.Positions.{with_store, unpacked_stores, unpacked_buffer, unpacked_buffers, with_words}
@@ -112,7 +112,7 @@ hart_back v w rest opens of_v of_w =
     }
 
 record AreBack (ws : List HartView) (rest : List ℕ) (taken : List HartView × List ℕ) : Type 0 where
-  states : map hart_position taken.0 ≡ map hart_position ws
+  states : map view_state taken.0 ≡ map view_state ws
   left : taken.1 ≡ rest
 
 harts_back : (vs ws : List HartView) (rest : List ℕ) → map beginning vs ≡ map beginning ws → All IsSoundHart vs → All IsSoundHart ws

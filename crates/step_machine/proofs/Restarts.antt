@@ -11,8 +11,8 @@ use Rattle.hart.specs.Steps.{restarted}
 use Rattle.step_machine.specs.declared.events.Entry.{Entry}
 use Rattle.step_machine.specs.History.{OpeningValue, History, at_opening}
 use Rattle.step_machine.specs.inner.Stored.{Stored, HasAddress, InMemory, FitStored, no_stores, restarted_stored}
-use Rattle.step_machine.specs.inner.Config.{Config, Fit, beginning, restarted_config}
-use Rattle.step_machine.specs.inner.Representation.{view_state, StoresRepresent, Represents, IsMachineAt}
+use Rattle.step_machine.specs.inner.Config.{Config, Fit, beginning, restarted_config, view_state}
+use Rattle.step_machine.specs.inner.Representation.{StoresRepresent, Represents, IsMachineAt}
 use Rattle.step_machine.proofs.Opens.{holds_opened}
 use Rattle.step_machine.proofs.Running.{kept-at_opening}
 use Rattle.memory.specs.declared.writes.Write.{Write}

@@ -15,11 +15,11 @@ use Rattle.step_machine.specs.declared.events.Entry.{Entry}
 use Rattle.step_machine.specs.History.{HartOpeningValue, OpeningValue, History, up_to}
 use Rattle.step_machine.specs.Entries.{own, reported}
 use Rattle.step_machine.specs.Paths.{state_of}
-use Rattle.step_machine.specs.Snapshots.{Taken, AreSaved, IsSavedFrom, IsTakenAt}
+use Rattle.step_machine.specs.Snapshots.{SnapshotView, AreSaved, IsSavedFrom, IsTakenAt}
 use Rattle.step_machine.specs.inner.Stored.{Stored, InMemory, FitStored}
-use Rattle.step_machine.specs.inner.Config.{Config, Fit, SameButRoom, without_room, beginning}
+use Rattle.step_machine.specs.inner.Config.{Config, Fit, SameButRoom, without_room, beginning, view_state}
 use Rattle.step_machine.specs.inner.Restored.{restored_harts, restored_stored, restored_config, AreWithin}
-use Rattle.step_machine.specs.inner.Representation.{view_state, IsMachineAt}
+use Rattle.step_machine.specs.inner.Representation.{IsMachineAt}
 use Rattle.step_machine.proofs.Appended.{reported-append}
 use Rattle.step_machine.proofs.Changed.{length-changed, kept_at, all_kept}
 use Rattle.step_machine.proofs.Follows.{state_after}
@@ -92,11 +92,11 @@ same_restored f x y ss are count same = cc
 same_seen : (v w : HartView) (x : SavedView) → IsSavedOf w x → HasGoneOn w v → without_room (put_back v x) ≡ without_room w
 same_seen v w x saved on = grind (arith, state_again, reports_again)
 
-same_stored : (s : Taken) (a b : Stored) → a.first ≡ b.first → s.buffers ≡ b.buffers → s.words ++ drop (length s.words) b.first ≡ b.words
+same_stored : (s : SnapshotView) (a b : Stored) → a.first ≡ b.first → s.buffers ≡ b.buffers → s.words ++ drop (length s.words) b.first ≡ b.words
     → restored_stored s.buffers s.words a ≡ b
 same_stored s a b first buffers words = grind arith
 
-same_again : (B M n k : ℕ) (t : History) (c d : Config) (s : Taken) → IsMachineAt B M t c n → IsMachineAt B M (up_to k t) d 0 → IsSavedFrom M d s
+same_again : (B M n k : ℕ) (t : History) (c d : Config) (s : SnapshotView) → IsMachineAt B M t c n → IsMachineAt B M (up_to k t) d 0 → IsSavedFrom M d s
     → SameButRoom d (restored_config s c)
 same_again B M n k t c d s now then saved =
     let count : length c.harts ≡ length d.harts = now.count ∙ sym then.count in record {
@@ -109,13 +109,14 @@ same_again B M n k t c d s now then saved =
 
 -- ---- the machine put back
 
-pub sound_back : (B M n : ℕ) (t : History) (c : Config) (s : Taken) → IsMachineAt B M t c n → IsTakenAt B M (up_to s.count t) s
+pub sound_back : (B M n : ℕ) (t : History) (c : Config) (s : SnapshotView) → IsMachineAt B M t c n → IsTakenAt B M (up_to s.count t) s
     → IsMachineAt B M (up_to s.count t) (restored_config s c) n
 sound_back B M n t c s now taken =
     sound_same B M 0 n (up_to s.count t) taken.held (restored_config s c) taken.stands (same_again B M n s.count t c taken.held s now taken.stands taken.saved)
     (kept_at put_back (λ v. n ≤ v.room) (λ v x room. room) c.harts s.harts now.room)
 
-pub sound_put_to : (B M n : ℕ) (o : OpeningValue) (es fs : List Entry) (c d : Config) (s : Taken) → IsMachineAt B M (record { opening = o; entries = es }) c n
+pub sound_put_to : (B M n : ℕ) (o : OpeningValue) (es fs : List Entry) (c d : Config) (s : SnapshotView)
+    → IsMachineAt B M (record { opening = o; entries = es }) c n
     → IsTakenAt B M (up_to s.count (record { opening = o; entries = es })) s → fs ≡ take s.count es → d ≡ restored_config s c
     → IsMachineAt B M (record { opening = o; entries = fs }) d n
 sound_put_to B M n o es fs c d s now taken cut is = grind (arith, sound_back B M n (record { opening = o; entries = es }) c s now taken)
@@ -132,7 +133,8 @@ reports_within v w x saved on =
     few_taken (suc m) [] = omega arith
     few_taken (suc m) (r ∷ rs) = let less : length (take m rs) ≤ length rs = few_taken m rs in omega arith
 
-pub within_back : (B M n : ℕ) (t : History) (c : Config) (s : Taken) → IsMachineAt B M t c n → IsTakenAt B M (up_to s.count t) s → AreWithin c.harts s.harts
+pub within_back : (B M n : ℕ) (t : History) (c : Config) (s : SnapshotView) → IsMachineAt B M t c n → IsTakenAt B M (up_to s.count t) s
+    → AreWithin c.harts s.harts
 within_back B M n t c s now taken = record {
   count = length-saved taken.held.harts s.harts taken.saved.harts ∙ taken.stands.count ∙ sym now.count;
   given = λ h v x is_v is_x. (let of_w = saved_at taken.held.harts s.harts h x taken.saved.harts is_x in
@@ -142,11 +144,11 @@ within_back B M n t c s now taken = record {
       reports_within v of_w.0 x of_w.2 (gone_on B M n s.count t c taken.held now taken.stands h v of_w.0 is_v of_w.1));
 }
 
-pub buffers_back : (B M n : ℕ) (t : History) (c : Config) (s : Taken) → IsMachineAt B M t c n → IsTakenAt B M (up_to s.count t) s
+pub buffers_back : (B M n : ℕ) (t : History) (c : Config) (s : SnapshotView) → IsMachineAt B M t c n → IsTakenAt B M (up_to s.count t) s
     → length s.buffers ≡ length c.stored.buffers
 buffers_back B M n t c s now taken = ap length taken.saved.buffers ∙ taken.stands.fit.buffers ∙ taken.stands.count ∙ sym now.count ∙ sym now.fit.buffers
 
-pub pending_back : (B M : ℕ) (t : History) (s : Taken) → IsTakenAt B M t s → All (InMemory M) s.buffers
+pub pending_back : (B M : ℕ) (t : History) (s : SnapshotView) → IsTakenAt B M t s → All (InMemory M) s.buffers
 pending_back B M t s taken = subst (All (InMemory M)) (sym taken.saved.buffers) taken.stands.fit.stored.pending
 
 -- what is put back fits
@@ -155,7 +157,7 @@ pub fit_stored_back : (M : ℕ) (bs : List (List Write)) (ws : List ℕ) (s : St
     → All (InMemory M) bs → FitStored M (restored_stored bs ws s)
 fit_stored_back M bs ws s fit few pending = grind (arith, length-append, length-drop)
 
-pub fit_back : (M : ℕ) (c : Config) (s : Taken) → Fit M c → length s.buffers ≡ length c.stored.buffers → length s.words ≤ M
+pub fit_back : (M : ℕ) (c : Config) (s : SnapshotView) → Fit M c → length s.buffers ≡ length c.stored.buffers → length s.words ≤ M
     → All (InMemory M) s.buffers → Fit M (restored_config s c)
 fit_back M c s fit count few pending = record {
   buffers = count ∙ fit.buffers ∙ sym (length-changed put_back c.harts s.harts);

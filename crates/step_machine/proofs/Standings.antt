@@ -13,9 +13,9 @@ use Rattle.step_machine.specs.declared.events.Outcome.{Outcome}
 use Rattle.step_machine.specs.History.{OpeningValue, History, at_opening, FitsIn}
 use Rattle.step_machine.specs.Runs.{Happens}
 use Rattle.step_machine.specs.inner.Stored.{Stored, FitStored}
-use Rattle.step_machine.specs.inner.Config.{Config, Fit, AllHaveRoom, SameButRoom, without_room, beginning, step_at}
+use Rattle.step_machine.specs.inner.Config.{Config, Fit, AllHaveRoom, SameButRoom, without_room, beginning, step_at, view_state}
 use Rattle.step_machine.specs.inner.Config.{after_entry, after_outcome, entries_after, outcome_of, opened_config}
-use Rattle.step_machine.specs.inner.Representation.{view_state, Represents, IsMachineAt}
+use Rattle.step_machine.specs.inner.Representation.{Represents, IsMachineAt}
 use Rattle.step_machine.proofs.Carried.{carried}
 use Rattle.step_machine.proofs.Fitting.{length-step_at}
 use Rattle.step_machine.proofs.Happening.{history_after, outcome_of-happens}

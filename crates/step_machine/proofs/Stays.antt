@@ -21,8 +21,8 @@ use Rattle.step_machine.specs.Entries.{hart_of, is_land, is_own, store_of, land_
 use Rattle.step_machine.specs.Paths.{entry_of, value_of, opens_as, state_of}
 use Rattle.step_machine.specs.Legal.{Legal}
 use Rattle.step_machine.specs.inner.Stored.{Stored, HasAddress, written}
-use Rattle.step_machine.specs.inner.Config.{Config, beginning, step_at, step_hart}
-use Rattle.step_machine.specs.inner.Representation.{view_state, StoresRepresent, Represents}
+use Rattle.step_machine.specs.inner.Config.{Config, beginning, step_at, step_hart, view_state}
+use Rattle.step_machine.specs.inner.Representation.{StoresRepresent, Represents}
 use Rattle.memory.proofs.Newest.{newest_of-append}
 use Rattle.step_machine.proofs.Appended.{pending-last, landed-last, reported-last}
 use Rattle.step_machine.proofs.Balanced.{balanced}

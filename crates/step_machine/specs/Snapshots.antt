@@ -9,7 +9,7 @@ use Rattle.step_machine.specs.inner.Config.{Config}
 
 -- what a contract sees of a snapshot: how many entries came before it, where each hart stood, what was
 -- pending, and the words of memory up to the last that was written
-pub record Taken : Type 0 where
+pub record SnapshotView : Type 0 where
   pub count : ℕ
   pub harts : List SavedView
   pub buffers : List (List Write)
@@ -23,14 +23,14 @@ AreSaved (v ∷ vs) [] = ⊥
 AreSaved (v ∷ vs) (x ∷ xs) = IsSavedOf v x × AreSaved vs xs
 
 -- it is what the machine holds
-pub record IsSavedFrom (M : ℕ) (c : Config) (s : Taken) : Type 0 where
+pub record IsSavedFrom (M : ℕ) (c : Config) (s : SnapshotView) : Type 0 where
   pub harts : AreSaved c.harts s.harts
   pub buffers : s.buffers ≡ c.stored.buffers
   pub few : length s.words ≤ M
   pub words : s.words ++ drop (length s.words) c.stored.first ≡ c.stored.words
 
 -- it was taken at the end of the history
-pub record IsTakenAt (B M : ℕ) (t : History) (s : Taken) : Type 0 where
+pub record IsTakenAt (B M : ℕ) (t : History) (s : SnapshotView) : Type 0 where
   pub count : s.count ≡ length t.entries
   pub held : Config
   pub stands : RepresentsHistory B M t held

@@ -17,9 +17,9 @@ pub struct Snapshot<const B: usize, const M: usize> {
 }
 
 impl<const B: usize, const M: usize> Model for Snapshot<B, M> {
-    ghost use Rattle.step_machine.specs.Snapshots.{Taken};
+    ghost use Rattle.step_machine.specs.Snapshots.{SnapshotView};
 
-    ghost Value = { Taken };
+    ghost Value = { SnapshotView };
 
     ghost view = { λ s. record { count = s.entries; harts = s.harts.items; buffers = s.buffers.items; words = s.words.items } };
 }

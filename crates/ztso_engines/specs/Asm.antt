@@ -6,14 +6,14 @@ use Rattle.texts.specs.Results.{map_err}
 use Rattle.rv_decode.specs.declared.instruction.Instr.{Instr}
 use Rattle.assembler.specs.Drafts.{assembled}
 use Rattle.assembler.specs.Program.{IsCode}
-use Rattle.assembler.specs.Faults.{fault_number, Refusal as AsmRefusal}
+use Rattle.assembler.specs.Faults.{asm_number, Refusal as AsmRefusal}
 use Rattle.engine_support.specs.declared.fault.Refusal.{Refusal}
 use Rattle.engine_support.specs.Faults.{refused_at}
 use Rattle.engine_support.specs.Engines.{ByValue, Output}
 
 -- a fault of an assembly text, refused by its number at its line
 abbrev pub refused_program : {V : Type 0} → Result V AsmRefusal → Result V Refusal
-refused_program result = map_err (refused_at fault_number) result
+refused_program result = map_err (refused_at asm_number) result
 
 -- the instructions of an assembly text, or its refusal
 unfoldable pub asm_at : List ℕ → Result (List (Option Instr)) Refusal

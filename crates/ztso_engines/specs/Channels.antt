@@ -10,7 +10,7 @@ use Rattle.recorder.specs.Versions.{ScheduleValue, Says, events_said}
 use Rattle.poll_close.specs.Layout.{Layout, opening_at}
 use Rattle.poll_close.specs.Laws.{Ring, AcceptedAt as IsWithin}
 use Rattle.poll_close.specs.Delivery.{Delivers, DeliversWhole}
-use Rattle.poll_close.specs.Refusals.{RefusesAt, fault_number_at}
+use Rattle.poll_close.specs.Refusals.{RefusesAt, refusal_number_at}
 use Rattle.poll_close.specs.declared.faults.Refused.TheVariants as refused
 use Rattle.poll_close.specs.declared.faults.RefusedAt.{RefusedAt}
 use Rattle.poll_close.specs.declared.faults.RefusedAt.TheVariants as refused_at
@@ -55,7 +55,7 @@ pub record IsDelivery (ring : Ring) (B M : ℕ) (l : Layout) (finish : Bool) (sa
 abbrev pub fault_from : RefusedAt → Fault
 fault_from (refused_at.Lists refused.NoMemory) = fault.NoMemory
 fault_from (refused_at.Lists (refused.ZeroWord sender word)) = fault.Refused (record { number = 16; place = place.Word sender word })
-fault_from why = fault.Refused (record { number = fault_number_at why; place = place.Nowhere })
+fault_from why = fault.Refused (record { number = refusal_number_at why; place = place.Nowhere })
 
 -- no block is filled, since all memory opens as 0
 abbrev pub IsUnfilled : RefusedAt → Type 0

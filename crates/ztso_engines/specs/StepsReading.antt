@@ -10,7 +10,7 @@ use Rattle.step_machine.specs.History.{HartOpeningValue}
 use Rattle.step_machine.specs.declared.events.Event.{Event}
 use Rattle.step_machine.specs.declared.opening.TheConstants.{MAX_HARTS}
 use Rattle.recorder.specs.declared.faults.AtByte.{AtByte}
-use Rattle.recorder.specs.Faults.{fault_number}
+use Rattle.recorder.specs.Faults.{schedule_number}
 use Rattle.recorder.specs.Reading.{tokens_after}
 use Rattle.engine_support.specs.declared.fault.Refusal.{Refusal}
 use Rattle.engine_support.specs.declared.fault.Position.TheVariants.{Nowhere}
@@ -67,7 +67,7 @@ with_word memory text = do
 
 -- a fault of tokens, by its number
 abbrev pub numbered : {A : Type 0} → Result A AtByte → Result A ℕ
-numbered result = map_err (λ refused. fault_number refused.fault) result
+numbered result = map_err (λ refused. schedule_number refused.fault) result
 
 unfoldable pub with_steps : List Event → List ℕ → Result (List Event) ℕ
 with_steps events text = do

@@ -13,10 +13,10 @@ pub record Sent : Type 0 where
   pub seen : ℕ
 
 -- the receiver's own: what it has seen are slots, and the ring counts the nulls that it stored too
-abbrev pub Taken : Type 0
-Taken = meaning.Taken ℕ
+abbrev pub ReceiverCounts : Type 0
+ReceiverCounts = meaning.ReceiverCounts ℕ
 
-abbrev pub nulls : Taken → ℕ
+abbrev pub nulls : ReceiverCounts → ℕ
 nulls n = n.own
 
 -- what has landed
@@ -37,7 +37,7 @@ sent n = n.stored + n.marked
 abbrev pub gone : Landed → ℕ
 gone n = n.slots + n.mark
 
-abbrev pub taken : Taken → ℕ
+abbrev pub taken : ReceiverCounts → ℕ
 taken n = nulls n + n.tails + n.done
 
 abbrev pub freed : Landed → ℕ

@@ -14,7 +14,7 @@ pub record Between (k : Block) (n : Sent) : Type 0 where
   pub unmarked : n.marked ≡ 0
 
 -- it holds the next word, which it has not stored
-pub record Holds (k : Block) (n : Sent) (x5 x10 : ℕ) : Type 0 where
+pub record HoldsWord (k : Block) (n : Sent) (x5 x10 : ℕ) : Type 0 where
   pub taken : n.asked ≡ n.stored + 1
   pub unmarked : n.marked ≡ 0
   pub within : n.stored < length k.list
@@ -55,11 +55,11 @@ sender = record {
       row 0x00 (λ x. 8) (λ k n r. Between k n × (r.x5 ≡ offset k n.stored)) ∷  -- next: addi x17,x0,1
       row 0x04 (λ x. 7) (λ k n r. Between k n × (r.x5 ≡ offset k n.stored) × (r.x17 ≡ 1)) ∷  -- ecall
       row 0x08 (λ x. 5 + 12 * slice_index x 11) (λ k n r. Asked k n r.x5 r.x10 r.x11) ∷  -- beq x11,x0,done
-      row 0x0C (λ x. 16) (λ k n r. Holds k n r.x5 r.x10) ∷  -- add x28,x8,x5
-      row 0x10 (λ x. 15) (λ k n r. Holds k n r.x5 r.x10 × (r.x28 ≡ k.base + r.x5)) ∷  -- test: lw x7,16(x28)
+      row 0x0C (λ x. 16) (λ k n r. HoldsWord k n r.x5 r.x10) ∷  -- add x28,x8,x5
+      row 0x10 (λ x. 15) (λ k n r. HoldsWord k n r.x5 r.x10 × (r.x28 ≡ k.base + r.x5)) ∷  -- test: lw x7,16(x28)
       row 0x14 (λ x. if slice_index x 7 == 0 then 14 else 16)
-      (λ k n r. Holds k n r.x5 r.x10 × (r.x28 ≡ k.base + r.x5) × (r.x7 ≡ 0 → Free k n)) ∷  -- bne x7,x0,test
-      row 0x18 (λ x. 13) (λ k n r. Holds k n r.x5 r.x10 × (r.x28 ≡ k.base + r.x5) × Free k n) ∷  -- sw x10,16(x28)
+      (λ k n r. HoldsWord k n r.x5 r.x10 × (r.x28 ≡ k.base + r.x5) × (r.x7 ≡ 0 → Free k n)) ∷  -- bne x7,x0,test
+      row 0x18 (λ x. 13) (λ k n r. HoldsWord k n r.x5 r.x10 × (r.x28 ≡ k.base + r.x5) × Free k n) ∷  -- sw x10,16(x28)
       row 0x1C (λ x. 12) (λ k n r. (s : Stored k n) × (r.x5 ≡ offset k s.last)) ∷  -- addi x5,x5,4
       row 0x20 (λ x. 11) (λ k n r. (s : Stored k n) × (r.x5 ≡ offset k s.last + 4)) ∷  -- bne x5,x9,next
       row 0x24 (λ x. 10) (λ k n r. (s : Stored k n) × (offset k s.last + 4 ≡ 4 * k.size)) ∷  -- addi x5,x0,0

@@ -7,14 +7,14 @@ use Rattle.poll_close.specs.Invariant.Blocks.{Block, offset}
 use Rattle.poll_close.specs.Invariant.Outlines.{row}
 use Rattle.poll_close.specs.Invariant.SenderState.{SenderRegisters}
 use Rattle.poll_close.specs.Listing.{words_of}
-use Rattle.lamport_ring.specs.Invariant.Assertions.{Between, Holds, Asked, HasRead, Room, Stored, Marked}
+use Rattle.lamport_ring.specs.Invariant.Assertions.{Between, HoldsWord, Asked, HasRead, Room, Stored, Marked}
 use Rattle.lamport_ring.specs.Invariant.Counters.{Sent}
 use Rattle.lamport_ring.specs.Invariant.Programs.{Program}
 use Rattle.lamport_cached.specs.Listing.{listing}
 
 -- it holds the next word, and the tail that it read
 pub record Ready (k : Block) (n : Sent) (r : SenderRegisters) : Type 0 where
-  pub holds : Holds k n r.x5 r.x10
+  pub holds : HoldsWord k n r.x5 r.x10
   pub read : HasRead k n r.x7
 
 -- and in x6 the offset after the word's

@@ -11,7 +11,7 @@ pub record Between (k : Block) (n : Sent) : Type 0 where
   pub unmarked : n.marked ≡ 0
 
 -- it holds the next word, which it has not stored
-pub record Holds (k : Block) (n : Sent) (x5 x10 : ℕ) : Type 0 where
+pub record HoldsWord (k : Block) (n : Sent) (x5 x10 : ℕ) : Type 0 where
   pub taken : n.asked ≡ n.stored + 1
   pub heads : n.headed ≡ n.stored
   pub unmarked : n.marked ≡ 0

@@ -14,8 +14,8 @@ pub record Sent : Type 0 where
   pub seen : ℕ
 
 -- the receiver's own: what it has seen are heads
-abbrev pub Taken : Type 0
-Taken = meaning.Taken (Unit {0})
+abbrev pub ReceiverCounts : Type 0
+ReceiverCounts = meaning.ReceiverCounts (Unit {0})
 
 -- what has landed
 pub record Landed : Type 0 where
@@ -35,7 +35,7 @@ sent n = n.stored + n.headed + n.marked
 abbrev pub gone : Landed → ℕ
 gone n = n.slots + n.heads + n.mark
 
-abbrev pub taken : Taken → ℕ
+abbrev pub taken : ReceiverCounts → ℕ
 taken n = n.tails + n.done
 
 abbrev pub freed : Landed → ℕ

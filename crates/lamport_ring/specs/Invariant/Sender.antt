@@ -5,7 +5,7 @@ use Rattle.poll_close.specs.Invariant.Blocks.{offset}
 use Rattle.poll_close.specs.Invariant.Outlines.{row}
 use Rattle.poll_close.specs.Listing.{words_of}
 use Rattle.lamport_ring.specs.Listing.{listing}
-use Rattle.lamport_ring.specs.Invariant.Assertions.{Between, Holds, Asked, HasRead, Room, Stored, Marked}
+use Rattle.lamport_ring.specs.Invariant.Assertions.{Between, HoldsWord, Asked, HasRead, Room, Stored, Marked}
 use Rattle.lamport_ring.specs.Invariant.Programs.{Program}
 
 abbrev pub lamport_program : Program
@@ -17,14 +17,14 @@ lamport_program = record {
       row 0x00 (λ x. 8) (λ k n r. Between k n × (r.x5 ≡ offset k n.stored)) ∷  -- next: addi x17,x0,1
       row 0x04 (λ x. 7) (λ k n r. Between k n × (r.x5 ≡ offset k n.stored) × (r.x17 ≡ 1)) ∷  -- ecall
       row 0x08 (λ x. 5 + 15 * slice_index x 11) (λ k n r. Asked k n r.x5 r.x10 r.x11) ∷  -- beq x11,x0,done
-      row 0x0C (λ x. 19) (λ k n r. Holds k n r.x5 r.x10) ∷  -- addi x6,x5,4
-      row 0x10 (λ x. 18) (λ k n r. Holds k n r.x5 r.x10 × (r.x6 ≡ r.x5 + 4)) ∷  -- bne x6,x9,test
-      row 0x14 (λ x. 17) (λ k n r. Holds k n r.x5 r.x10 × (r.x5 + 4 ≡ 4 * k.size)) ∷  -- addi x6,x0,0
-      row 0x18 (λ x. 15) (λ k n r. Holds k n r.x5 r.x10 × (r.x6 ≡ offset k (n.stored + 1))) ∷  -- test: lw x7,8(x8)
+      row 0x0C (λ x. 19) (λ k n r. HoldsWord k n r.x5 r.x10) ∷  -- addi x6,x5,4
+      row 0x10 (λ x. 18) (λ k n r. HoldsWord k n r.x5 r.x10 × (r.x6 ≡ r.x5 + 4)) ∷  -- bne x6,x9,test
+      row 0x14 (λ x. 17) (λ k n r. HoldsWord k n r.x5 r.x10 × (r.x5 + 4 ≡ 4 * k.size)) ∷  -- addi x6,x0,0
+      row 0x18 (λ x. 15) (λ k n r. HoldsWord k n r.x5 r.x10 × (r.x6 ≡ offset k (n.stored + 1))) ∷  -- test: lw x7,8(x8)
       row 0x1C (λ x. if slice_index x 7 == slice_index x 6 then 16 else 14)
-      (λ k n r. Holds k n r.x5 r.x10 × (r.x6 ≡ offset k (n.stored + 1)) × HasRead k n r.x7) ∷  -- beq x7,x6,test
-      row 0x20 (λ x. 13) (λ k n r. Holds k n r.x5 r.x10 × (r.x6 ≡ offset k (n.stored + 1)) × Room k n) ∷  -- add x28,x8,x5
-      row 0x24 (λ x. 12) (λ k n r. Holds k n r.x5 r.x10 × (r.x6 ≡ offset k (n.stored + 1)) × Room k n × (r.x28 ≡ k.base + r.x5)) ∷  -- sw x10,16(x28)
+      (λ k n r. HoldsWord k n r.x5 r.x10 × (r.x6 ≡ offset k (n.stored + 1)) × HasRead k n r.x7) ∷  -- beq x7,x6,test
+      row 0x20 (λ x. 13) (λ k n r. HoldsWord k n r.x5 r.x10 × (r.x6 ≡ offset k (n.stored + 1)) × Room k n) ∷  -- add x28,x8,x5
+      row 0x24 (λ x. 12) (λ k n r. HoldsWord k n r.x5 r.x10 × (r.x6 ≡ offset k (n.stored + 1)) × Room k n × (r.x28 ≡ k.base + r.x5)) ∷  -- sw x10,16(x28)
       row 0x28 (λ x. 11) (λ k n r. Stored k n r.x6) ∷  -- sw x6,0(x8)
       row 0x2C (λ x. 10) (λ k n r. Between k n × (r.x6 ≡ offset k n.stored)) ∷  -- addi x5,x6,0
       row 0x30 (λ x. 9) (λ k n r. Between k n × (r.x5 ≡ offset k n.stored)) ∷  -- jal x0,next

@@ -27,7 +27,7 @@ length_of a x (Visit stale n other) = if stale a x then n + a.rest else other
 -- the receiver's own numbers of a block: the tails and done words that it stored; the words reported of the sender,
 -- and whether it is reported closed; how much of the sender's had landed when it last read that, and the mark that
 -- it read; and what else the ring counts
-pub record Taken (Own : Type 0) : Type 0 where
+pub record ReceiverCounts (Own : Type 0) : Type 0 where
   pub tails : ℕ
   pub done : ℕ
   pub took : ℕ
@@ -40,7 +40,7 @@ pub record Taken (Own : Type 0) : Type 0 where
 -- changes them: the sender's acts, the receiver's, and landings
 pub record Counters (Sender Own Landed : Type 0) : Type 0 where
   pub sender : Sender
-  pub receiver : Taken Own
+  pub receiver : ReceiverCounts Own
   pub landed : Landed
 
 pub record BlockInvariant : Type 1 where
@@ -60,14 +60,14 @@ pub record BlockInvariant : Type 1 where
   pub receiver_stores : Block → List (ℕ × ℕ)
   pub sent : sender.Own → ℕ
   pub gone : Landed → ℕ
-  pub taken : Taken Own → ℕ
+  pub taken : ReceiverCounts Own → ℕ
   pub freed : Landed → ℕ
   -- the receiver has no step of its own half done; it has taken a word out of its slot
-  pub Level : Taken Own → Type 0
-  pub Filled : Taken Own → Type 0
+  pub Level : ReceiverCounts Own → Type 0
+  pub Filled : ReceiverCounts Own → Type 0
   -- the receiver's five lines between, and its rows at the last four of them
   pub ring_lines : RingLines
-  pub rows : List (Row DistanceToReport (Block → Taken Own → ReceiverRegisters → Type 0))
+  pub rows : List (Row DistanceToReport (Block → ReceiverCounts Own → ReceiverRegisters → Type 0))
   -- the sender waits until the receiver acts; then a word is there for the receiver
   pub waits : HartState → (ℕ → ℕ) → Bool
   pub Ready : Block → Counters sender.Own Own Landed → Type 0
@@ -83,7 +83,7 @@ abbrev pub unread_of : (m : BlockInvariant) → Block → Count m → List (ℕ 
 unread_of m k n = window (m.receiver_stores k) (m.freed n.landed) (m.taken n.receiver)
 
 -- outside of a report, all that was taken and closed is reported
-pub record AllReported (m : BlockInvariant) (n : Taken m.Own) : Type 0 where
+pub record AllReported (m : BlockInvariant) (n : ReceiverCounts m.Own) : Type 0 where
   pub words : n.took ≡ n.tails
   pub closed : n.closings ≡ n.done
   pub level : m.Level n
@@ -93,17 +93,17 @@ pub record Visits (k : Block) (i x8 x22 : ℕ) : Type 0 where
   pub index : x22 ≡ i
 
 -- it visits a block that is not done
-pub record Opened (m : BlockInvariant) (k : Block) (i : ℕ) (n : Taken m.Own) (x8 x22 : ℕ) : Type 0 where
+pub record Opened (m : BlockInvariant) (k : Block) (i : ℕ) (n : ReceiverCounts m.Own) (x8 x22 : ℕ) : Type 0 where
   pub visits : Visits k i x8 x22
   pub quiet : AllReported m n
   pub open_yet : n.done ≡ 0
 
 -- it has seen the mark where it read one
-abbrev pub Flag : {Own : Type 0} → Taken Own → ℕ → Type 0
+abbrev pub Flag : {Own : Type 0} → ReceiverCounts Own → ℕ → Type 0
 Flag n x30 = (x30 ≡ 0) ⊎ ((x30 ≡ 1) × (n.mark ≡ 1))
 
 -- the word is in x11, and its tail is not stored
-pub record Has (m : BlockInvariant) (k : Block) (i : ℕ) (n : Taken m.Own) (x8 x22 x11 : ℕ) : Type 0 where
+pub record Has (m : BlockInvariant) (k : Block) (i : ℕ) (n : ReceiverCounts m.Own) (x8 x22 x11 : ℕ) : Type 0 where
   pub visits : Visits k i x8 x22
   pub ahead : n.took ≡ n.tails
   pub closed : n.closings ≡ n.done
@@ -112,7 +112,7 @@ pub record Has (m : BlockInvariant) (k : Block) (i : ℕ) (n : Taken m.Own) (x8 
   pub word : x11 ≡ slice_index k.list n.tails
 
 -- the tail is stored and the word not reported
-pub record Taking (m : BlockInvariant) (k : Block) (i : ℕ) (n : Taken m.Own) (x8 x22 x11 : ℕ) : Type 0 where
+pub record Taking (m : BlockInvariant) (k : Block) (i : ℕ) (n : ReceiverCounts m.Own) (x8 x22 x11 : ℕ) : Type 0 where
   pub visits : Visits k i x8 x22
   pub level : m.Level n
   pub ahead : n.tails ≡ n.took + 1
@@ -121,7 +121,7 @@ pub record Taking (m : BlockInvariant) (k : Block) (i : ℕ) (n : Taken m.Own) (
   pub word : x11 ≡ slice_index k.list n.took
 
 -- the done word is stored and the closing not reported
-pub record Closing (m : BlockInvariant) (k : Block) (i : ℕ) (n : Taken m.Own) (x8 x22 : ℕ) : Type 0 where
+pub record Closing (m : BlockInvariant) (k : Block) (i : ℕ) (n : ReceiverCounts m.Own) (x8 x22 : ℕ) : Type 0 where
   pub visits : Visits k i x8 x22
   pub level : m.Level n
   pub words : n.took ≡ n.tails
@@ -130,7 +130,7 @@ pub record Closing (m : BlockInvariant) (k : Block) (i : ℕ) (n : Taken m.Own) 
   pub unsaid : n.closings ≡ 0
 
 abbrev pub ReceiverRow : BlockInvariant → Type 1
-ReceiverRow m = Row DistanceToReport (Block → ℕ → Taken m.Own → ReceiverRegisters → Type 0)
+ReceiverRow m = Row DistanceToReport (Block → ℕ → ReceiverCounts m.Own → ReceiverRegisters → Type 0)
 
 abbrev pub line : {Own : Type 0} → ℕ → DistanceToReport → (Block → ℕ → Own → ReceiverRegisters → Type 0)
     → Row DistanceToReport (Block → ℕ → Own → ReceiverRegisters → Type 0)
@@ -141,7 +141,7 @@ abbrev pub between : {Own : Type 0} → ℕ → DistanceToReport → (Block → 
     → Row DistanceToReport (Block → Own → ReceiverRegisters → Type 0)
 between at rank holds = record { at = at; rank = rank; holds = holds }
 
-abbrev pub opened_rows : (m : BlockInvariant) → List (Row DistanceToReport (Block → Taken m.Own → ReceiverRegisters → Type 0)) → List (ReceiverRow m)
+abbrev pub opened_rows : (m : BlockInvariant) → List (Row DistanceToReport (Block → ReceiverCounts m.Own → ReceiverRegisters → Type 0)) → List (ReceiverRow m)
 opened_rows m [] = []
 opened_rows m (row ∷ rows) = record { at = row.at; rank = row.rank; holds = λ k i n r. Opened m k i n r.x8 r.x22 × row.holds k n r } ∷ opened_rows m rows
 
@@ -180,8 +180,8 @@ rows_of m =
     opened_rows m m.rows
 
 -- what holds at an offset, and how far its harts are from their ends
-abbrev pub ReceiverIs : (m : BlockInvariant) → Block → ℕ → ℕ → Taken m.Own → ReceiverRegisters → Type 0
-ReceiverIs m k i here n r = HoldsIn (λ (H : Block → ℕ → Taken m.Own → ReceiverRegisters → Type 0). H k i n r) (rows_of m) here
+abbrev pub ReceiverIs : (m : BlockInvariant) → Block → ℕ → ℕ → ReceiverCounts m.Own → ReceiverRegisters → Type 0
+ReceiverIs m k i here n r = HoldsIn (λ (H : Block → ℕ → ReceiverCounts m.Own → ReceiverRegisters → Type 0). H k i n r) (rows_of m) here
 
 abbrev pub ranking_of : BlockInvariant → Ranking
 ranking_of m = record { sender = left_of m.sender; waits = m.waits; receiver = λ a s. rank_in (length_of a s.registers) (rows_of m) s.pc }

@@ -53,15 +53,16 @@ abbrev pub Reasons : {Rank : Type 0} {Held : Type 1} → (Row Rank Held → Type
 Reasons P [] = Unit {0}
 Reasons P (row ∷ rows) = P row × Reasons P rows
 
-abbrev pub Holds : (o : Outline) → ℕ → Block → o.Own → SenderRegisters → Type 0
-Holds o here k n r = either (here == o.over) (o.done k n) (HoldsIn (λ (H : Block → o.Own → SenderRegisters → Type 0). H k n r) o.rows here)
+-- what holds of the sender at an offset, by its row or after the last line; `ReceiverIs` is the receiver's
+abbrev pub SenderIs : (o : Outline) → ℕ → Block → o.Own → SenderRegisters → Type 0
+SenderIs o here k n r = either (here == o.over) (o.done k n) (HoldsIn (λ (H : Block → o.Own → SenderRegisters → Type 0). H k n r) o.rows here)
 
 -- the sender may be in this state
 pub record Standing (o : Outline) (k : Block) (n : o.Own) (s : HartState) : Type 0 where
   pub place : ℕ
   pub written : SenderRegisters
   pub is : s ≡ stands o k place n written
-  pub holds : Holds o place k n written
+  pub holds : SenderIs o place k n written
 
 -- how far it is from its end: the words in its inbox, then its line
 abbrev pub left_of : Outline → HartState → ℕ

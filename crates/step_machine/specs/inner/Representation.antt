@@ -4,16 +4,13 @@ use Rattle.std.specs.Prelude.{ℕ, ◌≡◌, ◌*◌, ◌<◌, Some, option_map
 use Rattle.std.specs.List.{slice_get}
 use Rattle.memory.specs.Words.{opened_words}
 use Rattle.memory.specs.Writes.{WritesInWord, byte_of}
-use Rattle.hart.specs.State.{HartState, HartView}
+use Rattle.hart.specs.State.{HartView}
 use Rattle.step_machine.specs.History.{History, FitsIn}
 use Rattle.step_machine.specs.Legal.{WellFormed}
 use Rattle.step_machine.specs.Entries.{pending, landed, memory_byte, reported}
 use Rattle.step_machine.specs.Paths.{opens_as, state_of}
 use Rattle.step_machine.specs.inner.Stored.{Stored, buffer_of}
-use Rattle.step_machine.specs.inner.Config.{Config, Fit, AllHaveRoom, beginning}
-
-abbrev pub view_state : HartView → HartState
-view_state v = v.state
+use Rattle.step_machine.specs.inner.Config.{Config, Fit, AllHaveRoom, view_state, beginning}
 
 -- buffers and words are those that the entries leave of the opening's words, with which the memory opened
 pub record StoresRepresent (M : ℕ) (t : History) (s : Stored) : Type 0 where

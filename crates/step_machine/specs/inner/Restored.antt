@@ -4,7 +4,7 @@ use Rattle.std.specs.List.{slice_get}
 use Rattle.hart.specs.State.{HartView}
 use Rattle.hart.specs.Saved.{SavedView, put_back}
 use Rattle.memory.specs.declared.writes.Write.{Write}
-use Rattle.step_machine.specs.Snapshots.{Taken}
+use Rattle.step_machine.specs.Snapshots.{SnapshotView}
 use Rattle.step_machine.specs.inner.Stored.{Stored}
 use Rattle.step_machine.specs.inner.Config.{Config}
 
@@ -20,7 +20,7 @@ restored_harts hs ss = changed_by put_back hs ss
 abbrev pub restored_stored : List (List Write) → List ℕ → Stored → Stored
 restored_stored bs ws s = record s { buffers = bs; words = ws ++ drop (length ws) s.first }
 
-abbrev pub restored_config : Taken → Config → Config
+abbrev pub restored_config : SnapshotView → Config → Config
 restored_config s c = record { harts = restored_harts c.harts s.harts; stored = restored_stored s.buffers s.words c.stored }
 
 -- each hart has been given as many words and has made as many reports

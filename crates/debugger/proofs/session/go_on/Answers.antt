@@ -1,5 +1,5 @@
 use Rattle.std.proofs.Common.{◌≡◌, ◌+◌, List, ◌++◌, ◌∷◌, [], length, arith}
-use Rattle.step_machine.specs.Snapshots.{Taken}
+use Rattle.step_machine.specs.Snapshots.{SnapshotView}
 use Rattle.step_machine.specs.declared.events.Event.{Event}
 use Rattle.debugger.proofs.SessionLaws.{went_on}
 use Rattle.debugger.proofs.SnapshotLaws.{one_taken, none_taken}
@@ -10,7 +10,7 @@ returns-in_ok-push-2-clause-kept g c =
     let before = c.args.machine.now.history in
     let after = c.step.new.self.history in
     let evs : List Event = c.args.events.now.items in
-    let ss : List Taken = c.args.snapshots.now.items in
+    let ss : List SnapshotView = c.args.snapshots.now.items in
     let count : c.len.result ≡ length evs + 1 = omega (arith, c.len.ensures, c.in_ok-push.ensures.len, c.args.events.now.ok.0) in
     rw (c.in_ok-push.ensures.items, c.in_ok-push-2.ensures.items)
     (went_on g.row.B g.row.M before evs c.args.event c.in_ok-outcome.outcome after (ss ++ c.in_ok-snapshot.snapshot ∷ [])
@@ -22,7 +22,7 @@ pub returns-else-len-eq0-clause-kept : goal.returns-else-len-eq0-clause-kept
 returns-else-len-eq0-clause-kept g c =
     let before = c.args.machine.now.history in
     let evs : List Event = c.args.events.now.items in
-    let ss : List Taken = c.args.snapshots.now.items in
+    let ss : List SnapshotView = c.args.snapshots.now.items in
     let count : c.len.result ≡ length evs + 1 = omega (arith, c.len.ensures, c.in_ok-push.ensures.len, c.args.events.now.ok.0) in
     rw c.in_ok-push.ensures.items
     (went_on g.row.B g.row.M before evs c.args.event c.in_ok-outcome.outcome c.step.new.self.history ss

@@ -2,17 +2,17 @@
 use Rattle.std.proofs.Common.{◌≡◌, ◌<◌, ◌*◌, ℕ, zero, suc, List, [], ◌∷◌, length, take, get_or, refl, sym, subst, arith}
 use Rattle.step_machine.specs.History.{OpeningValue, History, at_opening}
 use Rattle.step_machine.specs.Runs.{Run}
-use Rattle.step_machine.specs.Snapshots.{Taken, IsTakenAt}
+use Rattle.step_machine.specs.Snapshots.{SnapshotView, IsTakenAt}
 use Rattle.step_machine.specs.declared.events.Event.{Event}
 use Rattle.debugger.specs.declared.session.TheConstants.{SNAPSHOT_EVENTS}
 use Rattle.debugger.specs.inner.SnapshotsHeld.{IsTakenAfter, HasSnapshots}
 use Rattle.debugger.proofs.session.Session.open.Goals as goal
 
 -- after no event, and none before
-held_first : (B M : ℕ) (t : History) (s : Taken) → Run B M t.opening [] t → IsTakenAt B M t s → HasSnapshots B M t.opening [] (s ∷ [])
+held_first : (B M : ℕ) (t : History) (s : SnapshotView) → Run B M t.opening [] t → IsTakenAt B M t s → HasSnapshots B M t.opening [] (s ∷ [])
 held_first B M t s run taken = record { count = refl; taken = of_place }
   where
-    of_place : (k : ℕ) (d : Taken) → k < 1 → IsTakenAfter B M t.opening (take (k * SNAPSHOT_EVENTS) []) (get_or (s ∷ []) k d)
+    of_place : (k : ℕ) (d : SnapshotView) → k < 1 → IsTakenAfter B M t.opening (take (k * SNAPSHOT_EVENTS) []) (get_or (s ∷ []) k d)
     of_place zero d below = (t, run, taken)
     of_place (suc k) d below = absurd (omega (arith, below))
 
