@@ -17,7 +17,7 @@ use std::alloc::{AllocError, Global};
 use step_machine::Entry;
 
 /// What an entry breaks. Harts, senders and words are as in the entry.
-#[derive(Clone, Copy, Debug, PartialEq, Eq)]
+#[derive(Clone, Copy, PartialEq, Eq)]
 pub enum Breach {
     /// The receiver reports a word where its sender's list has another one next.
     Another {
@@ -77,7 +77,7 @@ pub enum Breach {
 }
 
 /// What is noted of a sender.
-#[derive(Clone, Copy, Debug, PartialEq, Eq)]
+#[derive(Clone, Copy, PartialEq, Eq)]
 pub struct Share {
     /// How many of its words were reported.
     pub taken: usize,

@@ -20,7 +20,7 @@ use std::alloc::{AllocError, Global};
 use step_machine::MachineState;
 
 /// A sender's totals over many runs.
-#[derive(Clone, Copy, Debug, PartialEq, Eq)]
+#[derive(Clone, Copy, PartialEq, Eq)]
 pub struct Total {
     /// How many of its words a run took at most.
     pub most: usize,
