@@ -43,7 +43,7 @@ pub enum Judgement {
     Unfinished,
     /// A record of no run.
     Differs(Difference),
-    /// No record.
+    /// Why the text is no record.
     NoRecord(Refusal),
 }
 
@@ -53,10 +53,7 @@ fn steps_of(alloc: Global, text: &str) -> Result<Vec<(Event, Outcome)>, Fault>
     ensures found { IfOk result (λ steps. IsRecordOf text.now steps.items) }
     ensures exact { Answers (λ steps. steps.items) result (record_of text.now) }
 {
-    match read_record(alloc, text) {
-        Ok(steps) => Ok(steps),
-        Err(error) => Err(Fault::from(error)),
-    }
+    Ok(read_record(alloc, text)?)
 }
 
 /// The steps of a text, or why it is no record: it is too large, no UTF-8, or has a fault at one of its bytes.
@@ -163,10 +160,7 @@ pub fn judge<const B: usize, const M: usize>(
     ensures err { IfErr result (λ fault. fault ≡ NoMemory) }
 {
     match read_steps(alloc, text) {
-        Ok(steps) => match judge_steps(test, machine, text, &steps, values) {
-            Ok(judgement) => Ok(judgement),
-            Err(_) => Err(Fault::NoMemory),
-        },
+        Ok(steps) => Ok(judge_steps(test, machine, text, &steps, values)?),
         Err(Fault::Refused(refusal)) => Ok(Judgement::NoRecord(refusal)),
         Err(_) => Err(Fault::NoMemory),
     }

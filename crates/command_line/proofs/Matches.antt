@@ -6,7 +6,7 @@ use Rattle.clap.specs.Words.{HasKind, Kinds, Row, Text, fault_of, is_simple, is_
 use Rattle.clap.specs.declared.error.Error.{Error}
 use Rattle.clap.specs.declared.error.kind.ErrorKind.TheVariants.{OutOfMemory}
 use Rattle.clap.proofs.OnLiterals.{clap_on_literals}
-use Rattle.command_line.specs.CommandLines.{Answers, job_at, job_said, job_without}
+use Rattle.command_line.specs.CommandLines.{GivesJob, job_at, job_said, job_without}
 use Rattle.command_line.specs.Descriptions.{ztso_command}
 use Rattle.command_line.specs.Jobs.{wanted_by}
 use Rattle.command_line.specs.Faults.{IsErrorFor}
@@ -24,7 +24,7 @@ unfolding clap_on_literals
 is_free_ztso = refl
 
 failed : (kinds : Kinds) (found : Option (Text × List Row)) (error : Error) → HasKind kinds error
-    → (r : Result Job CommandLineError) → IsErrAnd r (IsErrorFor (kind_of error ≡ OutOfMemory)) → Answers (job_without kinds found) r
+    → (r : Result Job CommandLineError) → IsErrAnd r (IsErrorFor (kind_of error ≡ OutOfMemory)) → GivesJob (job_without kinds found) r
 failed kinds found error has (Ok job) fails = absurd fails
 failed kinds found error has (Err failure) (inl memory) = inl memory.1
 failed kinds found error (inl memory) (Err failure) (inr other) = absurd (other.0 memory)
@@ -32,18 +32,18 @@ failed [] found error (inr among) (Err failure) (inr other) = absurd among
 failed (kind ∷ kinds) found error (inr among) (Err failure) (inr other) = inr (other.1, refl)
 
 -- a parse that fails ends as its kind says
-pub answers_failed : (words : List Text) (error : Error) → HasKind (fault_of ztso_command words) error
-    → (r : Result Job CommandLineError) → IsErrAnd r (IsErrorFor (kind_of error ≡ OutOfMemory)) → Answers (job_said words) r
+pub gives_where_failed : (words : List Text) (error : Error) → HasKind (fault_of ztso_command words) error
+    → (r : Result Job CommandLineError) → IsErrAnd r (IsErrorFor (kind_of error ≡ OutOfMemory)) → GivesJob (job_said words) r
 unfolding job_said
-answers_failed words = failed (fault_of ztso_command words) (subcommand_of ztso_command words)
+gives_where_failed words = failed (fault_of ztso_command words) (subcommand_of ztso_command words)
 
--- a parse that succeeds is answered by what it found
-pub answers_found : (words : List Text) → fault_of ztso_command words ≡ []
+-- a parse that succeeds gives what it found
+pub gives_where_found : (words : List Text) → fault_of ztso_command words ≡ []
     → (found : Option Job) → option_map wanted_by found ≡ option_and_then job_at (subcommand_of ztso_command words)
-    → (r : Result Job CommandLineError) → r ≡ ok_or found BadCommandLine → Answers (job_said words) r
+    → (r : Result Job CommandLineError) → r ≡ ok_or found BadCommandLine → GivesJob (job_said words) r
 unfolding job_said
-answers_found words none found is_found r is_r = rw (none, ← is_found, is_r) (by_found found)
+gives_where_found words none found is_found r is_r = rw (none, ← is_found, is_r) (by_found found)
   where
-    by_found : (o : Option Job) → Answers (option_map wanted_by o) (ok_or o BadCommandLine)
+    by_found : (o : Option Job) → GivesJob (option_map wanted_by o) (ok_or o BadCommandLine)
     by_found None = inr (refl, refl)
     by_found (Some job) = refl

@@ -15,12 +15,12 @@ use Rattle.clap.specs.Walk.{word_met}
 use Rattle.clap.specs.Words.{Text}
 use Rattle.command_line.specs.CommandLines.{job_said, job_without}
 use Rattle.command_line.specs.Descriptions.{ztso_command}
-use Rattle.command_line.specs.Spellings.{IsWord}
+use Rattle.command_line.specs.Spellings.{IsArgument}
 use Rattle.command_line.specs.Jobs.{Wanted}
 
 -- ---- words that are no options
 
-no_flag : (word : Text) → IsWord word → (bytes_eq word (45 ∷ 45 ∷ []) ≡ false) × (long_of word ≡ None) × (short_of word ≡ None)
+no_flag : (word : Text) → IsArgument word → (bytes_eq word (45 ∷ 45 ∷ []) ≡ false) × (long_of word ≡ None) × (short_of word ≡ None)
 no_flag [] h = (refl, refl, refl)
 no_flag (c ∷ word) h = go (c == 45) refl
   where
@@ -42,20 +42,20 @@ text_in (other word) = word
 
 abbrev pub ArePlain : List Piece → Type 0
 ArePlain [] = Unit {0}
-ArePlain (plain word ∷ ps) = IsWord word × ArePlain ps
+ArePlain (plain word ∷ ps) = IsArgument word × ArePlain ps
 ArePlain (other word ∷ ps) = ArePlain ps
 
 abbrev pub plain_met : List Rule → Bool → Waiting → Text → Held → Held × Step
 plain_met c is_trailing waiting word h = if is_trailing then (h, value) else plain_word c waiting word h
 
-word_met-plain : (c : List Rule) (is_trailing : Bool) (waiting : Waiting) (position : ℕ) (word : Text) (h : Held) → IsWord word
+word_met-plain : (c : List Rule) (is_trailing : Bool) (waiting : Waiting) (position : ℕ) (word : Text) (h : Held) → IsArgument word
     → word_met c [] is_trailing waiting position word h ≡ plain_met c is_trailing waiting word h
 word_met-plain c true waiting position word h is = refl
 word_met-plain c false idle position word h is = let a = no_flag word is in rw (a.0, a.1, a.2) refl
 word_met-plain c false (option id) position word h is = let a = no_flag word is in rw (a.0, a.1, a.2) refl
 word_met-plain c false positional position word h is = let a = no_flag word is in rw (a.0, a.1, a.2) refl
 
-word_fault-plain : (s : Shape) (is_trailing : Bool) (waiting : Waiting) (word : Text) (h : Held) → IsWord word
+word_fault-plain : (s : Shape) (is_trailing : Bool) (waiting : Waiting) (word : Text) (h : Held) → IsArgument word
     → word_fault s [] is_trailing waiting word h ≡ []
 word_fault-plain s true waiting word h is = refl
 word_fault-plain s false idle word h is = let a = no_flag word is in rw (a.0, a.1, a.2) refl
@@ -79,7 +79,7 @@ pieces_fault s w [] = []
 pieces_fault s w (plain word ∷ ps) = or_else (plain_fault s w word) (pieces_fault s (plain_walked s.rules w.stopped w word) ps)
 pieces_fault s w (other word ∷ ps) = or_else (turn_fault s [] w word) (pieces_fault s (walked s.rules [] w word) ps)
 
-walked-plain : (c : List Rule) (w : Walk) (word : Text) → IsWord word → walked c [] w word ≡ plain_walked c w.stopped w word
+walked-plain : (c : List Rule) (w : Walk) (word : Text) → IsArgument word → walked c [] w word ≡ plain_walked c w.stopped w word
 unfolding walked
 walked-plain c w word is = by w.stopped
   where
@@ -87,7 +87,7 @@ walked-plain c w word is = by w.stopped
     by (Some p) = refl
     by None = ap (λ (met : Held × Step). after_step c word w met.0 met.1) (word_met-plain c w.is_trailing w.waiting w.position word w.held is)
 
-fault-plain : (s : Shape) (w : Walk) (word : Text) → IsWord word → turn_fault s [] w word ≡ plain_fault s w word
+fault-plain : (s : Shape) (w : Walk) (word : Text) → IsArgument word → turn_fault s [] w word ≡ plain_fault s w word
 fault-plain s w word is =
     ap₂ (λ (kinds : Kinds) (met : Held × Step). if is_some w.stopped then [] else or_else kinds (step_fault s w.position met.0 met.1))
     (word_fault-plain s w.is_trailing w.waiting word w.held is) (word_met-plain s.rules w.is_trailing w.waiting w.position word w.held is)

@@ -5,10 +5,10 @@ use Rattle.std.specs.Str.{bytes_eq}
 use Rattle.clap.specs.Words.{Text}
 use Rattle.clap.proofs.OnLiterals.{clap_on_literals}
 use Rattle.command_line.proofs.Pieces.{Piece, plain, other, text_in, ArePlain, IsCommand, said, pieces_fault, by_pieces}
-use Rattle.command_line.specs.CommandLines.{Answers, capacity_said, job_said, number_if_said, ring_said, ◌>>=◌}
+use Rattle.command_line.specs.CommandLines.{GivesJob, capacity_said, job_said, number_if_said, ring_said, ◌>>=◌}
 use Rattle.command_line.specs.Numbers.{number_within}
 use Rattle.command_line.specs.Spellings.{AsksByFlag, AsksFor, AsksForNumber, AsksForStride, IsOnFiles, IsSpelling, IsSpellingOf}
-use Rattle.command_line.specs.Spellings.{IsWord, is_steps, is_of_memory, is_svg, name_of, text_of}
+use Rattle.command_line.specs.Spellings.{IsArgument, is_steps, is_of_memory, is_svg, name_of, text_of}
 use Rattle.command_line.specs.declared.job.Ring.{Ring}
 use Rattle.command_line.specs.declared.job.Ring.TheVariants.{Lamport, FastForward, LamportCached}
 use Rattle.command_line.specs.declared.job.Command.{Command}
@@ -51,11 +51,11 @@ capacity_at none t = Some Four
 capacity_at blank t = capacity_said t
 capacity_at equals t = capacity_said t
 
-text_is_word : (capacity : Capacity) → IsWord (text_of capacity)
-text_is_word One = λ e. omega (arith, e)
-text_is_word Two = λ e. omega (arith, e)
-text_is_word Four = λ e. omega (arith, e)
-text_is_word Sixteen = λ e. omega (arith, e)
+text_is_argument : (capacity : Capacity) → IsArgument (text_of capacity)
+text_is_argument One = λ e. omega (arith, e)
+text_is_argument Two = λ e. omega (arith, e)
+text_is_argument Four = λ e. omega (arith, e)
+text_is_argument Sixteen = λ e. omega (arith, e)
 
 text_says : (capacity : Capacity) → capacity_said (text_of capacity) ≡ Some capacity
 text_says One = refl
@@ -74,7 +74,7 @@ capacity_spelled : (capacity : Capacity) (options : List Text) → AsksFor capac
 capacity_spelled capacity options (inl default) =
     record { tail = none; text = []; is = default.0; says = ap (λ (c : Capacity). Some c) (sym default.1); are = tt }
 capacity_spelled capacity options (inr (inl is)) =
-    record { tail = blank; text = text_of capacity; is = is; says = text_says capacity; are = (text_is_word capacity, tt) }
+    record { tail = blank; text = text_of capacity; is = is; says = text_says capacity; are = (text_is_argument capacity, tt) }
 capacity_spelled capacity options (inr (inr is)) = record { tail = equals; text = text_of capacity; is = is; says = text_says capacity; are = tt }
 
 abbrev machine_of : Option Capacity → Option MachineCommand → Option Command
@@ -119,7 +119,7 @@ left_out option words Says silent says = record {
   is = λ options tail same. ap₂ (λ (a b : List Text). a ++ b) silent same;
 }
 
-given : (option said : Text) (words : List Text) (Says : Option Text → Type 0) → words ≡ option ∷ said ∷ [] → IsWord said → Says (Some said)
+given : (option said : Text) (words : List Text) (Says : Option Text → Type 0) → words ≡ option ∷ said ∷ [] → IsArgument said → Says (Some said)
     → OptionSpelled option words Says
 given option said words Says words_are word says = record {
   text = Some said;
@@ -376,10 +376,10 @@ channel_is_command : IsCommand (codes "channel")
 unfolding clap_on_literals
 channel_is_command = (refl, refl)
 
-kind_is_word : (ring : Ring) → IsWord (name_of ring)
-kind_is_word Lamport = λ e. omega (arith, e)
-kind_is_word FastForward = λ e. omega (arith, e)
-kind_is_word LamportCached = λ e. omega (arith, e)
+kind_is_argument : (ring : Ring) → IsArgument (name_of ring)
+kind_is_argument Lamport = λ e. omega (arith, e)
+kind_is_argument FastForward = λ e. omega (arith, e)
+kind_is_argument LamportCached = λ e. omega (arith, e)
 
 kind_says : (ring : Ring) → ring_said (name_of ring) ≡ Some ring
 kind_says Lamport = refl
@@ -705,7 +705,7 @@ spelled_of name rest (Machine (Channel ring place finish) capacity) wanted
     let with_stride = number_pieces (codes "--stride") stride.text with_finish in
     by_pieces name (codes "channel") (channel_pieces (name_of ring) number schedule (place_pieces base.text stride.text with_finish)) rest wanted
     channel_is_command
-    (kind_is_word ring, (slots_are.0, (s, base.are with_stride (stride.are with_finish (flag-plain (codes "--finish") finish end to.are)))))
+    (kind_is_argument ring, (slots_are.0, (s, base.are with_stride (stride.are with_finish (flag-plain (codes "--finish") finish end to.are)))))
     (is ∙ ap (λ (o : List Text). codes "channel" ∷ name_of ring ∷ number ∷ schedule ∷ o)
     (base.is (second ++ (third ++ options)) with_stride (stride.is (third ++ options) with_finish
     (flag-texts (codes "--finish") finish third options end finishes to.is))))
@@ -807,8 +807,8 @@ pub job_said-spelling : (name : Text) (rest : List Text) (wanted : Wanted) → I
     → job_said (name ∷ rest) ≡ Some wanted
 job_said-spelling name rest wanted spelling = spelled_of name rest wanted.command wanted spelling
 
--- so it is answered by that job
-pub answers_spelled : (words : List Text) (r : Result Job CommandLineError) → Answers (job_said words) r
-    → (name : Text) (rest : List Text) (wanted : Wanted) → words ≡ name ∷ rest → IsSpelling wanted rest → Answers (Some wanted) r
-answers_spelled words r answers name rest wanted split spelling =
-    rw (← job_said-spelling name rest wanted spelling, ← split) answers
+-- so that job is given
+pub gives_spelled : (words : List Text) (r : Result Job CommandLineError) → GivesJob (job_said words) r
+    → (name : Text) (rest : List Text) (wanted : Wanted) → words ≡ name ∷ rest → IsSpelling wanted rest → GivesJob (Some wanted) r
+gives_spelled words r gives name rest wanted split spelling =
+    rw (← job_said-spelling name rest wanted spelling, ← split) gives

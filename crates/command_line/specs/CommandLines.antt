@@ -265,6 +265,6 @@ unfoldable pub job_said : List Text → Option Wanted
 job_said words = job_without (fault_of ztso_command words) (subcommand_of ztso_command words)
 
 -- the job that is said, unless there was no memory, and a bad command line where none is said
-abbrev pub Answers : Option Wanted → Result Job CommandLineError → Type 0
-Answers said (Ok job) = said ≡ Some (wanted_by job)
-Answers said (Err error) = (error ≡ NoMemory) ⊎ ((error ≡ BadCommandLine) × (said ≡ None))
+abbrev pub GivesJob : Option Wanted → Result Job CommandLineError → Type 0
+GivesJob said (Ok job) = said ≡ Some (wanted_by job)
+GivesJob said (Err error) = (error ≡ NoMemory) ⊎ ((error ≡ BadCommandLine) × (said ≡ None))

@@ -30,9 +30,9 @@ text_of Four = codes "4"
 text_of Sixteen = codes "16"
 
 -- a word that can't be an option: it doesn't begin with a hyphen
-abbrev pub IsWord : Text → Type 0
-IsWord [] = Unit {0}
-IsWord (c ∷ word) = c ≢ 45
+abbrev pub IsArgument : Text → Type 0
+IsArgument [] = Unit {0}
+IsArgument (c ∷ word) = c ≢ 45
 
 -- nothing, which asks for four stores, or `--buffer` and a capacity in either form
 abbrev pub AsksFor : Capacity → List Text → Type 0
@@ -49,7 +49,7 @@ name_of LamportCached = codes "cached"
 
 -- a word that says this number, within these limits
 abbrev pub SaysNumber : (least most number : ℕ) → Text → Type 0
-SaysNumber least most number word = IsWord word × (number_within least most word ≡ Some number)
+SaysNumber least most number word = IsArgument word × (number_within least most word ≡ Some number)
 
 -- nothing, which asks for the usual number, or an option and a number within these limits
 abbrev pub AsksForNumber : (option : Text) → (usual least most number : ℕ) → List Text → Type 0
@@ -118,7 +118,7 @@ AsksForForm told words = AsksByFlag (codes "--steps") (is_steps told) words
 abbrev pub IsOnFiles : (name : Text) → MachineCommand → Capacity → Wanted → List Text → Type 0
 IsOnFiles name command capacity wanted words =
     (file schedule : Text) × (options : List Text) × (words ≡ name ∷ file ∷ schedule ∷ options)
-    × IsWord file × IsWord schedule × AsksFor capacity options
+    × IsArgument file × IsArgument schedule × AsksFor capacity options
     × (wanted ≡ two_inputs (Machine command capacity) (File file) (File schedule))
 
 -- The words after the program's name that ask for this command: a row for each command. Options in other places and
@@ -135,48 +135,48 @@ IsSpellingOf (Machine Move capacity) wanted words = IsOnFiles (codes "move") Mov
 IsSpellingOf (Machine Shrink capacity) wanted words = IsOnFiles (codes "shrink") Shrink capacity wanted words
 IsSpellingOf (Machine (Chart drawn selection) capacity) wanted words =
     (file schedule : Text) × (first second options : List Text) × (words ≡ codes "chart" ∷ file ∷ schedule ∷ (first ++ (second ++ options)))
-    × IsWord file × IsWord schedule × AsksForStyle drawn first × AsksForRows selection second × AsksFor capacity options
+    × IsArgument file × IsArgument schedule × AsksForStyle drawn first × AsksForRows selection second × AsksFor capacity options
     × (wanted ≡ two_inputs (Machine (Chart drawn selection) capacity) (File file) (File schedule))
 IsSpellingOf (Machine (Show told) capacity) wanted words =
     (file : Text) × (first options : List Text) × (words ≡ codes "show" ∷ file ∷ (first ++ options))
-    × IsWord file × AsksForForm told first × AsksFor capacity options
+    × IsArgument file × AsksForForm told first × AsksFor capacity options
     × (wanted ≡ one_input (Machine (Show told) capacity) (File file))
 IsSpellingOf (Machine Check capacity) wanted words =
-    (file : Text) × (options : List Text) × (words ≡ codes "check" ∷ file ∷ options) × IsWord file × AsksFor capacity options
+    (file : Text) × (options : List Text) × (words ≡ codes "check" ∷ file ∷ options) × IsArgument file × AsksFor capacity options
     × (wanted ≡ two_inputs (Machine Check capacity) (File file) Standard)
 IsSpellingOf (Machine Debug capacity) wanted words = IsOnFiles (codes "debug") Debug capacity wanted words
 IsSpellingOf (Machine (Try seed runs) capacity) wanted words =
     (file s n l : Text) × (first second options : List Text)
     × (words ≡ codes "try" ∷ file ∷ codes "--seed" ∷ s ∷ codes "--runs" ∷ n ∷ codes "--length" ∷ l ∷ (first ++ (second ++ options)))
-    × IsWord file × SaysNumber 0 18446744073709551615 seed s × SaysNumber 1 100000 runs.number n × SaysNumber 0 MAX_EVENTS runs.length l
+    × IsArgument file × SaysNumber 0 18446744073709551615 seed s × SaysNumber 1 100000 runs.number n × SaysNumber 0 MAX_EVENTS runs.length l
     × AsksToSkip runs.skip first × AsksForJobs runs.jobs second × AsksFor capacity options
     × (wanted ≡ one_input (Machine (Try seed runs) capacity) (File file))
 IsSpellingOf (Machine (Channel ring place finish) capacity) wanted words =
     (said schedule : Text) × (first second third options : List Text)
     × (words ≡ codes "channel" ∷ name_of ring ∷ said ∷ schedule ∷ (first ++ (second ++ (third ++ options))))
-    × SaysNumber 0 4294967295 place.slots said × IsWord schedule
+    × SaysNumber 0 4294967295 place.slots said × IsArgument schedule
     × AsksForBase place.base first × AsksForStride place.stride second × AsksToFinish finish third × AsksFor capacity options
     × (wanted ≡ two_inputs (Machine (Channel ring place finish) capacity) (File schedule) Standard)
 IsSpellingOf (Find states capacity) wanted words =
     (file : Text) × (first options : List Text) × (words ≡ codes "find" ∷ file ∷ (first ++ options))
-    × IsWord file × AsksForStates states first × AsksFor capacity options
+    × IsArgument file × AsksForStates states first × AsksFor capacity options
     × (wanted ≡ one_input (Find states capacity) (File file))
 IsSpellingOf (Threads turns capacity) wanted words =
     (file : Text) × (first options : List Text) × (words ≡ codes "threads" ∷ file ∷ (first ++ options))
-    × IsWord file × AsksForTurns turns first × AsksFor capacity options
+    × IsArgument file × AsksForTurns turns first × AsksFor capacity options
     × (wanted ≡ one_input (Threads turns capacity) (File file))
 IsSpellingOf (Own place capacity) wanted words =
     (sender receiver said schedule : Text) × (first second options : List Text)
     × (words ≡ codes "channel" ∷ codes "own" ∷ said ∷ schedule ∷ codes "--sender" ∷ sender ∷ codes "--receiver" ∷ receiver
     ∷ (first ++ (second ++ options)))
-    × SaysNumber 0 4294967295 place.slots said × IsWord schedule × IsWord sender × IsWord receiver
+    × SaysNumber 0 4294967295 place.slots said × IsArgument schedule × IsArgument sender × IsArgument receiver
     × AsksForBase place.base first × AsksForStride place.stride second × AsksFor capacity options
     × (wanted ≡ four_inputs (Own place capacity) (File sender) (File receiver) (File schedule) Standard)
 IsSpellingOf (OwnRing seed runs place capacity) wanted words =
     (sender receiver said s n l : Text) × (first second third fourth options : List Text)
     × (words ≡ codes "ring" ∷ sender ∷ receiver ∷ said ∷ codes "--seed" ∷ s ∷ codes "--runs" ∷ n ∷ codes "--length" ∷ l
     ∷ (first ++ (second ++ (third ++ (fourth ++ options)))))
-    × IsWord sender × IsWord receiver × SaysNumber 0 4294967295 place.slots said × SaysNumber 0 18446744073709551615 seed s
+    × IsArgument sender × IsArgument receiver × SaysNumber 0 4294967295 place.slots said × SaysNumber 0 18446744073709551615 seed s
     × SaysNumber 1 100000 runs.number n × SaysNumber 0 MAX_EVENTS runs.length l
     × AsksToSkip runs.skip first × AsksForJobs runs.jobs second × AsksForBase place.base third × AsksForStride place.stride fourth
     × AsksFor capacity options

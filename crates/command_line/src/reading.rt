@@ -2,7 +2,7 @@
 
 ghost use Rattle.std.specs.Prelude.{◌≡◌, ◌∷◌, ℕ, List, IfOk, map, option_and_then, option_map};
 ghost use Rattle.clap.specs.Words.{FailsBy, fault_of, first_of, found_of, rows_of, subcommand_of, subcommand_rows_of};
-ghost use Rattle.command_line.specs.CommandLines.{Answers, capacity_said, job_at, channel_in, chart_in, find_in, flag_said};
+ghost use Rattle.command_line.specs.CommandLines.{GivesJob, capacity_said, job_at, channel_in, chart_in, find_in, flag_said};
 ghost use Rattle.command_line.specs.CommandLines.{form_said, show_in, style_said, selection_said, job_said, number_if_said};
 ghost use Rattle.command_line.specs.CommandLines.{machine_in, own_in, on_file, on_file_and_schedule, on_channel};
 ghost use Rattle.command_line.specs.CommandLines.{on_file_and_standard, on_own_channel, on_programs_and_standard};
@@ -42,11 +42,11 @@ const MOST_TURNS: u32 = 10_000_000;
 /// Any other words are a bad command line, and so is a request for help; as clap has it, a last `--`
 /// is taken. The other failure is want of memory.
 pub fn job_of<'a, S: AsStr>(alloc: Global, words: &'a [S]) -> Result<Job<'a>, CommandLineError>
-    ensures said { Answers (job_said (map S.text words.entry.now)) result }
+    ensures said { GivesJob (job_said (map S.text words.entry.now)) result }
 
     // Each way of writing a job is taken, whatever name the program is called by.
     ensures spelled { (name : List ℕ) (rest : List (List ℕ)) (wanted : Wanted)
-        → map S.text words.entry.now ≡ name ∷ rest → IsSpelling wanted rest → Answers (Some wanted) result }
+        → map S.text words.entry.now ≡ name ∷ rest → IsSpelling wanted rest → GivesJob (Some wanted) result }
 {
     let matches = matches_of(alloc, words)?;
     job_at(&matches).ok_or(CommandLineError::BadCommandLine)

@@ -1,21 +1,21 @@
 use Rattle.std.proofs.Common.{◌∙◌, ap, map}
 use Rattle.std.specs.Prelude.{option_and_then}
 use Rattle.command_line.specs.CommandLines.{job_at}
-use Rattle.command_line.proofs.Matches.{answers_failed, answers_found}
-use Rattle.command_line.proofs.Spellings.{answers_spelled}
+use Rattle.command_line.proofs.Matches.{gives_where_failed, gives_where_found}
+use Rattle.command_line.proofs.Spellings.{gives_spelled}
 use Rattle.command_line.proofs.reading.job_of.Goals as goal
 
 pub returns-in_err-matches : goal.returns-in_err-matches
 returns-in_err-matches g c =
     let words = map g.S.AsStr.text c.args.words.now in
-    let said = answers_failed words c.in_err-matches.field-0.0 c.in_err-matches.ensures.kinds c.from_residual.result
+    let said = gives_where_failed words c.in_err-matches.field-0.0 c.in_err-matches.ensures.kinds c.from_residual.result
     c.from_residual.ensures.1 in
-    record { said = said; spelled = answers_spelled words c.from_residual.result said }
+    record { said = said; spelled = gives_spelled words c.from_residual.result said }
 
 pub returns : goal.returns
 returns g c =
     let words = map g.S.AsStr.text c.args.words.now in
-    let said = answers_found words c.in_ok-matches.ensures.kinds c.job_at.result
+    let said = gives_where_found words c.in_ok-matches.ensures.kinds c.job_at.result
     (c.job_at.ensures ∙ ap (option_and_then job_at) c.in_ok-matches.ensures.subcommand) c.ok_or.result
     c.ok_or.ensures.value in
-    record { said = said; spelled = answers_spelled words c.ok_or.result said }
+    record { said = said; spelled = gives_spelled words c.ok_or.result said }
