@@ -31,6 +31,13 @@ pub struct Form {
     pub stores: bool,
 }
 
+/// How a picture is written.
+#[derive(Clone, Copy, PartialEq, Eq)]
+pub enum Style {
+    Text,
+    Svg,
+}
+
 /// Which rows of a run a picture has.
 #[derive(Clone, Copy, PartialEq, Eq)]
 pub enum Selection {

@@ -8,7 +8,7 @@ use Rattle.command_line.proofs.Pieces.{Piece, plain, other, text_in, ArePlain, I
 use Rattle.command_line.specs.CommandLines.{GivesJob, capacity_said, job_said, number_if_said, ring_said, ◌>>=◌}
 use Rattle.command_line.specs.Numbers.{number_within}
 use Rattle.command_line.specs.Spellings.{AsksByFlag, AsksFor, AsksForNumber, AsksForStride, IsOnFiles, IsSpelling, IsSpellingOf}
-use Rattle.command_line.specs.Spellings.{IsArgument, is_steps, is_of_memory, is_svg, name_of, text_of}
+use Rattle.command_line.specs.Spellings.{IsArgument, is_of_memory, is_svg, name_of, text_of}
 use Rattle.command_line.specs.declared.job.Ring.{Ring}
 use Rattle.command_line.specs.declared.job.Ring.TheVariants.{Lamport, FastForward, LamportCached}
 use Rattle.command_line.specs.declared.job.Command.{Command}
@@ -23,11 +23,9 @@ use Rattle.command_line.specs.declared.job.MachineCommand.TheVariants.{Steps, Ru
 use Rattle.poll_close.specs.declared.place.Place.{Place}
 use Rattle.chart.specs.declared.scenes.Selection.{Selection}
 use Rattle.chart.specs.declared.scenes.Selection.TheVariants.{EveryRow, MemoryRows}
-use Rattle.view_engines.specs.declared.charting.Style.{Style}
-use Rattle.view_engines.specs.declared.charting.Style.TheVariants.{Svg}
-use Rattle.view_engines.specs.declared.charting.Style.TheVariants as style
-use Rattle.view_engines.specs.declared.showing.Form.{Form}
-use Rattle.view_engines.specs.declared.showing.Form.TheVariants as form
+use Rattle.chart.specs.declared.scenes.Style.{Style}
+use Rattle.chart.specs.declared.scenes.Style.TheVariants.{Svg}
+use Rattle.chart.specs.declared.scenes.Style.TheVariants as style
 use Rattle.jumping.specs.declared.Runs.{Runs}
 use Rattle.command_line.specs.Jobs.{Wanted, four_inputs, one_input, three_inputs, two_inputs}
 use Rattle.command_line.specs.Jobs.Input.{Standard, File}
@@ -276,20 +274,20 @@ show_is_command : IsCommand (codes "show")
 unfolding clap_on_literals
 show_is_command = (refl, refl)
 
-show_read : (file : Text) (told : Form) (tail : Tail) (t : Text)
-    → said (codes "show") (plain file ∷ flag_pieces (codes "--steps") (is_steps told) (tail_of tail t))
-    ≡ on_file_of file (machine_of (capacity_at tail t) (Some (Show told)))
+show_read : (file : Text) (steps : Bool) (tail : Tail) (t : Text)
+    → said (codes "show") (plain file ∷ flag_pieces (codes "--steps") steps (tail_of tail t))
+    ≡ on_file_of file (machine_of (capacity_at tail t) (Some (Show steps)))
 unfolding clap_on_literals pieces_fault
-show_read file form.Table none t = refl
-show_read file form.Table blank t = refl
-show_read file form.Table equals t = refl
-show_read file form.Steps none t = refl
-show_read file form.Steps blank t = refl
-show_read file form.Steps equals t = refl
+show_read file false none t = refl
+show_read file false blank t = refl
+show_read file false equals t = refl
+show_read file true none t = refl
+show_read file true blank t = refl
+show_read file true equals t = refl
 
-show_says : (told : Form) (file : Text) (capacity : Capacity) (found : Option Capacity) → found ≡ Some capacity
-    → on_file_of file (machine_of found (Some (Show told))) ≡ Some (one_input (Machine (Show told) capacity) (File file))
-show_says told file capacity found a = rw a refl
+show_says : (steps : Bool) (file : Text) (capacity : Capacity) (found : Option Capacity) → found ≡ Some capacity
+    → on_file_of file (machine_of found (Some (Show steps))) ≡ Some (one_input (Machine (Show steps) capacity) (File file))
+show_says steps file capacity found a = rw a refl
 
 check_is_command : IsCommand (codes "check")
 unfolding clap_on_literals
@@ -668,13 +666,13 @@ spelled_of name rest (Machine (Chart drawn selection) capacity) wanted (file, sc
     (flag-texts (codes "--memory") (is_of_memory selection) second options end chooses to.is)))
     (chart_read file schedule drawn selection to.tail to.text
     ∙ on_files_says (Chart drawn selection) file schedule capacity _ to.says ∙ ap (λ (w : Wanted). Some w) (sym wants))
-spelled_of name rest (Machine (Show told) capacity) wanted (file, first, options, is, f, tells, asks, wants) =
+spelled_of name rest (Machine (Show steps) capacity) wanted (file, first, options, is, f, tells, asks, wants) =
     let to = capacity_spelled capacity options asks in
     let end = tail_of to.tail to.text in
-    by_pieces name (codes "show") (plain file ∷ flag_pieces (codes "--steps") (is_steps told) end) rest wanted show_is_command
-    (f, flag-plain (codes "--steps") (is_steps told) end to.are)
-    (is ∙ ap (λ (o : List Text). codes "show" ∷ file ∷ o) (flag-texts (codes "--steps") (is_steps told) first options end tells to.is))
-    (show_read file told to.tail to.text ∙ show_says told file capacity _ to.says ∙ ap (λ (w : Wanted). Some w) (sym wants))
+    by_pieces name (codes "show") (plain file ∷ flag_pieces (codes "--steps") steps end) rest wanted show_is_command
+    (f, flag-plain (codes "--steps") steps end to.are)
+    (is ∙ ap (λ (o : List Text). codes "show" ∷ file ∷ o) (flag-texts (codes "--steps") steps first options end tells to.is))
+    (show_read file steps to.tail to.text ∙ show_says steps file capacity _ to.says ∙ ap (λ (w : Wanted). Some w) (sym wants))
 spelled_of name rest (Machine Check capacity) wanted (file, options, is, f, asks, wants) =
     let to = capacity_spelled capacity options asks in
     by_pieces name (codes "check") (plain file ∷ tail_of to.tail to.text) rest wanted check_is_command (f, to.are)

@@ -19,11 +19,9 @@ use Rattle.poll_close.specs.declared.place.Place.{Place}
 use Rattle.command_line.specs.declared.job.MachineCommand.{MachineCommand}
 use Rattle.chart.specs.declared.scenes.Selection.{Selection}
 use Rattle.chart.specs.declared.scenes.Selection.TheVariants.{EveryRow, MemoryRows}
-use Rattle.view_engines.specs.declared.charting.Style.{Style}
-use Rattle.view_engines.specs.declared.charting.Style.TheVariants.{Svg}
-use Rattle.view_engines.specs.declared.charting.Style.TheVariants as style
-use Rattle.view_engines.specs.declared.showing.Form.{Form}
-use Rattle.view_engines.specs.declared.showing.Form.TheVariants as form
+use Rattle.chart.specs.declared.scenes.Style.{Style}
+use Rattle.chart.specs.declared.scenes.Style.TheVariants.{Svg}
+use Rattle.chart.specs.declared.scenes.Style.TheVariants as style
 use Rattle.command_line.specs.declared.job.MachineCommand.TheVariants.{Steps, Run, Replay, Move, Shrink, Chart, Show, Check, Debug, Try, Channel}
 use Rattle.command_line.specs.Jobs.{Input, Wanted, four_inputs, one_input, three_inputs, two_inputs, wanted_by}
 use Rattle.command_line.specs.Jobs.Input.{Standard, File}
@@ -92,14 +90,10 @@ chart_in options = do
   memory ← first_of (codes "memory") options
   Some (Chart (style_said svg) (selection_said memory))
 
--- the form in which `show` tells a test, by its flag
-abbrev pub form_said : Text → Form
-form_said text = if flag_said text then form.Steps else form.Table
-
 abbrev pub show_in : List Row → Option MachineCommand
 show_in options = do
   steps ← first_of (codes "steps") options
-  Some (Show (form_said steps))
+  Some (Show (flag_said steps))
 
 -- where a channel's blocks lie
 abbrev pub place_in : List Row → Option Place

@@ -11,11 +11,9 @@ use Rattle.command_line.specs.declared.job.Command.TheVariants.{Code, Machine, F
 use Rattle.command_line.specs.declared.job.MachineCommand.{MachineCommand}
 use Rattle.chart.specs.declared.scenes.Selection.{Selection}
 use Rattle.chart.specs.declared.scenes.Selection.TheVariants.{EveryRow, MemoryRows}
-use Rattle.view_engines.specs.declared.charting.Style.{Style}
-use Rattle.view_engines.specs.declared.charting.Style.TheVariants.{Svg}
-use Rattle.view_engines.specs.declared.charting.Style.TheVariants as style
-use Rattle.view_engines.specs.declared.showing.Form.{Form}
-use Rattle.view_engines.specs.declared.showing.Form.TheVariants as form
+use Rattle.chart.specs.declared.scenes.Style.{Style}
+use Rattle.chart.specs.declared.scenes.Style.TheVariants.{Svg}
+use Rattle.chart.specs.declared.scenes.Style.TheVariants as style
 use Rattle.command_line.specs.declared.job.MachineCommand.TheVariants.{Steps, Run, Replay, Move, Shrink, Chart, Show, Check, Debug, Try, Channel}
 use Rattle.recorder.specs.declared.reading.TheConstants.{MAX_EVENTS}
 use Rattle.command_line.specs.Jobs.{Wanted, four_inputs, one_input, three_inputs, two_inputs}
@@ -106,14 +104,6 @@ is_of_memory MemoryRows = true
 abbrev pub AsksForRows : Selection → List Text → Type 0
 AsksForRows drawn words = AsksByFlag (codes "--memory") (is_of_memory drawn) words
 
--- whether a test is shown as a steps text, which `--steps` asks for
-abbrev pub is_steps : Form → Bool
-is_steps form.Table = false
-is_steps form.Steps = true
-
-abbrev pub AsksForForm : Form → List Text → Type 0
-AsksForForm told words = AsksByFlag (codes "--steps") (is_steps told) words
-
 -- a command on two files
 abbrev pub IsOnFiles : (name : Text) → MachineCommand → Capacity → Wanted → List Text → Type 0
 IsOnFiles name command capacity wanted words =
@@ -137,10 +127,10 @@ IsSpellingOf (Machine (Chart drawn selection) capacity) wanted words =
     (file schedule : Text) × (first second options : List Text) × (words ≡ codes "chart" ∷ file ∷ schedule ∷ (first ++ (second ++ options)))
     × IsArgument file × IsArgument schedule × AsksForStyle drawn first × AsksForRows selection second × AsksFor capacity options
     × (wanted ≡ two_inputs (Machine (Chart drawn selection) capacity) (File file) (File schedule))
-IsSpellingOf (Machine (Show told) capacity) wanted words =
+IsSpellingOf (Machine (Show steps) capacity) wanted words =
     (file : Text) × (first options : List Text) × (words ≡ codes "show" ∷ file ∷ (first ++ options))
-    × IsArgument file × AsksForForm told first × AsksFor capacity options
-    × (wanted ≡ one_input (Machine (Show told) capacity) (File file))
+    × IsArgument file × AsksByFlag (codes "--steps") steps first × AsksFor capacity options
+    × (wanted ≡ one_input (Machine (Show steps) capacity) (File file))
 IsSpellingOf (Machine Check capacity) wanted words =
     (file : Text) × (options : List Text) × (words ≡ codes "check" ∷ file ∷ options) × IsArgument file × AsksFor capacity options
     × (wanted ≡ two_inputs (Machine Check capacity) (File file) Standard)

@@ -2,8 +2,6 @@
 
 use jumping::Runs;
 use poll_close::Place;
-use view_engines::charting::{Selection, Style};
-use view_engines::showing::Form;
 
 /// How many stores a hart's buffer holds.
 #[derive(Clone, Copy)]
@@ -49,9 +47,9 @@ pub enum MachineCommand {
         style: Style,
         selection: Selection,
     },
-    /// To tell what a litmus test is, in this form.
+    /// To tell what a litmus test is, or to write its opening as a steps text.
     Show {
-        form: Form,
+        steps: bool,
     },
     /// To judge records of runs of a litmus test, each as soon as it is read.
     Check,

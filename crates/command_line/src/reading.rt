@@ -3,7 +3,7 @@
 ghost use Rattle.std.specs.Prelude.{◌≡◌, ◌∷◌, ℕ, List, IfOk, map, option_and_then, option_map};
 ghost use Rattle.clap.specs.Words.{FailsBy, fault_of, first_of, found_of, rows_of, subcommand_of, subcommand_rows_of};
 ghost use Rattle.command_line.specs.CommandLines.{GivesJob, capacity_said, job_at, channel_in, chart_in, find_in, flag_said};
-ghost use Rattle.command_line.specs.CommandLines.{form_said, show_in, style_said, selection_said, job_said, number_if_said};
+ghost use Rattle.command_line.specs.CommandLines.{show_in, style_said, selection_said, job_said, number_if_said};
 ghost use Rattle.command_line.specs.CommandLines.{machine_in, own_in, on_file, on_file_and_schedule, on_channel};
 ghost use Rattle.command_line.specs.CommandLines.{on_file_and_standard, on_own_channel, on_programs_and_standard};
 ghost use Rattle.command_line.specs.CommandLines.{on_schedule_and_standard, on_standard, place_in, ring_in, ring_said, runs_in};
@@ -22,8 +22,6 @@ use poll_close::Place;
 use recorder::MAX_EVENTS;
 use std::alloc::Global;
 use std::convert::AsStr;
-use view_engines::charting::{Selection, Style};
-use view_engines::showing::Form;
 
 /// The most runs that `try` and `ring` make.
 const MOST_RUNS: u32 = 100_000;
@@ -335,22 +333,12 @@ fn style_of(text: &str) -> Style
     }
 }
 
-/// In which form a test is shown.
+/// Whether a test is shown as a steps text.
 fn show_in(options: &ArgMatches<'_>) -> Option<MachineCommand>
     ensures { result ≡ show_in (rows_of (found_of options.now)) }
 {
-    let form = form_of(word_in(options, "steps")?);
-    Some(MachineCommand::Show { form })
-}
-
-fn form_of(text: &str) -> Form
-    ensures { result ≡ form_said text.now }
-{
-    if flag_of(text) {
-        Form::Steps
-    } else {
-        Form::Table
-    }
+    let steps = flag_of(word_in(options, "steps")?);
+    Some(MachineCommand::Show { steps })
 }
 
 /// Where a channel's blocks lie.

@@ -8,6 +8,7 @@ pub mod Tests
 pub mod Schedules
 pub mod Histories
 pub mod Places
+pub mod OpeningTexts
 pub mod Outcomes
 pub mod Counting
 pub mod inner

@@ -13,8 +13,8 @@ use Rattle.engine_support.specs.Engines.{Output}
 use Rattle.engine_support.specs.Faults.{too_large}
 use Rattle.engine_support.specs.Histories.{BySchedule, Runs}
 use Rattle.view_engines.specs.About.{IsAbout}
-use Rattle.view_engines.specs.declared.charting.Style.{Style}
-use Rattle.view_engines.specs.declared.charting.Style.TheVariants.{Text, Svg}
+use Rattle.chart.specs.declared.scenes.Style.{Style}
+use Rattle.chart.specs.declared.scenes.Style.TheVariants.{Text, Svg}
 use Rattle.view_engines.specs.declared.charting.TheConstants.{MAX_ROWS}
 
 -- how a run is drawn: as text, or as SVG

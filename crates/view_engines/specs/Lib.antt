@@ -2,7 +2,6 @@ pub mod Shrink
 pub mod LeastWidths
 pub mod About
 pub mod Chart
-pub mod Openings
 pub mod TestLines
 pub mod Show
 pub mod inner

@@ -6,7 +6,7 @@ use Rattle.litmus_reader.specs.Listings.{RowOf, listing_at}
 use Rattle.engine_support.specs.declared.fault.Refusal.{Refusal}
 use Rattle.engine_support.specs.Engines.{Output}
 use Rattle.engine_support.specs.Tests.{ByTest}
-use Rattle.view_engines.specs.Openings.{steps_text}
+use Rattle.engine_support.specs.OpeningTexts.{steps_text}
 use Rattle.view_engines.specs.TestLines.{test_lines}
 use Rattle.view_engines.specs.declared.showing.Form.{Form}
 use Rattle.view_engines.specs.declared.showing.Form.TheVariants.{Table, Steps}

@@ -12,7 +12,7 @@ use Rattle.litmus_reader.specs.Listings.{CellOf, RowOf}
 use Rattle.chart.specs.Pictures.{shown}
 use Rattle.engine_support.specs.Places.{place_text}
 use Rattle.view_engines.specs.About.{meant}
-use Rattle.view_engines.specs.Openings.{numbered, registers_text}
+use Rattle.engine_support.specs.OpeningTexts.{numbered, registers_text}
 
 -- ---- code
 

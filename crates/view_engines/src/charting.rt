@@ -14,7 +14,7 @@ ghost use Rattle.litmus.specs.declared.litmus_test.TheConstants.{MAX_LOCATIONS};
 
 use crate::about::about_run;
 use crate::heading::read_headed;
-pub use chart::charts::Selection;
+pub use chart::charts::{Selection, Style};
 use chart::charts::{About, chart_svg, chart_text};
 use engine_support::fault::{Fault, Position, TOO_LARGE};
 use engine_support::output::end_with;
@@ -29,13 +29,6 @@ use step_machine::{Entry, Machine};
 
 /// The most entries of a run that is drawn.
 pub const MAX_ROWS: usize = 10_000;
-
-/// How a run is drawn.
-#[derive(Clone, Copy, PartialEq, Eq)]
-pub enum Style {
-    Text,
-    Svg,
-}
 
 /// The picture of a run with these entries.
 fn drawn(

@@ -3,7 +3,7 @@
 ghost use Rattle.std.specs.Prelude.{◌≡◌, ◌<◌, ◌≤◌, ◌^◌, ◌∷◌, ◌++◌, length, IfOk, OnOk};
 ghost use Rattle.std.specs.String.{string_bytes};
 ghost use Rattle.texts.specs.Numbers.{hex_word as eight_digits};
-ghost use Rattle.view_engines.specs.Openings.{code_line, hart_steps, numbered, register_line, registers_text, steps_text as steps_text_of, word_line};
+ghost use Rattle.engine_support.specs.OpeningTexts.{code_line, hart_steps, numbered, register_line, registers_text, steps_text as steps_text_of, word_line};
 
 use std::alloc::{AllocError, Global};
 use step_machine::{HartOpening, Opening};

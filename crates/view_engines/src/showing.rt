@@ -10,7 +10,7 @@ ghost use Rattle.engine_support.specs.Faults.{AnswersAs};
 ghost use Rattle.engine_support.specs.inner.Making.{FindsByUpToReads, text_and_value};
 ghost use Rattle.engine_support.specs.declared.input.TheConstants.{INPUT_BYTES};
 ghost use Rattle.view_engines.specs.declared.showing.Form.TheVariants.{Table};
-ghost use Rattle.view_engines.specs.Openings.{steps_text as steps_text_of};
+ghost use Rattle.engine_support.specs.OpeningTexts.{steps_text as steps_text_of};
 ghost use Rattle.view_engines.specs.Show.{IsShow, IsShowAnswer};
 
 use crate::heading::headed_of_text;

@@ -7,7 +7,7 @@ ghost use Rattle.std.specs.String.{string_bytes};
 ghost use Rattle.step_machine.specs.History.{IsShort};
 ghost use Rattle.litmus.specs.LitmusTests.{IsThere, left_sides};
 ghost use Rattle.litmus_reader.specs.Headings.{heading_of};
-ghost use Rattle.view_engines.specs.Openings.{numbered};
+ghost use Rattle.engine_support.specs.OpeningTexts.{numbered};
 ghost use Rattle.view_engines.specs.TestLines.{cell_in, column_lines, hart_lines, label_line, left_line, line_with};
 ghost use Rattle.view_engines.specs.TestLines.{location_line, test_lines as lines_of, word_line, word_lines};
 ghost use Rattle.rv_decode.specs.declared.instruction.TheConstants.{MAX_CODE};

@@ -24,6 +24,8 @@ use Rattle.finding.specs.declared.finds.Found.{Found}
 use Rattle.view_engines.specs.Chart.{IsChartAnswer, drawing}
 use Rattle.view_engines.specs.Show.{IsShowAnswer}
 use Rattle.view_engines.specs.Shrink.{IsShrinkAnswer}
+use Rattle.view_engines.specs.declared.showing.Form.{Form}
+use Rattle.view_engines.specs.declared.showing.Form.TheVariants as form
 use Rattle.ztso_engines.specs.Replay.{IsReplayAnswer}
 use Rattle.debugger.specs.Transcripts.{EndsInteractive, IsDebugAnswer, IsDebugFront, IsDebugSome, OnStopped, OnUnwritten}
 use Rattle.tries.specs.Outcomes.{IsTryAnswer}
@@ -83,6 +85,11 @@ abbrev pub good_status : (is_good : Bool) → ℕ
 good_status true = 0
 good_status false = 1
 
+-- in which form `show` tells a test
+abbrev pub form_of : (steps : Bool) → Form
+form_of true = form.Steps
+form_of false = form.Table
+
 abbrev pub done_status : Unit {0} → ℕ
 done_status x = 0
 
@@ -123,7 +130,7 @@ IsAnswerOf B Replay given = WithStatusByBoth done_status (IsReplayAnswer B WORDS
 IsAnswerOf B Move given = WithStatusByBoth done_status (IsMoveAnswer B WORDS) given
 IsAnswerOf B Shrink given = WithStatusByBoth done_status (IsShrinkAnswer B WORDS) given
 IsAnswerOf B (Chart style selection) given = WithStatusByBoth done_status (IsChartAnswer B WORDS (drawing style selection)) given
-IsAnswerOf B (Show form) given = WithStatusBy done_status (IsShowAnswer form) given
+IsAnswerOf B (Show steps) given = WithStatusBy done_status (IsShowAnswer (form_of steps)) given
 IsAnswerOf B Check given = WithStatusBy good_status (IsCheckAnswer B WORDS given.second) given
 IsAnswerOf B Debug given = WithStatusByBoth done_status (IsDebugAnswer B WORDS given.commands) given
 IsAnswerOf B (Try seed runs) given =
@@ -206,7 +213,7 @@ IsRefusal other = ⊥
 -- without memory for it nothing is said.
 abbrev pub LeavesSecond : MachineCommand → Result ℕ Fault → (first : Option (List ℕ)) → Type 0
 LeavesSecond Steps result first = Unit {0}
-LeavesSecond (Show form) result first = Unit {0}
+LeavesSecond (Show steps) result first = Unit {0}
 LeavesSecond (Try seed runs) result first = Unit {0}
 LeavesSecond (Channel ring place finish) result first = HasNoSchedule first
 LeavesSecond Check result first = IsRefusal result × HasNoTest first

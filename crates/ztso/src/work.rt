@@ -5,7 +5,7 @@ ghost use Rattle.ztso.specs.declared.work.TheConstants.{WORDS};
 ghost use Rattle.ztso.specs.Work.{DoesOwn, DoesRing, drawn_runs};
 ghost use Rattle.ztso.specs.Work.{DoesCode, DoesFind, DoesMachine, DoesThreads, IsRefusal, LeavesCommands, LeavesFront};
 ghost use Rattle.ztso.specs.Work.{LeavesReports, LeavesSecond, WithStatus, done_status, drawn_from, ended_with};
-ghost use Rattle.ztso.specs.Work.{good_status, stores_of, tables_of, verdict_status};
+ghost use Rattle.ztso.specs.Work.{form_of, good_status, stores_of, tables_of, verdict_status};
 ghost use Rattle.recorder.specs.Drawing.{left_after};
 ghost use Rattle.poll_close.specs.Places.{layout_of};
 ghost use Rattle.ztso_engines.specs.Channels.{IsChannelAnswer};
@@ -42,7 +42,7 @@ use std::thread::Threads;
 use tries::progress::Progress;
 use tries::trials::try_engine;
 use view_engines::charting::chart_engine;
-use view_engines::showing::show_engine;
+use view_engines::showing::{Form, show_engine};
 use view_engines::shrinking::shrink_engine;
 use ztso_engines::asm::asm_engine;
 use ztso_engines::channel::channel_engine;
@@ -193,6 +193,13 @@ fn run_rings<const B: usize, S: Read, L: Read, W: Write>(
     }
 }
 
+/// In which form a test is shown.
+fn form_of(steps: bool) -> Form
+    ensures { result ≡ form_of steps }
+{
+    if steps { Form::Steps } else { Form::Table }
+}
+
 /// Does a command on a machine whose harts' buffers hold `B` stores.
 fn do_buffered<const B: usize, F: Read, S: Read, C: Read, W: Write, T: Threads + Sync, P: Progress>(
     rt: &T,
@@ -230,7 +237,9 @@ fn do_buffered<const B: usize, F: Read, S: Read, C: Read, W: Write, T: Threads +
         MachineCommand::Chart { style, selection } => {
             after(chart_engine::<B, WORDS, _, _, _>(alloc, style, selection, first, second, writer))
         }
-        MachineCommand::Show { form } => after(show_engine(alloc, form, first, writer)),
+        MachineCommand::Show { steps } => {
+            after(show_engine(alloc, form_of(steps), first, writer))
+        }
         MachineCommand::Check => after_runs(check::<B, _, _, _>(alloc, first, second, writer)),
         MachineCommand::Debug => {
             after(debug::<B, _, _, _, _>(alloc, first, second, commands, writer))

@@ -12,7 +12,7 @@ ghost use Rattle.step_machine.specs.declared.events.Event.{Event};
 ghost use Rattle.recorder.specs.declared.reading.TheConstants.{MAX_EVENTS};
 ghost use Rattle.litmus.specs.LitmusTests.{LitmusTest};
 ghost use Rattle.litmus_reader.specs.Grammar.{IsTestOf};
-ghost use Rattle.view_engines.specs.Openings.{steps_text};
+ghost use Rattle.engine_support.specs.OpeningTexts.{steps_text};
 ghost use Rattle.ztso_engines.specs.ScriptValue.{ScriptValue, script_from};
 ghost use Rattle.ztso_engines.specs.StepsText.{Describes, IsStepsLine};
 ghost use Rattle.ztso_engines.specs.StepsReading.{script_at};

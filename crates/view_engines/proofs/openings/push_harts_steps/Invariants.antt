@@ -1,6 +1,6 @@
 use Rattle.std.proofs.Common.{◌≡◌, ◌++◌, drop}
 use Rattle.std.specs.String.{string_bytes}
-use Rattle.view_engines.specs.Openings.{numbered, hart_steps}
+use Rattle.engine_support.specs.OpeningTexts.{numbered, hart_steps}
 use Rattle.view_engines.proofs.openings.push_harts_steps.Given as goal
 
 abbrev pub invariant-loop-hart : goal.invariant-loop-hart

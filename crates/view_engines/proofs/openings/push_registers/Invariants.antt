@@ -1,6 +1,6 @@
 use Rattle.std.proofs.Common.{◌≡◌, ◌++◌, drop}
 use Rattle.std.specs.String.{string_bytes}
-use Rattle.view_engines.specs.Openings.{numbered, register_line, registers_text}
+use Rattle.engine_support.specs.OpeningTexts.{numbered, register_line, registers_text}
 use Rattle.view_engines.proofs.openings.push_registers.Given as goal
 
 abbrev pub invariant-loop-number : goal.invariant-loop-number

@@ -1,6 +1,6 @@
 use Rattle.std.proofs.Common.{◌≡◌, ◌++◌, drop}
 use Rattle.std.specs.String.{string_bytes}
-use Rattle.view_engines.specs.Openings.{numbered, word_line}
+use Rattle.engine_support.specs.OpeningTexts.{numbered, word_line}
 use Rattle.view_engines.proofs.openings.push_word_lines.Given as goal
 
 abbrev pub invariant-loop-place : goal.invariant-loop-place

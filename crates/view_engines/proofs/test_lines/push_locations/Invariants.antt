@@ -1,6 +1,6 @@
 use Rattle.std.proofs.Common.{◌≡◌, ◌++◌, drop}
 use Rattle.std.specs.String.{string_bytes}
-use Rattle.view_engines.specs.Openings.{numbered}
+use Rattle.engine_support.specs.OpeningTexts.{numbered}
 use Rattle.view_engines.specs.TestLines.{location_line}
 use Rattle.view_engines.proofs.test_lines.push_locations.Given as goal
 

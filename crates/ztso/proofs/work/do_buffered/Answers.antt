@@ -14,7 +14,7 @@ use Rattle.ztso_engines.specs.Move.{IsMoveAnswer}
 use Rattle.ztso_engines.specs.Replay.{IsReplayAnswer}
 use Rattle.ztso_engines.specs.Run.{IsRunAnswer}
 use Rattle.ztso_engines.specs.Steps.{IsStepsAnswer}
-use Rattle.ztso.specs.Work.{done_status, drawn_from, good_status, tables_of, verdict_status}
+use Rattle.ztso.specs.Work.{done_status, drawn_from, form_of, good_status, tables_of, verdict_status}
 use Rattle.ztso.proofs.Endings.{ends_interactive, ends_with_status, left_with_status, refused_with_status, unread_with_status}
 use Rattle.ztso.proofs.work.do_buffered.Goals as goal
 
@@ -61,7 +61,7 @@ returns-in-Chart-clause-does g c = rw c.in-Chart.is
 
 pub returns-in-Show-clause-does : goal.returns-in-Show-clause-does
 returns-in-Show-clause-does g c = rw c.in-Show.is
-    (ends_with_status done_status (λ answer. OfInput (g.F.Read.remaining c.args.first.now) (λ bytes. IsShowAnswer c.in-Show.form bytes answer))
+    (ends_with_status done_status (λ answer. OfInput (g.F.Read.remaining c.args.first.now) (λ bytes. IsShowAnswer (form_of c.in-Show.steps) bytes answer))
     c.show_engine.result g.W.Write.contents c.args.writer.now c.show_engine.new.writer c.show_engine.ensures
     c.after-in-Show.result c.after-in-Show.ensures.ended)
 

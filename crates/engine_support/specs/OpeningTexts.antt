@@ -1,4 +1,5 @@
--- An opening as a steps text: for each hart its code and its registers, and the words of memory.
+-- An opening as a steps text: for each hart its code and its registers, and the words of memory. `show` writes it, and
+-- `steps` reads it.
 use Rattle.std.specs.Prelude.{ℕ, ◌+◌, ◌*◌, ◌==◌, if◌then◌else◌, List, [], ◌∷◌, ◌++◌, codes}
 use Rattle.std.specs.List.{flat_map}
 use Rattle.std.specs.Fmt.{decimal}
