@@ -1,7 +1,6 @@
 //! A channel that runs event by event.
 
 ghost use Rattle.std.specs.Prelude.{◌≡◌, ◌≤◌, ◌<◌, ◌+◌, ℕ, List, IsOk, IfOk, IfErr, OnOk, OnErr, map, take, length};
-ghost use Rattle.step_machine.specs.Runs.{event_of};
 ghost use Rattle.poll_close.specs.Laws.{Accepted, AcceptedAt, opening_of, opening_over};
 ghost use Rattle.poll_close.specs.Places.{layout_of};
 ghost use Rattle.poll_close.specs.Refusals.{Refuses, RefusesAt};
@@ -15,7 +14,7 @@ use hart::need::Report;
 use std::alloc::{AllocError, Global};
 use std::marker::{Model, PhantomData};
 use step_machine::laws::laws_of_runs;
-use step_machine::{Entries, Event, Machine, Outcome, Trace};
+use step_machine::{Event, Machine, Outcome, Trace};
 
 /// A channel of a kind of ring, over harts with store buffers of `B` pairs and a memory of `M` words. A
 /// contract sees its machine: the history, which stands as the ring's laws say, and for how many more
@@ -163,13 +162,6 @@ impl<K: Finish<B, M>, const B: usize, const M: usize> Channel<K, B, M> {
     }
 }
 
-/// The entries' events.
-fn events_of(alloc: Global, entries: Entries<'_>) -> Result<Vec<Event>, AllocError>
-    ensures { IfOk result (λ v. v.items ≡ map event_of entries.entry) }
-{
-    entries.map(|entry| entry.event()).collect(alloc)
-}
-
 /// A second machine with the same history.
 fn run_again<const B: usize, const M: usize>(
     alloc: Global,
@@ -181,7 +173,7 @@ fn run_again<const B: usize, const M: usize>(
     requires memory { M ≤ 65536 }
     ensures { IfOk result (λ m. m.history ≡ machine.now.history) }
 {
-    let events = events_of(alloc, machine.entries())?;
+    let events = machine.entries().into_events(alloc)?;
     let mut second = Machine::open(alloc, machine.opening().copy(alloc)?)?;
     match second.run(&events) {
         Ok(()) => Ok(second),

@@ -1,7 +1,7 @@
 //! The calls.
 
-ghost use Rattle.std.specs.Prelude.{◌≡◌, ◌≤◌, List, length, IfOk, IfErr, map};
-ghost use Rattle.step_machine.specs.Runs.{Run, event_of};
+ghost use Rattle.std.specs.Prelude.{◌≡◌, ◌≤◌, List, length, IfOk, IfErr};
+ghost use Rattle.step_machine.specs.Runs.{Run};
 ghost use Rattle.step_machine.specs.declared.events.Event.{Event};
 ghost use Rattle.litmus.specs.declared.litmus_test.TheConstants.{MAX_LOCATIONS};
 ghost use Rattle.shrink.specs.Shrinking.{IsShrunk, Refuses, RefusesRun};
@@ -12,14 +12,7 @@ use crate::trying::{SameEnd, is_finished, run_again};
 use litmus::Test;
 use std::alloc::{AllocError, Global};
 use step_machine::laws::laws_of_runs;
-use step_machine::{Entries, Event, Machine};
-
-/// The events by which these entries came about.
-fn events_of(alloc: Global, entries: Entries<'_>) -> Result<Vec<Event>, AllocError>
-    ensures { IfOk result (λ events. events.items ≡ map event_of entries.entry) }
-{
-    entries.map(|entry| entry.event()).collect(alloc)
-}
+use step_machine::{Event, Machine};
 
 /// Leaves events out of the run whose end the machine stands at, as [`shrink_run`] does. The machine ends
 /// elsewhere.
@@ -38,7 +31,7 @@ fn shrink_from_end<const B: usize, const M: usize>(
         return Err(ShrinkError::NotFinished);
     }
     let last = test.values(alloc, machine.machine_state())?;
-    let mut left = events_of(alloc, machine.entries())?;
+    let mut left = machine.entries().into_events(alloc)?;
     let same_end = SameEnd::<B, M> { test, last: &last };
     leave_out(alloc, &same_end, machine, &mut left)?;
     Ok(left)

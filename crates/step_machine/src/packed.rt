@@ -5,7 +5,7 @@ ghost use Rattle.std.specs.Prelude.{◌≡◌, ◌+◌, ◌≤◌, ◌<◌, [], 
 ghost use Rattle.std.specs.Prelude.{is_some, MatchOption, IsErr, OnOk, OnErr, vec_len, vec_capacity, if◌then◌else◌};
 ghost use Rattle.step_machine.specs.inner.Packed.{IsSingle, IsLonger, entry_of, further_of, longer, longer_last};
 
-use crate::events::Entry;
+use crate::events::{Entry, Event};
 use std::alloc::{AllocError, Global};
 use std::marker::Model;
 
@@ -453,6 +453,16 @@ impl<'a> Model for Entries<'a> {
 }
 
 impl<'a> Entries<'a> {
+    ghost use Rattle.std.specs.Prelude.{map};
+    ghost use Rattle.step_machine.specs.Runs.{event_of};
+
+    /// The events by which the entries that are still to come came about, in a list.
+    pub fn into_events(self, alloc: Global) -> Result<Vec<Event>, AllocError>
+        ensures { IfOk result (λ list. list.items ≡ map event_of self.entry) }
+    {
+        self.map(|entry| entry.event()).collect(alloc)
+    }
+
     /// The entries that are still to come, in a list.
     pub fn into_vec(self, alloc: Global) -> Result<Vec<Entry>, AllocError>
         ensures { IfOk result (λ list. list.items ≡ self.entry) }
