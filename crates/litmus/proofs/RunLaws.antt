@@ -127,7 +127,3 @@ step_places-AsksThere harts locations (step.And skip ∷ rest) all =
     step_places-AsksThere harts locations rest (All-tail (AsksThere harts locations) (step.And skip) rest all)
 step_places-AsksThere harts locations (step.Or skip ∷ rest) all =
     step_places-AsksThere harts locations rest (All-tail (AsksThere harts locations) (step.Or skip) rest all)
-
-pub steps_of-AsksThere : (harts locations : ℕ) (f : Formula) → All (AsksThere harts locations) (steps_of f) → All (IsThere harts locations) (places f)
-steps_of-AsksThere harts locations f all = subst (λ (ps : List Place). All (IsThere harts locations) ps)
-    (step_places-steps_of f) (step_places-AsksThere harts locations (steps_of f) all)
