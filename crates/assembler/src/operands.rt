@@ -30,7 +30,7 @@ pub struct Address {
     pub offset: i32,
 }
 
-/// A register.
+/// The register that an operand names. `UnknownName` is the only fault.
 pub fn register(operand: &[u8]) -> Result<Reg, AsmFault>
     ensures { result ≡ register_in operand.now }
 {

@@ -59,7 +59,7 @@ impl Places {
         7 + columns_on(self.rank(column), self.pitch())
     }
 
-    /// The cell of a lane.
+    /// The cell of a lane. A column's lanes stand to the right of its text, lane 0 rightmost.
     pub(crate) fn lane_cell(&self, held: Held) -> u32
         ensures value { result ≡ lane_cell self.now held }
         ensures most { result < 2 ^ 26 }

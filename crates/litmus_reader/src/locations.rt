@@ -93,7 +93,7 @@ impl Locations {
         Ok(index)
     }
 
-    /// The names.
+    /// The names, each at the index that `index_of` gave it.
     pub fn into_names(self) -> Vec<String>
         ensures { map string_bytes result.items ≡ self }
     {

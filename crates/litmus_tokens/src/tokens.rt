@@ -35,7 +35,7 @@ pub enum Front<'a> {
     End,
     /// A token, and what follows it.
     Token(Token<'a>, &'a [u8]),
-    /// No token.
+    /// No token: a `/` or `\` without its second byte, or up to the next mark neither `not` nor an atom.
     NoToken,
 }
 

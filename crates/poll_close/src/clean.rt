@@ -175,7 +175,8 @@ pub fn note_report(shares: &mut [Share], lists: &[Vec<u32>], report: Report) -> 
     }
 }
 
-/// Whether these reports are clean.
+/// Whether these reports are clean, where the lists are those of senders 0, 1 and on. What comes after the first
+/// breach isn't read.
 #[tactic(auto, using(crate::proofs::Notes::unclean, crate::proofs::Notes::noted_more, crate::proofs::Notes::noted_none))]
 pub fn is_clean(alloc: Global, reports: &[Report], lists: &[Vec<u32>]) -> Result<bool, AllocError>
     ensures { IfOk result (λ clean. IsTrue clean ↔ Clean reports.now (map (λ v. v.items) lists.now)) }
