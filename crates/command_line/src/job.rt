@@ -1,7 +1,7 @@
 //! What a command line can ask for.
 
 use jumping::Runs;
-use poll_close::Place;
+use poll_close::BlockPlace;
 use view_engines::charting::{Selection, Style};
 use view_engines::showing::Form;
 
@@ -66,7 +66,7 @@ pub enum MachineCommand {
     /// `finish` it by a plan.
     Channel {
         kind: Ring,
-        place: Place,
+        place: BlockPlace,
         finish: bool,
     },
 }
@@ -104,7 +104,7 @@ pub enum Command {
     /// To run a channel over two programs at this place by a schedule, and to tell what its receiver reports. The harts
     /// have buffers of this capacity.
     Own {
-        place: Place,
+        place: BlockPlace,
         capacity: Capacity,
     },
     /// To make these runs of a channel over two programs at this place, by schedules that are drawn from a generator
@@ -112,7 +112,7 @@ pub enum Command {
     Ring {
         seed: u64,
         runs: Runs,
-        place: Place,
+        place: BlockPlace,
         capacity: Capacity,
     },
 }

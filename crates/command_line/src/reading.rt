@@ -18,7 +18,7 @@ use crate::job::{Capacity, CodeCommand, Command, Input, Job, MachineCommand, Rin
 use crate::numbers::{count_of, number_of};
 use clap::ArgMatches;
 use jumping::Runs;
-use poll_close::Place;
+use poll_close::BlockPlace;
 use recorder::MAX_EVENTS;
 use std::alloc::Global;
 use std::convert::AsStr;
@@ -354,13 +354,13 @@ fn form_of(text: &str) -> Form
 }
 
 /// Where a channel's blocks lie.
-fn place_in(options: &ArgMatches<'_>) -> Option<Place>
+fn place_in(options: &ArgMatches<'_>) -> Option<BlockPlace>
     ensures { result ≡ place_in (rows_of (found_of options.now)) }
 {
     let slots = count_of(word_in(options, "ring")?, 0, u32::MAX)?;
     let base = count_of(word_in(options, "base")?, 0, u32::MAX)?;
     let stride = number_if_said(word_in(options, "stride"))?;
-    Some(Place {
+    Some(BlockPlace {
         slots,
         base,
         stride,
