@@ -20,7 +20,7 @@ use Rattle.command_line.specs.declared.job.CodeCommand.TheVariants.{Asm, Dis}
 use Rattle.command_line.specs.declared.job.Command.TheVariants.{Code, Machine, Find, Threads, Own, Ring as OwnRing}
 use Rattle.command_line.specs.declared.job.MachineCommand.{MachineCommand}
 use Rattle.command_line.specs.declared.job.MachineCommand.TheVariants.{Steps, Run, Replay, Move, Shrink, Chart, Show, Check, Debug, Try, Channel}
-use Rattle.poll_close.specs.declared.place.Place.{Place}
+use Rattle.poll_close.specs.declared.place.BlockPlace.{BlockPlace}
 use Rattle.chart.specs.declared.scenes.Selection.{Selection}
 use Rattle.chart.specs.declared.scenes.Selection.TheVariants.{EveryRow, MemoryRows}
 use Rattle.chart.specs.declared.scenes.Style.{Style}
@@ -384,14 +384,14 @@ kind_says Lamport = refl
 kind_says FastForward = refl
 kind_says LamportCached = refl
 
-abbrev placed_by : (number base : Text) (stride : Option Text) → Option Place
+abbrev placed_by : (number base : Text) (stride : Option Text) → Option BlockPlace
 placed_by number base stride = do
   slots ← number_within 0 4294967295 number
   start ← number_within 0 4294967295 base
   apart ← number_if_said stride
   Some (record { slots = slots; base = start; stride = apart })
 
-placed_says : (number base : Text) (stride : Option Text) (place : Place) → number_within 0 4294967295 number ≡ Some place.slots
+placed_says : (number base : Text) (stride : Option Text) (place : BlockPlace) → number_within 0 4294967295 number ≡ Some place.slots
     → number_within 0 4294967295 base ≡ Some place.base → number_if_said stride ≡ Some place.stride → placed_by number base stride ≡ Some place
 placed_says number base stride place a b c = rw (a, b, c) refl
 
@@ -407,7 +407,7 @@ carried kind number schedule base stride finish found =
       place ← placed_by number base stride
       Some (Channel ring place finish)))
 
-carried_says : (ring : Ring) (place : Place) (number schedule base : Text) (stride : Option Text) (finish : Bool)
+carried_says : (ring : Ring) (place : BlockPlace) (number schedule base : Text) (stride : Option Text) (finish : Bool)
     (capacity : Capacity) (found : Option Capacity) → placed_by number base stride ≡ Some place → found ≡ Some capacity
     → carried (name_of ring) number schedule base stride finish found
     ≡ Some (two_inputs (Machine (Channel ring place finish) capacity) (File schedule) Standard)
@@ -531,7 +531,7 @@ own_run sender receiver number schedule base stride found = (do
   capacity ← found
   Some (Own place capacity)) >>= (λ command. Some (four_inputs command (File sender) (File receiver) (File schedule) Standard))
 
-own_says : (sender receiver number schedule base : Text) (stride : Option Text) (place : Place) (capacity : Capacity) (found : Option Capacity)
+own_says : (sender receiver number schedule base : Text) (stride : Option Text) (place : BlockPlace) (capacity : Capacity) (found : Option Capacity)
     → placed_by number base stride ≡ Some place → found ≡ Some capacity
     → own_run sender receiver number schedule base stride found
     ≡ Some (four_inputs (Own place capacity) (File sender) (File receiver) (File schedule) Standard)
@@ -579,7 +579,7 @@ ringed sender receiver number s n l k j base stride found = on_programs_of sende
   capacity ← found
   Some (OwnRing seed runs place capacity))
 
-ringed_says : (sender receiver number s n l k j base : Text) (stride : Option Text) (seed : ℕ) (runs : Runs) (place : Place)
+ringed_says : (sender receiver number s n l k j base : Text) (stride : Option Text) (seed : ℕ) (runs : Runs) (place : BlockPlace)
     (capacity : Capacity) (found : Option Capacity)
     → number_within 0 18446744073709551615 s ≡ Some seed → drawn_by k n l j ≡ Some runs → placed_by number base stride ≡ Some place
     → found ≡ Some capacity

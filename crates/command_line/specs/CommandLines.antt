@@ -15,7 +15,7 @@ use Rattle.command_line.specs.declared.job.CodeCommand.TheVariants.{Asm, Dis}
 use Rattle.command_line.specs.declared.job.Command.{Command}
 use Rattle.command_line.specs.declared.job.Command.TheVariants.{Code, Machine, Find, Threads, Own, Ring as OwnRing}
 use Rattle.jumping.specs.declared.Runs.{Runs}
-use Rattle.poll_close.specs.declared.place.Place.{Place}
+use Rattle.poll_close.specs.declared.place.BlockPlace.{BlockPlace}
 use Rattle.command_line.specs.declared.job.MachineCommand.{MachineCommand}
 use Rattle.chart.specs.declared.scenes.Selection.{Selection}
 use Rattle.chart.specs.declared.scenes.Selection.TheVariants.{EveryRow, MemoryRows}
@@ -96,7 +96,7 @@ show_in options = do
   Some (Show (flag_said steps))
 
 -- where a channel's blocks lie
-abbrev pub place_in : List Row → Option Place
+abbrev pub place_in : List Row → Option BlockPlace
 place_in options = do
   slots_text ← first_of (codes "ring") options
   slots ← number_within 0 4294967295 slots_text

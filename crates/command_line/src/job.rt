@@ -1,7 +1,8 @@
 //! What a command line can ask for.
 
+use chart::charts::{Selection, Style};
 use jumping::Runs;
-use poll_close::Place;
+use poll_close::BlockPlace;
 
 /// How many stores a hart's buffer holds.
 #[derive(Clone, Copy)]
@@ -64,7 +65,7 @@ pub enum MachineCommand {
     /// `finish` it by a plan.
     Channel {
         kind: Ring,
-        place: Place,
+        place: BlockPlace,
         finish: bool,
     },
 }
@@ -102,7 +103,7 @@ pub enum Command {
     /// To run a channel over two programs at this place by a schedule, and to tell what its receiver reports. The harts
     /// have buffers of this capacity.
     Own {
-        place: Place,
+        place: BlockPlace,
         capacity: Capacity,
     },
     /// To make these runs of a channel over two programs at this place, by schedules that are drawn from a generator
@@ -110,7 +111,7 @@ pub enum Command {
     Ring {
         seed: u64,
         runs: Runs,
-        place: Place,
+        place: BlockPlace,
         capacity: Capacity,
     },
 }

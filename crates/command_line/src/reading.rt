@@ -16,9 +16,10 @@ use crate::description::ztso_command;
 use crate::fault::CommandLineError;
 use crate::job::{Capacity, CodeCommand, Command, Input, Job, MachineCommand, Ring};
 use crate::numbers::{count_of, number_of};
+use chart::charts::{Selection, Style};
 use clap::ArgMatches;
 use jumping::Runs;
-use poll_close::Place;
+use poll_close::BlockPlace;
 use recorder::MAX_EVENTS;
 use std::alloc::Global;
 use std::convert::AsStr;
@@ -342,13 +343,13 @@ fn show_in(options: &ArgMatches<'_>) -> Option<MachineCommand>
 }
 
 /// Where a channel's blocks lie.
-fn place_in(options: &ArgMatches<'_>) -> Option<Place>
+fn place_in(options: &ArgMatches<'_>) -> Option<BlockPlace>
     ensures { result ≡ place_in (rows_of (found_of options.now)) }
 {
     let slots = count_of(word_in(options, "ring")?, 0, u32::MAX)?;
     let base = count_of(word_in(options, "base")?, 0, u32::MAX)?;
     let stride = number_if_said(word_in(options, "stride"))?;
-    Some(Place {
+    Some(BlockPlace {
         slots,
         base,
         stride,

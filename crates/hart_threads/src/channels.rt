@@ -18,7 +18,7 @@ use crate::harts::run_harts;
 use crate::record::Record;
 use crate::shared::Shared;
 use hart::need::Report;
-use poll_close::{Place, RingKind, laws_of_channels, opening_at};
+use poll_close::{BlockPlace, RingKind, laws_of_channels, opening_at};
 use std::alloc::Global;
 use std::sync::Wait;
 use std::thread::Threads;
@@ -68,7 +68,7 @@ pub fn deliver_threads_at<
     rt: &R,
     alloc: Global,
     lists: &[Vec<u32>],
-    place: Place,
+    place: BlockPlace,
     words: &[u32],
     gate: &G,
     turns: u32,
@@ -126,7 +126,7 @@ pub fn deliver_threads<
         rt,
         alloc,
         lists,
-        Place::dense(ring),
+        BlockPlace::dense(ring),
         &[],
         gate,
         turns,

@@ -24,7 +24,8 @@ use Rattle.litmus_reader.specs.Openings.AreItems.{none, empty, item}
 use Rattle.litmus_reader.specs.Columns.{Cells, IsTable}
 use Rattle.litmus_reader.specs.Reading.{hart_content}
 use Rattle.litmus_reader.specs.Grammar.{AreHarts, HasPlainCode, IsTestOf}
-use Rattle.litmus_reader.specs.PlainOpenings.{IsWord, IsPlainHart, IsPlainOpening}
+use Rattle.litmus_reader.specs.PlainOpenings.{IsPlainHart, IsPlainOpening}
+use Rattle.rv_decode.specs.Word.{IsWord}
 use Rattle.litmus_reader.proofs.FirstAppearances.{at_any}
 
 -- ---- code

@@ -1,13 +1,11 @@
 -- What each test of a text opens with: harts of words of 32 bits, whose x0 is 0 and whose inbox is empty.
-use Rattle.std.specs.Prelude.{ℕ, ◌≡◌, ◌^◌, ◌<◌, ◌≤◌, [], length}
+use Rattle.std.specs.Prelude.{◌≡◌, ◌≤◌, [], length}
 use Rattle.std.specs.List.{AllByRecursion, slice_index_or}
 use Rattle.step_machine.specs.History.{HartOpeningValue, OpeningValue}
 use Rattle.step_machine.specs.declared.opening.TheConstants.{MAX_HARTS}
+use Rattle.rv_decode.specs.Word.{IsWord}
 use Rattle.rv_decode.specs.declared.instruction.TheConstants.{MAX_CODE}
 use Rattle.litmus.specs.declared.litmus_test.TheConstants.{MAX_LOCATIONS}
-
-abbrev pub IsWord : ℕ → Type 0
-IsWord n = n < 2 ^ 32
 
 pub record IsPlainHart (hart : HartOpeningValue) : Type 0 where
   pub short : length hart.code ≤ MAX_CODE

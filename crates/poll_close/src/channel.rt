@@ -8,7 +8,7 @@ ghost use Rattle.poll_close.specs.Refusals.{Refuses, RefusesAt};
 use crate::faults::{Refused, RefusedAt};
 use crate::kind::RingKind;
 use crate::openings::opening_at;
-use crate::place::Place;
+use crate::place::BlockPlace;
 use crate::plans::{Finish, plan_of};
 use hart::need::Report;
 use std::alloc::{AllocError, Global};
@@ -57,7 +57,7 @@ impl<K: RingKind, const B: usize, const M: usize> Channel<K, B, M> {
         ensures accepted { OnOk result (Accepted K.ring M (map (λ v. v.items) lists.now) ring) }
         ensures refused { IfErr result (λ e. Refuses K.ring M (map (λ v. v.items) lists.now) ring e) }
     {
-        match Self::open_at(alloc, lists, Place::dense(ring), &[]) {
+        match Self::open_at(alloc, lists, BlockPlace::dense(ring), &[]) {
             Ok(channel) => Ok(channel),
             Err(why) => Err(why.of_lists()),
         }
@@ -68,7 +68,7 @@ impl<K: RingKind, const B: usize, const M: usize> Channel<K, B, M> {
     pub fn open_at(
         alloc: Global,
         lists: &[Vec<u32>],
-        place: Place,
+        place: BlockPlace,
         words: &[u32],
     ) -> Result<Self, RefusedAt>
         requires some_capacity { 1 ≤ B }

@@ -10,7 +10,7 @@ ghost use Rattle.poll_close.specs.Places.{layout_of};
 ghost use Rattle.poll_close.specs.Reports.{Clean};
 ghost use Rattle.poll_close.specs.Breaches.{AreNotes, breach_of, report_breach, stays_within, first_breach, IsKept};
 
-use crate::place::Place;
+use crate::place::BlockPlace;
 use hart::need::Report;
 use hart::status::Stop;
 use std::alloc::{AllocError, Global};
@@ -193,7 +193,7 @@ pub fn is_clean(alloc: Global, reports: &[Report], lists: &[Vec<u32>]) -> Result
 
 /// Whether the bytes from an address on are within a block of the hart's.
 #[tactic(auto, using(crate::proofs::Dense::rows_before, crate::proofs::BreachLaws::stays_more))]
-fn stays_within(place: Place, count: usize, hart: u32, addr: u32, width: u32) -> bool
+fn stays_within(place: BlockPlace, count: usize, hart: u32, addr: u32, width: u32) -> bool
     requires ends { base_of (layout_of place []) count < 2 ^ 32 }
     ensures { result ≡ stays_within (layout_of place []) count hart addr width }
 {
@@ -213,7 +213,7 @@ fn stays_within(place: Place, count: usize, hart: u32, addr: u32, width: u32) ->
 
 /// What an access of these bytes breaks.
 fn outside(
-    place: Place,
+    place: BlockPlace,
     count: usize,
     hart: u32,
     addr: u32,
@@ -236,7 +236,7 @@ fn outside(
 pub fn note_entry(
     shares: &mut [Share],
     lists: &[Vec<u32>],
-    place: Place,
+    place: BlockPlace,
     entry: Entry,
 ) -> Option<Breach>
     requires count { length shares.old ≡ length lists.now }

@@ -20,7 +20,7 @@ ghost use Rattle.poll_close.specs.Plans.{CanFinish};
 use crate::faults::{Refused, RefusedAt};
 use crate::kind::RingKind;
 use crate::openings::opening_at;
-use crate::place::Place;
+use crate::place::BlockPlace;
 use crate::plans::{Finish, whole_reports_of};
 use hart::need::Report;
 use std::alloc::{AllocError, Global};
@@ -67,7 +67,7 @@ fn reports_after<K: RingKind, const B: usize, const M: usize>(
 pub fn deliver_at<K: RingKind, const B: usize, const M: usize>(
     alloc: Global,
     lists: &[Vec<u32>],
-    place: Place,
+    place: BlockPlace,
     words: &[u32],
     events: &[Event],
 ) -> Result<Vec<Report>, RefusedAt>
@@ -100,7 +100,7 @@ pub fn deliver<K: RingKind, const B: usize, const M: usize>(
     ensures accepted { OnOk result (Accepted K.ring M (map (λ v. v.items) lists.now) ring) }
     ensures refused { IfErr result (λ e. Refuses K.ring M (map (λ v. v.items) lists.now) ring e) }
 {
-    match deliver_at::<K, B, M>(alloc, lists, Place::dense(ring), &[], events) {
+    match deliver_at::<K, B, M>(alloc, lists, BlockPlace::dense(ring), &[], events) {
         Ok(reports) => Ok(reports),
         Err(why) => Err(why.of_lists()),
     }
@@ -136,7 +136,7 @@ fn whole_reports_after<K: Finish<B, M>, const B: usize, const M: usize>(
 pub fn deliver_whole_at<K: Finish<B, M>, const B: usize, const M: usize>(
     alloc: Global,
     lists: &[Vec<u32>],
-    place: Place,
+    place: BlockPlace,
     words: &[u32],
     events: &[Event],
 ) -> Result<Vec<Report>, RefusedAt>

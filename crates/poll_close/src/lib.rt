@@ -22,5 +22,5 @@ pub use delivery::{
 pub use faults::{Refused, RefusedAt};
 pub use kind::RingKind;
 pub use openings::{MAX_SENDERS, opening, opening_at, opening_of_programs};
-pub use place::Place;
+pub use place::BlockPlace;
 pub use plans::{Finish, plan_of, whole_reports_of};

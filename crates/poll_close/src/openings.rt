@@ -8,7 +8,7 @@ ghost use Rattle.poll_close.specs.Refusals.{Refuses, RefusesAt, FitsAt, IsBeyond
 
 use crate::faults::{Refused, RefusedAt};
 use crate::kind::RingKind;
-use crate::place::Place;
+use crate::place::BlockPlace;
 use std::alloc::{AllocError, Global};
 use step_machine::{HartOpening, Opening};
 
@@ -41,7 +41,7 @@ fn zero_word(lists: &[Vec<u32>]) -> Option<(usize, usize)>
 }
 
 /// The registers with which sender `index` opens.
-fn sender_registers(place: Place, index: u32) -> [u32; 32]
+fn sender_registers(place: BlockPlace, index: u32) -> [u32; 32]
     requires begins { base_of (layout_of place []) index < 2 ^ 32 }
     requires slots { 4 * place.slots < 2 ^ 32 }
     ensures { result ≡ sender_registers (layout_of place []) index }
@@ -57,7 +57,7 @@ fn sender_harts(
     alloc: Global,
     code: &[u32],
     lists: &[Vec<u32>],
-    place: Place,
+    place: BlockPlace,
 ) -> Result<Vec<HartOpening>, AllocError>
     requires few { length lists.now < 2 ^ 32 }
     requires ends { base_of (layout_of place []) (length lists.now) < 2 ^ 32 }
@@ -83,7 +83,7 @@ fn lay_out(
     sender: &[u32],
     receiver: &[u32],
     lists: &[Vec<u32>],
-    place: Place,
+    place: BlockPlace,
     words: &[u32],
 ) -> Result<Opening, AllocError>
     requires some { 1 ≤ length lists.now }
@@ -114,7 +114,7 @@ fn lay_out(
 
 /// Whether this address is in one of the first `count` blocks.
 #[tactic(auto, using(crate::proofs::InBlocks::is_inside, crate::proofs::InBlocks::inside_is))]
-fn is_in_blocks(place: Place, count: usize, address: u64) -> bool
+fn is_in_blocks(place: BlockPlace, count: usize, address: u64) -> bool
     requires room { block_size place.slots ≤ stride_or_dense place.slots place.stride }
     ensures inside { result ≡ true → IsInBlocks (layout_of place []) count address }
     ensures outside { IsInBlocks (layout_of place []) count address → result ≡ true }
@@ -128,7 +128,7 @@ fn is_in_blocks(place: Place, count: usize, address: u64) -> bool
 }
 
 /// The first word that is in a block and not 0, if there is one.
-fn filled_word(place: Place, count: usize, words: &[u32]) -> Option<usize>
+fn filled_word(place: BlockPlace, count: usize, words: &[u32]) -> Option<usize>
     requires room { block_size place.slots ≤ stride_or_dense place.slots place.stride }
     requires memory { length words.now ≤ 65536 }
     ensures { MatchOption result (OpensEmpty (layout_of place words.now) count) (λ j. FilledAt (layout_of place words.now) count j) }
@@ -143,7 +143,7 @@ fn filled_word(place: Place, count: usize, words: &[u32]) -> Option<usize>
 
 /// Whether `count` blocks at a place, and the words with which memory opens, are within `m` words of memory.
 #[tactic(auto, using(crate::proofs::Dense::rows_before))]
-fn fits_at(place: Place, count: usize, words: &[u32], m: usize) -> bool
+fn fits_at(place: BlockPlace, count: usize, words: &[u32], m: usize) -> bool
     requires some { 1 ≤ count }
     requires few { count ≤ 63 }
     requires memory { m ≤ 65536 }
@@ -164,7 +164,7 @@ fn judge_at(
     _receiver: &[u32],
     least: u32,
     lists: &[Vec<u32>],
-    place: Place,
+    place: BlockPlace,
     words: &[u32],
     m: usize,
 ) -> Result<(), RefusedAt>
@@ -217,7 +217,7 @@ pub fn opening_of_programs(
     receiver: &[u32],
     least: u32,
     lists: &[Vec<u32>],
-    place: Place,
+    place: BlockPlace,
     words: &[u32],
     m: usize,
 ) -> Result<Opening, RefusedAt>
@@ -236,7 +236,7 @@ pub fn opening_of_programs(
 pub fn opening_at<K: RingKind>(
     alloc: Global,
     lists: &[Vec<u32>],
-    place: Place,
+    place: BlockPlace,
     words: &[u32],
     m: usize,
 ) -> Result<Opening, RefusedAt>
@@ -271,7 +271,7 @@ pub fn opening<K: RingKind>(
     ensures value { IfOk result (λ o. o ≡ opening_of K.ring (map (λ v. v.items) lists.now) ring) }
     ensures refused { IfErr result (λ e. Refuses K.ring m (map (λ v. v.items) lists.now) ring e) }
 {
-    match opening_at::<K>(alloc, lists, Place::dense(ring), &[], m) {
+    match opening_at::<K>(alloc, lists, BlockPlace::dense(ring), &[], m) {
         Ok(opening) => Ok(opening),
         Err(why) => Err(why.of_lists()),
     }

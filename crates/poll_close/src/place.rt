@@ -6,7 +6,7 @@ ghost use Rattle.poll_close.specs.Places.{layout_of, stride_or_dense};
 
 /// Where the blocks of a channel lie in memory.
 #[derive(Clone, Copy, PartialEq, Eq)]
-pub struct Place {
+pub struct BlockPlace {
     /// How many slots each ring has.
     pub slots: u32,
     /// The byte at which block 0 begins.
@@ -16,12 +16,12 @@ pub struct Place {
     pub stride: Option<u32>,
 }
 
-impl Place {
+impl BlockPlace {
     /// Rings of `slots` slots, one block after the other from address 0 on.
-    pub fn dense(slots: u32) -> Place
+    pub fn dense(slots: u32) -> BlockPlace
         ensures { layout_of result [] ≡ dense slots }
     {
-        Place {
+        BlockPlace {
             slots,
             base: 0,
             stride: None,

@@ -23,7 +23,7 @@ use Rattle.step_machine.proofs.Follows.{act_only}
 use Rattle.step_machine.proofs.Running.{hart_follows}
 use Rattle.step_machine.proofs.OwnRuns.{state_there}
 use Rattle.texts.specs.Cutting.{tokens}
-use Rattle.texts.specs.Rows.{Place, fixed, any, Made, Row, Fill, IsRowOf}
+use Rattle.texts.specs.Rows.{RowPlace, fixed, any, Made, Row, Fill, IsRowOf}
 use Rattle.texts.proofs.ResultLaws.{some_is}
 use Rattle.texts.proofs.FormatLaws.{stand_all}
 use Rattle.recorder.specs.Schedule.{hart_of, OfHarts}
@@ -82,7 +82,7 @@ abbrev IsFit : HartOutcome → Type 0
 IsFit found = OutcomeFits found.0 found.1
 
 -- whatever its numbers, what a row makes is fit
-abbrev MakesFit : (places : List Place) → Made places HartOutcome → Type 0
+abbrev MakesFit : (places : List RowPlace) → Made places HartOutcome → Type 0
 MakesFit [] makes = (found : HartOutcome) → makes ≡ Some found → IsFit found
 MakesFit (fixed name ∷ places) makes = MakesFit places makes
 MakesFit (any ∷ places) makes = (n : ℕ) → MakesFit places (makes n)
@@ -91,7 +91,7 @@ abbrev AllMakeFit : List (Row HartOutcome) → Type 0
 AllMakeFit [] = Unit {0}
 AllMakeFit (row ∷ rows) = MakesFit row.places row.makes × AllMakeFit rows
 
-fill_fits : (places : List Place) (makes : Made places HartOutcome) (words : List (List ℕ)) (found : HartOutcome)
+fill_fits : (places : List RowPlace) (makes : Made places HartOutcome) (words : List (List ℕ)) (found : HartOutcome)
     → MakesFit places makes → Fill HartOutcome places makes words found → IsFit found
 fill_fits [] makes [] found fit is = fit found is
 fill_fits [] makes (word ∷ words) found fit is = absurd is

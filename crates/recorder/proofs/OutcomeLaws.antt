@@ -27,7 +27,8 @@ use Rattle.recorder.specs.declared.faults.ScheduleFault.TheVariants.{BadOutcome}
 use Rattle.recorder.specs.Schedule.{hart_of}
 use Rattle.recorder.specs.Reading.{at_byte}
 use Rattle.recorder.specs.Outcomes.{HartOutcome, stop_of, stopped, outcome_rows, may_have, event_outcome, SaysOutcome}
-use Rattle.recorder.specs.Outcomes.{entry_row, outcome_row, outcome_text, IsWidth, Word, Fits, OutcomeFits, IsOutcomeOf}
+use Rattle.recorder.specs.Outcomes.{entry_row, outcome_row, outcome_text, IsWidth, Fits, OutcomeFits, IsOutcomeOf}
+use Rattle.rv_decode.specs.Word.{IsWord}
 use Rattle.recorder.specs.Outcomes.{HasWords, OutcomeHasWords, is_same_outcome}
 
 -- no two rows of the table are filled by the same words
@@ -69,16 +70,16 @@ outcome_settles fault event words = of_read (rows_at outcome_rows words) (rows-s
 abbrev pub IsSaid : ℕ → Outcome → List Written → Type 0
 IsSaid h outcome row = IsRowOf outcome_rows (map word_text row) (h, outcome) × AreSolid row
 
-small : (n : ℕ) → Word n → SaysWord (decimal n) n
+small : (n : ℕ) → IsWord n → SaysWord (decimal n) n
 small n is = decimal_says n is
 
-solid : (n : ℕ) → Word n → Solid (decimal n)
+solid : (n : ℕ) → IsWord n → Solid (decimal n)
 solid n is = decimal_solid n (omega (arith, is))
 
-stop_again : (why : Stop) → (stop_of (stop_number why) ≡ Some why) × Word (stop_number why)
+stop_again : (why : Stop) → (stop_of (stop_number why) ≡ Some why) × IsWord (stop_number why)
 stop_again why = grind arith
 
-load_says : (h a width v : ℕ) → Word h → IsWidth width → Word a → Word v → IsSaid h (Did (entry.Load h a width v)) (entry_row (entry.Load h a width v))
+load_says : (h a width v : ℕ) → IsWord h → IsWidth width → IsWord a → IsWord v → IsSaid h (Did (entry.Load h a width v)) (entry_row (entry.Load h a width v))
 load_says h a width v hart (inl (inl is)) a' v' = rw is (
   inr (inr (inl ((refl, (h, small h hart, (a, small a a', (v, small v v', refl))))))),
   (solid_by_test (codes "load1") refl, (solid h hart, (solid a a', (solid v v', tt)))),
@@ -92,7 +93,7 @@ load_says h a width v hart (inr is) a' v' = rw is (
   (solid_by_test (codes "load") refl, (solid h hart, (solid a a', (solid v v', tt)))),
 )
 
-store_says : (h a width v : ℕ) → Word h → IsWidth width → Word a → Word v → IsSaid h (Did (entry.Store h a width v)) (entry_row (entry.Store h a width v))
+store_says : (h a width v : ℕ) → IsWord h → IsWidth width → IsWord a → IsWord v → IsSaid h (Did (entry.Store h a width v)) (entry_row (entry.Store h a width v))
 store_says h a width v hart (inl (inl is)) a' v' = rw is (
   inr (inr (inr (inr (inr (inl ((refl, (h, small h hart, (a, small a a', (v, small v v', refl)))))))))),
   (solid_by_test (codes "store1") refl, (solid h hart, (solid a a', (solid v v', tt)))),
@@ -106,7 +107,7 @@ store_says h a width v hart (inr is) a' v' = rw is (
   (solid_by_test (codes "store") refl, (solid h hart, (solid a a', (solid v v', tt)))),
 )
 
-said_here : (h : ℕ) (e : Entry) → Word h → Fits h e → HasWords e → IsSaid h (Did e) (entry_row e)
+said_here : (h : ℕ) (e : Entry) → IsWord h → Fits h e → HasWords e → IsSaid h (Did e) (entry_row e)
 said_here h (entry.Inner g) hart is words = rw (← is) (inl ((refl, (h, small h hart, refl))), (solid_by_test (codes "inner") refl, (solid h hart, tt)))
 said_here h (entry.Load g a width v) hart (is, width') (a', v') = rw (← is) (load_says h a width v hart width' a' v')
 said_here h (entry.Store g a width v) hart (is, width') (a', v') = rw (← is) (store_says h a width v hart width' a' v')
@@ -161,7 +162,7 @@ said_here h (entry.Land g) hart is words = rw (← is) (
   (solid_by_test (codes "land") refl, (solid h hart, tt)),
 )
 
-pub outcome_says : (h : ℕ) (outcome : Outcome) → Word h → OutcomeFits h outcome → OutcomeHasWords outcome → IsSaid h outcome (outcome_row h outcome)
+pub outcome_says : (h : ℕ) (outcome : Outcome) → IsWord h → OutcomeFits h outcome → OutcomeHasWords outcome → IsSaid h outcome (outcome_row h outcome)
 outcome_says h (Did e) hart fits words = said_here h e hart fits words
 outcome_says h Waited hart fits words = (
   inr (inr (inr (inr (inr (inr

@@ -1,5 +1,6 @@
 -- The texts of outcomes: what is written of one, and which words say one.
-use Rattle.std.specs.Prelude.{◌≡◌, ◌⊎◌, ℕ, ◌<◌, ◌^◌, ◌==◌, Bool, true, false, not, ◌&&◌, if◌then◌else◌, List, [], ◌∷◌, ◌++◌, Option, Some, None, codes}
+use Rattle.std.specs.Prelude.{◌≡◌, ◌⊎◌, ℕ, ◌==◌, Bool, true, false, not, ◌&&◌, if◌then◌else◌, List, [], ◌∷◌, ◌++◌, Option, Some, None, codes}
+use Rattle.rv_decode.specs.Word.{IsWord}
 use Rattle.hart.specs.declared.status.Stop.{Stop}
 use Rattle.hart.specs.declared.status.Stop.TheVariants as stop
 use Rattle.hart.specs.Steps.{stop_number}
@@ -130,9 +131,6 @@ event_outcome event (Some found) = if (found.0 == hart_of event) && may_have eve
 abbrev pub IsWidth : ℕ → Type 0
 IsWidth width = ((width ≡ 1) ⊎ (width ≡ 2)) ⊎ (width ≡ 4)
 
-abbrev pub Word : ℕ → Type 0
-Word n = n < 2 ^ 32
-
 -- an entry of this hart, of a width that has a name
 abbrev pub Fits : ℕ → Entry → Type 0
 Fits h (entry.Load g a width v) = (h ≡ g) × IsWidth width
@@ -149,12 +147,12 @@ IsOutcomeOf event outcome = OutcomeFits (hart_of event) outcome × (may_have eve
 
 -- its numbers are words, as those of every entry in a program are
 abbrev pub HasWords : Entry → Type 0
-HasWords (entry.Load h a width v) = Word a × Word v
-HasWords (entry.Store h a width v) = Word a × Word v
-HasWords (entry.Amo h a old new) = Word a × Word old × Word new
-HasWords (entry.Next h (Some w)) = Word w
-HasWords (entry.Took h i w) = Word i × Word w
-HasWords (entry.Closed h i) = Word i
+HasWords (entry.Load h a width v) = IsWord a × IsWord v
+HasWords (entry.Store h a width v) = IsWord a × IsWord v
+HasWords (entry.Amo h a old new) = IsWord a × IsWord old × IsWord new
+HasWords (entry.Next h (Some w)) = IsWord w
+HasWords (entry.Took h i w) = IsWord i × IsWord w
+HasWords (entry.Closed h i) = IsWord i
 HasWords other = Unit {0}
 
 abbrev pub OutcomeHasWords : Outcome → Type 0

@@ -5,7 +5,7 @@ ghost use Rattle.poll_close.specs.Laws.{AcceptedAt};
 ghost use Rattle.poll_close.specs.Refusals.{RefusesAt};
 ghost use Rattle.ring_trials.specs.Own.{ring_of, lists_of, layout_from, start_of};
 
-use poll_close::{Place, RefusedAt, opening_of_programs};
+use poll_close::{BlockPlace, RefusedAt, opening_of_programs};
 use std::alloc::Global;
 use step_machine::Opening;
 
@@ -15,7 +15,7 @@ pub struct Own {
     pub sender: Vec<u32>,
     pub receiver: Vec<u32>,
     pub lists: Vec<Vec<u32>>,
-    pub place: Place,
+    pub place: BlockPlace,
 }
 
 /// How such a channel opens over a memory of `m` words. Err with the first refusal that applies, or that memory

@@ -5,7 +5,8 @@ use Rattle.std.proofs.Common.{arith}
 use Rattle.std.specs.Prelude.{All, nat_lt}
 use Rattle.std.proofs.lemmas.List.{drop_all}
 use Rattle.std.proofs.lemmas.List.Elements.{All-head, All-tail}
-use Rattle.states.specs.inner.Compact.{bytes_of, IsWord, joined, wide_bytes, word_bytes, words_from, words_in}
+use Rattle.states.specs.inner.Compact.{bytes_of, joined, wide_bytes, word_bytes, words_from, words_in}
+use Rattle.rv_decode.specs.Word.{IsWord}
 
 -- seven bits more
 pub joined-is : (w v b : ℕ) → w < 33554432 → v < 128 → b % 128 ≡ v → joined w b ≡ w * 128 + v

@@ -1,7 +1,8 @@
 //! Words as bytes: a byte for a small word, five for any other.
 
 ghost use Rattle.std.specs.Prelude.{◌≡◌, ◌++◌, All, OnOk};
-ghost use Rattle.states.specs.inner.Compact.{bytes_of, IsWord, joined, word_bytes, words_in};
+ghost use Rattle.states.specs.inner.Compact.{bytes_of, joined, word_bytes, words_in};
+ghost use Rattle.rv_decode.specs.Word.{IsWord};
 
 use std::alloc::AllocError;
 

@@ -7,7 +7,8 @@ use hart_threads::{Open, Record, deliver_threads, deliver_threads_at};
 use lamport_cached::LamportCached;
 use lamport_ring::Lamport;
 use poll_close::{
-    Channel, Place, Refused, RefusedAt, RingKind, deliver, deliver_at, deliver_whole_at, opening_at,
+    BlockPlace, Channel, Refused, RefusedAt, RingKind, deliver, deliver_at, deliver_whole_at,
+    opening_at,
 };
 use std::alloc::{AllocError, Global};
 use std::process::Abort;
@@ -80,7 +81,7 @@ fn words_around(alloc: Global, count: u32) -> Result<Vec<u32>, AllocError> {
 }
 
 /// One sender's block is the six words from word 256 on.
-const ELSEWHERE: Place = Place {
+const ELSEWHERE: BlockPlace = BlockPlace {
     slots: 2,
     base: 1024,
     stride: Some(64),
@@ -123,7 +124,7 @@ fn expect_run_among(
 fn refused_at(rt: &(impl Abort + AllocGlobal), base: u32, stride: u32) -> Result<u8, AllocError> {
     let lists = one_list(rt.alloc(), &[9])?;
     let words = words_around(rt.alloc(), 262)?;
-    let place = Place {
+    let place = BlockPlace {
         slots: 2,
         base,
         stride: Some(stride),

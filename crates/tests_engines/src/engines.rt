@@ -4,7 +4,7 @@ use crate::devices::{Reader, Writer};
 use debugger::debug::debug_engine;
 use engine_support::fault::Fault;
 use lamport_ring::Lamport;
-use poll_close::Place;
+use poll_close::BlockPlace;
 use rand_pcg::Pcg32;
 use std::io::BufReader;
 use std::sync::Wait;
@@ -62,7 +62,7 @@ impl Inputs<'_> {
     }
 }
 
-const RING: Place = Place {
+const RING: BlockPlace = BlockPlace {
     slots: 2,
     base: 0,
     stride: None,

@@ -97,7 +97,7 @@ fn push_word_lines(out: &mut String, words: &[u32]) -> Result<(), AllocError>
 }
 
 /// An opening as a steps text.
-#[tactic(auto, unfolding(crate::specs::Openings::steps_text))]
+#[tactic(auto, unfolding(engine_support::specs::OpeningTexts::steps_text))]
 pub fn steps_text(alloc: Global, opening: &Opening) -> Result<String, AllocError>
     requires { length opening.now.words ≤ 2 ^ 32 }
     ensures { IfOk result (λ text. string_bytes text ≡ steps_text_of opening.now) }

@@ -31,7 +31,7 @@ use Rattle.debugger.specs.Transcripts.{EndsInteractive, IsDebugAnswer, IsDebugFr
 use Rattle.tries.specs.Outcomes.{IsTryAnswer}
 use Rattle.engine_support.specs.Schedules.{HasNoSchedule}
 use Rattle.poll_close.specs.Places.{layout_of}
-use Rattle.poll_close.specs.declared.place.Place.{Place}
+use Rattle.poll_close.specs.declared.place.BlockPlace.{BlockPlace}
 use Rattle.jumping.specs.declared.Runs.{Runs}
 use Rattle.ztso_engines.specs.Channels.{IsChannelAnswer}
 use Rattle.ztso_engines.specs.Threads.{IsThreadsAnswer}
@@ -66,7 +66,7 @@ abbrev pub drawn_from : (seed : ℕ) → Stream
 drawn_from seed = stream_of (steps_u32 pcg32) (pcg32_of_seed (pcg32_seed 16 seed))
 
 -- the runs of a channel at this place that the generator of this seed draws, with buffers of B stores
-abbrev pub drawn_runs : (B seed : ℕ) → Runs → Place → Draws
+abbrev pub drawn_runs : (B seed : ℕ) → Runs → BlockPlace → Draws
 drawn_runs B seed runs place = draws B WORDS place (drawn_from seed) runs
 
 -- the tables and the least size of the rings of a kind
@@ -191,13 +191,13 @@ pub record GivenOwn : Type 0 where
 
 -- The runs of a channel ended with an answer to the programs and the lists that were read, over buffers of this capacity
 -- and a memory of 4,096 words.
-abbrev pub DoesRing : {W : Type 0} → (seed : ℕ) → Runs → Place → Capacity → Result ℕ Failure → (sender receiver lists : Option (List ℕ))
+abbrev pub DoesRing : {W : Type 0} → (seed : ℕ) → Runs → BlockPlace → Capacity → Result ℕ Failure → (sender receiver lists : Option (List ℕ))
     → (contents : W → Option (List ℕ)) → (old new : W) → Type 0
 DoesRing seed runs place capacity result sender receiver lists contents old new = (ended : Result Bool OwnFault) × (result ≡ ring_status ended)
     × EndsRing (drawn_runs (stores_of capacity) seed runs place) ended sender receiver lists contents old new
 
 -- and so of one run, by the schedule that was read too
-abbrev pub DoesOwn : {W : Type 0} → Place → Capacity → Result ℕ Failure → GivenOwn → (contents : W → Option (List ℕ)) → (old new : W) → Type 0
+abbrev pub DoesOwn : {W : Type 0} → BlockPlace → Capacity → Result ℕ Failure → GivenOwn → (contents : W → Option (List ℕ)) → (old new : W) → Type 0
 DoesOwn place capacity result given contents old new = (ended : Result (Unit {0}) OwnFault) × (result ≡ own_status ended)
     × EndsOwn (stores_of capacity) WORDS (layout_of place []) ended given.sender given.receiver given.schedule given.lists contents old new
 

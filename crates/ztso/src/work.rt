@@ -32,7 +32,7 @@ use jumping::Runs;
 use lamport_cached::LamportCached;
 use lamport_ring::Lamport;
 use litmus::Verdict;
-use poll_close::Place;
+use poll_close::BlockPlace;
 use rand_core::SeedableRng;
 use rand_pcg::Lcg64Xsh32;
 use std::alloc::Global;
@@ -168,7 +168,7 @@ fn try_drawn<const B: usize, F: Read, W: Write, T: Threads + Sync, P: Progress>(
 fn run_rings<const B: usize, S: Read, L: Read, W: Write>(
     alloc: Global,
     kind: Ring,
-    place: Place,
+    place: BlockPlace,
     finish: bool,
     schedule: &mut S,
     lists: &mut L,
@@ -397,7 +397,7 @@ fn run_own_ring<const B: usize, S: Read, R: Read, L: Read, W: Write, T: Threads 
     alloc: Global,
     seed: u64,
     runs: Runs,
-    place: Place,
+    place: BlockPlace,
     sender: &mut S,
     receiver: &mut R,
     lists: &mut L,
@@ -424,7 +424,7 @@ pub fn do_ring<S: Read, R: Read, L: Read, W: Write, T: Threads + Sync>(
     alloc: Global,
     seed: u64,
     runs: Runs,
-    place: Place,
+    place: BlockPlace,
     capacity: Capacity,
     sender: &mut S,
     receiver: &mut R,
@@ -457,7 +457,7 @@ pub fn do_ring<S: Read, R: Read, L: Read, W: Write, T: Threads + Sync>(
 /// receiver's, the schedule and the senders' lists. It answers the exit status 0.
 pub fn do_own<S: Read, R: Read, C: Read, L: Read, W: Write>(
     alloc: Global,
-    place: Place,
+    place: BlockPlace,
     capacity: Capacity,
     sender: &mut S,
     receiver: &mut R,

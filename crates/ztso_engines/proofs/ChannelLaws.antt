@@ -17,7 +17,7 @@ use Rattle.poll_close.specs.Refusals.{RefusesAt}
 use Rattle.poll_close.specs.declared.faults.Refused.TheVariants as refused
 use Rattle.poll_close.specs.declared.faults.RefusedAt.{RefusedAt}
 use Rattle.poll_close.specs.declared.faults.RefusedAt.TheVariants as why
-use Rattle.poll_close.specs.declared.place.Place.{Place}
+use Rattle.poll_close.specs.declared.place.BlockPlace.{BlockPlace}
 use Rattle.engine_support.specs.declared.fault.Fault.{Fault}
 use Rattle.engine_support.specs.declared.fault.Fault.TheVariants.{NoMemory, Refused}
 use Rattle.engine_support.specs.declared.fault.Refusal.{Refusal}
@@ -35,7 +35,7 @@ use Rattle.engine_support.proofs.Endings.{answered_by, handed_on, weaker}
 
 -- ---- what a schedule and lists give
 
-module _ (ring : Ring) (B M : ℕ) (place : Place) (lists : List (List ℕ)) where
+module _ (ring : Ring) (B M : ℕ) (place : BlockPlace) (lists : List (List ℕ)) where
   -- a reason is want of memory, or one that a fault of the input has
   pub refusal_as : (because : RefusedAt) → RefusesAt ring M lists (layout_of place []) because
       → (fault_from because ≡ NoMemory) ⊎ ((r : Refusal) × (fault_from because ≡ Refused r) × IsUnfilled because)
@@ -88,7 +88,7 @@ module _ (ring : Ring) (B M : ℕ) (place : Place) (lists : List (List ℕ)) whe
 
 -- ---- what answers both
 
-module _ (ring : Ring) (B M : ℕ) (place : Place) (finish : Bool) (first second : Option (List ℕ)) where
+module _ (ring : Ring) (B M : ℕ) (place : BlockPlace) (finish : Bool) (first second : Option (List ℕ)) where
   abbrev IsAnswer : List ℕ → List ℕ → Result Output Refusal → Type 0
   IsAnswer = IsChannelAnswer ring B M (layout_of place []) finish
 

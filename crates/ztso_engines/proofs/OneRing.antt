@@ -15,7 +15,7 @@ use Rattle.poll_close.specs.Laws.{Ring, opening_over}
 use Rattle.poll_close.specs.Layout.{Layout}
 use Rattle.poll_close.specs.Places.{layout_of}
 use Rattle.poll_close.specs.declared.clean.Breach.{Breach}
-use Rattle.poll_close.specs.declared.place.Place.{Place}
+use Rattle.poll_close.specs.declared.place.BlockPlace.{BlockPlace}
 use Rattle.poll_close.proofs.BreachLaws.{first_law}
 use Rattle.engine_support.specs.declared.fault.Refusal.{Refusal}
 use Rattle.engine_support.specs.Engines.{decoded}
@@ -157,7 +157,7 @@ module _ (d : Draws) (sender receiver input : List ℕ) where
     same_lists = one_lists input (lists_of own) (lists_of also) is.carries.value_is other.carries.value_is
 
     same_layouts : layout_from own ≡ layout_from also
-    same_layouts = ap (λ (p : Place). layout_of p []) (is.lies ∙ sym other.lies)
+    same_layouts = ap (λ (p : BlockPlace). layout_of p []) (is.lies ∙ sym other.lies)
 
     -- what holds of the one's words holds of the other's
     moved : (P : Ring → List (List ℕ) → Layout → Type 0) → P (ring_of also) (lists_of also) (layout_from also)

@@ -22,7 +22,8 @@ use Rattle.texts.proofs.PieceLaws.{lines_of_parts-cons}
 use Rattle.texts.proofs.RowLaws.{is_low, Solid, solid_by_test, decimal_solid, decimal_says, AreSolid, row-again, row_none, line-stays}
 use Rattle.step_machine.specs.History.{HartOpeningValue, OpeningValue}
 use Rattle.step_machine.specs.declared.events.Event.{Event}
-use Rattle.litmus_reader.specs.PlainOpenings.{IsWord, IsPlainHart, IsPlainOpening}
+use Rattle.litmus_reader.specs.PlainOpenings.{IsPlainHart, IsPlainOpening}
+use Rattle.rv_decode.specs.Word.{IsWord}
 use Rattle.engine_support.specs.OpeningTexts.{numbered, code_line, register_line, registers_text, hart_steps, word_line, steps_text}
 use Rattle.ztso_engines.specs.ScriptValue.{ScriptValue, no_script, script_from, Statement, hart, reg, word, steps, register_set, with_statement, MayCome}
 use Rattle.ztso_engines.specs.StepsText.{LineSays, LinesDescribe, Describes}

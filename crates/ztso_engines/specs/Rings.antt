@@ -5,7 +5,7 @@ use Rattle.jumping.specs.declared.Runs.{Runs}
 use Rattle.recorder.specs.Drawing.{left_after}
 use Rattle.assembler.specs.Program.{IsCode}
 use Rattle.poll_close.specs.Laws.{AcceptedAt as IsWithin}
-use Rattle.poll_close.specs.declared.place.Place.{Place}
+use Rattle.poll_close.specs.declared.place.BlockPlace.{BlockPlace}
 use Rattle.engine_support.specs.declared.fault.Refusal.{Refusal}
 use Rattle.engine_support.specs.Engines.{Accepted, OfInput}
 use Rattle.ring_trials.specs.Answers.{IsTold}
@@ -23,13 +23,13 @@ use Rattle.ztso_engines.specs.declared.programs.Role.{Role}
 pub record Draws : Type 0 where
   pub B : ℕ
   pub M : ℕ
-  pub place : Place
+  pub place : BlockPlace
   pub stream : Stream
   pub size : ℕ
   pub runs : ℕ
 
 -- what a generator of this stream draws
-abbrev pub draws : (B M : ℕ) → Place → Stream → Runs → Draws
+abbrev pub draws : (B M : ℕ) → BlockPlace → Stream → Runs → Draws
 draws B M place stream runs = record {
   B = B;
   M = M;
@@ -43,7 +43,7 @@ abbrev pub runs_of : Draws → Own → Source
 runs_of d own = source_of d.B d.M own d.stream d.size
 
 -- The inputs say this channel at this place: its two programs, and the senders' lists.
-pub record IsOwn (place : Place) (sender receiver input : List ℕ) (own : Own) : Type 0 where
+pub record IsOwn (place : BlockPlace) (sender receiver input : List ℕ) (own : Own) : Type 0 where
   pub sends : Accepted IsCode sender own.sender.items
   pub receives : Accepted IsCode receiver own.receiver.items
   pub carries : Accepted SaysLists input (lists_of own)

@@ -24,7 +24,7 @@ use engine_support::schedule::read_schedule;
 use hart::need::Report;
 use poll_close::plans::Finish;
 use poll_close::{
-    Place, Refused, RefusedAt, deliver_at, deliver_whole_at, laws_of_channels, opening_at,
+    BlockPlace, Refused, RefusedAt, deliver_at, deliver_whole_at, laws_of_channels, opening_at,
     reports_of, whole_reports_of,
 };
 use recorder::{Schedule, check_record, records_are_runs, replay_checked};
@@ -70,7 +70,7 @@ pub(crate) fn reports_text(alloc: Global, reports: &[Report]) -> Result<String, 
 /// memory opens as 0.
 fn reports_of_events<K: Finish<B, M>, const B: usize, const M: usize>(
     alloc: Global,
-    place: Place,
+    place: BlockPlace,
     finish: bool,
     lists: &[Vec<u32>],
     events: &[Event],
@@ -96,7 +96,7 @@ fn reports_of_events<K: Finish<B, M>, const B: usize, const M: usize>(
 /// for a plan, whose end is counted by it.
 fn reports_of_steps<K: Finish<B, M>, const B: usize, const M: usize>(
     alloc: Global,
-    place: Place,
+    place: BlockPlace,
     finish: bool,
     lists: &[Vec<u32>],
     steps: &[(Event, Outcome)],
@@ -129,7 +129,7 @@ fn reports_of_steps<K: Finish<B, M>, const B: usize, const M: usize>(
 /// What the receiver reports when a schedule runs, and then a plan if the channel is to be finished.
 fn reports_of_schedule<K: Finish<B, M>, const B: usize, const M: usize>(
     alloc: Global,
-    place: Place,
+    place: BlockPlace,
     finish: bool,
     lists: &[Vec<u32>],
     said: Schedule,
@@ -156,7 +156,7 @@ fn reports_of_schedule<K: Finish<B, M>, const B: usize, const M: usize>(
 /// What is to be written for the inputs that the readers give.
 fn made<K: Finish<B, M>, const B: usize, const M: usize, S: Read, L: Read>(
     alloc: Global,
-    place: Place,
+    place: BlockPlace,
     finish: bool,
     schedule: &mut S,
     input: &mut L,
@@ -193,7 +193,7 @@ fn made<K: Finish<B, M>, const B: usize, const M: usize, S: Read, L: Read>(
 /// event whose outcome isn't the run's. Then nothing was written.
 pub fn channel_engine<K: Finish<B, M>, const B: usize, const M: usize, S: Read, L: Read, W: Write>(
     alloc: Global,
-    place: Place,
+    place: BlockPlace,
     finish: bool,
     schedule: &mut S,
     input: &mut L,

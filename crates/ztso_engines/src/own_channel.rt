@@ -22,7 +22,7 @@ use engine_support::fault::Fault;
 use engine_support::output::end_with;
 use engine_support::schedule::read_schedule;
 use hart::need::Report;
-use poll_close::Place;
+use poll_close::BlockPlace;
 use recorder::{Schedule, check_record, replay_state};
 use ring_trials::own::{Own, open_own};
 use std::alloc::Global;
@@ -70,7 +70,7 @@ fn reports_of_own<const B: usize, const M: usize>(
 /// What is to be written for the inputs that the readers give.
 fn made<const B: usize, const M: usize, S: Read, R: Read, C: Read, L: Read>(
     alloc: Global,
-    place: Place,
+    place: BlockPlace,
     sender: &mut S,
     receiver: &mut R,
     schedule: &mut C,
@@ -117,7 +117,7 @@ pub fn own_channel_engine<
     W: Write,
 >(
     alloc: Global,
-    place: Place,
+    place: BlockPlace,
     sender: &mut S,
     receiver: &mut R,
     schedule: &mut C,

@@ -11,7 +11,7 @@ use crate::lists::read_lists;
 use crate::programs::{OwnFault, read_programs};
 use engine_support::output::end_with;
 use jumping::{Jump, Runs};
-use poll_close::Place;
+use poll_close::BlockPlace;
 use ring_trials::own::Own;
 use ring_trials::telling::told;
 use std::alloc::Global;
@@ -30,7 +30,7 @@ fn made<
 >(
     rt: &T,
     alloc: Global,
-    place: Place,
+    place: BlockPlace,
     sender: &mut S,
     receiver: &mut R,
     lists: &mut L,
@@ -86,7 +86,7 @@ pub fn ring_engine<
 >(
     rt: &T,
     alloc: Global,
-    place: Place,
+    place: BlockPlace,
     sender: &mut S,
     receiver: &mut R,
     lists: &mut L,

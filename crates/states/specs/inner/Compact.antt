@@ -1,10 +1,7 @@
 -- Words as bytes: most words of a position are small, and take one byte each.
-use Rattle.std.specs.Prelude.{ℕ, ◌≡◌, ◌+◌, ◌*◌, ◌/◌, ◌%◌, ◌<◌, nat_lt, if◌then◌else◌, List, [], ◌∷◌}
+use Rattle.std.specs.Prelude.{ℕ, ◌≡◌, ◌+◌, ◌*◌, ◌/◌, ◌%◌, nat_lt, if◌then◌else◌, List, [], ◌∷◌}
 use Rattle.std.specs.List.{flat_map}
 use Rattle.std.specs.Global.{Vec}
-
-abbrev pub IsWord : ℕ → Type 0
-IsWord n = n < 4294967296
 
 -- five groups of seven bits, the highest first; all bytes except the last are 128 at least
 abbrev pub wide_bytes : ℕ → List ℕ

@@ -1,7 +1,7 @@
 use Rattle.std.proofs.Common.{List, ℕ, subst, arith, length, ◌≤◌}
 use Rattle.std.specs.Prelude.{All}
 use Rattle.std.proofs.lemmas.List.{take_all}
-use Rattle.states.specs.inner.Compact.{IsWord}
+use Rattle.rv_decode.specs.Word.{IsWord}
 use Rattle.states.proofs.Compaction.{words-back}
 use Rattle.states.proofs.compact.push_bytes.Goals as goal
 

@@ -1,6 +1,7 @@
 use Rattle.std.proofs.Common.{◌≡◌, ◌++◌, take}
 use Rattle.std.specs.Prelude.{All}
-use Rattle.states.specs.inner.Compact.{bytes_of, IsWord}
+use Rattle.states.specs.inner.Compact.{bytes_of}
+use Rattle.rv_decode.specs.Word.{IsWord}
 use Rattle.states.proofs.compact.push_bytes.Given as goal
 
 abbrev pub invariant-loop-word : goal.invariant-loop-word
