@@ -230,25 +230,30 @@ on_standard found = do
   command ← found
   Some (one_input command Standard)
 
+-- the command of this name on a litmus text and a schedule, by its options
+abbrev pub scheduled_in : (name : Text) → List Row → Option MachineCommand
+scheduled_in name options =
+    if bytes_eq name (codes "run") then Some Run
+    else (if bytes_eq name (codes "replay") then Some Replay
+    else (if bytes_eq name (codes "move") then Some Move
+    else (if bytes_eq name (codes "shrink") then Some Shrink
+    else (if bytes_eq name (codes "chart") then chart_in options
+    else (if bytes_eq name (codes "debug") then Some Debug else None)))))
+
 -- The table of commands: what each asks for, by its options and words.
 abbrev pub job_at : Text × List Row → Option Wanted
 job_at p =
     if bytes_eq p.0 (codes "steps") then on_standard (machine_in p.1 (Some Steps))
     else (if bytes_eq p.0 (codes "asm") then on_standard (Some (Code Asm))
     else (if bytes_eq p.0 (codes "dis") then on_standard (Some (Code Dis))
-    else (if bytes_eq p.0 (codes "run") then on_file_and_schedule p.1 (machine_in p.1 (Some Run))
-    else (if bytes_eq p.0 (codes "replay") then on_file_and_schedule p.1 (machine_in p.1 (Some Replay))
-    else (if bytes_eq p.0 (codes "move") then on_file_and_schedule p.1 (machine_in p.1 (Some Move))
-    else (if bytes_eq p.0 (codes "shrink") then on_file_and_schedule p.1 (machine_in p.1 (Some Shrink))
-    else (if bytes_eq p.0 (codes "chart") then on_file_and_schedule p.1 (machine_in p.1 (chart_in p.1))
     else (if bytes_eq p.0 (codes "show") then on_file p.1 (machine_in p.1 (show_in p.1))
     else (if bytes_eq p.0 (codes "check") then on_file_and_standard p.1 (machine_in p.1 (Some Check))
     else (if bytes_eq p.0 (codes "find") then on_file p.1 (find_in p.1)
-    else (if bytes_eq p.0 (codes "debug") then on_file_and_schedule p.1 (machine_in p.1 (Some Debug))
     else (if bytes_eq p.0 (codes "try") then on_file p.1 (machine_in p.1 (try_in p.1))
     else (if bytes_eq p.0 (codes "channel") then on_channel p.1
     else (if bytes_eq p.0 (codes "threads") then on_file p.1 (threads_in p.1)
-    else (if bytes_eq p.0 (codes "ring") then on_programs_and_standard p.1 (ring_in p.1) else None)))))))))))))))
+    else (if bytes_eq p.0 (codes "ring") then on_programs_and_standard p.1 (ring_in p.1)
+    else on_file_and_schedule p.1 (machine_in p.1 (scheduled_in p.0 p.1)))))))))))
 
 abbrev pub job_without : Kinds → Option (Text × List Row) → Option Wanted
 job_without [] found = option_and_then job_at found

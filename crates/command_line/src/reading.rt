@@ -7,7 +7,7 @@ ghost use Rattle.command_line.specs.CommandLines.{show_in, style_said, selection
 ghost use Rattle.command_line.specs.CommandLines.{machine_in, own_in, on_file, on_file_and_schedule, on_channel};
 ghost use Rattle.command_line.specs.CommandLines.{on_file_and_standard, on_own_channel, on_programs_and_standard};
 ghost use Rattle.command_line.specs.CommandLines.{on_schedule_and_standard, on_standard, place_in, ring_in, ring_said, runs_in};
-ghost use Rattle.command_line.specs.CommandLines.{seed_in, threads_in, try_in};
+ghost use Rattle.command_line.specs.CommandLines.{scheduled_in, seed_in, threads_in, try_in};
 ghost use Rattle.command_line.specs.Descriptions.{ztso_command};
 ghost use Rattle.command_line.specs.Spellings.{IsSpelling};
 ghost use Rattle.command_line.specs.Jobs.{Wanted, wanted_by};
@@ -68,35 +68,33 @@ fn job_at<'a>(matches: &ArgMatches<'a>) -> Option<Job<'a>>
         ("steps", options) => on_standard(machine_in(options, Some(MachineCommand::Steps))),
         ("asm", _) => on_standard(Some(Command::Code(CodeCommand::Asm))),
         ("dis", _) => on_standard(Some(Command::Code(CodeCommand::Dis))),
-        ("run", options) => on_file_and_schedule(
-            options,
-            machine_in(options, Some(MachineCommand::Run)),
-        ),
-        ("replay", options) => {
-            on_file_and_schedule(options, machine_in(options, Some(MachineCommand::Replay)))
-        }
-        ("move", options) => on_file_and_schedule(
-            options,
-            machine_in(options, Some(MachineCommand::Move)),
-        ),
-        ("shrink", options) => {
-            on_file_and_schedule(options, machine_in(options, Some(MachineCommand::Shrink)))
-        }
-        ("chart", options) => on_file_and_schedule(options, machine_in(options, chart_in(options))),
         ("show", options) => on_file(options, machine_in(options, show_in(options))),
         ("check", options) => on_file_and_standard(
             options,
             machine_in(options, Some(MachineCommand::Check)),
         ),
         ("find", options) => on_file(options, find_in(options)),
-        ("debug", options) => on_file_and_schedule(
-            options,
-            machine_in(options, Some(MachineCommand::Debug)),
-        ),
         ("try", options) => on_file(options, machine_in(options, try_in(options))),
         ("channel", options) => on_channel(options),
         ("threads", options) => on_file(options, threads_in(options)),
         ("ring", options) => on_programs_and_standard(options, ring_in(options)),
+        (name, options) => {
+            on_file_and_schedule(options, machine_in(options, scheduled_in(name, options)))
+        }
+    }
+}
+
+/// The command of this name on a litmus text and a schedule, if there is one.
+fn scheduled_in(name: &str, options: &ArgMatches<'_>) -> Option<MachineCommand>
+    ensures { result ≡ scheduled_in name.now (rows_of (found_of options.now)) }
+{
+    match name {
+        "run" => Some(MachineCommand::Run),
+        "replay" => Some(MachineCommand::Replay),
+        "move" => Some(MachineCommand::Move),
+        "shrink" => Some(MachineCommand::Shrink),
+        "chart" => chart_in(options),
+        "debug" => Some(MachineCommand::Debug),
         _ => None,
     }
 }
