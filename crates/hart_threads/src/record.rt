@@ -24,7 +24,7 @@ pub enum Gather {
     /// has a seat.
     #[error("the seats of hart {hart} are missing, or there are too many")]
     Missing { hart: u32 },
-    /// The least hart of which a diary isn't its seat's part of the history, with the history's entries.
+    /// The least hart of which a diary doesn't belong to these memory entries.
     #[error("a diary of hart {hart} is not its part of the history")]
     Mismatch { hart: u32, history: Vec<Entry> },
 }

@@ -10,7 +10,7 @@
 //! needs no memory is done whatever the bank answers. `Ran` is what a whole thread makes of its seat.
 
 ghost use Rattle.std.specs.Prelude.{◌≡◌, ◌<◌, ◌≤◌, ◌+◌, ◌-◌, ◌^◌, true, false, IfOk, IsSomeAnd};
-ghost use Rattle.hart_threads.specs.Seats.{SeatView, Answers, AsksBank, Continues, Notes, state_in};
+ghost use Rattle.hart_threads.specs.Seats.{SeatView, AnswersAct, AsksBank, Continues, Notes, state_in};
 ghost use Rattle.hart_threads.specs.inner.Threads.{ActsAlone, GotOn, IsEnding, Ran, WhereDone, ending_by, ending_of, last_answer, no_calls};
 ghost use Rattle.hart_threads.specs.declared.turns.Ending.TheVariants.{HeldBack, NoHart};
 
@@ -143,7 +143,7 @@ fn turn<R: Wait, const B: usize, const M: usize>(
 ) -> Result<Outcome, AllocError>
     requires { seat.old.acts ≡ true }
     ensures diary { Notes seat.old result seat.new }
-    ensures answers { IfOk result (λ o. IsSomeAnd (state_in seat.old) (λ s. Answers s o)) }
+    ensures answers { IfOk result (λ o. IsSomeAnd (state_in seat.old) (λ s. AnswersAct s o)) }
     ensures alone { IfOk result (λ o. IsSomeAnd (state_in seat.old) (λ s. ActsAlone seat.old.hart s o)) }
 {
     match seat.local()? {

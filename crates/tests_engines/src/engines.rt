@@ -1,8 +1,10 @@
 //! The engines under one call.
 
 use crate::devices::{Reader, Writer};
+use checking::check_engine;
 use debugger::debug::debug_engine;
 use engine_support::fault::Fault;
+use finding::{SearchProgress, find_engine};
 use lamport_ring::Lamport;
 use poll_close::BlockPlace;
 use rand_pcg::Pcg32;
@@ -12,11 +14,13 @@ use std::thread::Threads;
 use tries::progress::Progress;
 use tries::trials::{Runs, try_engine};
 use view_engines::charting::{Selection, Style, chart_engine};
+use view_engines::showing::{Form, show_engine};
 use view_engines::shrinking::shrink_engine;
 use ztso_engines::asm::asm_engine;
 use ztso_engines::channel::channel_engine;
 use ztso_engines::dis::dis_engine;
 use ztso_engines::moving::move_engine;
+use ztso_engines::own_channel::own_channel_engine;
 use ztso_engines::programs::OwnFault;
 use ztso_engines::replay::replay_engine;
 use ztso_engines::ring::ring_engine;
@@ -32,11 +36,18 @@ pub enum Engine {
     Chart,
     /// A Lamport ring of 2 slots.
     Channel,
+    Check,
     Debug,
     Dis,
+    /// Among 1,000 states.
+    Find,
     Move,
+    /// A ring of 2 slots with a user's programs.
+    Own,
     Replay,
     Run,
+    /// As a table.
+    Show,
     Shrink,
     Steps,
     /// Threads of no turn.
@@ -47,18 +58,19 @@ pub enum Engine {
     Ring,
 }
 
-/// What the engines read, in their order. Most read fewer than three.
+/// What the engines read, in their order. Most read fewer than four.
 #[derive(Drop)]
 pub struct Inputs<'a> {
     pub first: Reader<'a>,
     pub second: Reader<'a>,
     pub third: Reader<'a>,
+    pub fourth: Reader<'a>,
 }
 
 impl Inputs<'_> {
     /// Whether a call failed.
     pub fn failed(&self) -> bool {
-        self.first.failed() || self.second.failed() || self.third.failed()
+        self.first.failed() || self.second.failed() || self.third.failed() || self.fourth.failed()
     }
 }
 
@@ -75,7 +87,7 @@ const ONE_RUN: Runs = Runs {
     jobs: 1,
 };
 
-/// Nobody waits for the runs.
+/// Nobody waits for the runs, or for the search.
 #[derive(Drop)]
 struct Nobody;
 
@@ -85,6 +97,12 @@ impl Progress for Nobody {
     }
 
     fn report(&mut self, _done: u32, _runs: u32, _outcomes: usize) {}
+
+    fn end(&mut self) {}
+}
+
+impl SearchProgress for Nobody {
+    fn report(&mut self, _states: u32, _depth: u32) {}
 
     fn end(&mut self) {}
 }
@@ -101,6 +119,7 @@ pub fn answer(
         first,
         second,
         third,
+        fourth,
     } = inputs;
     match engine {
         Engine::Asm => asm_engine(alloc, first, writer),
@@ -119,6 +138,12 @@ pub fn answer(
                 alloc, RING, false, first, second, writer,
             )
         }
+        Engine::Check => {
+            let mut records = BufReader::with_capacity(alloc, 8, second).map_err(
+                |_| Fault::NoMemory,
+            )?;
+            check_engine::<4, 4096, _, _, _>(alloc, first, &mut records, writer).map(|_| ())
+        }
         Engine::Debug => {
             let mut commands = BufReader::with_capacity(alloc, 8, third).map_err(
                 |_| Fault::NoMemory,
@@ -126,9 +151,18 @@ pub fn answer(
             debug_engine::<4, 4096, _, _, _, _>(alloc, first, second, &mut commands, writer)
         }
         Engine::Dis => dis_engine(alloc, first, writer),
+        Engine::Find => {
+            find_engine::<4, 4096, _, _, _>(alloc, first, 1000, &mut Nobody, writer).map(|_| ())
+        }
         Engine::Move => move_engine::<4, 4096, _, _, _>(alloc, first, second, writer),
+        Engine::Own => {
+            whoever(own_channel_engine::<4, 4096, _, _, _, _, _>(
+                alloc, RING, first, second, third, fourth, writer,
+            ))
+        }
         Engine::Replay => replay_engine::<4, 4096, _, _, _>(alloc, first, second, writer),
         Engine::Run => run_engine::<4, 4096, _, _, _>(alloc, first, second, writer).map(|_| ()),
+        Engine::Show => show_engine(alloc, Form::Table, first, writer),
         Engine::Shrink => shrink_engine::<4, 4096, _, _, _>(alloc, first, second, writer),
         Engine::Steps => steps_engine::<4, 4096, _, _>(alloc, first, writer),
         Engine::Threads => {
@@ -152,15 +186,16 @@ pub fn answer(
             let runs = ONE_RUN;
             whoever(ring_engine::<4, 4096, _, _, _, _, _, _>(
                 rt, alloc, RING, first, second, third, &generator, runs, writer,
-            ))
+            )
+            .map(|_| ()))
         }
     }
 }
 
-/// How `ring` ends, whoever's program is refused.
-fn whoever(ended: Result<bool, OwnFault>) -> Result<(), Fault> {
+/// How `ring` and `channel own` end, whoever's program is refused.
+fn whoever(ended: Result<(), OwnFault>) -> Result<(), Fault> {
     match ended {
-        Ok(_) => Ok(()),
+        Ok(()) => Ok(()),
         Err(OwnFault::Program { refusal, .. }) => Err(Fault::Refused(refusal)),
         Err(OwnFault::Other(fault)) => Err(fault),
     }

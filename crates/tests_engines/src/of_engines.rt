@@ -14,14 +14,16 @@ enum Troubled {
     First,
     Second,
     Third,
+    Fourth,
     Writes,
     Flushes,
 }
 
-const ALL: [Troubled; 5] = [
+const ALL: [Troubled; 6] = [
     Troubled::First,
     Troubled::Second,
     Troubled::Third,
+    Troubled::Fourth,
     Troubled::Writes,
     Troubled::Flushes,
 ];
@@ -43,6 +45,7 @@ fn fails_over(
         first: Reader::new(row.texts[0], of(Troubled::First)),
         second: Reader::new(row.texts[1], of(Troubled::Second)),
         third: Reader::new(row.texts[2], of(Troubled::Third)),
+        fourth: Reader::new(row.texts[3], of(Troubled::Fourth)),
     };
     let mut writer = Writer::new(rt.alloc(), of(Troubled::Writes), of(Troubled::Flushes));
     let came = answer(rt, row.engine, &mut inputs, &mut writer);
@@ -98,7 +101,7 @@ fn a_call_that_fails_ends_the_engine(rt: HostRuntime) {
 #[test]
 fn calls_that_move_few_bytes_make_no_difference(rt: HostRuntime) {
     for row in &ROWS {
-        for troubled in &ALL[..4] {
+        for troubled in &ALL[..5] {
             for size in [1, 3, 64] {
                 for interrupts in [false, true] {
                     let slow = Trouble {
