@@ -1,10 +1,15 @@
 -- The events that a search goes through, and the ways that it came.
-use Rattle.std.proofs.Common.{◌≡◌, ℕ, suc, List, [], ◌∷◌, ◌++◌, reverse, Option, Some, None, refl, sym, ◌∙◌, ap, append_assoc}
+use Rattle.std.proofs.Common.{◌≡◌, ℕ, suc, ◌+◌, inl, inr, Bool, true, List, [], ◌∷◌, ◌++◌, reverse, Option, Some, None, refl, sym, ◌∙◌, ap}
+use Rattle.std.proofs.Common.{append_assoc, length-append}
 use Rattle.std.proofs.lemmas.List.{reverse-append}
-use Rattle.std.specs.List.{slice_get}
+use Rattle.std.proofs.lemmas.List.Elements.{All-push}
+use Rattle.std.specs.List.{Contains, slice_get}
+use Rattle.step_machine.specs.inner.Config.{Config}
+use Rattle.step_machine.specs.Positions.{packed}
+use Rattle.litmus.specs.LitmusTests.{LitmusTest}
 use Rattle.step_machine.specs.declared.events.Event.{Event}
 use Rattle.finding.specs.declared.arrivals.Arrival.{Arrival}
-use Rattle.finding.specs.inner.Arriving.{event_of, way, way_by}
+use Rattle.finding.specs.inner.Arriving.{GoesOn, IsNewest, Meets, event_of, way, way_by}
 
 -- an event more at the end of the list that is turned round stands before those that are there
 pub way_more : (arrivals : List Arrival) (at n : ℕ) (arrival : Arrival) (event : Event) (later : List Event) → slice_get arrivals at ≡ Some arrival
@@ -26,3 +31,30 @@ way_zero arrivals at = way_by_zero arrivals (slice_get arrivals at)
     way_by_zero : (arrivals : List Arrival) (o : Option Arrival) → way_by arrivals o 0 ≡ []
     way_by_zero arrivals None = refl
     way_by_zero arrivals (Some arrival) = refl
+
+-- a search that met one state more, or one that it knew
+pub goes_on : {B M : ℕ} {q : LitmusTest} {c : Config} (from : ℕ) (events : List Event) (old mid new : List (List ℕ)) (before between after : List Arrival)
+    (arrival : Arrival) (found : Bool) → GoesOn from events old mid before between → Meets B M q c mid new between after arrival found
+    → arrival.from ≡ from → Contains events (event_of arrival) → GoesOn from events old new before after
+goes_on from events old mid new before between after arrival found goes (inl known) is by = record {
+  met = goes.met;
+  arrived = goes.arrived;
+  states = known.1.kept ∙ goes.states;
+  arrivals = known.2 ∙ goes.arrivals;
+  count = goes.count;
+  by = goes.by;
+}
+goes_on {c = c} from events old mid new before between after arrival found goes (inr gets) is by = record {
+  met = goes.met ++ packed c ∷ [];
+  arrived = goes.arrived ++ arrival ∷ [];
+  states = gets.0.appended ∙ ap (λ (ps : List (List ℕ)). ps ++ packed c ∷ []) goes.states ∙ append_assoc old goes.met (packed c ∷ []);
+  arrivals = gets.1 ∙ ap (λ (xs : List Arrival). xs ++ arrival ∷ []) goes.arrivals ∙ append_assoc before goes.arrived (arrival ∷ []);
+  count = length-append goes.arrived (arrival ∷ []) ∙ ap (λ n. n + 1) goes.count ∙ sym (length-append goes.met (packed c ∷ []));
+  by = All-push (λ (a : Arrival). (a.from ≡ from) × Contains events (event_of a)) goes.arrived arrival goes.by (is, by);
+}
+
+-- what was found is new and ends as wanted
+pub found_newest : {B M : ℕ} {q : LitmusTest} {c : Config} (old new : List (List ℕ)) (before after : List Arrival) (arrival : Arrival)
+    → Meets B M q c old new before after arrival true → IsNewest B M q c new
+found_newest old new before after arrival (inl known) = absurd cc
+found_newest old new before after arrival (inr gets) = record { others = old; last = gets.0.appended; ends = λ t stands. (gets.2 t stands).0 refl }

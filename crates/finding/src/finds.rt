@@ -56,10 +56,8 @@ fn shows<const B: usize, const M: usize>(
     ensures { IfOk result (λ shown. IsTrue shown ↔ Shows B M test.now events.now) }
 {
     let opening = test.opening(alloc)?;
-    match replay_state::<B, M>(alloc, &opening, events) {
-        Ok(machine) => Ok(ends_as_wanted(test, &machine)),
-        Err(error) => Err(error),
-    }
+    let machine = replay_state::<B, M>(alloc, &opening, events)?;
+    Ok(ends_as_wanted(test, &machine))
 }
 
 /// The schedule that a search hands over, where its run shows what the test asks about.

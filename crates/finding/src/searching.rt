@@ -2,11 +2,11 @@
 //!
 //! It is proved safe and to end. What it finds is checked by whoever gets it.
 
-ghost use Rattle.std.specs.Prelude.{◌≡◌, ◌≤◌, ◌<◌, ◌+◌, IfOk, length};
+ghost use Rattle.std.specs.Prelude.{◌≡◌, ◌≤◌, ◌<◌, ◌+◌, IsTrue, IfOk, length};
 ghost use Rattle.recorder.specs.Schedule.{OfHarts};
 ghost use Rattle.step_machine.specs.declared.opening.TheConstants.{MAX_HARTS};
 ghost use Rattle.litmus.specs.declared.litmus_test.TheConstants.{MAX_LOCATIONS};
-ghost use Rattle.finding.specs.inner.Arriving.{IsWithin, Meets, events_with};
+ghost use Rattle.finding.specs.inner.Arriving.{GoesOn, IsNewest, IsWithin, Meets, events_with};
 
 use crate::arrivals::Arrival;
 use crate::finds::ends_as_wanted;
@@ -88,6 +88,8 @@ fn go_on<const B: usize, const M: usize>(
     ensures harts { length machine.new.harts ≡ length machine.old.harts }
     ensures kept { length states.old ≤ length states.new }
     ensures few { length states.new ≤ limit }
+    ensures met { IfOk result (λ found. GoesOn from events.now states.old states.new arrivals.old.items arrivals.new.items) }
+    ensures found { IfOk result (λ found. IsTrue found → IsNewest B M test.now machine.new states.new) }
 {
     let mut is_there = false;
     for event in events {
@@ -187,10 +189,8 @@ fn search_machine<const B: usize, const M: usize, P: SearchProgress>(
     requires some_states { 1 ≤ limit }
     ensures { IfOk result (IsWithin limit) }
 {
-    match States::new(alloc, machine) {
-        Ok(mut states) => search_from(alloc, test, machine, &mut states, limit, progress),
-        Err(error) => Err(error),
-    }
+    let mut states = States::new(alloc, machine)?;
+    search_from(alloc, test, machine, &mut states, limit, progress)
 }
 
 /// Searches the states that the test's machine reaches from its opening, of which it sees at most `limit`.
@@ -207,8 +207,6 @@ pub fn search<const B: usize, const M: usize, P: SearchProgress>(
     ensures { IfOk result (IsWithin limit) }
 {
     let opening = test.opening(alloc)?;
-    match MachineState::<B, M>::open(alloc, &opening) {
-        Ok(mut machine) => search_machine(alloc, test, &mut machine, limit, progress),
-        Err(error) => Err(error),
-    }
+    let mut machine = MachineState::<B, M>::open(alloc, &opening)?;
+    search_machine(alloc, test, &mut machine, limit, progress)
 }

@@ -1,7 +1,7 @@
 -- By which event a search came to a state, and what it hands over.
-use Rattle.std.specs.Prelude.{ℕ, zero, suc, ◌≡◌, ◌≤◌, ◌⊎◌, ◌↔◌, if◌then◌else◌, Bool, false, IsTrue}
+use Rattle.std.specs.Prelude.{ℕ, zero, suc, ◌≡◌, ◌≤◌, ◌⊎◌, ◌↔◌, if◌then◌else◌, Bool, false, IsTrue, All}
 use Rattle.std.specs.Prelude.{List, [], ◌∷◌, ◌++◌, length, map, Option, Some, None, IfSome}
-use Rattle.std.specs.List.{range_with_len, slice_get}
+use Rattle.std.specs.List.{Contains, range_with_len, slice_get}
 use Rattle.step_machine.specs.Positions.{packed}
 use Rattle.step_machine.specs.Standing.{ForEachHistory}
 use Rattle.step_machine.specs.inner.Config.{Config}
@@ -40,6 +40,22 @@ Meets B M test machine old new before after arrival found =
     ((number : ℕ) × KeepsNumber old (packed machine) new number × (after ≡ before) × (found ≡ false))
     ⊎ (GetsNextNumber old (packed machine) new (length old) × (after ≡ before ++ arrival ∷ [])
     × ForEachHistory B M machine (λ t. IsTrue found ↔ EndsAsWanted M test t))
+
+-- A search went on from the state of this number by these events: the states that it met got the next numbers, and their
+-- arrivals stand last.
+pub record GoesOn (from : ℕ) (events : List Event) (old new : List (List ℕ)) (before after : List Arrival) : Type 0 where
+  pub met : List (List ℕ)
+  pub arrived : List Arrival
+  pub states : new ≡ old ++ met
+  pub arrivals : after ≡ before ++ arrived
+  pub count : length arrived ≡ length met
+  pub by : All (λ arrival. (arrival.from ≡ from) × Contains events (event_of arrival)) arrived
+
+-- the state that was numbered last is the machine's, and ends as wanted
+pub record IsNewest (B M : ℕ) (test : LitmusTest) (machine : Config) (states : List (List ℕ)) : Type 0 where
+  pub others : List (List ℕ)
+  pub last : states ≡ others ++ packed machine ∷ []
+  pub ends : ForEachHistory B M machine (λ t. EndsAsWanted M test t)
 
 -- A search saw a state and no more than it might, and what it came to can be written as a schedule.
 pub record IsWithin (limit : ℕ) (searched : Searched) : Type 0 where

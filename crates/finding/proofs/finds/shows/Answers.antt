@@ -8,13 +8,13 @@ use Rattle.finding.proofs.finds.shows.Goals as goal
 
 pub ends_as_wanted-requires : goal.ends_as_wanted-requires
 ends_as_wanted-requires g c =
-    let ran = rw c.in_ok-opening.ensures.copy at c.in-Ok.ensures in
+    let ran = rw c.in_ok-opening.ensures.copy at c.in_ok-machine.ensures in
     let stays = opening_stays g.row.B g.row.M c.args.test.now.opening (plain c.args.events.now) ran.0 ran.1 in
     (omega arith, (ran.2.count ∙ ap (λ (o : OpeningValue). length o.harts) stays, omega (arith, c.in_ok-opening.ensures.fits.names)))
 
-pub returns-in-Ok : goal.returns-in-Ok
-returns-in-Ok g c =
-    let ran = rw c.in_ok-opening.ensures.copy at c.in-Ok.ensures in
+pub returns : goal.returns
+returns g c =
+    let ran = rw c.in_ok-opening.ensures.copy at c.in_ok-machine.ensures in
     let ends = c.ends_as_wanted.ensures ran.0 ran.2 in (
       λ shown. record { history = ran.0; ran = ran.1; ends = ends.0 shown },
       λ shows. ends.1 (subst (λ (t : History). EndsAsWanted g.row.M c.args.test.now t)
