@@ -17,8 +17,8 @@ use Rattle.debugger.specs.Sessions.{Past}
 use Rattle.debugger.specs.DebuggerStates.{DebuggerState, TakesEvent, GoesBackBy, at_start}
 use Rattle.debugger.specs.Commands.{command_in}
 use Rattle.recorder.specs.Outcomes.{outcome_line}
-use Rattle.debugger.specs.Debugging.{Answers, Breaks, Does, DoesAll, DoesNext, Toggled, is_point, stop_before}
-use Rattle.debugger.specs.Transcripts.{AnswersLine, IsTranscript, Transcript, quits}
+use Rattle.debugger.specs.Debugging.{Breaks, Does, DoesAll, DoesCommand, DoesNext, Toggled, is_point, stop_before}
+use Rattle.debugger.specs.Transcripts.{DoesLine, IsTranscript, Transcript, quits}
 use Rattle.engine_support.specs.Engines.{Output}
 
 -- ---- each case of a choice
@@ -83,7 +83,7 @@ module _ (B M : ℕ) where
       (λ point e f. (e.0 ∙ sym f.0, e.1 ∙ sym f.1))
 
   one_answers : (said : Command) (old x y : DebuggerState) (points p q : List (ℕ × ℕ)) (s t : List ℕ)
-      → Answers B M said old x points p s → Answers B M said old y points q t → AreAlike s t x y p q
+      → DoesCommand B M said old x points p s → DoesCommand B M said old y points q t → AreAlike s t x y p q
   one_answers command.Step old x y points p q s t a b = let same = one_next old s t x y a.0 b.0 in (same.0, same.1, a.1 ∙ sym b.1)
   one_answers command.Go old x y points p q s t a b =
       let same = one_all points (drop old.place old.schedule) true old s t x y a.0 b.0 in
@@ -97,7 +97,7 @@ module _ (B M : ℕ) where
   -- ---- lines
 
   one_line : (line : List ℕ) (old x y : DebuggerState) (points p q : List (ℕ × ℕ)) (s t : List ℕ)
-      → AnswersLine B M line old x points p s → AnswersLine B M line old y points q t → AreAlike s t x y p q
+      → DoesLine B M line old x points p s → DoesLine B M line old y points q t → AreAlike s t x y p q
   one_line line old x y points p q s t a b =
       by_option (command_in (tokens line)) (AreAlike s t x y p q) a b
       (λ e f. (e.0 ∙ sym f.0, e.1 ∙ sym f.1, e.2 ∙ sym f.2)) (λ said. one_answers said old x y points p q s t)

@@ -24,7 +24,7 @@ use Rattle.debugger.specs.declared.debug.command.Command.{Command}
 use Rattle.debugger.specs.declared.debug.command.Command.TheVariants.{Quit}
 use Rattle.engine_support.specs.declared.fault.Fault.{Fault}
 use Rattle.engine_support.specs.declared.fault.Fault.TheVariants.{ReadFailed, WriteFailed, NoMemory, Refused}
-use Rattle.debugger.specs.Transcripts.{AnswersLine, AnswersSaid, EndsInteractive, IsDebugAnswer, IsDebugFront}
+use Rattle.debugger.specs.Transcripts.{DoesLine, DoesSaid, EndsInteractive, IsDebugAnswer, IsDebugFront}
 use Rattle.debugger.specs.Transcripts.{IsDebugSome, IsTranscript, OnRefused, OnStopped, OnUnwritten, Prints}
 use Rattle.debugger.specs.Transcripts.{PrintsFront, PrintsSome, Transcript, quits}
 use Rattle.engine_support.specs.inner.Making.{FindsUpToReads, IsEndOf, text_and_value}
@@ -184,17 +184,17 @@ module _ {B M : ℕ} {input left old new : Option (List ℕ)} {start now : Debug
         at (inr by_line) = by_line
 
     -- what it prints, in a transcript whose other lines go on from there
-    prints : (then : DebuggerState) (others : List (ℕ × ℕ)) (text : List ℕ) → AnswersSaid B M said now then points others text
+    prints : (then : DebuggerState) (others : List (ℕ × ℕ)) (text : List ℕ) → DoesSaid B M said now then points others text
         → (more : List (List ℕ)) (later : List ℕ) → Transcript B M more then others later
         → Transcript B M (t.done ++ asked.0 ∷ more) start [] (t.so_far ++ (text ++ later))
     prints then others text answers more later talks =
-        let answers_line : AnswersLine B M asked.0 now then points others text =
-        subst (λ (o : Option Command). AnswersSaid B M o now then points others text) asked.1 answers in
+        let answers_line : DoesLine B M asked.0 now then points others text =
+        subst (λ (o : Option Command). DoesSaid B M o now then points others text) asked.1 answers in
         t.leads (asked.0 ∷ more) (text ++ later)
         (on_false (quits (command_in (tokens asked.0))) _ _ (ap quits (sym asked.1) ∙ goes) (text, then, others, later, answers_line, refl, talks))
 
     -- it is answered, whether the writer takes what it prints or not
-    pub talked_some : (then : DebuggerState) (others : List (ℕ × ℕ)) (text : List ℕ) → AnswersSaid B M said now then points others text
+    pub talked_some : (then : DebuggerState) (others : List (ℕ × ℕ)) (text : List ℕ) → DoesSaid B M said now then points others text
         → (out : List ℕ) × PrintsSome B M input start [] out
     talked_some then others text answers =
         (t.so_far ++ (text ++ []), at input left next t.are_done asked.2 (prints then others text answers [] [] refl))
@@ -208,7 +208,7 @@ module _ {B M : ℕ} {input left old new : Option (List ℕ)} {start now : Debug
             (t.done, asked.0, lines later, done ∙ ap (λ (ls : List (List ℕ)). t.done ++ ls) is, talks)
 
     -- it is answered, and the writer has got what it prints
-    pub talked_on : (newer : Option (List ℕ)) (then : DebuggerState) (others : List (ℕ × ℕ)) (text : List ℕ) → AnswersSaid B M said now then points others text
+    pub talked_on : (newer : Option (List ℕ)) (then : DebuggerState) (others : List (ℕ × ℕ)) (text : List ℕ) → DoesSaid B M said now then points others text
         → Appends new newer text → Talked B M input next old newer start then others
     talked_on newer then others text answers appends = record {
       done = t.done ++ asked.0 ∷ [];
@@ -232,10 +232,10 @@ module _ {B M : ℕ} {input left old new : Option (List ℕ)} {start now : Debug
 pub replied : {W : Type 0} (B M : ℕ) (said : Option Command) (old kept : DebuggerState) (points others : List (ℕ × ℕ)) (made : String Global × Unit {0})
     (written : Result (Unit {0}) Fault) (result : Result DebuggerState Fault) (contents : W → Option (List ℕ)) (before after : W) (text : List ℕ)
     → result ≡ result_and written (Ok kept) → IsEndOf text_and_value (Ok made) written contents before after → string_bytes made.0 ≡ text
-    → AnswersSaid B M said old kept points others text
-    → IfOk result (λ new. (text : List ℕ) × AnswersSaid B M said old new points others text × Appends (contents before) (contents after) text)
+    → DoesSaid B M said old kept points others text
+    → IfOk result (λ new. (text : List ℕ) × DoesSaid B M said old new points others text × Appends (contents before) (contents after) text)
     × IfErr result IsFailure × OnStopped result (after ≡ before)
-    × OnUnwritten result ((new : DebuggerState) × (left : List (ℕ × ℕ)) × (text : List ℕ) × AnswersSaid B M said old new points left text)
+    × OnUnwritten result ((new : DebuggerState) × (left : List (ℕ × ℕ)) × (text : List ℕ) × DoesSaid B M said old new points left text)
 replied B M said old kept points others made (Ok v) result contents before after text is end whole answers =
     rw is ((text, answers, subst (Appends (contents before) (contents after)) whole end.1), tt, tt, tt)
 replied B M said old kept points others made (Err WriteFailed) result contents before after text is end whole answers =

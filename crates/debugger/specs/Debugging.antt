@@ -84,14 +84,14 @@ abbrev pub Looks : (shown : List ℕ) → (old : DebuggerState) (text : List ℕ
 Looks shown old text new = (text ≡ shown) × (new ≡ old)
 
 -- the command prints this text, and leads from a debugger and breakpoints to others
-abbrev pub Answers : (B M : ℕ) → Command → (old new : DebuggerState) (points others : List (ℕ × ℕ)) (text : List ℕ) → Type 0
-Answers B M command.Step old new points others text = DoesNext B M old text new × (others ≡ points)
-Answers B M command.Go old new points others text = DoesAll B M points (drop old.place old.schedule) true old text new × (others ≡ points)
-Answers B M (command.Give ev) old new points others text = Does B M old ev User text new × (others ≡ points)
-Answers B M (command.Break hart pc) old new points others text = Breaks old.past.history hart pc points others text × (new ≡ old)
-Answers B M (command.Hart hart) old new points others text = Looks (hart_answer M old.past.history hart) old text new × (others ≡ points)
-Answers B M (command.Pending hart) old new points others text = Looks (pending_answer old.past.history hart) old text new × (others ≡ points)
-Answers B M (command.Word addr) old new points others text = Looks (word_answer M old.past.history addr) old text new × (others ≡ points)
-Answers B M (command.Back k) old new points others text = GoesBackBy B M old k new × (text ≡ []) × (others ≡ points)
-Answers B M command.Count old new points others text = Looks (number_line (length old.past.events)) old text new × (others ≡ points)
-Answers B M command.Quit old new points others text = Looks [] old text new × (others ≡ points)
+abbrev pub DoesCommand : (B M : ℕ) → Command → (old new : DebuggerState) (points others : List (ℕ × ℕ)) (text : List ℕ) → Type 0
+DoesCommand B M command.Step old new points others text = DoesNext B M old text new × (others ≡ points)
+DoesCommand B M command.Go old new points others text = DoesAll B M points (drop old.place old.schedule) true old text new × (others ≡ points)
+DoesCommand B M (command.Give ev) old new points others text = Does B M old ev User text new × (others ≡ points)
+DoesCommand B M (command.Break hart pc) old new points others text = Breaks old.past.history hart pc points others text × (new ≡ old)
+DoesCommand B M (command.Hart hart) old new points others text = Looks (hart_answer M old.past.history hart) old text new × (others ≡ points)
+DoesCommand B M (command.Pending hart) old new points others text = Looks (pending_answer old.past.history hart) old text new × (others ≡ points)
+DoesCommand B M (command.Word addr) old new points others text = Looks (word_answer M old.past.history addr) old text new × (others ≡ points)
+DoesCommand B M (command.Back k) old new points others text = GoesBackBy B M old k new × (text ≡ []) × (others ≡ points)
+DoesCommand B M command.Count old new points others text = Looks (number_line (length old.past.events)) old text new × (others ≡ points)
+DoesCommand B M command.Quit old new points others text = Looks [] old text new × (others ≡ points)

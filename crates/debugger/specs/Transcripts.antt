@@ -11,7 +11,7 @@ use Rattle.engine_support.specs.Histories.{ByEvents}
 use Rattle.debugger.specs.DebuggerStates.{DebuggerState, at_start}
 use Rattle.debugger.specs.Commands.{command_in}
 use Rattle.debugger.specs.DebugText.{unknown_line}
-use Rattle.debugger.specs.Debugging.{Answers}
+use Rattle.debugger.specs.Debugging.{DoesCommand}
 use Rattle.engine_support.specs.Engines.{Output}
 pub use Rattle.engine_support.specs.Interactive.{EndsInteractive, OnRefused, OnStopped, OnUnwritten}
 
@@ -21,21 +21,21 @@ quits (Some command.Quit) = true
 quits other = false
 
 -- what is asked for prints this text, and leads from a debugger and breakpoints to others
-abbrev pub AnswersSaid : (B M : ℕ) → Option Command → (old new : DebuggerState) (points others : List (ℕ × ℕ)) (text : List ℕ) → Type 0
-AnswersSaid B M said old new points others text =
+abbrev pub DoesSaid : (B M : ℕ) → Option Command → (old new : DebuggerState) (points others : List (ℕ × ℕ)) (text : List ℕ) → Type 0
+DoesSaid B M said old new points others text =
     MatchOption said ((text ≡ unknown_line) × (new ≡ old) × (others ≡ points))
-    (λ command. Answers B M command old new points others text)
+    (λ command. DoesCommand B M command old new points others text)
 
 -- the same of what a line asks for
-abbrev pub AnswersLine : (B M : ℕ) → (line : List ℕ) → (old new : DebuggerState) (points others : List (ℕ × ℕ)) (text : List ℕ) → Type 0
-AnswersLine B M line old new points others text = AnswersSaid B M (command_in (tokens line)) old new points others text
+abbrev pub DoesLine : (B M : ℕ) → (line : List ℕ) → (old new : DebuggerState) (points others : List (ℕ × ℕ)) (text : List ℕ) → Type 0
+DoesLine B M line old new points others text = DoesSaid B M (command_in (tokens line)) old new points others text
 
 -- these lines print this, up to the one that ends the transcript
 abbrev pub Transcript : (B M : ℕ) → List (List ℕ) → DebuggerState → (points : List (ℕ × ℕ)) → (out : List ℕ) → Type 0
 Transcript B M [] old points out = out ≡ []
 Transcript B M (line ∷ others) old points out = MatchBool (quits (command_in (tokens line))) (out ≡ [])
     ((text : List ℕ) × (new : DebuggerState) × (left : List (ℕ × ℕ)) × (later : List ℕ)
-    × AnswersLine B M line old new points left text × (out ≡ text ++ later) × Transcript B M others new left later)
+    × DoesLine B M line old new points left text × (out ≡ text ++ later) × Transcript B M others new left later)
 
 -- what the user's lines print from here on: those of the bytes that are known, or else some lines
 abbrev pub Prints : (B M : ℕ) → (input : Option (List ℕ)) → DebuggerState → (points : List (ℕ × ℕ)) → (out : List ℕ) → Type 0

@@ -2,9 +2,11 @@
 
 ghost use Rattle.std.specs.Prelude.{◌≡◌, ◌≤◌, ◌⊎◌, ℕ, List, [], Ok};
 ghost use Rattle.std.specs.Io.KnownBytes.{Appends};
+ghost use Rattle.recorder.specs.Versions.{said_of};
 ghost use Rattle.engine_support.specs.Engines.{AnswersBoth};
 ghost use Rattle.engine_support.specs.Tests.{HasNoTest};
-ghost use Rattle.engine_support.specs.Histories.{ByEvents};
+ghost use Rattle.engine_support.specs.Faults.{AnswersAs};
+ghost use Rattle.engine_support.specs.Histories.{AnswersEvents, ByEvents};
 ghost use Rattle.debugger.specs.Transcripts.{EndsInteractive, IsDebugAnswer, IsDebugFront, IsDebugSome, OnRefused, OnStopped, OnUnwritten};
 ghost use Rattle.engine_support.specs.inner.Making.{FindsUpToReads};
 ghost use Rattle.debugger.specs.inner.Failures.{IsAtStart};
@@ -13,8 +15,9 @@ ghost use Rattle.litmus.specs.declared.litmus_test.TheConstants.{MAX_LOCATIONS};
 use crate::debug::conversation::converse;
 use crate::debugger::Debugger;
 use engine_support::fault::Fault;
-use engine_support::litmus_text::read_test;
-use engine_support::schedule::read_schedule;
+use engine_support::running::read_both;
+use litmus::Test;
+use recorder::Schedule;
 use std::alloc::Global;
 use std::io::{BufRead, Read, Write};
 
@@ -24,6 +27,23 @@ mod command;
 mod conversation;
 mod lines;
 mod looking;
+
+/// A debugger at a test's opening, along the events of a schedule.
+fn debugger_along<const B: usize, const M: usize>(
+    alloc: Global,
+    test: &Test,
+    said: Schedule,
+) -> Result<Debugger<B, M>, Fault>
+    requires some_capacity { 1 ≤ B }
+    requires capacity { B ≤ 64 }
+    requires words { MAX_LOCATIONS ≤ M }
+    requires size { M ≤ 65536 }
+    ensures { AnswersAs (AnswersEvents IsAtStart test.now (said_of said)) (λ debugger. debugger) result }
+{
+    let opening = test.opening(alloc)?;
+    let events = said.into_events(alloc)?;
+    Ok(Debugger::open(alloc, opening, events)?)
+}
 
 /// A debugger at the opening of the test that a litmus text stands for, along a schedule's events. The schedule
 /// is read after an accepted test only.
@@ -39,12 +59,8 @@ fn open_debugger<const B: usize, const M: usize, F: Read, S: Read>(
     ensures debugger { FindsUpToReads (AnswersBoth (ByEvents IsAtStart) (F.remaining file.old) (S.remaining schedule.old)) (λ debugger. debugger) result }
     ensures unread { HasNoTest (F.remaining file.old) → schedule.new ≡ schedule.old }
 {
-    let test = read_test(alloc, file)?;
-    let said = read_schedule(alloc, schedule)?;
-    let opening = test.opening(alloc)?;
-    let events = said.into_events(alloc)?;
-    let debugger = Debugger::open(alloc, opening, events)?;
-    Ok(debugger)
+    let (test, said) = read_both(alloc, file, schedule)?;
+    debugger_along(alloc, &test, said)
 }
 
 /// Reads a litmus text and then a schedule, each to its end, and then answers a user's commands, a line

@@ -1,6 +1,5 @@
 -- Lists made number by number.
-use Rattle.std.proofs.Common.{◌≡◌, ℕ, zero, suc, ◌+◌, List, [], ◌++◌, sym, ap, ◌∙◌, append_assoc, arith, Result, Ok, Err}
-use Rattle.std.specs.Prelude.{OnOk}
+use Rattle.std.proofs.Common.{◌≡◌, ℕ, zero, suc, ◌+◌, List, [], ◌++◌, sym, ap, ◌∙◌, append_assoc, arith}
 use Rattle.std.specs.List.{flat_map, range_with_len}
 use Rattle.std.proofs.lemmas.List.{append-nil}
 
@@ -21,9 +20,3 @@ none_added old shown none = sym (append-nil old) ∙ ap (λ (xs : List ℕ). old
 -- one line more
 pub one_added : (old mid new shown more line : List ℕ) → mid ≡ old ++ shown → new ≡ mid ++ line → more ≡ shown ++ line → new ≡ old ++ more
 one_added old mid new shown more line before added is = grind (arith, append_assoc)
-
--- two parts, the second of which may fail, for each x of which this holds
-pub two_added : {E X : Type 0} (Of : X → Type 0) (r : Result (Unit {0}) E) (old mid new first : List ℕ) (second both : X → List ℕ) → mid ≡ old ++ first
-    → OnOk r ((x : X) → Of x → new ≡ mid ++ second x) → ((x : X) → Of x → both x ≡ first ++ second x) → OnOk r ((x : X) → Of x → new ≡ old ++ both x)
-two_added Of (Ok done) old mid new first second both before added is = λ x of. one_added old mid new first (both x) (second x) before (added x of) (is x of)
-two_added Of (Err e) old mid new first second both before added is = tt

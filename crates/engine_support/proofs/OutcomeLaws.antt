@@ -90,9 +90,10 @@ are_lines test rows sorted found = record {
   text_is = rows-are test rows rows found;
 }
 
--- the lines of all rows were written
-pub lines_pushed : {E : Type 0} (result : Result (Unit {0}) E) (test : LitmusTest) (rows : Rows) (old new : List ℕ)
-    → OnOk result (new ≡ old ++ flat_map (row_line test) rows) → OnOk result (IsStrictlySortedBy order (keys_of rows)) → OnOk result (AreFound rows)
+-- these were written
+pub lines_pushed : {E : Type 0} (result : Result (Unit {0}) E) (test : LitmusTest) (rows : Rows) (old new lines : List ℕ)
+    → IsStrictlySortedBy order (keys_of rows) → AreFound rows → lines ≡ flat_map (row_line test) rows → OnOk result (new ≡ old ++ lines)
     → OnOk result ((lines : List ℕ) × AreLines test (counted_of rows) lines × (new ≡ old ++ lines))
-lines_pushed (Ok done) test rows old new written sorted found = (flat_map (row_line test) rows, are_lines test rows sorted found, written)
-lines_pushed (Err e) test rows old new written sorted found = tt
+lines_pushed (Ok done) test rows old new lines sorted found is written =
+    (lines, subst (AreLines test (counted_of rows)) (sym is) (are_lines test rows sorted found), written)
+lines_pushed (Err e) test rows old new lines sorted found is written = tt

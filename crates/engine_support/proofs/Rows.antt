@@ -1,5 +1,6 @@
 -- Rows by outcomes: what is found after one was changed or put in.
-use Rattle.std.proofs.Common.{arith, ◌≡◌, ℕ, ◌+◌, ◌<◌, Bool, true, false, cond, List, [], ◌∷◌, Option, Some, None, option_map, refl, sym, ap, ◌∙◌, subst}
+use Rattle.std.proofs.Common.{arith, ◌≡◌, ◌⊎◌, inl, inr, ℕ, ◌+◌, ◌<◌, Bool, true, false, cond, List, [], ◌∷◌}
+use Rattle.std.proofs.Common.{Option, Some, None, option_map, refl, sym, ap, ◌∙◌, subst}
 use Rattle.std.specs.Prelude.{IfSome}
 use Rattle.std.specs.declared.cmp.Ordering.{Ordering}
 use Rattle.std.specs.declared.cmp.Ordering.TheVariants.{Less, Equal, Greater}
@@ -158,27 +159,40 @@ none_later key other (e ∷ rest) same later = grind (arith, same_is other key.i
 both_none : (seen : Option Counted) → counted_both seen None ≡ seen
 both_none seen = grind arith
 
--- what is counted and what is left to count are together what both say
-abbrev pub IsLeft : (now left : List (Vec ℕ × Row)) → (both : List ℕ → Option Counted) → Type 0
-IsLeft now left both = (other : List ℕ) → counted_both (counted_of now other) (counted_of left other) ≡ both other
+-- the later runs with this outcome were counted, or all of them are left
+abbrev pub IsTaken : (old later now left : Option Counted) → Type 0
+IsTaken old later now left = ((now ≡ counted_both old later) × (left ≡ None)) ⊎ ((now ≡ old) × (left ≡ later))
 
--- a row was taken in of those that are left
-pub row_taken : (key : Vec ℕ) (later : Row) (left rest now new : List (Vec ℕ × Row)) (both : List ℕ → Option Counted) → left ≡ (key, later) ∷ rest
-    → IsStrictlySortedBy order (keys_of left)
-    → Counts key.items (counted_by later) (counted_of now) (counted_of new) → IsLeft now left both
-    → IsLeft new rest both
-unfolding counted_of
-row_taken key later left rest now new both is sorted counts so_far other = grind (arith, option_map, none_later, sorted_head, both_none, is_eq-slice_cmp)
+-- of two tables the later one's rows were taken in, or are left
+abbrev pub AreTaken : (old later now left : List (Vec ℕ × Row)) → Type 0
+AreTaken old later now left = (other : List ℕ) → IsTaken (counted_of old other) (counted_of later other) (counted_of now other) (counted_of left other)
 
 -- no count grows past what both tables say together
-pub row_few : (key : Vec ℕ) (later : Row) (left rest now : List (Vec ℕ × Row)) (both : Option Counted) (most : ℕ) → left ≡ (key, later) ∷ rest
-    → counted_both (counted_of now key.items) (counted_of left key.items) ≡ both
-    → IfSome {T = Counted} both (λ seen. seen.0 < most) → IfSome {T = Counted} (counted_of now key.items) (λ seen. seen.0 + later.count < most)
-unfolding counted_of
-row_few key later left rest now both most is so_far few = grind (arith, option_map, same_itself)
+few_together : (row : Row) (old later now left : Option Counted) (most : ℕ) → left ≡ Some (counted_by row) → IsTaken old later now left
+    → IfSome {T = Counted} (counted_both old later) (λ seen. seen.0 < most) → IfSome {T = Counted} now (λ seen. seen.0 + row.count < most)
+few_together row old later now left most is (inl taken) few = absurd cc
+few_together row old later now left most is (inr free) few = grind arith
 
--- no row is left
-pub rows_done : (left now : List (Vec ℕ × Row)) (both : List ℕ → Option Counted) → left ≡ [] → IsLeft now left both
-    → (other : List ℕ) → counted_of now other ≡ both other
-unfolding counted_of
-rows_done left now both is so_far other = grind (arith, both_none, option_map)
+-- what was taken in of no row that is left is what both say
+all_together : (old later now left : Option Counted) → left ≡ None → IsTaken old later now left → now ≡ counted_both old later
+all_together old later now left none (inl taken) = taken.0
+all_together old later now left none (inr free) = grind (arith, both_none)
+
+module _ (old later : List (Vec ℕ × Row)) where
+  -- a row was taken in of those that are left
+  pub row_taken : (key : Vec ℕ) (row : Row) (left rest now new : List (Vec ℕ × Row)) → left ≡ (key, row) ∷ rest
+      → IsStrictlySortedBy order (keys_of left) → Counts key.items (counted_by row) (counted_of now) (counted_of new)
+      → AreTaken old later now left → AreTaken old later new rest
+  unfolding counted_of
+  row_taken key row left rest now new is sorted counts so_far other = grind (arith, option_map, none_later, sorted_head, is_eq-slice_cmp)
+
+  pub row_few : (key : Vec ℕ) (row : Row) (left rest now : List (Vec ℕ × Row)) (most : ℕ) → left ≡ (key, row) ∷ rest → AreTaken old later now left
+      → IfSome {T = Counted} (counted_both (counted_of old key.items) (counted_of later key.items)) (λ seen. seen.0 < most)
+      → IfSome {T = Counted} (counted_of now key.items) (λ seen. seen.0 + row.count < most)
+  unfolding counted_of
+  row_few key row left rest now most is so_far few = grind (arith, option_map, same_itself, few_together)
+
+  pub rows_done : (left now : List (Vec ℕ × Row)) → left ≡ [] → AreTaken old later now left
+      → (other : List ℕ) → counted_of now other ≡ counted_both (counted_of old other) (counted_of later other)
+  unfolding counted_of
+  rows_done left now is so_far other = all_together _ _ _ (counted_of left other) (rw is refl) (so_far other)

@@ -16,7 +16,7 @@ use litmus::Test;
 use std::alloc::Global;
 use std::io::Read;
 
-/// The test of a text.
+/// A refusal has its line, which the clause leaves open.
 #[tactic(auto, unfolding(crate::specs::Tests::test_of))]
 fn test_of_text(alloc: Global, text: &str) -> Result<Test, Fault>
     ensures found { IfOk result (λ test. IsTestOf text.now test) }

@@ -1,6 +1,6 @@
 //! The outcomes of a test's runs, and the rows of their table.
 
-ghost use Rattle.std.specs.Prelude.{◌≡◌, ◌++◌, ◌+◌, ◌<◌, ℕ, List, Option, None, false, length, zip, IfSome, IsTrue, OnErr, OnOk};
+ghost use Rattle.std.specs.Prelude.{◌≡◌, ◌⊎◌, ◌++◌, ◌+◌, ◌<◌, ℕ, List, Option, None, false, length, zip, IfOk, IfSome, IsTrue, OnErr, OnOk};
 ghost use Rattle.std.specs.List.{flat_map};
 ghost use Rattle.std.specs.String.{string_bytes};
 ghost use Rattle.std.specs.BTreeMap.{IsOrdered};
@@ -79,19 +79,20 @@ fn push_row(out: &mut String, test: &Test, outcome: &[u32], row: &Row) -> Result
 }
 
 /// The lines of all rows.
-fn push_rows(
-    out: &mut String,
+fn rows_text(
+    alloc: Global,
     test: &Test,
     rows: &BTreeMap<Vec<u32>, Row>,
-) -> Result<(), AllocError>
-    ensures lines { OnOk result (string_bytes out.new ≡ string_bytes out.old ++ flat_map (row_line test.now) rows.now.entries) }
+) -> Result<String, AllocError>
+    ensures lines { IfOk result (λ text. string_bytes text ≡ flat_map (row_line test.now) rows.now.entries) }
     ensures ordered { OnOk result (IsOrdered order rows.now) }
     ensures found { OnOk result (AreFound rows.now.entries) }
 {
+    let mut text = String::new(alloc);
     for (outcome, row) in rows.iter() {
-        push_row(out, test, outcome, row)?;
+        push_row(&mut text, test, outcome, row)?;
     }
-    Ok(())
+    Ok(text)
 }
 
 impl Outcomes {
@@ -137,10 +138,13 @@ impl Outcomes {
         count_row(&mut self.rows, outcome, Row { count: 1, end })
     }
 
-    /// Counts the runs of later outcomes, after its own.
+    /// Counts the runs of later outcomes, after its own. At an error those of some outcomes are counted, and those of
+    /// the others aren't.
     pub fn take_in(&mut self, later: Outcomes) -> Result<(), AllocError>
         requires { (outcome : List ℕ) → IfSome (counted_both (counted self.old outcome) (counted later outcome)) (λ seen. seen.0 < 18446744073709551616) }
-        ensures { OnOk result ((outcome : List ℕ) → counted self.new outcome ≡ counted_both (counted self.old outcome) (counted later outcome)) }
+        ensures counts { OnOk result ((outcome : List ℕ) → counted self.new outcome ≡ counted_both (counted self.old outcome) (counted later outcome)) }
+        ensures err { OnErr result ((outcome : List ℕ) → (counted self.new outcome ≡ counted self.old outcome)
+            ⊎ (counted self.new outcome ≡ counted_both (counted self.old outcome) (counted later outcome))) }
     {
         for (outcome, row) in later.rows {
             count_row(&mut self.rows, outcome, row)?;
@@ -149,10 +153,13 @@ impl Outcomes {
     }
 
     /// Appends a line for each outcome, ascending by the values: how many runs gave it, the values of the
-    /// condition's left sides, and what its row ends with.
+    /// condition's left sides, and what its row ends with. Where memory runs out, the text stays as it was.
     pub fn push_lines(&self, out: &mut String, test: &Test) -> Result<(), AllocError>
-        ensures { OnOk result ((lines : List ℕ) × AreLines test.now (counted self.now) lines × (string_bytes out.new ≡ string_bytes out.old ++ lines)) }
+        ensures pushed { OnOk result ((lines : List ℕ) × AreLines test.now (counted self.now) lines × (string_bytes out.new ≡ string_bytes out.old ++ lines)) }
+        ensures kept { OnErr result (string_bytes out.new ≡ string_bytes out.old) }
     {
-        push_rows(out, test, &self.rows)
+        // made apart, so that the text grows in one step or not at all
+        let lines = rows_text(*out.allocator(), test, &self.rows)?;
+        out.push_str(&lines)
     }
 }

@@ -1,6 +1,6 @@
 //! The places that a test asks for, as texts.
 
-ghost use Rattle.std.specs.Prelude.{◌≡◌, ◌++◌, length, OnOk};
+ghost use Rattle.std.specs.Prelude.{◌≡◌, ◌++◌, length, OnErr, OnOk};
 ghost use Rattle.std.specs.String.{string_bytes};
 ghost use Rattle.litmus.specs.LitmusTests.{IsThere};
 ghost use Rattle.engine_support.specs.Places.{place_text};
@@ -8,13 +8,18 @@ ghost use Rattle.engine_support.specs.Places.{place_text};
 use litmus::{Place, Test};
 use std::alloc::AllocError;
 
-/// Appends a register as `H:xN`, or a word as the name of its location.
+/// Appends a register as `H:xN`, or a word as the name of its location. Where memory runs out, the text stays as it was.
 pub fn push_place(out: &mut String, test: &Test, place: Place) -> Result<(), AllocError>
     requires { IsThere (length test.now.opening.harts) (length test.now.names) place }
-    ensures { OnOk result (string_bytes out.new ≡ string_bytes out.old ++ place_text test.now.names place) }
+    ensures pushed { OnOk result (string_bytes out.new ≡ string_bytes out.old ++ place_text test.now.names place) }
+    ensures kept { OnErr result (string_bytes out.new ≡ string_bytes out.old) }
 {
     match place {
-        Place::Register { hart, number } => write!(out, "{hart}:x{number}"),
+        Place::Register { hart, number } => {
+            // formatted apart, so that the text grows in one step or not at all
+            let register = format!(in *out.allocator(); "{hart}:x{number}")?;
+            out.push_str(&register)
+        }
         Place::Word { address } => out.push_str(test.name(address)),
     }
 }

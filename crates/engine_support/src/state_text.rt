@@ -1,6 +1,6 @@
 //! The state text, which tells harts and memory.
 
-ghost use Rattle.std.specs.Prelude.{◌≡◌, ◌++◌, ◌<◌, ◌≤◌, ℕ, length, OnOk, IfOk};
+ghost use Rattle.std.specs.Prelude.{◌≡◌, ◌++◌, ◌<◌, ◌≤◌, ℕ, length, OnErr, OnOk, IfOk};
 ghost use Rattle.std.specs.String.{string_bytes};
 ghost use Rattle.step_machine.specs.Paths.{state_of};
 ghost use Rattle.step_machine.specs.Standing.{ForEachHistory};
@@ -74,18 +74,41 @@ fn push_registers<const B: usize, const M: usize>(
 }
 
 /// The lines of a hart.
+fn hart_lines<const B: usize, const M: usize>(
+    alloc: Global,
+    machine: &MachineState<B, M>,
+    hart: u32,
+) -> Result<String, AllocError>
+    requires { hart < length machine.now.harts }
+    ensures { IfOk result (λ lines. ForEachHistory B M machine.now (λ t. string_bytes lines ≡ hart_shown M t hart)) }
+{
+    let mut lines = String::new(alloc);
+    let pending = machine.pending(hart).len();
+    push_hart_line(
+        &mut lines,
+        hart,
+        machine.status(hart),
+        machine.pc(hart),
+        pending,
+    )?;
+    push_registers(&mut lines, machine, hart)?;
+    Ok(lines)
+}
+
+/// Appends the lines of a hart. Where memory runs out, the text stays as it was.
 pub fn push_hart<const B: usize, const M: usize>(
     out: &mut String,
     machine: &MachineState<B, M>,
     hart: u32,
 ) -> Result<(), AllocError>
     requires { hart < length machine.now.harts }
-    ensures { OnOk result (ForEachHistory B M machine.now (λ t. string_bytes out.new ≡
+    ensures pushed { OnOk result (ForEachHistory B M machine.now (λ t. string_bytes out.new ≡
         string_bytes out.old ++ hart_shown M t hart)) }
+    ensures kept { OnErr result (string_bytes out.new ≡ string_bytes out.old) }
 {
-    let pending = machine.pending(hart).len();
-    push_hart_line(out, hart, machine.status(hart), machine.pc(hart), pending)?;
-    push_registers(out, machine, hart)
+    // made apart, so that the text grows in one step or not at all
+    let lines = hart_lines(*out.allocator(), machine, hart)?;
+    out.push_str(&lines)
 }
 
 /// The lines of all harts.
@@ -117,7 +140,7 @@ fn push_words<const B: usize, const M: usize>(
     Ok(())
 }
 
-/// The state text of a machine.
+/// The harts with their registers, and then the words that aren't 0.
 #[tactic(auto, unfolding(crate::specs::StateText::shown))]
 pub fn state_text<const B: usize, const M: usize>(
     alloc: Global,

@@ -6,7 +6,7 @@ ghost use Rattle.std.specs.String.{string_bytes};
 ghost use Rattle.step_machine.specs.Runs.{Run};
 ghost use Rattle.debugger.specs.declared.debugger.Source.TheVariants.{Schedule};
 ghost use Rattle.debugger.specs.DebuggerStates.{DebuggerState};
-ghost use Rattle.debugger.specs.Debugging.{Answers, Does, DoesAll, DoesNext};
+ghost use Rattle.debugger.specs.Debugging.{Does, DoesAll, DoesCommand, DoesNext};
 
 use crate::debug::breakpoints::{set_breakpoint, stop_before};
 use crate::debug::command::Command;
@@ -74,7 +74,7 @@ pub fn answer<const B: usize, const M: usize>(
     command: Command,
 ) -> Result<Debugger<B, M>, AllocError>
     ensures { IfOk result (λ new. (text : List ℕ) × (string_bytes out.new ≡ string_bytes out.old ++ text)
-        × Answers B M command debugger.entry new points.old.items points.new.items text) }
+        × DoesCommand B M command debugger.entry new points.old.items points.new.items text) }
 {
     match command {
         Command::Step => step(out, debugger),

@@ -5,7 +5,7 @@ ghost use Rattle.std.specs.String.{string_bytes};
 ghost use Rattle.std.specs.Io.BufRead.{take_through, DropsThrough};
 ghost use Rattle.std.specs.Io.KnownBytes.{Appends};
 ghost use Rattle.debugger.specs.DebuggerStates.{DebuggerState};
-ghost use Rattle.debugger.specs.Transcripts.{AnswersSaid, OnStopped, OnUnwritten, Prints, PrintsFront, PrintsSome, quits};
+ghost use Rattle.debugger.specs.Transcripts.{DoesSaid, OnStopped, OnUnwritten, Prints, PrintsFront, PrintsSome, quits};
 ghost use Rattle.debugger.specs.inner.Asking.{AsksNext};
 ghost use Rattle.debugger.specs.inner.Failures.{IsFailure, IsReadFailure};
 
@@ -62,7 +62,7 @@ fn answer_said<const B: usize, const M: usize>(
     said: Option<Command>,
 ) -> Result<Debugger<B, M>, AllocError>
     ensures { IfOk result (λ new. (text : List ℕ) × (string_bytes out.new ≡ string_bytes out.old ++ text)
-        × AnswersSaid B M said debugger.entry new points.old.items points.new.items text) }
+        × DoesSaid B M said debugger.entry new points.old.items points.new.items text) }
 {
     match said {
         Some(command) => answer(out, debugger, points, command),
@@ -78,12 +78,12 @@ fn reply<const B: usize, const M: usize, W: Write>(
     said: Option<Command>,
     writer: &mut W,
 ) -> Result<Debugger<B, M>, Fault>
-    ensures answered { IfOk result (λ new. (text : List ℕ) × AnswersSaid B M said debugger.entry new points.old.items points.new.items text
+    ensures answered { IfOk result (λ new. (text : List ℕ) × DoesSaid B M said debugger.entry new points.old.items points.new.items text
         × Appends (W.contents writer.old) (W.contents writer.new) text) }
     ensures err { IfErr result IsFailure }
     ensures left { OnStopped result (writer.new ≡ writer.old) }
     ensures unwritten { OnUnwritten result ((new : DebuggerState) × (others : List (ℕ × ℕ)) × (text : List ℕ)
-        × AnswersSaid B M said debugger.entry new points.old.items others text) }
+        × DoesSaid B M said debugger.entry new points.old.items others text) }
 {
     let mut out = String::new(alloc);
     let debugger = answer_said(&mut out, debugger, points, said)?;

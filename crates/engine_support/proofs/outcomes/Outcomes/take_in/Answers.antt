@@ -10,21 +10,20 @@ use Rattle.engine_support.proofs.outcomes.Outcomes.take_in.Goals as goal
 
 pub count_row-requires : goal.count_row-requires
 count_row-requires c =
-    let taken : c.loop-outcome.outcome-iterator ≡ (c.in-Some.outcome, c.in-Some.row) ∷ c.next.new.self = search rules in
-    row_few c.in-Some.outcome c.in-Some.row _ _ _ _ 18446744073709551616 taken
-    (c.loop-outcome.invariant.left c.in-Some.outcome.items) (c.requires c.in-Some.outcome.items)
+    let next : c.loop-outcome.outcome-iterator ≡ (c.in-Some.outcome, c.in-Some.row) ∷ c.next.new.self = search rules in
+    row_few _ _ c.in-Some.outcome c.in-Some.row _ _ _ 18446744073709551616 next c.loop-outcome.invariant.taken (c.requires c.in-Some.outcome.items)
 
 pub loop-outcome-preserved : goal.loop-outcome-preserved
 loop-outcome-preserved c =
     let so_far = c.loop-outcome.invariant in
-    let taken : c.loop-outcome.outcome-iterator ≡ (c.in-Some.outcome, c.in-Some.row) ∷ c.next.new.self = search rules in
+    let next : c.loop-outcome.outcome-iterator ≡ (c.in-Some.outcome, c.in-Some.row) ∷ c.next.new.self = search rules in
     record {
-      left = row_taken c.in-Some.outcome c.in-Some.row _ _ _ _ _ taken so_far.sorted c.in_ok-count_row.ensures.counts so_far.left;
+      taken = row_taken _ _ c.in-Some.outcome c.in-Some.row _ _ _ _ next so_far.sorted c.in_ok-count_row.ensures.counts so_far.taken;
       sorted = sorted_tail order c.in-Some.outcome (keys_of c.next.new.self)
-          (subst (λ (rows : List (Vec ℕ × Row)). IsStrictlySortedBy order (keys_of rows)) taken so_far.sorted);
+          (subst (λ (rows : List (Vec ℕ × Row)). IsStrictlySortedBy order (keys_of rows)) next so_far.sorted);
     }
 
-pub returns : goal.returns
-returns c =
+pub returns-clause-counts : goal.returns-clause-counts
+returns-clause-counts c =
     let none : c.loop-outcome.outcome-iterator ≡ [] = search rules in
-    rows_done c.loop-outcome.outcome-iterator c.loop-outcome.self.rows.entries _ none c.loop-outcome.invariant.left
+    rows_done _ _ c.loop-outcome.outcome-iterator c.loop-outcome.self.rows.entries none c.loop-outcome.invariant.taken
