@@ -26,7 +26,7 @@ use lazy_input::LazyInput;
 use progress_line::ProgressLine;
 use prompt_reader::PromptReader;
 use search_line::SearchLine;
-use std::io::IsTerminal;
+use std::io::{IsTerminal, Read, Write};
 use std::process::ExitCode;
 use std::rt::{Env, Files};
 use std::sync::Wait;
@@ -66,8 +66,7 @@ where
     do_job(rt, job, progress, search)
 }
 
-/// Does a job on the streams and files that it names. It owns them, so it has no `?`: each would be one more
-/// way out on which they are closed.
+/// Does a job on the streams and files that it names. None is opened before it is read.
 fn do_job<R, P: Progress, Q: SearchProgress>(
     rt: &R,
     job: Job<'_>,
@@ -79,41 +78,65 @@ where
     R::Reader: IsTerminal,
     ensures { IfOk result (λ status. status ≤ 1) }
 {
-    let mut first = LazyInput::new(rt, Some(job.first));
-    let mut writer = io::writer(rt);
-    match job.command {
+    do_command(
+        rt,
+        job.command,
+        &mut LazyInput::new(rt, Some(job.first)),
+        &mut LazyInput::new(rt, job.second),
+        &mut LazyInput::new(rt, job.third),
+        &mut LazyInput::new(rt, job.fourth),
+        &mut PromptReader::new(rt),
+        progress,
+        search,
+        &mut io::writer(rt),
+    )
+}
+
+/// Does a command on these inputs, in the order in which it reads them, and on a user's commands.
+fn do_command<R, I: Read, C: Read, P: Progress, Q: SearchProgress, W: Write>(
+    rt: &R,
+    command: Command,
+    first: &mut I,
+    second: &mut I,
+    third: &mut I,
+    fourth: &mut I,
+    commands: &mut C,
+    progress: &mut P,
+    search: &mut Q,
+    writer: &mut W,
+) -> Result<u8, Failure>
+where
+    R: AllocGlobal + Threads + Wait + Sync,
+    ensures { IfOk result (λ status. status ≤ 1) }
+{
+    match command {
         Command::Code(command) => {
-            do_code(rt.alloc(), command, &mut first, &mut writer).map_err(Failure::Engine)
+            do_code(rt.alloc(), command, first, writer).map_err(Failure::Engine)
         }
         Command::Machine { command, capacity } => do_machine(
             rt,
             rt.alloc(),
             command,
             capacity,
-            &mut first,
-            &mut LazyInput::new(rt, job.second),
-            &mut PromptReader::new(rt),
+            first,
+            second,
+            commands,
             progress,
-            &mut writer,
+            writer,
         )
         .map_err(Failure::Engine),
-        Command::Find { states, capacity } => do_find(
-            rt.alloc(),
-            states,
-            capacity,
-            &mut first,
-            search,
-            &mut writer,
-        ),
+        Command::Find { states, capacity } => {
+            do_find(rt.alloc(), states, capacity, first, search, writer)
+        }
         Command::Own { place, capacity } => do_own(
             rt.alloc(),
             place,
             capacity,
-            &mut first,
-            &mut LazyInput::new(rt, job.second),
-            &mut LazyInput::new(rt, job.third),
-            &mut LazyInput::new(rt, job.fourth),
-            &mut writer,
+            first,
+            second,
+            third,
+            fourth,
+            writer,
         ),
         Command::Ring {
             seed,
@@ -127,15 +150,13 @@ where
             runs,
             place,
             capacity,
-            &mut first,
-            &mut LazyInput::new(rt, job.second),
-            &mut LazyInput::new(rt, job.third),
-            &mut writer,
+            first,
+            second,
+            third,
+            writer,
         ),
         Command::Threads { turns, capacity } => {
-            do_threads(rt, rt.alloc(), turns, capacity, &mut first, &mut writer).map_err(
-                Failure::Engine,
-            )
+            do_threads(rt, rt.alloc(), turns, capacity, first, writer).map_err(Failure::Engine)
         }
     }
 }
