@@ -11,7 +11,7 @@ use Rattle.recorder.specs.declared.replaying.CheckError.{CheckError}
 use Rattle.recorder.specs.declared.replaying.CheckError.TheVariants as check
 use Rattle.recorder.specs.Replaying.{IsRunRecord, DiffersAt, Differs}
 use Rattle.recorder.specs.Records.{Step, events_in}
-use Rattle.poll_close.specs.Laws.{AcceptedAt, Ring}
+use Rattle.poll_close.specs.Laws.{AcceptedAt, Ring, opening_over}
 use Rattle.poll_close.specs.Places.{layout_of}
 use Rattle.poll_close.specs.Refusals.{RefusesAt}
 use Rattle.poll_close.specs.declared.faults.Refused.TheVariants as refused
@@ -25,7 +25,7 @@ use Rattle.engine_support.specs.Engines.{Output, OfInput, AnswersBoth}
 use Rattle.engine_support.specs.Faults.{AnswersAs}
 use Rattle.engine_support.specs.Histories.{fault_of_check}
 use Rattle.engine_support.specs.Schedules.{IsNoSchedule}
-use Rattle.ztso_engines.specs.Channels.{fault_from, IsUnfilled, IsDelivery, IsReported, IsUnreported, IsChannelAnswer, Reported, opening_over}
+use Rattle.ztso_engines.specs.Channels.{fault_from, IsUnfilled, IsDelivery, IsReported, IsUnreported, IsChannelAnswer, Reported}
 use Rattle.ztso_engines.specs.Channels.IsChannelAnswer.{no_schedule, no_lists, unreported, delivered}
 use Rattle.engine_support.specs.inner.Making.{FindsUpToReads, FindsByUpToReads}
 use Rattle.engine_support.specs.inner.Inputs.{IsReadAsSchedule}
@@ -58,29 +58,29 @@ module _ (ring : Ring) (B M : ℕ) (place : BlockPlace) (lists : List (List ℕ)
 
   -- where a record differs
   pub differs : (finish : Bool) {X : Type 0} (view : X → List Report) (steps : List Step) (o : OpeningValue) (error : CheckError) (fault : Fault)
-      → o ≡ opening_over ring (layout_of place []) lists → AcceptedAt ring M lists (layout_of place []) → fault ≡ fault_of_check error
+      → o ≡ opening_over ring lists (layout_of place []) → AcceptedAt ring M lists (layout_of place []) → fault ≡ fault_of_check error
       → Differs (DiffersAt B M o steps) error → AnswersAs (Reports ring B M (layout_of place []) finish (recorded steps) lists) view (Err fault)
   differs finish view steps o check.NoMemory fault is within holds other = rw holds tt
   differs finish view steps o (check.Differs event) fault is within holds other =
       rw holds (inr (record { within = within; differs = (event, subst (λ (s : OpeningValue). DiffersAt B M s steps event) is other, refl) }))
 
   -- what is reported of events alone comes of their run
-  ran : (finish : Bool) (o : OpeningValue) (events : List Event) (reports : List Report) → Reported finish B M o lists events reports
-      → (history : History) × Run B M o events history
-  ran false o events reports is = (is.history, is.run)
-  ran true o events reports is = (is.middle, is.run)
+  ran : (finish : Bool) (events : List Event) (reports : List Report) → Reported finish ring B M lists (layout_of place []) events reports
+      → (history : History) × Run B M (opening_over ring lists (layout_of place [])) events history
+  ran false events reports is = (is.history, is.run)
+  ran true events reports is = (is.middle, is.run)
 
   pub events_reported : (finish : Bool) (events : List Event) (reports : List Report) → AcceptedAt ring M lists (layout_of place [])
-      → Reported finish B M (opening_over ring (layout_of place []) lists) lists events reports
+      → Reported finish ring B M lists (layout_of place []) events reports
       → IsReported ring B M (layout_of place []) finish (plain events) lists reports
-  events_reported finish events reports within is = record { within = within; ran = ran finish _ events reports is; delivers = is }
+  events_reported finish events reports within is = record { within = within; ran = ran finish events reports is; delivers = is }
 
   -- and of a record, of the run in which it was checked
   pub steps_reported : (finish : Bool) (steps : List Step) (o : OpeningValue) (t : History) (reports : List Report)
-      → ((p : OpeningValue) → IsRunRecord B M p steps t → Run B M p (events_in steps) t) → o ≡ opening_over ring (layout_of place []) lists
+      → ((p : OpeningValue) → IsRunRecord B M p steps t → Run B M p (events_in steps) t) → o ≡ opening_over ring lists (layout_of place [])
       → AcceptedAt ring M lists (layout_of place []) → IsRunRecord B M o steps t
-      → (Run B M (opening_over ring (layout_of place []) lists) (events_in steps) t
-      → Reported finish B M (opening_over ring (layout_of place []) lists) lists (events_in steps) reports)
+      → (Run B M (opening_over ring lists (layout_of place [])) (events_in steps) t
+      → Reported finish ring B M lists (layout_of place []) (events_in steps) reports)
       → IsReported ring B M (layout_of place []) finish (recorded steps) lists reports
   steps_reported finish steps o t reports runs is within made delivers =
       let checked = subst (λ (p : OpeningValue). IsRunRecord B M p steps t) is made in

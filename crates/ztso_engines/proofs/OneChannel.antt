@@ -10,7 +10,7 @@ use Rattle.step_machine.specs.Entries.{reported}
 use Rattle.step_machine.proofs.Running.{run-one}
 use Rattle.recorder.specs.Versions.{ScheduleValue, Says, events_said}
 use Rattle.poll_close.specs.Layout.{Layout, block_size}
-use Rattle.poll_close.specs.Laws.{AreWords, Ring, AcceptedAt}
+use Rattle.poll_close.specs.Laws.{AreWords, Ring, AcceptedAt, opening_over}
 use Rattle.poll_close.specs.Refusals.{HasRing, HasPlace, FitsAt, IsBeyond, RefusesAt, ZeroAt, ZeroWordAt}
 use Rattle.poll_close.specs.declared.faults.Refused.TheVariants as refused
 use Rattle.poll_close.specs.declared.faults.RefusedAt.{RefusedAt}
@@ -25,7 +25,7 @@ use Rattle.engine_support.specs.Schedules.{schedule_of}
 use Rattle.engine_support.proofs.RunLaws.{one_difference, runs_or_differs}
 use Rattle.recorder.proofs.HeadLaws.{one_said}
 use Rattle.ztso_engines.specs.Lists.{SaysLists, lists_at}
-use Rattle.ztso_engines.specs.Channels.{HasNoChannel, IsUnfilled, IsChannelAnswer, IsDelivery, IsNoLists, IsUnreported, fault_from, opening_over, report_line}
+use Rattle.ztso_engines.specs.Channels.{HasNoChannel, IsUnfilled, IsChannelAnswer, IsDelivery, IsNoLists, IsUnreported, fault_from, report_line}
 use Rattle.ztso_engines.specs.Channels.IsChannelAnswer.{no_schedule, no_lists, unreported, delivered}
 use Rattle.ztso_engines.proofs.ListTexts.{lists_read, one_lists}
 use Rattle.engine_support.proofs.OneInput.{same_output, one_refusal, said-or_refusal, value_or_refusal}
@@ -198,11 +198,11 @@ module _ (ring : Ring) (B M : ℕ) (l : Layout) (said : ScheduleValue) (lists : 
   one_reason r s (inl none) (inl other) = one_channel_refusal ring M l lists r s none other
   one_reason r s (inl none) (inr other) = absurd (channel_or_refusal ring M l lists r other.within none)
   one_reason r s (inr other) (inl none) = absurd (channel_or_refusal ring M l lists s other.within none)
-  one_reason r s (inr first) (inr other) = one_difference B M (opening_over ring l lists) said r s first.differs other.differs
+  one_reason r s (inr first) (inr other) = one_difference B M (opening_over ring lists l) said r s first.differs other.differs
 
-  pub ran_or_reason : (history : History) (r : Refusal) → AcceptedAt ring M lists l → Runs B M (opening_over ring l lists) said (Ok history) → IsReason r → ⊥
+  pub ran_or_reason : (history : History) (r : Refusal) → AcceptedAt ring M lists l → Runs B M (opening_over ring lists l) said (Ok history) → IsReason r → ⊥
   ran_or_reason history r within ran (inl none) = channel_or_refusal ring M l lists r within none
-  ran_or_reason history r within ran (inr other) = runs_or_differs B M (opening_over ring l lists) said history r ran other.differs
+  ran_or_reason history r within ran (inr other) = runs_or_differs B M (opening_over ring lists l) said history r ran other.differs
 
   no_reason : (finish : Bool) (a : Output) (r : Refusal) → IsDelivery ring B M l finish said lists a → IsReason r → ⊥
   no_reason finish a r is =
@@ -256,7 +256,7 @@ module _ (ring : Ring) (B M : ℕ) (l : Layout) (schedule input : List ℕ) wher
   one_delivery said lists a b is other =
       let first = is.is_reported.delivers in
       let second = other.is_reported.delivers in
-      let histories : first.history ≡ second.history = run-one B M (at_opening (opening_over ring l lists)) (events_said said)
+      let histories : first.history ≡ second.history = run-one B M (at_opening (opening_over ring lists l)) (events_said said)
       first.history second.history first.run second.run in
       same_output a b (is.text
       ∙ ap (flat_map report_line) (first.answer ∙ ap (λ (h : History). reported 0 h.entries) histories ∙ sym second.answer) ∙ sym other.text)

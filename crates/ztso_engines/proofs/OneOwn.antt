@@ -9,7 +9,7 @@ use Rattle.assembler.specs.Program.{IsCode}
 use Rattle.assembler.proofs.OneCode as assembler
 use Rattle.recorder.specs.Versions.{ScheduleValue, Says}
 use Rattle.recorder.proofs.HeadLaws.{one_said}
-use Rattle.poll_close.specs.Laws.{Ring}
+use Rattle.poll_close.specs.Laws.{Ring, opening_over}
 use Rattle.poll_close.specs.Layout.{Layout}
 use Rattle.engine_support.specs.declared.fault.Refusal.{Refusal}
 use Rattle.engine_support.specs.Engines.{Accepted, Output, decoded}
@@ -19,7 +19,7 @@ use Rattle.engine_support.proofs.Judging.{decoded-text}
 use Rattle.engine_support.proofs.OneInput.{one_refusal, said-or_refusal, same_output}
 use Rattle.engine_support.proofs.RunLaws.{one_run}
 use Rattle.ztso_engines.specs.Asm.{asm_at}
-use Rattle.ztso_engines.specs.Channels.{IsUnreported, opening_over, report_line}
+use Rattle.ztso_engines.specs.Channels.{IsUnreported, report_line}
 use Rattle.ztso_engines.specs.Lists.{SaysLists, lists_at}
 use Rattle.ztso_engines.specs.OwnChannels.{IsOwnAnswer, IsOwnDelivery, ring_over}
 use Rattle.ztso_engines.specs.OwnChannels.IsOwnAnswer.{no_programs, no_schedule, no_lists, unreported, delivered}
@@ -78,7 +78,7 @@ one_delivery ring B M l said lists a b is other =
     let first = is.is_reported in
     let second = other.is_reported in
     let ends : Ok first.history ≡ Ok second.history =
-    one_run B M (opening_over ring l lists) said (Ok first.history) (Ok second.history) first.ran second.ran in
+    one_run B M (opening_over ring lists l) said (Ok first.history) (Ok second.history) first.ran second.ran in
     let histories : first.history ≡ second.history = cc in
     same_output a b (is.text
     ∙ ap (flat_map report_line) (first.reports_are ∙ ap (λ (h : History). reported 0 h.entries) histories ∙ sym second.reports_are) ∙ sym other.text)

@@ -6,7 +6,7 @@ use Rattle.assembler.specs.Program.{IsCode}
 use Rattle.step_machine.specs.Entries.{reported}
 use Rattle.step_machine.specs.History.{History, OpeningValue}
 use Rattle.recorder.specs.Versions.{ScheduleValue, Says}
-use Rattle.poll_close.specs.Laws.{AcceptedAt, Ring}
+use Rattle.poll_close.specs.Laws.{AcceptedAt, Ring, opening_over}
 use Rattle.poll_close.specs.Layout.{Layout}
 use Rattle.engine_support.specs.declared.fault.Fault.{Fault}
 use Rattle.engine_support.specs.declared.fault.Refusal.{Refusal}
@@ -18,7 +18,6 @@ use Rattle.engine_support.specs.Histories.{Runs}
 use Rattle.engine_support.proofs.Endings.{answered_by, weaker}
 use Rattle.engine_support.proofs.RunLaws.{opening_stays}
 use Rattle.engine_support.proofs.ScheduleLaws.{stopped_by}
-use Rattle.ztso_engines.specs.Channels.{opening_over}
 use Rattle.ztso_engines.specs.Lists.{SaysLists}
 use Rattle.ztso_engines.specs.OwnChannels.{IsOwnAnswer, IsOwnDelivery, IsOwnReported, OfFour, ring_over}
 use Rattle.ztso_engines.specs.OwnChannels.IsOwnAnswer.{no_programs, no_schedule, no_lists, unreported, delivered}
@@ -31,7 +30,7 @@ use Rattle.ztso_engines.proofs.ProgramLaws.{ReadsPrograms, handed_as, of_any, ot
 
 -- ---- one run
 
-module _ (ring : Ring) (B M : ℕ) (l : Layout) (said : ScheduleValue) (lists : List (List ℕ)) (o : OpeningValue) (is : o ≡ opening_over ring l lists) where
+module _ (ring : Ring) (B M : ℕ) (l : Layout) (said : ScheduleValue) (lists : List (List ℕ)) (o : OpeningValue) (is : o ≡ opening_over ring lists l) where
   -- the receiver is there
   pub own_harts : (t : History) → Runs B M o said (Ok t) → 0 < length t.opening.harts
   own_harts t ran = subst (λ (p : OpeningValue). 0 < length p.harts) (sym (opening_stays B M o said t ran ∙ is)) (omega arith)

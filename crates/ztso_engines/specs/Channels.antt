@@ -5,11 +5,11 @@ use Rattle.std.specs.List.{flat_map}
 use Rattle.hart.specs.declared.need.Report.{Report}
 use Rattle.hart.specs.declared.need.Report.TheVariants as report
 use Rattle.step_machine.specs.declared.events.Event.{Event}
-use Rattle.step_machine.specs.History.{OpeningValue, History}
+use Rattle.step_machine.specs.History.{History}
 use Rattle.recorder.specs.Versions.{ScheduleValue, Says, events_said}
-use Rattle.poll_close.specs.Layout.{Layout, opening_at}
-use Rattle.poll_close.specs.Laws.{Ring, AcceptedAt as IsWithin}
-use Rattle.poll_close.specs.Delivery.{Delivers, DeliversWhole}
+use Rattle.poll_close.specs.Layout.{Layout}
+use Rattle.poll_close.specs.Laws.{Ring, AcceptedAt as IsWithin, opening_over}
+use Rattle.poll_close.specs.Delivery.{DeliversOver, DeliversWholeOver}
 use Rattle.poll_close.specs.Refusals.{RefusesAt, refusal_number_at}
 use Rattle.poll_close.specs.declared.faults.Refused.TheVariants as refused
 use Rattle.poll_close.specs.declared.faults.RefusedAt.{RefusedAt}
@@ -23,27 +23,23 @@ use Rattle.engine_support.specs.Schedules.{IsNoSchedule}
 use Rattle.engine_support.specs.Histories.{Runs}
 use Rattle.ztso_engines.specs.Lists.{SaysLists, lists_at}
 
--- the line of a report
+-- `took I W` or `closed I`, and a line end
 abbrev pub report_line : Report → List ℕ
 report_line (report.Took sender word) = codes "took " ++ decimal sender ++ 32 ∷ decimal word ++ 10 ∷ []
 report_line (report.Closed sender) = codes "closed " ++ decimal sender ++ 10 ∷ []
 
--- what the receiver reports in the run of the events, and of a plan after them if the channel is to be
+-- what the receiver reports in the run of the events over these lists, and of a plan after them if the channel is to be
 -- finished
-abbrev pub Reported : (finish : Bool) → (B M : ℕ) → OpeningValue → List (List ℕ) → List Event → List Report → Type 0
-Reported false B M opening lists events reports = Delivers B M opening lists events reports
-Reported true B M opening lists events reports = DeliversWhole B M opening lists events reports
-
--- the opening over these lists
-abbrev pub opening_over : Ring → Layout → List (List ℕ) → OpeningValue
-opening_over ring l lists = opening_at ring.sender ring.receiver lists l
+abbrev pub Reported : (finish : Bool) → Ring → (B M : ℕ) → List (List ℕ) → Layout → List Event → List Report → Type 0
+Reported false ring B M lists l events reports = DeliversOver ring B M lists l events reports
+Reported true ring B M lists l events reports = DeliversWholeOver ring B M lists l events reports
 
 -- The receiver reports this in the run of what the schedule says over these lists: lists and a layout within
 -- the limits, whose reports are clean. A record's outcomes are the run's.
 pub record IsReported (ring : Ring) (B M : ℕ) (l : Layout) (finish : Bool) (said : ScheduleValue) (lists : List (List ℕ)) (reports : List Report) : Type 0 where
   pub within : IsWithin ring M lists l
-  pub ran : (history : History) × Runs B M (opening_over ring l lists) said (Ok history)
-  pub delivers : Reported finish B M (opening_over ring l lists) lists (events_said said) reports
+  pub ran : (history : History) × Runs B M (opening_over ring lists l) said (Ok history)
+  pub delivers : Reported finish ring B M lists l (events_said said) reports
 
 -- the same, with the reports a line each
 pub record IsDelivery (ring : Ring) (B M : ℕ) (l : Layout) (finish : Bool) (said : ScheduleValue) (lists : List (List ℕ)) (answer : Output) : Type 0 where
@@ -72,7 +68,7 @@ pub record HasNoChannel (ring : Ring) (M : ℕ) (l : Layout) (lists : List (List
 -- There is a channel over these lists, and a record is refused at the first event whose outcome isn't the run's.
 pub record IsOtherRun (ring : Ring) (B M : ℕ) (l : Layout) (said : ScheduleValue) (lists : List (List ℕ)) (refusal : Refusal) : Type 0 where
   pub within : IsWithin ring M lists l
-  pub differs : Runs B M (opening_over ring l lists) said (Err refusal)
+  pub differs : Runs B M (opening_over ring lists l) said (Err refusal)
 
 -- why nothing is reported
 abbrev pub IsUnreported : (ring : Ring) (B M : ℕ) (l : Layout) (said : ScheduleValue) (lists : List (List ℕ)) → Refusal → Type 0

@@ -6,13 +6,13 @@ use Rattle.assembler.specs.Program.{IsCode}
 use Rattle.step_machine.specs.Entries.{reported}
 use Rattle.step_machine.specs.History.{History}
 use Rattle.recorder.specs.Versions.{ScheduleValue, Says}
-use Rattle.poll_close.specs.Laws.{Ring, AcceptedAt as IsWithin}
+use Rattle.poll_close.specs.Laws.{Ring, AcceptedAt as IsWithin, opening_over}
 use Rattle.poll_close.specs.Layout.{Layout}
 use Rattle.engine_support.specs.declared.fault.Refusal.{Refusal}
 use Rattle.engine_support.specs.Engines.{Accepted, OfInput, Output}
 use Rattle.engine_support.specs.Histories.{Runs}
 use Rattle.engine_support.specs.Schedules.{IsNoSchedule}
-use Rattle.ztso_engines.specs.Channels.{IsNoLists, IsUnreported, opening_over, report_line}
+use Rattle.ztso_engines.specs.Channels.{IsNoLists, IsUnreported, report_line}
 use Rattle.ztso_engines.specs.Lists.{SaysLists}
 use Rattle.ztso_engines.specs.Programs.{EndsAs, IsNoPrograms}
 use Rattle.ztso_engines.specs.declared.programs.OwnFault.{OwnFault}
@@ -27,7 +27,7 @@ ring_over sends receives = record { sender = sends; receiver = receives; least =
 pub record IsOwnReported (ring : Ring) (B M : ℕ) (l : Layout) (said : ScheduleValue) (lists : List (List ℕ)) (reports : List Report) : Type 0 where
   pub within : IsWithin ring M lists l
   pub history : History
-  pub ran : Runs B M (opening_over ring l lists) said (Ok history)
+  pub ran : Runs B M (opening_over ring lists l) said (Ok history)
   pub reports_are : reports ≡ reported 0 history.entries
 
 -- the same, with the reports a line each

@@ -5,7 +5,6 @@ ghost use Rattle.std.specs.List.{flat_map};
 ghost use Rattle.std.specs.String.{string_bytes};
 ghost use Rattle.engine_support.specs.Engines.{AnswersBoth, EndsByBoth};
 ghost use Rattle.engine_support.specs.Faults.{AnswersAs};
-ghost use Rattle.poll_close.specs.Layout.{opening_at};
 ghost use Rattle.poll_close.specs.Laws.{AcceptedAt};
 ghost use Rattle.poll_close.specs.Places.{layout_of};
 ghost use Rattle.poll_close.specs.Refusals.{RefusesAt};
@@ -79,8 +78,7 @@ fn reports_of_events<K: Finish<B, M>, const B: usize, const M: usize>(
     requires capacity { B ≤ 64 }
     requires some_word { 1 ≤ M }
     requires size { M ≤ 65536 }
-    ensures reported { IfOk result (λ r. Reported finish B M (opening_at K.RingKind.ring.sender K.RingKind.ring.receiver
-        (map (λ v. v.items) lists.now) (layout_of place [])) (map (λ v. v.items) lists.now) events.now r.items) }
+    ensures reported { IfOk result (λ r. Reported finish K.RingKind.ring B M (map (λ v. v.items) lists.now) (layout_of place []) events.now r.items) }
     ensures accepted { OnOk result (AcceptedAt K.RingKind.ring M (map (λ v. v.items) lists.now) (layout_of place [])) }
     ensures refused { IfErr result (λ e. RefusesAt K.RingKind.ring M (map (λ v. v.items) lists.now) (layout_of place []) e) }
 {

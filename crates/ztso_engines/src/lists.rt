@@ -42,7 +42,7 @@ fn list_of_line(alloc: Global, line: &[u8], number: usize) -> Result<Vec<u32>, F
     }
 }
 
-/// The lists of a text.
+/// A line each: an empty line is a list without words.
 #[tactic(auto, unfolding(crate::specs::Lists::lists_at, crate::specs::Lists::lists_of_lines, texts::specs::Formats::each_at))]
 fn lists_of_text(alloc: Global, text: &[u8]) -> Result<Vec<Vec<u32>>, Fault>
     ensures { Answers (λ lists. map (λ list. list.items) lists.items) result (lists_at text.now) }
