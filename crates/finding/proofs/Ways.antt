@@ -1,14 +1,18 @@
 -- The events that a search goes through, and the ways that it came.
-use Rattle.std.proofs.Common.{◌≡◌, ℕ, suc, ◌+◌, inl, inr, Bool, true, List, [], ◌∷◌, ◌++◌, reverse, Option, Some, None, refl, sym, ◌∙◌, ap}
-use Rattle.std.proofs.Common.{append_assoc, length-append}
+use Rattle.std.proofs.Common.{◌≡◌, ◌<◌, ◌≤◌, ℕ, zero, suc, ◌+◌, inl, inr, Bool, true, List, [], ◌∷◌, ◌++◌, length, reverse}
+use Rattle.std.proofs.Common.{Option, Some, None, refl, sym, ◌∙◌, ap, append_assoc, arith, length-append}
+use Rattle.std.specs.Prelude.{◌↔◌, IsTrue}
 use Rattle.std.proofs.lemmas.List.{reverse-append}
 use Rattle.std.proofs.lemmas.List.Elements.{All-push}
+use Rattle.std.proofs.lemmas.Option.{slice_get_cases, slice_get_within}
 use Rattle.std.specs.List.{Contains, slice_get}
 use Rattle.step_machine.specs.inner.Config.{Config}
 use Rattle.step_machine.specs.Positions.{packed}
+use Rattle.step_machine.specs.Standing.{ForEachHistory}
 use Rattle.litmus.specs.LitmusTests.{LitmusTest}
 use Rattle.step_machine.specs.declared.events.Event.{Event}
 use Rattle.finding.specs.declared.arrivals.Arrival.{Arrival}
+use Rattle.finding.specs.Find.{EndsAsWanted}
 use Rattle.finding.specs.inner.Arriving.{GoesOn, IsNewest, Meets, event_of, way, way_by}
 
 -- an event more at the end of the list that is turned round stands before those that are there
@@ -58,3 +62,34 @@ pub found_newest : {B M : ℕ} {q : LitmusTest} {c : Config} (old new : List (Li
     → Meets B M q c old new before after arrival true → IsNewest B M q c new
 found_newest old new before after arrival (inl known) = absurd cc
 found_newest old new before after arrival (inr gets) = record { others = old; last = gets.0.appended; ends = λ t stands. (gets.2 t stands).0 refl }
+
+-- one arrival stands there for each state
+pub all_arrived : {from : ℕ} {events : List Event} (old new : List (List ℕ)) (before after : List Arrival) → GoesOn from events old new before after
+    → length before ≡ length old → length after ≡ length new
+all_arrived old new before after goes are =
+    omega (
+      arith,
+      ap (λ (xs : List Arrival). length xs) goes.arrivals ∙ length-append before goes.arrived,
+      ap (λ (ps : List (List ℕ)). length ps) goes.states ∙ length-append old goes.met,
+      goes.count,
+      are,
+    )
+
+-- the first state that is numbered is new
+pub first_met : {B M : ℕ} {q : LitmusTest} {c : Config} (old new : List (List ℕ)) (before after : List Arrival) (arrival : Arrival) (found : Bool)
+    → length old ≡ 0 → Meets B M q c old new before after arrival found → ForEachHistory B M c (λ t. IsTrue found ↔ EndsAsWanted M q t)
+first_met old new before after arrival found none (inl known) = absurd (omega (arith, slice_get_within old known.0 _ known.1.known, none))
+first_met old new before after arrival found none (inr gets) = gets.2
+
+-- the way to a state that has an arrival has an event
+pub way_some : (arrivals : List Arrival) (at n : ℕ) → at < length arrivals → 1 ≤ n → way arrivals at n ≡ [] → ⊥
+way_some arrivals at n within some none = elim ((slice_get_cases arrivals at).1) [
+  | inl there ↦ way_by_some arrivals there.0 n some (ap (λ (o : Option Arrival). way_by arrivals o n) (sym there.2) ∙ none)
+  | inr past ↦ absurd (omega (arith, within, past.0))
+]
+  where
+    way_by_some : (arrivals : List Arrival) (arrival : Arrival) (n : ℕ) → 1 ≤ n → way_by arrivals (Some arrival) n ≡ [] → ⊥
+    way_by_some arrivals arrival zero some none = omega (arith, some)
+    way_by_some arrivals arrival (suc n) some none =
+        let before = way_by arrivals (slice_get arrivals arrival.from) n in
+        omega (arith, sym (length-append before (event_of arrival ∷ [])) ∙ ap (λ (es : List Event). length es) none)

@@ -4,9 +4,11 @@
 
 ghost use Rattle.std.specs.Prelude.{◌≡◌, ◌≤◌, ◌<◌, ◌+◌, IsTrue, IfOk, length};
 ghost use Rattle.recorder.specs.Schedule.{OfHarts};
+ghost use Rattle.step_machine.specs.History.{at_opening};
+ghost use Rattle.step_machine.specs.Standing.{ForEachHistory};
 ghost use Rattle.step_machine.specs.declared.opening.TheConstants.{MAX_HARTS};
 ghost use Rattle.litmus.specs.declared.litmus_test.TheConstants.{MAX_LOCATIONS};
-ghost use Rattle.finding.specs.inner.Arriving.{GoesOn, IsNewest, IsWithin, Meets, events_with};
+ghost use Rattle.finding.specs.inner.Arriving.{BeginsAt, GoesOn, IsNewest, IsWithin, Meets, events_with};
 
 use crate::arrivals::Arrival;
 use crate::finds::ends_as_wanted;
@@ -127,6 +129,7 @@ fn search_from<const B: usize, const M: usize, P: SearchProgress>(
     requires some_states { 1 ≤ limit }
     ensures within { IfOk result (IsWithin limit) }
     ensures count { IfOk result (λ searched. searched.states ≡ length states.new) }
+    ensures opening { IfOk result (λ searched. ForEachHistory B M machine.old (BeginsAt M test.now searched)) }
 {
     let events = events_of(alloc, machine.harts())?;
     let mut arrivals = Vec::new(alloc);
@@ -187,7 +190,8 @@ fn search_machine<const B: usize, const M: usize, P: SearchProgress>(
     requires harts { length machine.old.harts ≡ length test.now.opening.harts }
     requires names { length test.now.names ≤ M }
     requires some_states { 1 ≤ limit }
-    ensures { IfOk result (IsWithin limit) }
+    ensures within { IfOk result (IsWithin limit) }
+    ensures opening { IfOk result (λ searched. ForEachHistory B M machine.old (BeginsAt M test.now searched)) }
 {
     let mut states = States::new(alloc, machine)?;
     search_from(alloc, test, machine, &mut states, limit, progress)
@@ -204,7 +208,8 @@ pub fn search<const B: usize, const M: usize, P: SearchProgress>(
     requires words { MAX_LOCATIONS ≤ M }
     requires size { M ≤ 65536 }
     requires some_states { 1 ≤ limit }
-    ensures { IfOk result (IsWithin limit) }
+    ensures within { IfOk result (IsWithin limit) }
+    ensures opening { IfOk result (λ searched. BeginsAt M test.now searched (at_opening test.now.opening)) }
 {
     let opening = test.opening(alloc)?;
     let mut machine = MachineState::<B, M>::open(alloc, &opening)?;

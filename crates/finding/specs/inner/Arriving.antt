@@ -1,7 +1,8 @@
 -- By which event a search came to a state, and what it hands over.
 use Rattle.std.specs.Prelude.{ℕ, zero, suc, ◌≡◌, ◌≤◌, ◌⊎◌, ◌↔◌, if◌then◌else◌, Bool, false, IsTrue, All}
-use Rattle.std.specs.Prelude.{List, [], ◌∷◌, ◌++◌, length, map, Option, Some, None, IfSome}
+use Rattle.std.specs.Prelude.{List, [], ◌∷◌, ◌++◌, length, map, Option, Some, None, IfSome, IsSomeAnd}
 use Rattle.std.specs.List.{Contains, range_with_len, slice_get}
+use Rattle.step_machine.specs.History.{History}
 use Rattle.step_machine.specs.Positions.{packed}
 use Rattle.step_machine.specs.Standing.{ForEachHistory}
 use Rattle.step_machine.specs.inner.Config.{Config}
@@ -56,6 +57,11 @@ pub record IsNewest (B M : ℕ) (test : LitmusTest) (machine : Config) (states :
   pub others : List (List ℕ)
   pub last : states ≡ others ++ packed machine ∷ []
   pub ends : ForEachHistory B M machine (λ t. EndsAsWanted M test t)
+
+-- A search from the end of this history hands over no event exactly where that end is as wanted, and saw that state alone.
+pub record BeginsAt (M : ℕ) (test : LitmusTest) (searched : Searched) (history : History) : Type 0 where
+  pub at_once : EndsAsWanted M test history → (searched.states ≡ 1) × IsSomeAnd searched.way (λ events. events.items ≡ [])
+  pub only : IfSome searched.way (λ events. events.items ≡ [] → EndsAsWanted M test history)
 
 -- A search saw a state and no more than it might, and what it came to can be written as a schedule.
 pub record IsWithin (limit : ℕ) (searched : Searched) : Type 0 where

@@ -7,4 +7,5 @@ invariant-loop-from g l = record {
   some : 1 ≤ length l.states;
   few : length l.states ≤ l.limit;
   depth : l.depth ≤ l.from;
+  arrivals : length l.arrivals.items ≡ length l.states;
 }
