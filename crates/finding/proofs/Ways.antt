@@ -1,5 +1,5 @@
 -- The events that a search goes through, and the ways that it came.
-use Rattle.std.proofs.Common.{◌≡◌, ◌<◌, ◌≤◌, ℕ, zero, suc, ◌+◌, inl, inr, Bool, true, List, [], ◌∷◌, ◌++◌, length, reverse}
+use Rattle.std.proofs.Common.{◌≡◌, ◌<◌, ◌≤◌, ℕ, zero, suc, ◌+◌, inl, inr, Bool, List, [], ◌∷◌, ◌++◌, length, reverse}
 use Rattle.std.proofs.Common.{Option, Some, None, refl, sym, ◌∙◌, ap, append_assoc, arith, length-append}
 use Rattle.std.specs.Prelude.{◌↔◌, IsTrue}
 use Rattle.std.proofs.lemmas.List.{reverse-append}
@@ -13,7 +13,7 @@ use Rattle.litmus.specs.LitmusTests.{LitmusTest}
 use Rattle.step_machine.specs.declared.events.Event.{Event}
 use Rattle.finding.specs.declared.arrivals.Arrival.{Arrival}
 use Rattle.finding.specs.Find.{EndsAsWanted}
-use Rattle.finding.specs.inner.Arriving.{GoesOn, IsNewest, Meets, event_of, way, way_by}
+use Rattle.finding.specs.inner.Arriving.{GoesOn, Meets, event_of, way, way_by}
 
 -- an event more at the end of the list that is turned round stands before those that are there
 pub way_more : (arrivals : List Arrival) (at n : ℕ) (arrival : Arrival) (event : Event) (later : List Event) → slice_get arrivals at ≡ Some arrival
@@ -56,12 +56,6 @@ goes_on {c = c} from events old mid new before between after arrival found goes 
   count = length-append goes.arrived (arrival ∷ []) ∙ ap (λ n. n + 1) goes.count ∙ sym (length-append goes.met (packed c ∷ []));
   by = All-push (λ (a : Arrival). (a.from ≡ from) × Contains events (event_of a)) goes.arrived arrival goes.by (is, by);
 }
-
--- what was found is new and ends as wanted
-pub found_newest : {B M : ℕ} {q : LitmusTest} {c : Config} (old new : List (List ℕ)) (before after : List Arrival) (arrival : Arrival)
-    → Meets B M q c old new before after arrival true → IsNewest B M q c new
-found_newest old new before after arrival (inl known) = absurd cc
-found_newest old new before after arrival (inr gets) = record { others = old; last = gets.0.appended; ends = λ t stands. (gets.2 t stands).0 refl }
 
 -- one arrival stands there for each state
 pub all_arrived : {from : ℕ} {events : List Event} (old new : List (List ℕ)) (before after : List Arrival) → GoesOn from events old new before after

@@ -28,7 +28,7 @@ pub struct Total {
     pub closed: u32,
 }
 
-/// What was found of runs.
+/// What drawn runs of a channel came to.
 #[derive(Drop)]
 pub enum Found {
     /// All are clean.
