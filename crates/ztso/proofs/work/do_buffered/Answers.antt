@@ -62,7 +62,7 @@ returns-in-Chart-clause-does g c = rw c.in-Chart.is
 pub returns-in-Show-clause-does : goal.returns-in-Show-clause-does
 returns-in-Show-clause-does g c = rw c.in-Show.is
     (ends_with_status done_status (λ answer. OfInput (g.F.Read.remaining c.args.first.now) (λ bytes. IsShowAnswer (form_of c.in-Show.steps) bytes answer))
-    c.show_engine.result g.W.Write.contents c.args.writer.now c.show_engine.new.writer c.show_engine.ensures
+    c.show_engine.result g.W.Write.contents c.args.writer.now c.show_engine.new.writer (rw c.form_of.ensures at c.show_engine.ensures)
     c.after-in-Show.result c.after-in-Show.ensures.ended)
 
 pub returns-in-Check-clause-does : goal.returns-in-Check-clause-does
