@@ -68,7 +68,6 @@ passing_lines held landed other = held
 abbrev pub laned_row : Shape → (row : ℕ) → List Held → RowOf → LanedOf
 laned_row shape row held r = record { own = own_line shape row held r.landed r.entry; passing = passing_lines held r.landed r.entry }
 
--- what is held after a row
 abbrev pub held_after_entry : Shape → (row : ℕ) → List Held → Option ℕ → Entry → List Held
 held_after_entry shape row held landed (entry.Store h a width v) = held ++ option_to_list (taken shape row h held)
 held_after_entry shape row held landed (entry.Land h) = without_landed landed held

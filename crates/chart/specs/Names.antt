@@ -4,7 +4,6 @@ use Rattle.std.specs.List.{slice_get}
 use Rattle.std.specs.Fmt.{decimal}
 use Rattle.chart.specs.declared.naming.TheConstants.{LONGEST_NAME}
 
--- a word's address
 abbrev pub address_text : ℕ → List ℕ
 address_text a = codes "@" ++ decimal a
 

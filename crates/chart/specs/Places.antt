@@ -23,6 +23,6 @@ begins p column = 7 + rank p column * pitch p
 abbrev pub lane_cell : Places → Held → ℕ
 lane_cell p h = begins p h.column + p.text + 2 * (p.lanes - h.lane)
 
--- memory's first cell
+-- memory's first cell, two to the right of where a further column would begin
 abbrev pub memory_cell : Places → ℕ
 memory_cell p = 9 + columns p * pitch p

@@ -13,7 +13,6 @@ pub record RowTextOf : Type 0 where
   pub tag : List ℕ
   pub memory : List ℕ
 
--- the texts of a row of these entries
 abbrev pub row_text : List (List ℕ) → List Entry → RowOf → RowTextOf
 row_text names es r =
     record { hart = hart_of r.entry; effect = effect_text names r.entry; tag = tag_text r.sources; memory = memory_text names es r.landed r.entry }

@@ -22,7 +22,6 @@ sources_of before h (load a width v) = sources_at before h a width
 sources_of before h (exchange a old new) = sources_at before h a 4
 sources_of before h a = []
 
--- the row of an entry after these
 abbrev pub row_after : List Entry → Entry → RowOf
 row_after before e = record { entry = e; sources = sources_of before (hart_of e) (access_of e); landed = landed_store before e }
 

@@ -80,7 +80,7 @@ fn taken(shape: Shape, row: usize, hart: u32, held: &[Held]) -> Option<Held>
     }
 }
 
-/// What the store of this row holds.
+/// The lane that the pending store of this row holds. It has none where all were held when it was made.
 #[tactic(auto, using(crate::proofs::LaneLaws::held_by_more, crate::proofs::LaneLaws::held_by_here))]
 pub fn held_by(row: usize, held: &[Held]) -> Option<Held>
     ensures { result ≡ held_by row held.now }
@@ -201,7 +201,7 @@ fn held_after(
     held_after_entry(alloc, shape, row, held, of.landed, of.entry)
 }
 
-/// The lines of each row.
+/// The vertical lines at each row, in the order of the rows. A store without a lane has none.
 #[tactic(auto, using(crate::proofs::LaneLaws::lanes_next, crate::proofs::LaneLaws::held_next))]
 pub fn lanes_of(alloc: Global, shape: Shape, rows: &[Row]) -> Result<Vec<Laned>, AllocError>
     ensures { IfOk result (λ lanes. lanes.items ≡ lanes_of_rows shape rows.now) }

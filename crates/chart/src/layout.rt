@@ -62,7 +62,6 @@ fn row_line(
     Ok(Line { marks, strokes })
 }
 
-/// The line of a row of a scene.
 fn line_with(
     alloc: Global,
     form: Form,
@@ -122,7 +121,6 @@ fn line_at(
     }
 }
 
-/// Whether a row is not drawn.
 fn is_without_line(scene: &Scene, i: usize) -> bool
     ensures { result ≡ is_without_line scene.now (slice_get scene.now.rows i) }
 {
@@ -231,7 +229,6 @@ fn hart_marks(alloc: Global, places: &Places) -> Result<Vec<Mark>, AllocError>
     Ok(marks)
 }
 
-/// The heads of the columns.
 fn heads_line(alloc: Global, places: &Places) -> Result<Line, AllocError>
     ensures { IfOk result (λ line. line ≡ line_of_heads places.now) }
 {

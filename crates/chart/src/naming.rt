@@ -11,7 +11,6 @@ use std::alloc::AllocError;
 /// A longer name would make columns too wide: its word goes by its address.
 pub const LONGEST_NAME: usize = 8;
 
-/// The name at a place, if there is one.
 fn name_at(names: &[String], place: usize) -> Option<&str>
     ensures { option_copied result ≡ slice_get (map string_bytes names.now) place }
 {

@@ -70,7 +70,7 @@ impl Model for Mark {
     ghost view = { λ m. record { at = m.at; weight = m.weight; text = string_bytes m.text } };
 }
 
-/// A line of a picture: its texts and its strokes.
+/// A line of a picture. Cells count from 0; the text form shows a text over the strokes of its cells.
 #[derive(Drop)]
 pub struct Line {
     pub marks: Vec<Mark>,
@@ -135,7 +135,7 @@ impl Sign {
 }
 
 impl Stroke {
-    /// Whether the stroke covers a cell.
+    /// Whether the cell is one of the `count` from `at` on.
     pub fn strikes(self, cell: usize) -> bool
         ensures { result ≡ strikes self cell }
     {

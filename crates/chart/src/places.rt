@@ -68,7 +68,7 @@ impl Places {
         self.begins(held.column) + u32::from(self.text) + 2 * lanes
     }
 
-    /// Memory's first cell.
+    /// Memory's first cell, two to the right of where a further column would begin.
     pub(crate) fn memory_cell(&self) -> u32
         ensures value { result ≡ memory_cell self.now }
         ensures most { result < 2 ^ 25 }

@@ -53,7 +53,7 @@ fn memory_of(
     Ok(text)
 }
 
-/// The texts of a row of these entries.
+/// The texts of one row. `entries` are all of the run, among which a landing finds its store.
 pub(crate) fn row_text(
     alloc: Global,
     names: &[String],

@@ -85,7 +85,6 @@ fn landed_store(alloc: Global, before: &[Entry], entry: Entry) -> Result<Option<
     }
 }
 
-/// The row of an entry after these.
 fn row_after(
     alloc: Global,
     before: &[Entry],

@@ -77,7 +77,6 @@ impl Model for Scene {
     } };
 }
 
-/// The rows of a run of `harts` harts.
 pub(crate) fn scene_of_run(
     alloc: Global,
     selection: Selection,

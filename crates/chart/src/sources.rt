@@ -11,7 +11,8 @@ use memory::writes::Write;
 use std::alloc::{AllocError, Global};
 use step_machine::Entry;
 
-/// A write, and the row that made it.
+/// A write and its row, from 0: a pending store has the row that made it, and what is in memory the row of the
+/// landing or of the AMO.
 #[derive(Clone, Copy, PartialEq, Eq)]
 pub struct RowWrite {
     pub row: usize,
@@ -29,7 +30,6 @@ pub enum Source {
     Opening,
 }
 
-/// What the hart stores by this entry.
 fn store_of(hart: u32, entry: Entry) -> Option<Write>
     ensures { option_to_list result ≡ stored_by_entry hart entry }
 {
@@ -64,7 +64,6 @@ pub(crate) fn push_write(
     }
 }
 
-/// What the hart stored, each with its row.
 #[tactic(auto, using(crate::proofs::ByRow::stores_next))]
 fn stores_by_row(alloc: Global, entries: &[Entry], hart: u32) -> Result<Vec<RowWrite>, AllocError>
     ensures { IfOk result (λ stores. stores.items ≡ stores_of_rows hart 0 entries.now) }
@@ -114,7 +113,6 @@ pub(crate) fn pending_by_row(
     Ok(pending)
 }
 
-/// The hart's oldest pending store, with its row.
 pub(crate) fn oldest_pending(
     alloc: Global,
     entries: &[Entry],
@@ -149,7 +147,6 @@ pub(crate) fn written_by(
     }
 }
 
-/// Whether the write covers the byte at an address.
 fn covers(write: Write, addr: u64) -> bool
     ensures { result ≡ write_covers write addr }
 {

@@ -165,14 +165,13 @@ file_in id options = do
   path ← first_of id options
   Some (File path)
 
--- a command on the file `file`
+-- a command with its inputs, in the order in which they are read
 abbrev pub on_file : List Row → Option Command → Option Wanted
 on_file options found = do
   command ← found
   file ← file_in (codes "file") options
   Some (one_input command file)
 
--- a command on the files `file` and `schedule`
 abbrev pub on_file_and_schedule : List Row → Option Command → Option Wanted
 on_file_and_schedule options found = do
   command ← found
@@ -180,14 +179,12 @@ on_file_and_schedule options found = do
   schedule ← file_in (codes "schedule") options
   Some (two_inputs command file schedule)
 
--- a command on the file `file`, and then on standard input
 abbrev pub on_file_and_standard : List Row → Option Command → Option Wanted
 on_file_and_standard options found = do
   command ← found
   file ← file_in (codes "file") options
   Some (two_inputs command file Standard)
 
--- a command on the file `schedule`, and then on standard input
 abbrev pub on_schedule_and_standard : List Row → Option Command → Option Wanted
 on_schedule_and_standard options found = do
   command ← found
@@ -224,7 +221,6 @@ on_channel options = do
       else where_left_out (first_of (codes "sender") options) (where_left_out (first_of (codes "receiver") options)
       (on_schedule_and_standard options (machine_in options (channel_in options))))
 
--- a command on standard input
 abbrev pub on_standard : Option Command → Option Wanted
 on_standard found = do
   command ← found

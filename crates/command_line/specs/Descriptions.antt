@@ -47,7 +47,6 @@ option_wanted name = record (new_rule name) {
   required = true;
 }
 
--- a command with these rules
 abbrev pub with_rules : App → List Rule → App
 with_rules app [] = app
 with_rules app (rule ∷ rules) = with_rules (with_rule app rule) rules
@@ -81,7 +80,7 @@ try_rules = word_wanted (codes "file") ∷ option_wanted (codes "seed") ∷ opti
 abbrev pub try_command : App
 try_command = with_rules (new_app (codes "try")) try_rules
 
--- `--name`, a flag
+-- `--name`, without a value
 abbrev pub flag : Text → Rule
 flag name = record (new_rule name) {
   long = Some name;

@@ -51,14 +51,12 @@ fn option_wanted<'a>(alloc: Global, name: &'a str) -> Arg<'a>
         .required(true)
 }
 
-/// A command with no arguments.
 fn new_command<'a>(alloc: Global, name: &'a str) -> Command<'a>
     ensures { IsDescribed result (new_app name.entry.now) }
 {
     Command::new(alloc, name)
 }
 
-/// A command with these arguments.
 fn command_with<'a>(
     alloc: Global,
     name: &'a str,
@@ -158,7 +156,6 @@ fn ring_command<'a>(alloc: Global) -> Result<Command<'a>, AllocError>
     command_with(alloc, "ring", args)
 }
 
-/// `chart`, with its flags.
 fn chart_command<'a>(alloc: Global) -> Result<Command<'a>, AllocError>
     ensures { IfOk result (λ command. IsDescribed command chart_command) }
 {
@@ -213,7 +210,7 @@ fn and<'a>(
     command?.subcommand(subcommand?)
 }
 
-/// The whole command line.
+/// `ztso` with all its subcommands, as clap takes it. It is an `Err` where memory runs out.
 pub fn ztso_command<'a>(alloc: Global) -> Result<Command<'a>, AllocError>
     ensures { IfOk result (λ command. IsDescribed command ztso_command) }
 {

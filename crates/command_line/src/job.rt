@@ -21,7 +21,7 @@ pub enum Input<'a> {
     File(&'a str),
 }
 
-/// A kind of ring.
+/// A ring that is proved. KIND `own` of `channel` is none of them, but takes a user's programs.
 #[derive(Clone, Copy)]
 pub enum Ring {
     Lamport,

@@ -99,7 +99,7 @@ fn scheduled_in(name: &str, options: &ArgMatches<'_>) -> Option<MachineCommand>
     }
 }
 
-/// The command, if there is one, on standard input.
+/// The command, if there is one, with its inputs in the order in which they are read: standard input alone.
 fn on_standard<'a>(command: Option<Command>) -> Option<Job<'a>>
     ensures { option_map wanted_by result ≡ on_standard command }
 {
@@ -113,7 +113,6 @@ fn on_standard<'a>(command: Option<Command>) -> Option<Job<'a>>
     })
 }
 
-/// The command, if there is one, on the file `file`.
 fn on_file<'a>(options: &ArgMatches<'a>, command: Option<Command>) -> Option<Job<'a>>
     ensures { option_map wanted_by result ≡ on_file (rows_of (found_of options.now)) command }
 {
@@ -128,7 +127,6 @@ fn on_file<'a>(options: &ArgMatches<'a>, command: Option<Command>) -> Option<Job
     })
 }
 
-/// The command, if there is one, on the files `file` and `schedule`.
 fn on_file_and_schedule<'a>(options: &ArgMatches<'a>, command: Option<Command>) -> Option<Job<'a>>
     ensures { option_map wanted_by result ≡ on_file_and_schedule (rows_of (found_of options.now)) command }
 {
@@ -144,7 +142,6 @@ fn on_file_and_schedule<'a>(options: &ArgMatches<'a>, command: Option<Command>) 
     })
 }
 
-/// The command, if there is one, on the file `file`, and then on standard input.
 fn on_file_and_standard<'a>(options: &ArgMatches<'a>, command: Option<Command>) -> Option<Job<'a>>
     ensures { option_map wanted_by result ≡ on_file_and_standard (rows_of (found_of options.now)) command }
 {
@@ -159,7 +156,6 @@ fn on_file_and_standard<'a>(options: &ArgMatches<'a>, command: Option<Command>) 
     })
 }
 
-/// The command, if there is one, on the file `schedule`, and then on standard input.
 fn on_schedule_and_standard<'a>(
     options: &ArgMatches<'a>,
     command: Option<Command>,

@@ -5,8 +5,7 @@
 #![tactic(auto)]
 
 ghost use Rattle.poll_close.specs.Listing.{lines_of};
-ghost use Rattle.fastforward.specs.Listing.{listing};
-ghost use Rattle.fastforward.specs.Listing.{fastforward};
+ghost use Rattle.fastforward.specs.Listing.{listing, fastforward};
 ghost use Rattle.poll_close.specs.Means.{AllMean};
 
 use hart::status::Status;
@@ -22,7 +21,7 @@ const SENDER: [u32; 15] = [
 /// The words of the receiver's listing.
 const RECEIVER: [u32; 32] = receiver![0x00842383, 0x00740E33, 0x010E2583, 0x02058463, 0x000E2823];
 
-/// FastForward.
+/// The ring as a type that channels take. One slot is enough, and no word that is sent may be 0.
 pub struct FastForward;
 
 impl RingKind for FastForward {

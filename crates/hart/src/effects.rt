@@ -116,7 +116,7 @@ fn extended(op: LoadOp, read: u32) -> u32
     }
 }
 
-/// Whether a conditional branch is taken.
+/// Whether a conditional branch is taken, where `left` is the word of rs1 and `right` that of rs2.
 pub(crate) fn is_taken(op: BranchOp, left: u32, right: u32) -> bool
     ensures { result ≡ is_taken op left right }
 {
@@ -130,7 +130,7 @@ pub(crate) fn is_taken(op: BranchOp, left: u32, right: u32) -> bool
     }
 }
 
-/// The register's word.
+/// The register's word. x0 is no case of its own, since a hart keeps 0 there.
 pub(crate) fn read(registers: &[u32; 32], register: Reg) -> u32
     ensures { result ≡ read registers.now register }
 {

@@ -5,8 +5,7 @@
 #![tactic(auto)]
 
 ghost use Rattle.poll_close.specs.Listing.{lines_of};
-ghost use Rattle.lamport_ring.specs.Listing.{listing};
-ghost use Rattle.lamport_ring.specs.Listing.{lamport};
+ghost use Rattle.lamport_ring.specs.Listing.{listing, lamport};
 ghost use Rattle.poll_close.specs.Means.{AllMean};
 
 use hart::status::Status;
@@ -23,7 +22,7 @@ const SENDER: [u32; 17] = [
 /// The words of the receiver's listing.
 const RECEIVER: [u32; 32] = receiver![0x00042303, 0x00842383, 0x02730663, 0x00740E33, 0x010E2583];
 
-/// Lamport's ring.
+/// The ring as a type that channels take. It needs two slots at least, since one stays free.
 pub struct Lamport;
 
 impl RingKind for Lamport {

@@ -75,7 +75,6 @@ fn add_negations(steps: &mut Vec<Step>, negations: usize)
     }
 }
 
-/// The innermost of the groups around, if there is one.
 fn innermost(around: &[Frame]) -> Option<Frame>
     ensures value { result ≡ slice_get around.now (length around.now - 1) }
     ensures some { IsSome result → 0 < length around.now }
@@ -245,7 +244,6 @@ impl Builder {
         self.has_operand && self.around.is_empty()
     }
 
-    /// The steps of the condition.
     pub(crate) fn into_steps(self) -> Vec<Step>
         requires { IsWithin (length self.steps) self.here }
         ensures { result.items ≡ all_closed self.here self.steps }

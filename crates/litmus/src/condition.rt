@@ -28,7 +28,6 @@ impl Model for Condition {
 }
 
 impl Condition {
-    /// The condition of these steps.
     pub(crate) fn of_steps(steps: Vec<Step>) -> Condition
         requires { steps_of (formula_of steps.items) ≡ steps.items }
         ensures { result ≡ formula_of steps.items }

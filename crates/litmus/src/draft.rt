@@ -13,7 +13,7 @@ use std::alloc::{AllocError, AllocFailed, Global};
 use std::marker::Model;
 use thiserror::Error;
 
-/// Why there is no condition.
+/// Why a draft doesn't take a symbol, or why its symbols make no condition.
 #[derive(Clone, Copy, Debug, PartialEq, Eq, Error)]
 pub enum ConditionError {
     #[error("no memory")]

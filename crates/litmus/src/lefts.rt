@@ -10,7 +10,7 @@ ghost use Rattle.step_machine.specs.declared.opening.TheConstants.{MAX_HARTS};
 use crate::symbols::{Place, Step};
 use std::alloc::{AllocError, Global};
 
-/// How many registers all harts have.
+/// 32 registers for each of 64 harts.
 const REGISTERS: usize = 2048;
 
 /// How many places there are: the registers, and the words of all locations.
@@ -57,7 +57,6 @@ fn add_step(places: &mut Vec<Place>, seen: &mut Vec<bool>, step: Step) -> Result
     }
 }
 
-/// A table in which no place was seen.
 fn none_seen(alloc: Global) -> Result<Vec<bool>, AllocError>
     ensures { IfOk result (λ seen. seen.items ≡ replicate 3072 false) }
 {

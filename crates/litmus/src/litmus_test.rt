@@ -12,7 +12,7 @@ use std::alloc::{AllocError, Global};
 use std::marker::Model;
 use step_machine::{HartOpening, MachineState, Opening};
 
-/// How many locations a test may have.
+/// How many locations a test may have. A memory of as many words has room for every test.
 pub const MAX_LOCATIONS: usize = 1024;
 
 /// A litmus test. The word of location i stands at address 4 i.
@@ -84,7 +84,7 @@ impl Test {
         self.opening.copy(alloc)
     }
 
-    /// Whether the test asks by `exists`.
+    /// Whether the test asks by `exists`: one outcome that holds answers it then, and else one that fails.
     pub fn by_exists(&self) -> bool
         ensures { IsTrue result ↔ (self.now.quantifier ≡ Exists) }
     {
@@ -99,7 +99,7 @@ impl Test {
         &self.lefts
     }
 
-    /// The name of the location at an address.
+    /// The name of the location in whose word the byte at this address is.
     pub fn name(&self, address: u32) -> &str
         requires { address < 4 * length self.now.names }
         ensures { result.now ≡ slice_index_or self.now.names (address / 4) [] }

@@ -53,6 +53,6 @@ pub record IsContent (text : List ℕ) (content : Content) : Type 0 where
 abbrev pub HasPlainCode : HartOpeningValue → Type 0
 HasPlainCode hart = IsPlainCode hart.code
 
--- the text's test
+-- the test has the content for which the text stands, and the plain word of each instruction
 unfoldable pub IsTestOf : List ℕ → LitmusTest → Type 0
 IsTestOf text test = IsContent text (content_of test) × All HasPlainCode test.opening.harts

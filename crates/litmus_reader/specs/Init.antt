@@ -42,7 +42,7 @@ target_resolved names (at_location name) = do
   found ← resolved names name
   Ok (Word found.0, found.1)
 
--- the items with one more
+-- the items with one more; a piece that is no item is `BadInit`
 unfoldable pub item_added : InitItems → Option Equation → Result InitItems LitmusFault
 item_added so_far None = Err BadInit
 item_added so_far (Some equation) = do
@@ -60,7 +60,7 @@ pieces_added so_far (piece ∷ pieces) = do
   more ← piece_added so_far piece
   pieces_added more pieces
 
--- the items of a text
+-- the items of a text, which `;` (59) parts
 unfoldable pub items_at : List ℕ → Result InitItems LitmusFault
 items_at text = pieces_added no_items (pieces (Byte 59) text)
 

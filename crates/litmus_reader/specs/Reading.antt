@@ -83,6 +83,6 @@ content_at text = do
   rest ← after_init (after (is_byte 125) inner)
   content_after settings rest
 
--- the test in a text
+-- the test in a text, or the first fault in reading order
 unfoldable pub test_at : List ℕ → Result Content LitmusFault
 test_at text = content_at (cleaned_text text)

@@ -28,7 +28,8 @@ as_instr result = map_err (λ refusal. BadInstr) result
 abbrev pub in_limit : Column → Result Column LitmusFault
 in_limit column = if nat_lt MAX_CODE (words_of column) then Err TooMany else Ok column
 
--- a column with one more cell
+-- a column with one more cell; one that is no statement is `BadInstr`, and one with which the code is too
+-- long `TooMany`
 unfoldable pub cell_added : Column → List ℕ → Result Column LitmusFault
 cell_added column cell = do
   more ← as_instr (drafted column cell)

@@ -28,7 +28,7 @@ use litmus_tokens::{Front, Setting, Spot, Token, first_token};
 use std::alloc::Global;
 use texts::cutting::without_front;
 
-/// A condition's quantifier, and what follows it.
+/// A condition's quantifier. `tokens` is the text after it, of which nothing is read yet.
 #[derive(Clone, Copy)]
 pub struct Quantified<'a> {
     quantifier: Quantifier,
@@ -124,7 +124,7 @@ fn token_of(
     }
 }
 
-/// Adds a symbol to the condition.
+/// Adds a symbol. Where it may not stand, `BadCondition` is met with `left` bytes left.
 fn push(draft: &mut ConditionDraft, token: Symbol, left: usize) -> Result<(), Refusal>
     ensures { GivesUpToMemory fault_in (λ _. draft.new) result (as_condition (symbol_added draft.old token)) }
 {
@@ -164,7 +164,7 @@ fn read_tokens(
     }
 }
 
-/// The condition of the symbols.
+/// The condition of the symbols. Where one is missing, `BadCondition` is met at the text's end.
 fn finish(draft: ConditionDraft) -> Result<Condition, Refusal>
     ensures place { IfErr result (λ refusal. refusal ≡ Refused (record { fault = BadCondition; left = 0 })) }
     ensures exact { GivesUpToMemory fault_in (λ (f : Formula). f) result (as_condition (finished draft)) }

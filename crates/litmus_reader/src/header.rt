@@ -35,7 +35,8 @@ fn is_header(line: &[u8]) -> bool
     line.starts_with(b"RISCV") && has_name(&line[5..])
 }
 
-/// What follows the header line.
+/// What follows the header line. `NoHeader` comes where the first line that isn't blank is none, and at the end of
+/// a text that is all blank.
 #[tactic(auto, unfolding(crate::specs::Header::after_header))]
 pub fn after_header(text: &[u8]) -> Result<&[u8], Refusal>
     ensures exact { GivesUpToMemory fault_in (λ rest. rest.now) result (header_at text.now) }
@@ -51,7 +52,6 @@ pub fn after_header(text: &[u8]) -> Result<&[u8], Refusal>
     Ok(rest.unwrap_or(b""))
 }
 
-/// The bytes after the first one.
 fn after_first(text: &[u8]) -> &[u8]
     ensures { result.now ≡ drop 1 text.now }
 {

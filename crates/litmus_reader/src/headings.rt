@@ -22,13 +22,12 @@ use texts::pieces::first_piece;
 /// What stands at the head and at the foot of a test's pictures.
 #[derive(Drop)]
 pub struct Heading {
-    /// The test's name.
+    /// The second token of the header line, after `RISCV`.
     pub name: Vec<u8>,
     /// The condition with its quantifier, in one line: without comments, with one space between words.
     pub condition: Vec<u8>,
 }
 
-/// The second token of a line, or nothing.
 fn second_token(line: &[u8]) -> &[u8]
     ensures { result.now ≡ slice_index_or (tokens line.now) 1 [] }
 {

@@ -58,7 +58,6 @@ fn target_of(locations: &mut Locations, spot: Spot<'_>, left: usize) -> Result<T
 }
 
 impl Init {
-    /// No item yet.
     fn new(alloc: Global) -> Init
         ensures { items_of result ≡ no_items }
     {

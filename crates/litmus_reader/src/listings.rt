@@ -29,10 +29,10 @@ use texts::Separators;
 use texts::cutting::{cut_at, without_front};
 use texts::pieces::first_piece;
 
-/// A cell of the table.
+/// What a cell adds to its hart's code. A cell that is empty or names a hart adds nothing.
 #[derive(Drop)]
 pub struct ListedCell {
-    /// The label that it defines.
+    /// The name of the label that it defines, without the colon.
     pub label: Option<Vec<u8>>,
     /// How many words its statement makes.
     pub words: usize,
@@ -49,7 +49,8 @@ impl Model for ListedCell {
     ghost view = { λ cell. record { label = option_map (λ (name : Vec ℕ). name.items) cell.label; words = cell.words } };
 }
 
-/// A row of the table.
+/// A row of the table, which no blank line is. In a test each row has a cell for each hart, and the first row
+/// names them.
 #[derive(Drop)]
 pub struct ListedRow {
     /// The line of the text on which it stands, counted from 1.
@@ -65,7 +66,6 @@ impl Model for ListedRow {
     ghost view = { λ row. record { line = row.line; cells = row.cells.items } };
 }
 
-/// The first bytes of a text.
 fn front(text: &[u8], bytes: usize) -> &[u8]
     ensures { result.now ≡ take bytes text.now }
 {
@@ -76,7 +76,6 @@ fn front(text: &[u8], bytes: usize) -> &[u8]
     }
 }
 
-/// What follows these bytes of a text.
 fn following(text: &[u8], bytes: usize) -> &[u8]
     ensures { result.now ≡ drop bytes text.now }
 {
@@ -96,7 +95,7 @@ fn ends_in(text: &[u8], bytes: usize) -> usize
     lines_in(front(text, bytes))
 }
 
-/// How many words the statement in a cell makes.
+/// How many words the statement in a cell makes: none where it is refused or missing.
 fn words_in(alloc: Global, cell: &[u8]) -> Result<usize, AllocError>
     ensures { IfOk result (λ words. words ≡ words_made (drafted [] cell.now)) }
 {

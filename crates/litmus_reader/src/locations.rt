@@ -43,7 +43,7 @@ impl Model for Locations {
 }
 
 impl Locations {
-    /// No location yet.
+    /// Begins with no location. The names will take their memory from `alloc`.
     pub fn new(alloc: Global) -> Locations
         ensures { result ≡ [] }
     {
@@ -52,7 +52,7 @@ impl Locations {
         }
     }
 
-    /// How many there are so far.
+    /// How many there are so far, which is the index of the next new one.
     pub fn count(&self) -> usize
         ensures count { result ≡ length self.now }
         ensures few { result ≤ MAX_LOCATIONS }
@@ -60,7 +60,6 @@ impl Locations {
         self.names.len()
     }
 
-    /// The place of the name among the others, if it is one of them.
     fn find(&self, name: &[u8]) -> Option<usize>
         ensures found { result ≡ index_from 0 self.now name.now }
         ensures small { IfSome result (λ index. index < MAX_LOCATIONS) }

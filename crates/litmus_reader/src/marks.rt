@@ -19,14 +19,12 @@ pub enum Mark {
     Unread,
 }
 
-/// Whether the line begins with a word of a part that isn't read.
 fn begins_unread(line: &[u8]) -> bool
     ensures { result ≡ is_unread line.now }
 {
     line.starts_with(b"locations") || line.starts_with(b"filter")
 }
 
-/// Whether the line begins with a word of the condition.
 fn begins_condition(line: &[u8]) -> bool
     ensures { result ≡ is_condition line.now }
 {
@@ -68,7 +66,6 @@ impl Mark {
     }
 }
 
-/// The place of the first LF.
 fn line_feed_in(text: &[u8]) -> Option<usize>
     ensures { result ≡ position is_line_feed text.now }
 {

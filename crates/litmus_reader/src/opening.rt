@@ -79,7 +79,7 @@ pub fn values_of(
     Ok(values)
 }
 
-/// The words with zeros for `more` more.
+/// Appends `more` zeros, with which those locations open that the condition alone names.
 pub fn pad(words: &mut Vec<u32>, more: usize) -> Result<(), AllocError>
     requires { vec_len words.old + more ≤ MAX_LOCATIONS }
     ensures padded { OnOk result (words.new.items ≡ words.old.items ++ replicate more 0) }

@@ -28,7 +28,6 @@ use litmus_tokens::cleaned;
 use std::alloc::{AllocError, Global};
 use texts::cutting::cut_at;
 
-/// The test of these parts.
 fn assemble(
     alloc: Global,
     codes: Vec<Vec<u32>>,

@@ -16,7 +16,7 @@ use step_machine::opening::MAX_HARTS;
 use texts::cutting::{cut_at, trimmed, without_front};
 use texts::{Separators, first_piece};
 
-/// Whether the line is nothing but blanks.
+/// Whether the line is empty, or spaces and tabs alone.
 pub fn is_blank_line(line: &[u8]) -> bool
     ensures { result ≡ is_blank_line line.now }
 {
@@ -36,7 +36,6 @@ pub fn row_in(line: &[u8]) -> Option<&[u8]>
     }
 }
 
-/// How many bars the row has.
 fn count_bars(row: &[u8]) -> usize
     ensures count { result ≡ count_by (is_byte 124) row.now }
     ensures few { result ≤ length row.now }
@@ -44,7 +43,7 @@ fn count_bars(row: &[u8]) -> usize
     row.iter().filter(|byte| **byte == b'|').count()
 }
 
-/// How many cells the row has.
+/// How many cells the row has: one more than it has `|`, so an empty row has one.
 pub fn count_cells(row: &[u8]) -> usize
     ensures count { result ≡ length (cells_of row.now) }
     ensures some { 1 ≤ result }
@@ -52,7 +51,7 @@ pub fn count_cells(row: &[u8]) -> usize
     count_bars(row) + 1
 }
 
-/// Whether the cell names this hart.
+/// Whether the cell is `P` and the hart's number, with nothing but blanks round them.
 fn names_hart(alloc: Global, cell: &[u8], hart: usize) -> Result<bool, AllocError>
     ensures { IfOk result (λ named. named ≡ names_hart hart cell.now) }
 {

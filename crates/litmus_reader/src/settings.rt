@@ -11,7 +11,7 @@ use crate::locations::Locations;
 use crate::refusals::Refusal;
 use litmus_tokens::Worth;
 
-/// The address of the location with this index.
+/// The address of the location's word in bytes, which is 4 times the index.
 pub fn address_of(index: usize) -> u32
     requires { index < MAX_LOCATIONS }
     ensures { result ≡ 4 * index }

@@ -12,7 +12,7 @@ fn begins_name(byte: u8) -> bool
     byte.is_ascii_alphabetic() || byte == b'_'
 }
 
-/// Whether the byte may stand in a name.
+/// Whether the byte may stand in a name after its first one: a letter, a digit or `_`.
 pub fn goes_on_name(byte: u8) -> bool
     ensures { result ≡ goes_on_name byte }
 {

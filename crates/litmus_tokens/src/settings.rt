@@ -25,13 +25,13 @@ pub enum Spot<'a> {
 /// What is put there.
 #[derive(Clone, Copy, Debug, PartialEq, Eq)]
 pub enum Worth<'a> {
-    /// A word.
+    /// This number, taken modulo 2^32.
     Number(u32),
     /// The address of the location of this name.
     Address(&'a [u8]),
 }
 
-/// A value that is put somewhere.
+/// A value, and where init puts it or a condition asks for it.
 #[derive(Clone, Copy, Debug, PartialEq, Eq)]
 pub struct Setting<'a> {
     pub spot: Spot<'a>,

@@ -11,7 +11,7 @@ use crate::settings::{Setting, setting_in};
 use texts::Separators;
 use texts::cutting::without_leading;
 
-/// A token of a condition.
+/// A token of a condition. A whole atom, such as `0:x5=1`, is one.
 #[derive(Clone, Copy, Debug, PartialEq, Eq)]
 pub enum Token<'a> {
     /// An atom: this holds in the final state.

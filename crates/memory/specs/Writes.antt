@@ -51,7 +51,6 @@ abbrev pub overlaid : ℕ → ℕ → List Write → ℕ
 overlaid a word [] = word
 overlaid a word (w ∷ ws) = overlaid a (if w.addr / 4 == a / 4 then over w word else word) ws
 
--- a write of a whole word
 pub record IsWholeWord (w : Write) : Type 0 where
   pub whole : w.width ≡ 4
   pub aligned : w.addr % 4 ≡ 0

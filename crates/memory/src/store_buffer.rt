@@ -37,7 +37,7 @@ impl<const B: usize> StoreBuffer<B> {
         }
     }
 
-    /// How many stores are pending.
+    /// How many stores are pending, at most `B`.
     pub fn len(&self) -> usize
         ensures value { result ≡ length self.now }
         ensures within { length self.now ≤ B }
@@ -45,7 +45,7 @@ impl<const B: usize> StoreBuffer<B> {
         self.stores.len()
     }
 
-    /// Whether no store is pending.
+    /// Whether no store is pending, so that the hart reads what memory has.
     pub fn is_empty(&self) -> bool
         ensures { result ≡ (length self.now == 0) }
     {

@@ -41,7 +41,6 @@ breach_text (breach.ExchangedOutside h a) = outside_text h (codes "exchanged") a
 abbrev pub breach_line : Breach → List ℕ
 breach_line found = breach_text found ++ 10 ∷ []
 
--- the line of a sender with this many words
 abbrev pub sender_line : (sender : ℕ) → Total → (words : ℕ) → List ℕ
 sender_line i total words =
     codes "sender " ++ decimal i ++ codes " took at most " ++ decimal total.most ++ codes " of " ++ decimal words ++ codes " words, closed in "

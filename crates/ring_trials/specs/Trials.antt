@@ -112,7 +112,7 @@ pub record IsFirstUnclean (s : Source) (number : ℕ) (breach : Breach) : Type 0
   pub run : IsRunOf s number history
   pub breaks : first_breach (layout_from s.own) (lists_of s.own) history.entries ≡ Some breach
 
--- all runs are clean, with these totals
+-- all runs are clean, and each sender has its total
 pub record AreAllClean (s : Source) (runs : ℕ) (totals : List Total) : Type 0 where
   pub histories : List History
   pub clean : AreCleanRuns s runs histories

@@ -38,7 +38,7 @@ pub fn open_own(alloc: Global, own: &Own, m: usize) -> Result<Opening, RefusedAt
     )
 }
 
-/// How many senders there are.
+/// How many senders the channel has: one for each list.
 pub fn senders(own: &Own) -> usize
     ensures { result ≡ length (lists_of own.now) }
 {

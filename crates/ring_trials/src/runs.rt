@@ -31,13 +31,12 @@ pub struct Total {
 /// What drawn runs of a channel came to.
 #[derive(Drop)]
 pub enum Found {
-    /// All are clean.
+    /// All are clean, and these are the totals, one for each sender.
     Clean(Vec<Total>),
     /// The run of this number is the first one that isn't, and this is its first breach.
     Unclean { number: u32, breach: Breach },
 }
 
-/// The totals of no run.
 pub(crate) fn no_totals(alloc: Global, senders: usize) -> Result<Vec<Total>, AllocError>
     ensures totals { IfOk result (λ totals. AreTotals [] totals.items) }
     ensures count { IfOk result (λ totals. length totals.items ≡ senders) }

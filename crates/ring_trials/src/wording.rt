@@ -29,7 +29,6 @@ fn push_outside(out: &mut String, hart: u32, did: &str, addr: u32) -> Result<(),
     )
 }
 
-/// Appends what is broken, in words.
 fn push_breach(out: &mut String, breach: Breach) -> Result<(), AllocError>
     ensures { OnOk result (string_bytes out.new ≡ string_bytes out.old ++ breach_text breach) }
 {
@@ -65,7 +64,6 @@ fn push_breach(out: &mut String, breach: Breach) -> Result<(), AllocError>
     }
 }
 
-/// Appends the line of a breach.
 fn push_breach_line(out: &mut String, breach: Breach) -> Result<(), AllocError>
     ensures { OnOk result (string_bytes out.new ≡ string_bytes out.old ++ breach_line breach) }
 {

@@ -1,4 +1,4 @@
-//! The calls.
+//! A test's run made short, given as a machine that stands at its end or as a schedule.
 
 ghost use Rattle.std.specs.Prelude.{◌≡◌, ◌≤◌, List, length, IfOk, IfErr};
 ghost use Rattle.step_machine.specs.Runs.{Run};

@@ -28,7 +28,7 @@ fn push_word(out: &mut Vec<u8>, word: u32) -> Result<(), AllocError>
     ])
 }
 
-/// Appends the words' bytes.
+/// Appends the words' bytes: one for a word below 128, and for any other five, all but the last from 128 on.
 pub fn push_bytes(out: &mut Vec<u8>, words: &[u32]) -> Result<(), AllocError>
     ensures bytes { OnOk result (out.new.items ≡ out.old.items ++ bytes_of words.now) }
     ensures back { OnOk result (words_in (bytes_of words.now) ≡ words.now) }

@@ -1,4 +1,4 @@
-//! Numbered states.
+//! Numbers of states, in the order in which they are met first.
 
 ghost use Rattle.std.specs.Prelude.{◌≡◌, ◌+◌, ◌<◌, ◌≤◌, [], length, IfOk, OnOk, OnErr, All};
 ghost use Rattle.states.specs.inner.Compact.{bytes_of, words_in, IsCompact};
@@ -64,7 +64,7 @@ impl<const B: usize, const M: usize> States<B, M> {
         })
     }
 
-    /// How many are numbered.
+    /// How many are numbered, which is the number of the next new one.
     pub fn len(&self) -> usize
         ensures { result ≡ length self.now }
     {

@@ -121,7 +121,7 @@ opening_byte o a = byte_of o.words a
 abbrev pub memory_byte : OpeningValue → List Entry → ℕ → ℕ
 memory_byte o es a = unwrap_or (newest_of a None (landed es)) (opening_byte o a)
 
--- the word of memory at an address
+-- the word of memory at an address: its four bytes from there on, the lowest first
 abbrev pub memory_word : OpeningValue → List Entry → ℕ → ℕ
 memory_word o es a = joined (λ i. memory_byte o es (a + i)) 4
 

@@ -29,7 +29,6 @@ LegalAfter B o before (e ∷ es) = Allowed B o before e × LegalAfter B o (befor
 abbrev pub Legal : ℕ → History → Type 0
 Legal B t = LegalAfter B t.opening [] t.entries
 
--- the entry is of one of the opening's harts
 abbrev pub IsOfHarts : OpeningValue → Entry → Type 0
 IsOfHarts o e = hart_of e < length o.harts
 

@@ -18,7 +18,7 @@ abbrev pub AllWriteWords : List Entry → Type 0
 AllWriteWords [] = Unit {0}
 AllWriteWords (e ∷ es) = WritesWord (access_of e) × AllWriteWords es
 
--- the opening's words are words
+-- each word of the opening has 32 bits at most
 abbrev pub OpensWithWords : OpeningValue → Type 0
 OpensWithWords o = (i : ℕ) → slice_index o.words i < 2 ^ 32
 

@@ -137,7 +137,7 @@ impl Entry {
         )
     }
 
-    /// Whether a store landed.
+    /// Whether it is a landing. An AMO, which writes memory too, is none.
     pub fn is_land(self) -> bool
         ensures { result ≡ is_land self }
     {
@@ -152,7 +152,7 @@ pub enum Outcome {
     Did(Entry),
     /// The hart has to wait: for its store buffer to be empty, or for room in it.
     Waited,
-    /// The hart has no pending store.
+    /// The event is a landing, and the hart has no pending store but still goes on.
     NothingToLand,
     /// The hart has ended or stopped (and, for a landing, has no pending store).
     Over,

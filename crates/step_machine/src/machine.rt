@@ -216,7 +216,7 @@ impl<const B: usize, const M: usize> Machine<B, M> {
         self.opening.harts.len() as u32
     }
 
-    /// Whether the hart goes on.
+    /// Whether the hart goes on, has ended, or has stopped and why.
     pub fn status(&self, hart: u32) -> Status
         requires { hart < length self.now.history.opening.harts }
         ensures { IsStatus M self.now.history hart result }

@@ -10,7 +10,7 @@ use rv_decode::instruction::MAX_CODE;
 use std::alloc::{AllocError, Global};
 use std::marker::Model;
 
-/// How many harts a machine may have.
+/// How many harts a machine may have. It has one at least.
 pub const MAX_HARTS: usize = 64;
 
 /// One hart's beginning: its instruction words, its registers and the words it will be given.
@@ -46,7 +46,7 @@ impl Model for Opening {
 }
 
 impl HartOpening {
-    /// A copy of this beginning.
+    /// A copy, whose code and inbox take their memory from `alloc`.
     pub fn copy(&self, alloc: Global) -> Result<HartOpening, AllocError>
         ensures { IfOk result (λ o. o ≡ self.now) }
     {
@@ -73,7 +73,7 @@ impl Opening {
         some && short && self.words.len() <= words
     }
 
-    /// A copy of this beginning.
+    /// A copy, whose harts and words take their memory from `alloc`.
     pub fn copy(&self, alloc: Global) -> Result<Opening, AllocError>
         ensures { IfOk result (λ o. o ≡ self.now) }
     {

@@ -156,7 +156,7 @@ impl PackedEntries {
         }
     }
 
-    /// How many entries there are.
+    /// How many entries there are, counting each of a row.
     pub fn len(&self) -> usize
         ensures { result ≡ length self.now.entries }
     {

@@ -74,7 +74,7 @@ impl<const B: usize, const M: usize> MachineState<B, M> {
         self.count().min(MAX_HARTS) as u32
     }
 
-    /// Whether the hart goes on.
+    /// Whether the hart goes on, has ended, or has stopped and why.
     pub fn status(&self, hart: u32) -> Status
         requires { hart < length self.now.harts }
         ensures { ForEachHistory B M self.now (λ t. IsStatus M t hart result) }

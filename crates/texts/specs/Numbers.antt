@@ -53,7 +53,7 @@ number_of digits = capped_value 10 digits
 abbrev pub hex_number_of : List ℕ → Option ℕ
 hex_number_of digits = capped_value 16 digits
 
--- a number below the cap
+-- the number, where it is below the cap of 2 ^ 32
 abbrev pub below_cap_of : Option ℕ → Option ℕ
 below_cap_of None = None
 below_cap_of (Some n) = if nat_lt n (2 ^ 32) then Some n else None

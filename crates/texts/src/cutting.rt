@@ -8,7 +8,6 @@ ghost use Rattle.texts.specs.Cutting.{before, after, is_byte, without_leading, w
 
 use crate::pieces::Separators;
 
-/// The place of the first separator.
 #[inline(always)]
 fn separator_in(separators: Separators, text: &[u8]) -> Option<usize>
     ensures { result ≡ position (separates separators) text.now }

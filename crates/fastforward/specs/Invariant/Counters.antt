@@ -19,7 +19,8 @@ ReceiverCounts = meaning.ReceiverCounts ℕ
 abbrev pub nulls : ReceiverCounts → ℕ
 nulls n = n.own
 
--- what has landed
+-- how many stores of each kind have landed: the sender's slots and marks, and the receiver's nulls, tails
+-- and done words
 pub record Landed : Type 0 where
   pub slots : ℕ
   pub mark : ℕ

@@ -16,7 +16,6 @@ use Rattle.recorder.specs.declared.reading.TheConstants.{MAX_EVENTS}
 use Rattle.finding.specs.declared.arrivals.Arrival.{Arrival}
 use Rattle.finding.specs.declared.searching.Searched.{Searched}
 
--- the event of an arrival
 abbrev pub event_of : Arrival → Event
 event_of arrival = if arrival.lands then Land arrival.hart else Act arrival.hart
 

@@ -17,7 +17,8 @@ pub record Sent : Type 0 where
 abbrev pub ReceiverCounts : Type 0
 ReceiverCounts = meaning.ReceiverCounts (Unit {0})
 
--- what has landed
+-- how many stores of each kind have landed: the sender's slots, heads and marks, and the receiver's tails
+-- and done words
 pub record Landed : Type 0 where
   pub slots : ℕ
   pub heads : ℕ
@@ -65,7 +66,8 @@ pub record CounterInvariant (k : Block) (n : Counters) : Type 0 where
   pub done_all : 0 < n.receiver.done → n.receiver.tails ≡ length k.list
   pub all_landed : 0 < n.landed.done → n.landed.tails ≡ length k.list
 
--- the words of the block in memory
+-- the words of the block in memory: its slots hold the words that landed and that no tail in memory has
+-- passed
 pub record Words (k : Block) (n : Landed) (word : ℕ → ℕ) : Type 0 where
   pub head : word k.base ≡ offset k n.heads
   pub mark : word (k.base + 4) ≡ n.mark

@@ -36,6 +36,6 @@ pub record IsTallyFrom (source : Source) (first end : ℕ) (tally : Tally) : Typ
   pub are : AreRunsFrom source first (end - first) trials
   pub tallied : IsTallyOf trials tally
 
--- the tally of a job's runs
+-- the tally of a job's runs, which end where those of the next job begin
 abbrev pub IsTallyOfJob : Source → (runs jobs job : ℕ) → Tally → Type 0
 IsTallyOfJob source runs jobs job tally = IsTallyFrom source (first_of runs jobs job) (first_of runs jobs (job + 1)) tally

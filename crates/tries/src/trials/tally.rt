@@ -22,7 +22,7 @@ use step_machine::{Event, MachineState};
 pub struct Tally {
     /// Each ends with the tokens of the first run's schedule behind a space, or with nothing where there are none.
     pub outcomes: Outcomes,
-    /// How many runs did not finish.
+    /// How many runs left a hart that hasn't ended, or a store pending. They have no outcome.
     pub unfinished: u32,
     pub some_hold: bool,
     pub some_fail: bool,
@@ -40,7 +40,7 @@ fn schedule_text(alloc: Global, events: &[Event]) -> Result<String, AllocError>
     Ok(text)
 }
 
-/// Counts one more run with this outcome.
+/// Counts one more run with this outcome, and keeps its events if it is the first.
 fn count_outcome(
     alloc: Global,
     outcomes: &mut Outcomes,
@@ -89,7 +89,7 @@ impl Tally {
         Ok(())
     }
 
-    /// Of no run.
+    /// The tally of no run, to which runs are added.
     pub fn new(alloc: Global) -> Tally
         ensures { IsTallyOf [] result }
     {
