@@ -98,14 +98,6 @@ impl From<AllocError> for ChannelFault {
     }
 }
 
-impl From<Refused> for ChannelFault {
-    ghost from_gives = { λ refused e. e ≡ Lists refused };
-
-    fn from(error: Refused) -> ChannelFault {
-        ChannelFault::Lists(error)
-    }
-}
-
 impl From<Fault> for ChannelFault {
     ghost from_gives = { λ fault e. e ≡ Threads fault };
 
