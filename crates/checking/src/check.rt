@@ -13,11 +13,12 @@ ghost use Rattle.checking.specs.inner.Reporting.{AllReported, Closes, SomeReport
 ghost use Rattle.checking.specs.inner.Tallies.{HasRoom};
 
 use crate::judging::judge;
-use crate::reading::{begins_record, hold, is_left_out, read_line};
+use crate::reading::{begins_record, hold, is_left_out};
 use crate::reports::report;
 use crate::table::table;
 use crate::tally::Tally;
 use engine_support::fault::Fault;
+use engine_support::input::read_line;
 use engine_support::litmus_text::read_test;
 use engine_support::output::end_with;
 use litmus::Test;

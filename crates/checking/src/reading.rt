@@ -1,32 +1,14 @@
 //! The text that is being read, line by line.
 
-ghost use Rattle.std.specs.Prelude.{◌≡◌, IfErr, IfSome, OnErr, OnOk};
-ghost use Rattle.std.specs.Io.BufRead.{take_through, DropsThrough};
+ghost use Rattle.std.specs.Prelude.{◌≡◌, OnErr, OnOk};
 ghost use Rattle.checking.specs.RecordTexts.{begins_record, is_left_out};
 ghost use Rattle.checking.specs.inner.Holding.{held_with};
-ghost use Rattle.engine_support.specs.inner.Failures.{IsReadFailure};
 
-use engine_support::fault::Fault;
 use engine_support::input::INPUT_BYTES;
 use recorder::{RECORD_HEAD, has_head};
 use std::alloc::AllocError;
-use std::io::{BufRead, ErrorKind};
 use texts::Separators;
 use texts::cutting::is_all;
-
-/// The next line with its end, in the place of what the vector holds; nothing where no byte is left.
-pub fn read_line<R: BufRead>(records: &mut R, line: &mut Vec<u8>) -> Result<(), Fault>
-    ensures bytes { OnOk result (IfSome (R.remaining records.old) (λ bytes. line.new.items ≡ take_through 10 bytes)) }
-    ensures rest { OnOk result (DropsThrough (R.remaining records.old) (R.remaining records.new) 10) }
-    ensures err { IfErr result IsReadFailure }
-{
-    line.clear();
-    match records.read_until(b'\n', line) {
-        Ok(_) => Ok(()),
-        Err(error) if error.kind() == ErrorKind::OutOfMemory => Err(Fault::NoMemory),
-        Err(_) => Err(Fault::ReadFailed),
-    }
-}
 
 /// Whether a record begins at this line.
 pub fn begins_record(line: &[u8]) -> bool

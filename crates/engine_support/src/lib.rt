@@ -1,4 +1,4 @@
-//! What the engines share: inputs that are read whole, a test's runs, the text of a state, and how a
+//! What the engines share: inputs that are read whole or by lines, a test's runs, the text of a state, and how a
 //! command ends.
 //!
 //! The contract: what a function here makes of its inputs is a relation between the bytes that its

@@ -30,7 +30,7 @@ returns-in_err-read_line-clause-unwritten g c =
 
 pub loop-preserved : goal.loop-preserved
 loop-preserved g c = record {
-  going = going_line c.loop.invariant.going (g.R.Read.remaining c.read_line.new.records) c.read_line.new.line.items
+  going = going_line c.loop.invariant.going (g.R.Read.remaining c.read_line.new.reader) c.read_line.new.line.items
       (c.in_ok-read_line.ensures.bytes, c.in_ok-read_line.ensures.rest) (λ none. grind arith)
       c.take_line.new.text.items c.take_line.new.tally (g.W.Write.contents c.take_line.new.writer) c.in_ok-take_line.ensures.taken;
   stands = c.in_ok-take_line.ensures.stands;
@@ -63,7 +63,7 @@ returns-in_err-close-clause-unwritten g c =
 pub returns-then-is_empty-clause-judged : goal.returns-then-is_empty-clause-judged
 returns-then-is_empty-clause-judged g c =
     let len : length c.read_line.new.line.items ≡ 0 = grind arith in
-    going_ended c.loop.invariant.going (g.R.Read.remaining c.read_line.new.records) c.read_line.new.line.items
+    going_ended c.loop.invariant.going (g.R.Read.remaining c.read_line.new.reader) c.read_line.new.line.items
     (c.in_ok-read_line.ensures.bytes, c.in_ok-read_line.ensures.rest) (no_items c.read_line.new.line.items len)
     c.close.new.tally (g.W.Write.contents c.close.new.writer) (rw c.deref.ensures.value at c.in_ok-close.ensures.closed)
 
