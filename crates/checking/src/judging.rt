@@ -16,7 +16,7 @@ use crate::event_lines::line_of_event;
 use engine_support::fault::{Fault, NOT_TEXT, Position, Refusal, TOO_LARGE};
 use engine_support::input::INPUT_BYTES;
 use litmus::{Test, Verdict};
-use recorder::read_record;
+use recorder::{are_same_outcomes, read_record};
 use std::alloc::{AllocError, Global};
 use std::str;
 use step_machine::{Event, MachineState, Outcome};
@@ -70,13 +70,6 @@ fn read_steps(alloc: Global, text: &[u8]) -> Result<Vec<(Event, Outcome)>, Fault
     }
 }
 
-/// Whether two outcomes are the same.
-fn are_same(outcome: Outcome, other: Outcome) -> bool
-    ensures { IsTrue result ↔ (outcome ≡ other) }
-{
-    outcome == other
-}
-
 /// Runs these steps from the machine's opening, whatever it did before, up to the first one whose outcome
 /// isn't the run's: its place, and the run's outcome.
 fn first_difference<const B: usize, const M: usize>(
@@ -90,7 +83,7 @@ fn first_difference<const B: usize, const M: usize>(
     for (place, step) in steps.iter().enumerate() {
         let (event, said) = *step;
         let found = machine.step(event)?;
-        if !are_same(found, said) {
+        if !are_same_outcomes(found, said) {
             return Ok(Some((place, found)));
         }
     }

@@ -39,7 +39,7 @@ pub use laws::{
 pub use outcomes::{push_entry_line, push_outcome, push_outcome_line};
 pub use reading::{MAX_EVENTS, push_tokens_of, read_plain, read_tokens};
 pub use records::{read_record, write_record};
-pub use replaying::{CheckError, replay, replay_checked};
+pub use replaying::{CheckError, are_same_outcomes, replay, replay_checked};
 pub use running::{check_record, record, replay_state};
 pub use versions::{Schedule, read_either, read_schedule};
 pub use writing::{push_tokens, write_schedule};

@@ -66,8 +66,8 @@ impl Numbered for CheckError {
     }
 }
 
-/// Whether two outcomes are the same.
-pub(crate) fn are_same_outcomes(outcome: Outcome, other: Outcome) -> bool
+/// Whether two outcomes are the same, also in each number of their entries.
+pub fn are_same_outcomes(outcome: Outcome, other: Outcome) -> bool
     ensures same { IsTrue result ↔ (outcome ≡ other) }
     ensures test { result ≡ is_same_outcome outcome other }
 {

@@ -24,17 +24,17 @@ loop-place-preserved g c = λ o from.
     let moved = c.in_ok-found.ensures.ok so_far.0 so_far.2 in (
       moved.0,
       checked_more g.row.B g.row.M (at_opening o) c.args.steps.now c.loop-place.place _ so_far.0 c.in_ok-found.found moved.0
-          c.loop-place-test.true so_far.1 moved.1 (c.are_same.ensures.0 c.if-not-are_same.false),
+          c.loop-place-test.true so_far.1 moved.1 (c.are_same_outcomes.ensures.same.0 c.if-not-are_same_outcomes.false),
       moved.2,
       opening-happens g.row.B g.row.M so_far.0 _ c.in_ok-found.found moved.0 moved.1 ∙ so_far.3,
     )
 
-pub returns-then-not-are_same-clause-follows : goal.returns-then-not-are_same-clause-follows
-returns-then-not-are_same-clause-follows g c = λ o from.
+pub returns-then-not-are_same_outcomes-clause-follows : goal.returns-then-not-are_same_outcomes-clause-follows
+returns-then-not-are_same_outcomes-clause-follows g c = λ o from.
     let so_far = c.loop-place.invariant o from in
     let moved = c.in_ok-found.ensures.ok so_far.0 so_far.2 in
     let here = differing_here g.row.B g.row.M o c.args.steps.now c.loop-place.place _ so_far.0 c.in_ok-found.found moved.0
-    c.loop-place-test.true so_far.1 moved.1 (λ same. true≢false (sym (c.are_same.ensures.1 same) ∙ c.if-not-are_same.true)) in
+    c.loop-place-test.true so_far.1 moved.1 (λ same. true≢false (sym (c.are_same_outcomes.ensures.same.1 same) ∙ c.if-not-are_same_outcomes.true)) in
     (here.0, here.1, (moved.0, moved.2, opening-happens g.row.B g.row.M so_far.0 _ c.in_ok-found.found moved.0 moved.1 ∙ so_far.3))
 
 pub returns-clause-follows : goal.returns-clause-follows
