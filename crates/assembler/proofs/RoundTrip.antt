@@ -34,14 +34,14 @@ use Rattle.assembler.proofs.ReadAgain.{register_spelled, set_spelled, signed_spe
 use Rattle.assembler.proofs.ReadAgain.{address_spelled, pointer_spelled, signed_none, signed_some}
 
 -- a text that parts no line
-pub record IsWord (xs : List ℕ) : Type 0 where
+pub record PartsNoLine (xs : List ℕ) : Type 0 where
   pub blanks : NonePass is_blank xs
   pub feeds : NonePass (is_byte 10) xs
   pub hashes : NonePass (is_byte 35) xs
   pub colons : NonePass (is_byte 58) xs
   pub some : 0 < length xs
 
-word-append : (xs ys : List ℕ) → IsWord xs → IsWord ys → IsWord (xs ++ ys)
+word-append : (xs ys : List ℕ) → PartsNoLine xs → PartsNoLine ys → PartsNoLine (xs ++ ys)
 word-append xs ys h k = record {
   blanks = none-append is_blank xs ys h.blanks k.blanks;
   feeds = none-append (is_byte 10) xs ys h.feeds k.feeds;
@@ -54,7 +54,7 @@ word-append xs ys h k = record {
     long [] some = absurd (omega arith)
     long (z ∷ zs) some = omega arith
 
-decimal_word : (n : ℕ) → n < 2 ^ 64 → IsWord (decimal n)
+decimal_word : (n : ℕ) → n < 2 ^ 64 → PartsNoLine (decimal n)
 decimal_word n fits = record {
   blanks = decimal_none is_blank (λ d lt. digit_no_blank d) n fits;
   feeds = decimal_none (is_byte 10) (λ d lt. not_low_byte 10 d (omega arith)) n fits;
@@ -63,13 +63,13 @@ decimal_word n fits = record {
   some = decimal_nonempty n fits;
 }
 
-x_word : IsWord (120 ∷ [])
+x_word : PartsNoLine (120 ∷ [])
 x_word = record { blanks = (refl, tt); feeds = (refl, tt); hashes = (refl, tt); colons = (refl, tt); some = omega arith }
 
-comma_word : IsWord (44 ∷ [])
+comma_word : PartsNoLine (44 ∷ [])
 comma_word = record { blanks = (refl, tt); feeds = (refl, tt); hashes = (refl, tt); colons = (refl, tt); some = omega arith }
 
-register_word : (r : Reg) → IsWord (register_text r)
+register_word : (r : Reg) → PartsNoLine (register_text r)
 register_word r = word-append (120 ∷ []) (decimal r.number) x_word (decimal_word r.number (omega arith))
 
 register_operand : (r : Reg) → IsOperand (register_text r)
@@ -81,7 +81,7 @@ some_ops : (ops : List ℕ) → 0 < length ops → some_text ops ≡ Some ops
 some_ops ops some = rw (ne_eqb (length ops) 0 (omega arith)) refl
 
 -- what the statement makes is what the mnemonic's form makes of the operands
-made_text : (name ops : List ℕ) → IsWord name → IsWord ops → made_in (name ++ 32 ∷ ops) ≡ made_for (form_named name) (between_commas (Some ops))
+made_text : (name ops : List ℕ) → PartsNoLine name → PartsNoLine ops → made_in (name ++ 32 ∷ ops) ≡ made_for (form_named name) (between_commas (Some ops))
 unfolding made_in
 made_text name ops h k =
     rw (
@@ -103,7 +103,7 @@ assembled-one : (text : List ℕ) (i : Instr) → 0 < length text → NonePass (
 unfolding assembled drafted line_below label_of statement_text finished
 assembled-one text i some feeds hashes colons same made = grind (arith, before-none, after-none, one_line)
 
-assembled-text : (name ops : List ℕ) (i : Instr) → IsWord name → IsWord ops
+assembled-text : (name ops : List ℕ) (i : Instr) → PartsNoLine name → PartsNoLine ops
     → made_for (form_named name) (between_commas (Some ops)) ≡ Ok (Some (one i))
     → assembled (name ++ 32 ∷ ops) ≡ Ok (Some i ∷ [])
 assembled-text name ops i h k made = assembled-one (name ++ 32 ∷ ops) i (long name)
@@ -127,33 +127,33 @@ plain_none : (xs : List ℕ) → list_all is_plain xs ≡ true → NonePass is_b
 plain_none [] e = (tt, tt, tt, tt)
 plain_none (x ∷ xs) e = grind (arith, and_parts, is_plain, plain_split, plain_none xs)
 
-word_of_test : (xs : List ℕ) → is_word xs ≡ true → IsWord xs
+word_of_test : (xs : List ℕ) → is_word xs ≡ true → PartsNoLine xs
 word_of_test xs e =
     let both = and_parts (nat_lt 0 (length xs)) (list_all is_plain xs) e in
     let plain = plain_none xs both.1 in
     record { blanks = plain.0; feeds = plain.1; hashes = plain.2; colons = plain.3; some = ltb-true 0 (length xs) both.0 }
 
-comma_between : (xs ys : List ℕ) → IsWord xs → IsWord ys → IsWord (xs ++ 44 ∷ ys)
+comma_between : (xs ys : List ℕ) → PartsNoLine xs → PartsNoLine ys → PartsNoLine (xs ++ 44 ∷ ys)
 comma_between xs ys h k = word-append xs (44 ∷ ys) h (word-append (44 ∷ []) ys comma_word k)
 
-made_three : (name : List ℕ) (f : Form) (a b c : List ℕ) (i : Instr) → IsNameOf name f → IsWord a → IsWord b
-    → IsWord c → IsOperand a → IsOperand b → IsOperand c → statement_of f (a ∷ b ∷ c ∷ []) ≡ Ok (one i)
+made_three : (name : List ℕ) (f : Form) (a b c : List ℕ) (i : Instr) → IsNameOf name f → PartsNoLine a → PartsNoLine b
+    → PartsNoLine c → IsOperand a → IsOperand b → IsOperand c → statement_of f (a ∷ b ∷ c ∷ []) ≡ Ok (one i)
     → assembled (with_three name a b c) ≡ Ok (Some i ∷ [])
 made_three name f a b c i named wa wb wc h k m e =
     assembled-text name (a ++ 44 ∷ (b ++ 44 ∷ c)) i (word_of_test name named.0) (comma_between a (b ++ 44 ∷ c) wa (comma_between b c wb wc))
     (rw (named.1, three_between a b c h k m, e) refl)
 
-made_two : (name : List ℕ) (f : Form) (a b : List ℕ) (i : Instr) → IsNameOf name f → IsWord a → IsWord b
+made_two : (name : List ℕ) (f : Form) (a b : List ℕ) (i : Instr) → IsNameOf name f → PartsNoLine a → PartsNoLine b
     → IsOperand a → IsOperand b → statement_of f (a ∷ b ∷ []) ≡ Ok (one i)
     → assembled (with_two name a b) ≡ Ok (Some i ∷ [])
 made_two name f a b i named wa wb h k e =
     assembled-text name (a ++ 44 ∷ b) i (word_of_test name named.0) (comma_between a b wa wb)
     (rw (named.1, two_between a b h k, e) refl)
 
-operand_of : (xs : List ℕ) → IsWord xs → NonePass (is_byte 44) xs → IsOperand xs
+operand_of : (xs : List ℕ) → PartsNoLine xs → NonePass (is_byte 44) xs → IsOperand xs
 operand_of xs h commas = record { commas = commas; blanks = h.blanks; some = h.some }
 
-signed_word : (z : ℤ) → IsSigned 31 z → IsWord (signed_decimal z)
+signed_word : (z : ℤ) → IsSigned 31 z → PartsNoLine (signed_decimal z)
 signed_word z fits = record {
   blanks = signed_none is_blank refl (λ d lt. digit_no_blank d) z fits;
   feeds = signed_none (is_byte 10) refl (λ d lt. not_low_byte 10 d (omega arith)) z fits;
@@ -171,13 +171,13 @@ signed_operand z fits = operand_of (signed_decimal z) (signed_word z fits) (sign
 decimal_operand : (n : ℕ) → n < 2 ^ 64 → IsOperand (decimal n)
 decimal_operand n fits = operand_of (decimal n) (decimal_word n fits) (decimal_none (is_byte 44) (λ d lt. not_low_byte 44 d (omega arith)) n fits)
 
-open_word : IsWord (40 ∷ [])
+open_word : PartsNoLine (40 ∷ [])
 open_word = record { blanks = (refl, tt); feeds = (refl, tt); hashes = (refl, tt); colons = (refl, tt); some = omega arith }
 
-close_word : IsWord (41 ∷ [])
+close_word : PartsNoLine (41 ∷ [])
 close_word = record { blanks = (refl, tt); feeds = (refl, tt); hashes = (refl, tt); colons = (refl, tt); some = omega arith }
 
-base_word : (r : Reg) → IsWord (40 ∷ (register_text r ++ 41 ∷ []))
+base_word : (r : Reg) → PartsNoLine (40 ∷ (register_text r ++ 41 ∷ []))
 base_word r = word-append (40 ∷ []) (register_text r ++ 41 ∷ []) open_word (word-append (register_text r) (41 ∷ []) (register_word r) close_word)
 
 base_commas : (r : Reg) → NonePass (is_byte 44) (40 ∷ (register_text r ++ 41 ∷ []))
@@ -186,7 +186,7 @@ base_commas r = (refl, none-append (is_byte 44) (register_text r) (41 ∷ []) (r
 base_operand : (r : Reg) → IsOperand (40 ∷ (register_text r ++ 41 ∷ []))
 base_operand r = operand_of (40 ∷ (register_text r ++ 41 ∷ [])) (base_word r) (base_commas r)
 
-address_word : (z : ℤ) (r : Reg) → IsSigned 31 z → IsWord (address_text z r)
+address_word : (z : ℤ) (r : Reg) → IsSigned 31 z → PartsNoLine (address_text z r)
 address_word z r fits = word-append (signed_decimal z) (40 ∷ (register_text r ++ 41 ∷ [])) (signed_word z fits) (base_word r)
 
 address_operand : (z : ℤ) (r : Reg) → IsSigned 31 z → IsOperand (address_text z r)
@@ -204,7 +204,7 @@ set_words = refl
 set_commas : all_below 16 (λ n. list_all (λ c. not (is_byte 44 c)) (set_text n)) ≡ true
 set_commas = refl
 
-set_word : (n : ℕ) → n < 16 → IsWord (set_text n)
+set_word : (n : ℕ) → n < 16 → PartsNoLine (set_text n)
 set_word n lt = word_of_test (set_text n) (below_all 16 (λ m. is_word (set_text m)) set_words n lt)
 
 set_operand : (n : ℕ) → n < 16 → IsOperand (set_text n)
@@ -230,7 +230,7 @@ alone_read name f i named e =
 
 -- ---- operands, read again
 
-read : (kind : Kind) (text : List ℕ) (x : Value kind) → IsWord text → IsSpelled kind text x → value_in kind text ≡ Ok x
+read : (kind : Kind) (text : List ℕ) (x : Value kind) → PartsNoLine text → IsSpelled kind text x → value_in kind text ≡ Ok x
 read kind text x h is = subst (λ (t : List ℕ). value_in kind t ≡ Ok x) (stripped-none is_blank text h.blanks) ((reads_kind kind).only text x is)
 
 register_read : (r : Reg) → value_in register (register_text r) ≡ Ok r

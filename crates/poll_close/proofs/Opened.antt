@@ -41,11 +41,12 @@ senders-more lists code S i harts new list h within is so_far pushed same_code s
 
 -- ---- lists that are looked through
 
-abbrev IsWord : ℕ → Type 0
-IsWord w = (w < 2 ^ 32) × (w ≢ 0)
+abbrev IsNonzeroWord : ℕ → Type 0
+IsNonzeroWord w = (w < 2 ^ 32) × (w ≢ 0)
 
 pub words_step : (ws : List ℕ) (j : ℕ) → j < length ws → slice_index ws j < 2 ^ 32 → slice_index ws j ≢ 0 → AreWords (take j ws) → AreWords (take (j + 1) ws)
-words_step ws j less small some so_far = subst AreWords (sym (take_more ws j 0 less)) (All-push IsWord (take j ws) (slice_index ws j) so_far (small, some))
+words_step ws j less small some so_far =
+    subst AreWords (sym (take_more ws j 0 less)) (All-push IsNonzeroWord (take j ws) (slice_index ws j) so_far (small, some))
 
 pub words-all : (ws : List ℕ) (n : ℕ) → length ws ≤ n → AreWords (take n ws) → AreWords ws
 words-all ws n past all = subst AreWords (take_all n ws past) all
