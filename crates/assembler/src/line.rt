@@ -24,7 +24,7 @@ pub struct Line<'a> {
     pub statement: &'a [u8],
 }
 
-/// The line's parts.
+/// The first colon ends a label where what stands before it is a name, blanks in front aside.
 #[tactic(auto, unfolding(crate::specs::Lines::label_of, crate::specs::Lines::statement_text))]
 pub fn parts(line: &[u8]) -> Line<'_>
     ensures label { option_copied result.label ≡ label_of line.now }

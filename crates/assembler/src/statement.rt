@@ -11,7 +11,6 @@ use texts::cutting::{cut_at, trimmed};
 /// What a statement makes, before the places of labels are known.
 #[derive(Clone, Copy)]
 pub enum Statement<'a> {
-    /// One instruction.
     One(Instr),
     /// Two instructions, as a number of more than 12 bits takes.
     Two(Instr, Instr),

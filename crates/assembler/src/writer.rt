@@ -98,7 +98,6 @@ fn amo_form(
     )
 }
 
-/// The text of the instruction.
 #[tactic(auto, unfolding(crate::specs::Writing::text_of))]
 fn text_of(alloc: Global, instr: &Instr) -> Result<String, AllocError>
     requires { Fits instr.now }

@@ -10,7 +10,7 @@ use std::alloc::AllocError;
 use texts::Separators;
 use texts::cutting::is_all;
 
-/// Whether a record begins at this line.
+/// A record begins at each line that is [`RECORD_HEAD`], and at no other one.
 pub fn begins_record(line: &[u8]) -> bool
     ensures { result ≡ begins_record line.now }
 {

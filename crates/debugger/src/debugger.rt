@@ -60,7 +60,7 @@ impl<const B: usize, const M: usize> Debugger<B, M> {
         })
     }
 
-    /// The session so far.
+    /// The session, which has the events of both sources.
     pub fn session(&self) -> &Session<B, M>
         ensures value { result.now ≡ self.now.past }
         ensures kept { IsKept self.now }

@@ -57,7 +57,6 @@ pub struct Refusal {
 /// Why a command failed.
 #[derive(Clone, Copy, Debug, PartialEq, Eq, Error)]
 pub enum Fault {
-    /// A reader failed.
     #[error("read failed")]
     ReadFailed,
     /// The writer failed. Nothing is said of what it had taken by then.

@@ -78,7 +78,6 @@ fn push_row(out: &mut String, test: &Test, outcome: &[u32], row: &Row) -> Result
     out.push_str("\n")
 }
 
-/// The lines of all rows.
 fn rows_text(
     alloc: Global,
     test: &Test,

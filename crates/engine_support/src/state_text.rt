@@ -57,7 +57,7 @@ fn push_word_line(out: &mut String, addr: u32, word: u32) -> Result<(), AllocErr
     writeln!(out, "word {addr} = {word}")
 }
 
-/// The lines of a hart's registers.
+/// The lines of a hart's registers that aren't 0.
 fn push_registers<const B: usize, const M: usize>(
     out: &mut String,
     machine: &MachineState<B, M>,
@@ -73,7 +73,6 @@ fn push_registers<const B: usize, const M: usize>(
     Ok(())
 }
 
-/// The lines of a hart.
 fn hart_lines<const B: usize, const M: usize>(
     alloc: Global,
     machine: &MachineState<B, M>,
@@ -111,7 +110,6 @@ pub fn push_hart<const B: usize, const M: usize>(
     out.push_str(&lines)
 }
 
-/// The lines of all harts.
 fn push_harts<const B: usize, const M: usize>(
     out: &mut String,
     machine: &MachineState<B, M>,
@@ -125,7 +123,7 @@ fn push_harts<const B: usize, const M: usize>(
     Ok(())
 }
 
-/// The lines of all words.
+/// The lines of the words that aren't 0.
 fn push_words<const B: usize, const M: usize>(
     out: &mut String,
     machine: &MachineState<B, M>,

@@ -11,7 +11,7 @@ use Rattle.poll_close.specs.Going.{AllGoOn}
 use Rattle.poll_close.specs.Touching.{AllTouch}
 use Rattle.rv_decode.specs.declared.instruction.TheConstants.{MAX_CODE}
 
--- what a ring of a kind is: its tables, its least size, and what its histories mean
+-- what a ring of a kind is: its tables and its least size
 pub record Ring : Type 0 where
   pub sender : List ℕ
   pub receiver : List ℕ

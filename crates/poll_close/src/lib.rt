@@ -1,6 +1,10 @@
-//! Channels over rings in memory: what a ring is ([`RingKind`]), how a channel opens ([`opening`]), and
-//! what it delivers ([`deliver`]): the reports of the run of its events, which are clean. This crate
-//! never looks into a machine: it stands on its histories alone.
+//! Channels over rings in memory: what a ring is ([`RingKind`]), how a channel opens ([`opening_at`]), and
+//! what it delivers ([`deliver_at`]).
+//!
+//! The contract: [`deliver_at`], which the program calls, answers exactly the reports of the run of a channel's
+//! events, at any place for its blocks that is accepted, and they are clean. [`deliver`] is its instance at the
+//! dense layout, as [`opening`] is that of [`opening_at`]. This crate never looks into a machine: it stands on its
+//! histories alone.
 
 #![tactic(auto)]
 

@@ -37,7 +37,6 @@ pub trait Finish<const B: usize, const M: usize>: RingKind {
         ensures { Decreases Self.ring Self.meaning (rank_of ranking) (next_by ranking) };
 }
 
-/// Whether this sender is reported closed.
 fn is_reported_closed(reports: &[Report], sender: usize) -> bool
     ensures { result ≡ is_closed reports.now sender }
 {

@@ -26,7 +26,6 @@ pub enum Schedule {
     Record(Vec<(Event, Outcome)>),
 }
 
-/// The events of a record.
 #[tactic(auto, using(crate::proofs::RunRecords::events_more))]
 fn events_of(alloc: Global, steps: &[(Event, Outcome)]) -> Result<Vec<Event>, AllocError>
     ensures { IfOk result (λ events. events.items ≡ events_in steps.now) }

@@ -35,7 +35,6 @@ pub(crate) fn push_token(out: &mut String, event: Event, times: usize) -> Result
     Ok(())
 }
 
-/// The tokens of the events.
 fn tokens(alloc: Global, events: &[Event]) -> Result<String, AllocError>
     ensures { IfOk result (λ text. string_bytes text ≡ tokens_of events.now) }
 {
