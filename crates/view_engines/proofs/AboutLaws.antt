@@ -1,5 +1,5 @@
 -- What is known of a run, part by part.
-use Rattle.std.proofs.Common.{◌≡◌, ℕ, List, length, map}
+use Rattle.std.proofs.Common.{◌≡◌, ℕ, length, map}
 use Rattle.step_machine.specs.History.{History}
 use Rattle.litmus.specs.declared.verdict.Verdict.{Verdict}
 use Rattle.litmus.specs.LitmusTests.{LitmusTest, left_sides}

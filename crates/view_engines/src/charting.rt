@@ -89,10 +89,8 @@ fn picture<const B: usize, const M: usize>(
     requires locations { length test.now.opening.words ≡ length test.now.names }
     ensures { AnswersAs (IsChart B M (drawing style selection) (heading_of heading.now) test.now (said_of schedule)) text_and_value result }
 {
-    match machine_of_schedule::<B, M>(alloc, test, schedule) {
-        Ok(mut machine) => picture_of_run(alloc, style, selection, test, heading, &mut machine),
-        Err(fault) => Err(fault),
-    }
+    let mut machine = machine_of_schedule::<B, M>(alloc, test, schedule)?;
+    picture_of_run(alloc, style, selection, test, heading, &mut machine)
 }
 
 /// What is to be written for the inputs that the readers give.

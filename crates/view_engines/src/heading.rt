@@ -24,10 +24,7 @@ pub fn headed_of_text(alloc: Global, text: &str) -> Result<(Test, Heading), Faul
     ensures heading { IfOk result (λ read. IsHeading text.now (heading_of read.1)) }
     ensures exact { (line : ℕ) × Answers (λ read. content_of read.0) result (test_of line text.now) }
 {
-    let test = match litmus_reader::read(alloc, text) {
-        Ok(test) => test,
-        Err(error) => return Err(Fault::from(error)),
-    };
+    let test = litmus_reader::read(alloc, text)?;
     match read_heading(alloc, text) {
         Ok(heading) => Ok((test, heading)),
         Err(_) => Err(Fault::NoMemory),

@@ -85,20 +85,16 @@ fn shown(
 fn shown_of_text(alloc: Global, form: Form, text: &str) -> Result<(String, ()), Fault>
     ensures { length text.now ≤ INPUT_BYTES → IsUtf8 text.now → AnswersAs (IsShowAnswer form text.now) text_and_value result }
 {
-    match headed_of_text(alloc, text) {
-        Ok((test, heading)) => shown(alloc, form, text, &test, &heading),
-        Err(fault) => Err(fault),
-    }
+    let (test, heading) = headed_of_text(alloc, text)?;
+    shown(alloc, form, text, &test, &heading)
 }
 
 /// What is to be written for the input that a reader gives.
 fn made<R: Read>(alloc: Global, form: Form, reader: &mut R) -> Result<(String, ()), Fault>
     ensures { FindsByUpToReads (IsShowAnswer form) text_and_value (R.remaining reader.old) result }
 {
-    match read_text(alloc, reader) {
-        Ok(text) => shown_of_text(alloc, form, &text),
-        Err(fault) => Err(fault),
-    }
+    let text = read_text(alloc, reader)?;
+    shown_of_text(alloc, form, &text)
 }
 
 /// Reads a litmus text to its end, and writes what its test is: as a table, a line for each thing, or its

@@ -1,9 +1,10 @@
-use Rattle.std.proofs.Common.{Err, arith, refl}
+use Rattle.std.proofs.Common.{arith}
 use Rattle.step_machine.specs.History.{HistoryWithRoom}
 use Rattle.litmus_reader.specs.Headings.{heading_of}
 use Rattle.recorder.specs.Versions.{said_of}
 use Rattle.engine_support.specs.Histories.{Runs}
 use Rattle.engine_support.specs.inner.Making.{text_and_value}
+use Rattle.engine_support.proofs.Endings.{is_handed}
 use Rattle.engine_support.proofs.RunLaws.{opening_stays}
 use Rattle.engine_support.proofs.ScheduleLaws.{stopped_by}
 use Rattle.view_engines.specs.Chart.{IsChart, differs, drawing}
@@ -11,14 +12,14 @@ use Rattle.view_engines.proofs.charting.picture.Goals as goal
 
 pub picture_of_run-requires : goal.picture_of_run-requires
 picture_of_run-requires g c =
-    let machine = c.in-Ok.machine in
-    let stays = opening_stays g.row.B g.row.M c.args.test.now.opening (said_of c.args.schedule) machine.history c.in-Ok.ensures.ran in
-    (omega arith, (c.requires.size, (stays, (c.requires.locations, c.in-Ok.ensures.names))))
+    let machine = c.in_ok-machine.machine in
+    let stays = opening_stays g.row.B g.row.M c.args.test.now.opening (said_of c.args.schedule) machine.history c.in_ok-machine.ensures.ran in
+    (omega arith, (c.requires.size, (stays, (c.requires.locations, c.in_ok-machine.ensures.names))))
 
-pub returns-in-Err : goal.returns-in-Err
-returns-in-Err g c =
+pub returns-in_err-machine : goal.returns-in_err-machine
+returns-in_err-machine g c =
     let q = c.args.test.now in
     let said = said_of c.args.schedule in
     stopped_by (Runs g.row.B g.row.M q.opening said) (IsChart g.row.B g.row.M (drawing c.args.style c.args.selection) (heading_of c.args.heading.now) q said)
-    (λ (machine : HistoryWithRoom). machine.history) text_and_value (Err c.in-Err.fault) c.in-Err.fault (λ refusal differ. differs refusal differ) refl
-    c.in-Err.ensures.ran
+    (λ (machine : HistoryWithRoom). machine.history) text_and_value c.from_residual.result c.in_err-machine.field-0.0
+    (λ refusal differ. differs refusal differ) (is_handed c.from_residual.result _ c.from_residual.ensures.1) c.in_err-machine.ensures.ran
