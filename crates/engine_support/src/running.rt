@@ -26,20 +26,14 @@ use std::io::Read;
 use step_machine::{Event, Machine, MachineState, Outcome};
 
 /// Why a record isn't replayed, as a fault.
-pub fn check_fault(error: CheckError) -> Fault
-    ensures { result ≡ fault_of_check error }
-{
-    match error {
-        CheckError::NoMemory => Fault::NoMemory,
-        CheckError::Differs { event } => Fault::refused(DIFFERS, Position::Event(event)),
-    }
-}
-
 impl From<CheckError> for Fault {
     ghost from_gives = { λ error fault. fault ≡ fault_of_check error };
 
     fn from(error: CheckError) -> Fault {
-        check_fault(error)
+        match error {
+            CheckError::NoMemory => Fault::NoMemory,
+            CheckError::Differs { event } => Fault::refused(DIFFERS, Position::Event(event)),
+        }
     }
 }
 

@@ -51,7 +51,7 @@ module _ (ring : Ring) (B M : ℕ) (l : Layout) (said : ScheduleValue) (lists : 
 -- ---- the answer
 
 module _ (B M : ℕ) (l : Layout) (first second third fourth : Option (List ℕ)) where
-  abbrev Answers : Option Role → Result Output Refusal → Type 0
+  abbrev pub Answers : Option Role → Result Output Refusal → Type 0
   Answers whose answer = OfFour first second third fourth (λ a b c d. IsOwnAnswer B M l a b c d whose answer)
 
   -- a fault in reading the programs

@@ -24,7 +24,7 @@ use Rattle.ztso_engines.proofs.ChannelLaws.{refusal_as}
 use Rattle.ztso_engines.proofs.ProgramLaws.{ReadsPrograms, handed_as, of_any, other_as}
 
 module _ (d : Draws) (first second third : Option (List ℕ)) where
-  abbrev Answers : Option Role → Result (List ℕ × Bool) Refusal → Type 0
+  abbrev pub Answers : Option Role → Result (List ℕ × Bool) Refusal → Type 0
   Answers whose answer = OfInputs first second third (λ a b c. IsRingAnswer d a b c whose answer)
 
   -- a fault in reading the programs

@@ -18,7 +18,6 @@ ghost use Rattle.ztso_engines.specs.inner.Reporting.{Reports};
 use crate::lists::read_lists;
 use engine_support::fault::{Fault, Position};
 use engine_support::output::end_with;
-use engine_support::running::check_fault;
 use engine_support::schedule::read_schedule;
 use hart::need::Report;
 use poll_close::plans::Finish;
@@ -112,15 +111,11 @@ fn reports_of_steps<K: Finish<B, M>, const B: usize, const M: usize>(
         Err(why) => return Err(channel_fault(why)),
     };
     if finish {
-        match replay_checked::<B, M>(alloc, opening, steps) {
-            Ok(mut machine) => Ok(whole_reports_of::<K, B, M>(alloc, &mut machine)?),
-            Err(error) => Err(check_fault(error)),
-        }
+        let mut machine = replay_checked::<B, M>(alloc, opening, steps)?;
+        Ok(whole_reports_of::<K, B, M>(alloc, &mut machine)?)
     } else {
-        match check_record::<B, M>(alloc, &opening, steps) {
-            Ok(machine) => Ok(reports_of::<K, B, M>(alloc, &machine)?),
-            Err(error) => Err(check_fault(error)),
-        }
+        let machine = check_record::<B, M>(alloc, &opening, steps)?;
+        Ok(reports_of::<K, B, M>(alloc, &machine)?)
     }
 }
 

@@ -133,8 +133,6 @@ pub fn own_channel_engine<
         → (schedule.new ≡ schedule.old) × (lists.new ≡ lists.old) }
     ensures unread_lists { HasNoSchedule (C.remaining schedule.old) → lists.new ≡ lists.old }
 {
-    match made::<B, M, S, R, C, L>(alloc, place, sender, receiver, schedule, lists) {
-        Ok(answered) => Ok(end_with(Ok(answered), writer)?),
-        Err(fault) => Err(fault),
-    }
+    let answered = made::<B, M, S, R, C, L>(alloc, place, sender, receiver, schedule, lists)?;
+    Ok(end_with(Ok(answered), writer)?)
 }

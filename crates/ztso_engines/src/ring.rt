@@ -103,8 +103,8 @@ pub fn ring_engine<
     ensures unread { HasNoProgram (S.remaining sender.old) → receiver.new ≡ receiver.old }
     ensures unread_lists { HasNoProgram (S.remaining sender.old) ⊎ HasNoProgram (R.remaining receiver.old) → lists.new ≡ lists.old }
 {
-    match made::<B, M, S, R, L, G, T>(rt, alloc, place, sender, receiver, lists, generator, runs) {
-        Ok(answered) => Ok(end_with(Ok(answered), writer)?),
-        Err(fault) => Err(fault),
-    }
+    let answered = made::<B, M, S, R, L, G, T>(
+        rt, alloc, place, sender, receiver, lists, generator, runs,
+    )?;
+    Ok(end_with(Ok(answered), writer)?)
 }
