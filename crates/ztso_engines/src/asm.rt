@@ -12,6 +12,7 @@ ghost use Rattle.engine_support.specs.Engines.{EndsBy};
 ghost use Rattle.ztso_engines.specs.Asm.{asm_at, hex_line, IsAsmAnswer};
 ghost use Rattle.engine_support.specs.inner.Making.{FindsByUpToReads, text_and_value};
 
+use crate::programs::words_fit;
 use assembler::assemble;
 use engine_support::fault::Fault;
 use engine_support::input::read_text;
@@ -37,9 +38,7 @@ fn push_hex_line(out: &mut String, word: u32) -> Result<(), AllocError>
 }
 
 fn code_text(alloc: Global, code: &[u32]) -> Result<String, AllocError>
-    ensures lines { IfOk result (λ text. string_bytes text ≡ flat_map hex_line code.now) }
-    // as their type has it
-    ensures small { All (λ word. word < 2 ^ 32) code.now }
+    ensures { IfOk result (λ text. string_bytes text ≡ flat_map hex_line code.now) }
 {
     let mut out = String::new(alloc);
     for word in code {
@@ -54,6 +53,7 @@ fn made<R: Read>(alloc: Global, reader: &mut R) -> Result<(String, ()), Fault>
 {
     let text = read_text(alloc, reader)?;
     let code = code_of(alloc, &text)?;
+    words_fit(&code);
     let lines = code_text(alloc, &code)?;
     Ok((lines, ()))
 }

@@ -64,7 +64,7 @@ impl From<AllocError> for OwnFault {
 }
 
 /// Each word of a code has 32 bits, by its type. It does nothing.
-fn words_fit(code: &[u32])
+pub(crate) fn words_fit(code: &[u32])
     ensures { All (λ word. word < 2 ^ 32) code.now }
 {}
 
