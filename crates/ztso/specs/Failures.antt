@@ -24,6 +24,11 @@ abbrev pub failure_of : CommandLineError → Failure
 failure_of command_line.BadCommandLine = BadCommandLine
 failure_of command_line.NoMemory = Engine NoMemory
 
+-- the exit status of an engine that ended well, or its failure
+abbrev pub engine_status : Result ℕ Fault → Result ℕ Failure
+engine_status (Ok status) = Ok status
+engine_status (Err fault) = Err (Engine fault)
+
 -- the exit status after a search that found what it looked for, or the failure to find it
 abbrev pub found_status : Result Found Fault → Result ℕ Failure
 found_status (Ok found.Shown) = Ok 0

@@ -1,7 +1,7 @@
 //! How the program fails.
 
 ghost use Rattle.std.specs.Prelude.{◌≡◌};
-ghost use Rattle.ztso.specs.Failures.{failure_of, found_status, own_failure, own_status, ring_status, status_of};
+ghost use Rattle.ztso.specs.Failures.{engine_status, failure_of, found_status, own_failure, own_status, ring_status, status_of};
 ghost use Rattle.ztso.specs.declared.failure.Failure.TheVariants.{Engine};
 ghost use Rattle.engine_support.specs.declared.fault.Fault.TheVariants.{NoMemory};
 
@@ -64,6 +64,16 @@ impl From<CommandLineError> for Failure {
 }
 
 impl Failure {
+    /// The exit status of an engine that ended well.
+    pub fn after_engine(ended: Result<u8, Fault>) -> Result<u8, Failure>
+        ensures { result ≡ engine_status ended }
+    {
+        match ended {
+            Ok(status) => Ok(status),
+            Err(fault) => Err(Failure::Engine(fault)),
+        }
+    }
+
     /// The exit status after a search: it fails where nothing was found.
     pub fn after_search(ended: Result<Found, Fault>) -> Result<u8, Failure>
         ensures { result ≡ found_status ended }

@@ -10,6 +10,7 @@
 #![tactic(auto)]
 
 ghost use Rattle.std.specs.Prelude.{◌≤◌, IfOk};
+ghost use Rattle.ztso.specs.Commands.{DoesJob};
 
 mod failure;
 mod lazy_input;
@@ -107,13 +108,20 @@ fn do_command<R, I: Read, C: Read, P: Progress, Q: SearchProgress, W: Write>(
 ) -> Result<u8, Failure>
 where
     R: AllocGlobal + Threads + Wait + Sync,
-    ensures { IfOk result (λ status. status ≤ 1) }
+    ensures does { DoesJob command result (record {
+      first = I.remaining first.old;
+      second = I.remaining second.old;
+      third = I.remaining third.old;
+      fourth = I.remaining fourth.old;
+      commands = C.remaining commands.old;
+    }) W.contents writer.old writer.new }
+    ensures status { IfOk result (λ status. status ≤ 1) }
 {
     match command {
         Command::Code(command) => {
-            do_code(rt.alloc(), command, first, writer).map_err(Failure::Engine)
+            Failure::after_engine(do_code(rt.alloc(), command, first, writer))
         }
-        Command::Machine { command, capacity } => do_machine(
+        Command::Machine { command, capacity } => Failure::after_engine(do_machine(
             rt,
             rt.alloc(),
             command,
@@ -123,8 +131,7 @@ where
             commands,
             progress,
             writer,
-        )
-        .map_err(Failure::Engine),
+        )),
         Command::Find { states, capacity } => {
             do_find(rt.alloc(), states, capacity, first, search, writer)
         }
@@ -156,7 +163,7 @@ where
             writer,
         ),
         Command::Threads { turns, capacity } => {
-            do_threads(rt, rt.alloc(), turns, capacity, first, writer).map_err(Failure::Engine)
+            Failure::after_engine(do_threads(rt, rt.alloc(), turns, capacity, first, writer))
         }
     }
 }
