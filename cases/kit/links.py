@@ -5,7 +5,7 @@ from pathlib import Path
 
 ROOT = Path(__file__).resolve().parent.parent.parent
 FOLDERS = ("docs", "examples", "litmus", "crates", "tools", "scripts", "bench", "cases")
-PARTS = ("src", "specs", "proofs", "must-fail")
+PARTS = ("src", "specs", "proofs", "must-fail", "mutants")
 LINK = re.compile(r"\[[^\]\n]*\]\((?P<target>[^)\s]+)\)")
 PATH = re.compile(r"(?<![\w./:<*~-])(?:[\w.+-]+/)+[\w.+-]*[\w+]")
 # A word that stands for a name, and what only a build makes.

@@ -2,6 +2,9 @@
 
 from .links import ROOT
 
+# those that `rt ci` tries one by one, and those that scripts/mutants tries together
+FOLDERS = ("must-fail", "mutants")
+
 
 class Unfit(Exception):
     """Why a mutant doesn't apply."""
@@ -29,8 +32,9 @@ def apply(edit):
         raise Unfit("it has no lines 'old:' and 'new:'")
 
 
-def edits():
-    return sorted(ROOT.glob("crates/*/must-fail/*.edit"))
+def edits(crate="*"):
+    """The mutants of a crate, or of all."""
+    return sorted(edit for folder in FOLDERS for edit in ROOT.glob(f"crates/{crate}/{folder}/*.edit"))
 
 
 def wrong():

@@ -1,5 +1,5 @@
 """Parts of the repository's files, named `FILE#PART`: a listing of docs/channels.md, a program of an assembly
-file, a table of words in a source, or one that a must-fail edit makes of it."""
+file, a table of words in a source, or one that a mutant makes of it."""
 
 import re
 from pathlib import Path
@@ -65,7 +65,7 @@ def source_of(kind):
 
 
 def edited(source, edit):
-    """A ring's source, which is its file src/lib.rt, after the edits that a must-fail file makes in it."""
+    """A ring's source, which is its file src/lib.rt, after the edits that a mutant makes in it."""
     for part in re.split("^file: ", Path(edit).read_text(), flags=re.MULTILINE):
         name, _, changes = part.partition("\n")
         for old, new in re.findall("^old: (.*)\nnew: (.*)$", changes, re.MULTILINE) if name == "src/lib.rt" else ():
@@ -88,7 +88,7 @@ def content(name):
         elif path.endswith(".S"):
             lines = program(text, part)
         elif path.endswith(".edit"):
-            source = ROOT / path.partition("/must-fail/")[0] / "src/lib.rt"
+            source = ROOT / Path(path).parent.parent / "src/lib.rt"
             lines = [f"{word:08x}" for word in table(edited(source.read_text(), ROOT / path), part)]
         else:
             lines = [f"{word:08x}" for word in table(text, part)]
