@@ -9,7 +9,7 @@ from page_parts.questions import CELLS
 COMMENT = re.compile(r"\(\*(.*?)(?:\*\)|\Z)", re.DOTALL)
 OPENING = re.compile(r"\n[ \t]*\{([^}]*)\}")
 # an item of the opening part that gives a name's address to a register
-POINTER = re.compile(r"\s*([0-9]+)\s*:\s*([a-z0-9]+)\s*=\s*([A-Za-z_]\w*)\s*")
+POINTER = re.compile(r"\s*0*([0-9]{1,2})\s*:\s*([a-z0-9]+)\s*=\s*([A-Za-z_]\w*)\s*")
 ABI = ("zero", "ra", "sp", "gp", "tp", "t0", "t1", "t2", "s0", "s1", *(f"a{n}" for n in range(8)),
        *(f"s{n}" for n in range(2, 12)), *(f"t{n}" for n in range(3, 7)))
 REGISTERS = {name: number for number, abi in enumerate(ABI) for name in (abi, f"x{number}")} | {"fp": 8}

@@ -9,6 +9,8 @@ EVENTS, CELLS, ROWS, BODY = 2_000, 2_000, 1_000, 8 << 20
 RUNS = 100_000
 BUFFERS = (1, 2, 4, 16)
 HARTS, ADDRESSES = 64, 1 << 32
+# digits of a number
+LONGEST = 20
 COMPILERS, FENCES, MAPPINGS = ("gcc", "clang"), ("all", "full", "none"), ("", "rvwmo.h", "ztso.h")
 TOKENS = re.compile(r"(?:[al][0-9]{1,2}(?:\*[0-9]{1,4})?(?: |\Z))*")
 TEST = {"text": str}
@@ -27,6 +29,13 @@ QUESTIONS = {
 
 class Unasked(Exception):
     """A question that the page doesn't ask."""
+
+
+def whole(digits):
+    """A number of a question. Python takes none of more than 4,300 digits for a number."""
+    if len(digits) > LONGEST:
+        raise Unasked(f"a number has more than {LONGEST} digits")
+    return int(digits)
 
 
 def is_of(value, kind):

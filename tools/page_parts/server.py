@@ -27,6 +27,8 @@ HEADERS = {
     "X-Content-Type-Options": "nosniff", "Referrer-Policy": "no-referrer", "Cache-Control": "no-store",
     "Cross-Origin-Resource-Policy": "same-origin", "Cross-Origin-Opener-Policy": "same-origin"}
 JSON = "application/json"
+# no length that is let in has so many
+DIGITS = 18
 
 
 class Handler(BaseHTTPRequestHandler):
@@ -52,7 +54,7 @@ class Handler(BaseHTTPRequestHandler):
             self.refuse(HTTPStatus.NOT_FOUND)
         elif not length.isascii() or not length.isdigit():
             self.refuse(HTTPStatus.LENGTH_REQUIRED)
-        elif int(length) > questions.BODY:
+        elif len(length) > DIGITS or int(length) > questions.BODY:
             self.refuse(HTTPStatus.REQUEST_ENTITY_TOO_LARGE)
         else:
             self.answer(name, self.rfile.read(int(length)))
@@ -60,7 +62,7 @@ class Handler(BaseHTTPRequestHandler):
     def answer(self, name, body):
         """Answers a question."""
         try:
-            asked = questions.checked(name, json.loads(body))
+            asked = questions.checked(name, json.loads(body, parse_int=questions.whole))
             with self.server.turn_of(name):
                 said = self.server.answers[name](self.server.calls.of(self.connection), asked)
             self.reply(HTTPStatus.OK, said)

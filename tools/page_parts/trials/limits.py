@@ -40,6 +40,9 @@ def texts(count, served):
     cell = found["cell"]
     good = cell["hart"] == 1 and cell["words"] and found["place"] == {"line": 9}
     count.told("the cell that is wrong is named", good, found)
+    answer = served.ask("test", text=SB.replace("0:x6=x;", f"{'0' * 5000}0:x6=x;"))[1]
+    good = answer.get("harts", [{"pointers": {}}])[0]["pointers"].get("6") == "x" or answer.get("fault", {}).get("number")
+    count.told("a hart's number of 5,000 digits", good, answer)
     answer = served.ask("test", text=SB.replace(head, head + rows * 2048))[1]
     count.told("more code than the page shows", answer.get("fault", {}).get("name") == "TooLong", answer)
 

@@ -48,6 +48,7 @@ def kept_out(count, served):
             ("a body past the limit", 413, ("POST", own + "test", b""), {"Content_Length": str(1 << 30)}),
             ("no length", 411, ("POST", own + "test"), {}),
             ("a path up", 404, ("GET", own + "../../README.md"), {}),
+            ("a length of 5,000 digits", 413, ("POST", own + "test", b""), {"Content_Length": "9" * 5000}),
             ("a path up, in code", 404, ("GET", own + "%2e%2e/%2e%2e/README.md"), {}),
             ("a file beside the page", 404, ("GET", own + "server.py"), {}),
             ("the page by its file", 404, ("GET", own + "page.html"), {}),
@@ -65,6 +66,7 @@ def questions(count, served):
     draw = {"text": SB, "buffer": 4, "seed": "1", "skip": 0, "runs": 1, "length": 1}
     for name, route, body in (
             ("no JSON", "test", b"{"), ("deep JSON", "test", b"[" * 100000), ("no UTF-8", "test", b'{"text":"\xff"}'),
+            ("a number of 5,000 digits", "test", b'{"text":' + b"9" * 5000 + b"}"),
             ("no object", "test", b"[]"), ("a member more", "test", {"text": SB, "file": "/etc/passwd"}),
             ("a member less", "view", {"text": SB}), ("a text that is none", "test", {"text": 1}),
             ("another buffer", "view", run | {"buffer": 3}), ("a buffer that is true", "view", run | {"buffer": True}),
