@@ -1,6 +1,7 @@
-// Questions to the server, which asks the program. A later question of a kind takes the place of an earlier one.
+// Questions to the program. A later question of a kind takes the place of an earlier one.
 
 import { by } from "./dom.js";
+import { WORDS, answered } from "./source.js";
 
 export class Refused extends Error {
   constructor(fault) {
@@ -9,8 +10,6 @@ export class Refused extends Error {
   }
 }
 
-const GONE = "No answer from tools/page. If it has ended, start it again and open its new address; copy what you want " +
-  "to keep.";
 const asking = {};
 let open = 0;
 
@@ -19,20 +18,19 @@ export function waiting(more) {
   document.querySelector("main").setAttribute("aria-busy", String(open > 0));
 }
 
-export async function ask(route, body) {
-  stop(route);
-  const control = asking[route] = new AbortController();
+// the kind is the route, unless another question of the route isn't to be stopped
+export async function ask(route, body, kind = route) {
+  stop(kind);
+  const control = asking[kind] = new AbortController();
   let answer;
   waiting(1);
   try {
-    const reply = await fetch(route, { method: "POST", headers: { "Content-Type": "application/json" },
-      body: JSON.stringify(body), signal: control.signal });
-    answer = await reply.json();
+    answer = await answered(route, body, control.signal);
   } catch (error) {
     if (error.name === "AbortError") throw error;
-    answer = { error: GONE };
+    answer = { error: WORDS.gone };
   } finally {
-    if (asking[route] === control) delete asking[route];
+    if (asking[kind] === control) delete asking[kind];
     waiting(-1);
   }
   trouble(answer.error);
@@ -41,11 +39,11 @@ export async function ask(route, body) {
   return answer;
 }
 
-export function stop(route) {
-  asking[route]?.abort();
+export function stop(kind) {
+  asking[kind]?.abort();
 }
 
-export const isAsked = route => route in asking;
+export const isAsked = kind => kind in asking;
 
 export function stopAll() {
   Object.keys(asking).forEach(stop);

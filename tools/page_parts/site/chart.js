@@ -10,6 +10,9 @@ import { told } from "./words.js";
 
 const HINT = "Click an instruction to execute it. A store then waits in its hart's buffer, until you let it land.";
 
+// fingers need rows of 24 pixels
+const NARROW = matchMedia("(max-width: 860px), (pointer: coarse)"), LEAST = 24;
+
 // the picture that is shown: of which run, its rows with their places, where they end, and its veil
 let shown = null;
 let address = "";
@@ -18,8 +21,9 @@ export const svg = () => shown?.svg;
 
 export async function showChart() {
   const box = by("chart"), rows = known.can.memory && state.memory ? "memory" : "all";
-  const key = JSON.stringify([state.text, state.buffer, state.events, rows]);
-  by("picturing").hidden = !known.can.memory || !state.events.length;
+  const key = JSON.stringify([state.text, state.buffer, state.events, rows, NARROW.matches]);
+  by("picturing").hidden = !state.events.length;
+  by("rows-of-memory").hidden = !known.can.memory;
   if (!state.events.length) {
     shown = null;
     box.replaceChildren(el("p", { class: "quiet" }, HINT));
@@ -34,8 +38,10 @@ export async function showChart() {
   veil(box);
 }
 
+NARROW.addEventListener("change", () => shown && showChart());
+
 async function put(box, key, answer) {
-  const { rows, pitch } = rowsOf(answer), top = rows[0]?.top ?? 0, end = rows.length ? rows.at(-1).top + pitch : 0;
+  const { rows, pitch, scale } = rowsOf(answer, NARROW.matches ? LEAST : 0), top = rows[0]?.top ?? 0, end = rows.length ? rows.at(-1).top + pitch : 0;
   const cover = el("div", { class: "veil" }), bar = el("div", { class: "bar" }), area = el("div", { class: "rows" });
   Object.assign(area.style, { top: `${top}px`, height: `${end - top}px` });
   bar.style.height = `${pitch}px`;
@@ -45,6 +51,9 @@ async function put(box, key, answer) {
     area.title = row ? told(answer.outcomes[row.place - 1]) : "";
   });
   const drawn = answer.svg === undefined ? el("pre", {}, answer.text) : await image(answer.svg);
+  if (answer.svg === undefined) drawn.style.lineHeight = `${pitch}px`;
+  else drawn.width = Math.round(drawn.naturalWidth * scale);
+  for (const id of ["save-picture", "save-image"]) by(id).hidden = answer.svg === undefined;
   shown = { key, svg: answer.svg, rows, end, cover };
   box.replaceChildren(el("div", { class: "picture" }, drawn, cover, bar, area));
 }

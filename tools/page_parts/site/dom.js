@@ -24,9 +24,9 @@ export function allow(id, yes) {
   by(id).setAttribute("aria-disabled", String(!yes));
 }
 
-// what a press of a button does, where it can be used
-export function onPress(id, does) {
-  by(id).addEventListener("click", () => can(id) && does());
+// what a press of a button does, where it can be used, and else
+export function onPress(id, does, otherwise) {
+  by(id).addEventListener("click", () => can(id) ? does() : otherwise());
 }
 
 // a menu that a press outside, Esc, the focus going elsewhere and a choice close

@@ -58,12 +58,29 @@ export async function drawRuns() {
   const table = last = { rows: new Map(), done: 0, left: 0, unfinished: 0, shown: known.test.kind !== "exists", runs, length };
   try {
     await drawParts(table);
+    if (isMostlyUnfinished(table)) table.stops = await stops(table);
   } catch (error) {
     if (!isStopped(error)) by("drawn").prepend(el("p", { role: "alert" }, error.message));
     trouble();
   } finally {
     if (last === table || !last) finish(table);
   }
+}
+
+const isMostlyUnfinished = ({ unfinished, done }) => unfinished > done / 2;
+
+// the harts that stop where all take turns, each with the number of its stop: no run in which one stops is finished
+async function stops({ length }) {
+  const turns = known.test.harts.flatMap((_, hart) => [`a${hart}`, `l${hart}`]);
+  const tokens = Array.from({ length }, (_, at) => turns[at % turns.length]).join(" ");
+  const { harts } = await ask("view", { text: state.text, buffer: state.buffer, tokens }, "stops");
+  return harts.flatMap(({ stop, stopped }, hart) => stopped ? [`P${hart} stops by ${stop} ${stopped.name}`] : []);
+}
+
+function unfinishedWords({ stops: found, done, runs }) {
+  if (found?.length) return `Most runs didn't finish: ${found.join(", ")}. A hart that stopped doesn't end.`;
+  // of what was stopped nothing was looked up
+  return done < runs ? "Most runs didn't finish." : "Most runs didn't finish: draw longer ones.";
 }
 
 function finish(table) {
@@ -134,7 +151,7 @@ function showTable(table) {
     sorted.length > LISTED ? el("p", { class: "quiet" }, `and ${sorted.length - LISTED} outcomes more`) : "",
     left ? el("p", { class: "quiet" }, `${many(left, "run")} had outcomes that aren't counted here: too many differ.`) : "",
     drawing ? "" : el("p", { class: `word ${word}` }, ...answer(table)),
-    unfinished > done / 2 ? el("p", { class: "quiet" }, "Most runs didn't finish: draw longer ones.") : "");
+    isMostlyUnfinished(table) && !drawing ? el("p", { class: "quiet" }, unfinishedWords(table)) : "");
   if (key?.startsWith("row ")) by("drawn").querySelector(`[data-key="${CSS.escape(key)}"]`)?.focus();
 }
 

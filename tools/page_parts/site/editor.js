@@ -1,13 +1,15 @@
-// The text of the test, its faults at their line, and what the shelf has of it.
+// The text of the test, how much room it needs, its faults at their line, and what looks like a slip.
 
 import { ask } from "./ask.js";
 import { by, el, prose } from "./dom.js";
 import { forget } from "./draws.js";
-import { showExcluded } from "./excluded.js";
 import { LINE, number } from "./gutter.js";
-import { close, move, note, setEvents } from "./run.js";
-import { expanded } from "./schedules.js";
+import { close, move, startAnew } from "./run.js";
+import { onShelf, showShelf, showWitnesses } from "./shelf.js";
 import { keep, known, state } from "./state.js";
+
+// the editor's width goes by steps, so that it doesn't move with each letter
+const STEP = 8;
 
 // the text whose machine is shown
 let shown = "";
@@ -17,22 +19,38 @@ export async function take(text, { events = null, place = null } = {}) {
   state.text = text;
   if (events) Object.assign(state, { events, place: place ?? events.length });
   if (by("text").value !== text) by("text").value = text;
+  makeRoom(text);
   number();
   keep();
   close();
   showShelf();
+  const before = known.test;
   try {
     known.test = await ask("test", { text });
   } catch (error) {
     if (error.fault) showFault(error.fault);
     return;
   }
+  if (!events && before && isOther(before, known.test)) startAnew();
   by("fault").replaceChildren();
   showQuestion(known.test.question);
+  showLone();
   showWitnesses();
   document.title = `${known.test.title} - ztso`;
   if (text !== shown) renew(text);
   await move();
+}
+
+function makeRoom(text) {
+  const lines = text.split("\n"), longest = Math.max(...lines.map(line => line.length));
+  by("editor").style.setProperty("--letters", String(STEP * Math.ceil(longest / STEP)));
+  by("editor").style.setProperty("--lines", String(lines.length));
+}
+
+// whether a text is of another test, and not of the one that was there and is being changed
+function isOther(one, other) {
+  const code = test => JSON.stringify(test.harts.map(hart => hart.rows.map(row => row.text)));
+  return one.title !== other.title && code(one) !== code(other);
 }
 
 // what the test asks
@@ -53,53 +71,28 @@ function showFault({ line, number: refusal, name, words, place, cell }) {
     el("p", {}, el("strong", {}, `${where}${refusal ? `${name} (${refusal}) ` : ""}`),
       cell ? el("code", {}, cell.text) : ""),
     ...(cell ? cell.words : words.length ? words : [line]).map(text => el("p", {}, ...prose(text))));
+  by("lone").replaceChildren();
   showQuestion("");
   number(place.line);
   if (place.line && document.activeElement !== by("text")) by("text").scrollTop = (place.line - 5) * LINE;
 }
 
-// the shelf
-
-export function listShelf() {
-  const families = new Map();
-  for (const test of known.tests) families.set(test.family, [...families.get(test.family) ?? [], test]);
-  by("shelf").replaceChildren(el("option", { value: "" }, "own text"), ...[...families].map(([family, tests]) =>
-    el("optgroup", { label: family.replaceAll("-", " ") },
-      ...tests.map(one => el("option", { value: one.name, title: one.question }, one.title)))));
+// why something that was brought isn't taken, beside the text that stays
+export function refuse(words) {
+  by("refused").append(el("p", {}, ...prose(words)));
+  by("refused").scrollIntoView({ block: "nearest" });
 }
 
-export function choose(name) {
-  const found = known.tests.find(one => one.name === name);
-  if (!found) {
-    // the list's own text is what the editor has
-    showShelf();
-    by("text").focus();
-    return null;
-  }
-  note();
-  return take(found.text, { events: [] });
-}
+export const forgetRefused = () => by("refused").replaceChildren();
 
-const onShelf = () => known.tests.find(one => one.text === state.text);
-
-function showShelf() {
-  by("shelf").value = onShelf()?.name ?? "";
-  by("witnesses").replaceChildren();
-  showExcluded(onShelf()?.excluded ?? "");
-}
-
-// the outcomes that the shelf has a schedule of, each by the values of the condition's left sides
-function showWitnesses() {
-  const witnesses = onShelf()?.witnesses ?? [], names = known.test.lefts.map(left => left.name);
-  if (!witnesses.length) return;
-  const values = outcome => outcome.split("-").map((value, at) => `${names[at]} = ${value}`).join(", ");
-  const head = el("span", { class: "quiet" }, "witnesses of ", el("span", { class: "mono" }, names.join("-")));
-  by("witnesses").replaceChildren(head,
-    ...witnesses.map(([outcome, schedule]) => el("button", { "data-schedule": schedule,
-      title: `Load the shelf's shortest schedule that ends with ${values(outcome)}: ${schedule}` }, outcome)));
-}
-
-export function loadWitness(button) {
-  note(`The shelf's shortest schedule of ${button.textContent}.`);
-  return setEvents(expanded(button.dataset.schedule));
+// locations that only one of several harts names, which may be a slip of the pen. The shelf's are meant
+function showLone() {
+  const { harts } = known.test, namers = new Map();
+  harts.forEach(({ pointers }, hart) => {
+    for (const name of Object.values(pointers)) namers.set(name, (namers.get(name) ?? new Set()).add(hart));
+  });
+  const lone = [...namers].filter(([, of]) => of.size === 1).map(([name, [hart]]) => `\`${name}\` (P${hart})`);
+  const isMeant = harts.length === 1 || onShelf(state.text) || !lone.length;
+  by("lone").replaceChildren(...isMeant ? []
+    : prose(`Only one hart names ${lone.join(" and ")}. To share a location, both harts name it.`));
 }

@@ -1,7 +1,8 @@
 // Keys: digits are harts, and the rest press buttons.
 
-import { by } from "./dom.js";
+import { by, can } from "./dom.js";
 import { happen } from "./run.js";
+import { sayWhy, whyInert, whyNot } from "./why.js";
 
 const PRESSED = { ArrowLeft: "back", ArrowRight: "forward", Home: "to-start", End: "to-end", s: "shrink", c: "copy",
   d: "go", b: "to-break", f: "find", m: "onward", o: "open", "?": "keys" };
@@ -20,8 +21,9 @@ export function onKey(pressed) {
   if (!used) return;
   pressed.preventDefault();
   // what can't be clicked has no key either
-  if (used.hidden || used.closest("[inert]")) return;
-  if (digit) happen(`${pressed.shiftKey ? "l" : "a"}${digit}`, by("onward").checked);
+  if (used.closest("[inert]")) sayWhy(whyInert());
+  else if (used.hidden || !can(used.id)) sayWhy(whyNot(used.id));
+  else if (digit) happen(`${pressed.shiftKey ? "l" : "a"}${digit}`, by("onward").checked);
   else if (PRESSED[pressed.key]) used.click();
   else used.focus();
 }

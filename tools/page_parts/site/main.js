@@ -1,20 +1,24 @@
-// The page asks the server, which asks the program. What is shown of a run is what the program answered; nothing here
+// The page asks the program, by the module source.js. What is shown of a run is what the program answered; nothing here
 // computes a step. This module gives each control what it does, and begins.
 
 import { isStopped, trouble, waiting } from "./ask.js";
 import { placeOf, showChart } from "./chart.js";
 import { by, menu, onPress } from "./dom.js";
 import { drawRuns, stepRow } from "./draws.js";
-import { choose, listShelf, loadWitness, take } from "./editor.js";
-import { compile, forgetSource, openFiles } from "./files.js";
+import { forgetRefused, take } from "./editor.js";
+import { compileAnew, forgetSource, openFiles } from "./files.js";
 import { scrollNumbers } from "./gutter.js";
 import { onKey } from "./keyboard.js";
 import { find, threads } from "./makers.js";
+import { choose, showKept } from "./own.js";
 import { clearNote, go, happen, move, note, setEvents, shrunk, toBreak, toggleBreak } from "./run.js";
-import { copyLink, copySchedule, isLink, load, loadLink, savePicture, saveSchedule, saveTest, showPasting }
+import { copyLink, copySchedule, isLink, load, loadLink, saveImage, savePicture, saveSchedule, saveTest, showPasting }
   from "./saving.js";
 import { expanded, tokens } from "./schedules.js";
+import { listShelf, loadWitness } from "./shelf.js";
+import { WORDS, shelf } from "./source.js";
 import { keep, kept, known, state } from "./state.js";
+import { sayWhy, whyNot } from "./why.js";
 
 const PAUSE = 350;
 
@@ -31,7 +35,7 @@ const hand = does => async (...given) => {
 function onClick(id, selector, does) {
   by(id).addEventListener("click", hand(clicked => {
     const found = clicked.target.closest(selector);
-    return found && found.getAttribute("aria-disabled") !== "true" ? does(found, clicked) : null;
+    return found ? does(found, clicked) : null;
   }));
 }
 
@@ -68,10 +72,10 @@ function onButtons() {
     "to-start": () => go(0), back: () => go(state.place - 1), forward: () => go(state.place + 1),
     "to-end": () => go(state.events.length), "to-break": toBreak, shrink, copy: copySchedule,
     paste: () => showPasting(by("pasting").hidden), load, link: copyLink,
-    "save-schedule": saveSchedule, "save-test": saveTest, "save-picture": savePicture,
+    "save-schedule": saveSchedule, "save-test": saveTest, "save-picture": savePicture, "save-image": saveImage,
     find, threads,
     open: () => by("file").click(), keys: () => by("help").showModal() };
-  for (const [id, does] of Object.entries(presses)) onPress(id, hand(does));
+  for (const [id, does] of Object.entries(presses)) onPress(id, hand(does), () => sayWhy(whyNot(id)));
   menu("saving");
 }
 
@@ -94,7 +98,7 @@ function onInputs() {
     forgetSource();
     return choose(by("shelf").value);
   }));
-  for (const id of ["compiler", "fences", "mapping"]) by(id).addEventListener("change", hand(compile));
+  for (const id of ["compiler", "fences", "mapping"]) by(id).addEventListener("change", hand(compileAnew));
   by("file").addEventListener("change", hand(async () => {
     await openFiles(by("file").files);
     by("file").value = "";
@@ -129,6 +133,7 @@ function onTyping() {
   const taken = hand(async () => {
     typing = 0;
     clearNote();
+    forgetRefused();
     await take(by("text").value).finally(() => waiting(-1));
   });
   by("text").addEventListener("input", () => {
@@ -136,26 +141,39 @@ function onTyping() {
     clearTimeout(typing);
     typing = setTimeout(taken, PAUSE);
   });
+  // a tab that is left before the pause is over keeps the text too
+  window.addEventListener("pagehide", () => {
+    if (typing) state.text = by("text").value;
+    keep();
+  });
 }
 
 async function begin() {
-  const answer = await (await fetch("shelf")).json();
+  const answer = await shelf();
   Object.assign(known, { tests: answer.tests, sources: answer.sources, limits: answer.limits, can: answer.can });
   by("program").textContent = answer.reference ? ", run by the reference, of which nothing is proved"
     : `, run by ${answer.program}`;
+  by("open").title = `Open ${WORDS.opens}, or a test with its schedule; or drop them anywhere (o)`;
+  document.body.dataset.drops = `Drop ${WORDS.opens}`;
   by("find").hidden = by("find-key").hidden = !known.can.find;
   by("threads").hidden = !known.can.threads;
   listShelf();
+  restore();
   if (await fromLink()) return;
-  const before = kept();
-  if (before?.text) {
-    Object.assign(state, before);
-    by("buffer").value = String(state.buffer);
-    by("memory-rows").checked = state.memory;
+  if (state.text) {
     await take(state.text);
   } else {
     await choose(known.tests.some(one => one.name === "sb") ? "sb" : known.tests[0].name);
   }
+}
+
+// what the tab had before it was loaded again, which a link then takes the place of like any other text
+function restore() {
+  Object.assign(state, kept());
+  by("text").value = state.text;
+  by("buffer").value = String(state.buffer);
+  by("memory-rows").checked = state.memory;
+  showKept();
 }
 
 // a link's run is taken once, and is then the tab's own

@@ -1,5 +1,6 @@
 // Where the rows of a picture stand, and the place in the schedule that each leads to. A row's number is that of what
-// happened: an event that did nothing has none.
+// happened: an event that did nothing has none. Where rows must be higher than the program draws them, the picture is
+// stretched.
 
 import { idle } from "./words.js";
 
@@ -27,9 +28,9 @@ function ofSvg(svg) {
   });
 }
 
-export function rowsOf({ svg, text, outcomes }) {
+export function rowsOf({ svg, text, outcomes }, least) {
   const places = outcomes.flatMap((outcome, at) => idle(outcome) ? [] : [at + 1]);
-  const found = svg === undefined ? ofText(text) : ofSvg(svg);
-  return { pitch: (svg === undefined ? TEXT : SVG).pitch,
-    rows: found.map(([number, top]) => ({ place: places[number - 1], top })).filter(row => row.place) };
+  const [found, { pitch }] = svg === undefined ? [ofText(text), TEXT] : [ofSvg(svg), SVG], scale = Math.max(1, least / pitch);
+  const rows = found.map(([number, top]) => ({ place: places[number - 1], top: top * scale })).filter(row => row.place);
+  return { rows, pitch: pitch * scale, scale };
 }

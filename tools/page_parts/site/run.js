@@ -7,6 +7,7 @@ import { showMachine, shut } from "./machine.js";
 import { about } from "./schedules.js";
 import { keep, known, state } from "./state.js";
 import { showStrip } from "./strip.js";
+import { sayWhy, whyIdle } from "./why.js";
 import { idle, many } from "./words.js";
 
 // as many clicks wait at most while the program answers
@@ -41,7 +42,10 @@ export async function happen(event, goesOn) {
     return;
   }
   const hart = known.view.harts[Number(event.slice(1))];
-  if (!hart || idle(event[0] === "a" ? hart.act : hart.land)) return;
+  if (!hart || idle(event[0] === "a" ? hart.act : hart.land)) {
+    sayWhy(whyIdle(event));
+    return;
+  }
   if (state.place >= known.limits.events) {
     note(`The page steps through at most ${known.limits.events} events.`);
     return;
@@ -68,10 +72,18 @@ function put(events) {
   if (events.every((event, at) => state.events[place + at] === event)) return go(end);
   const rest = state.events.length - place;
   if (rest || !dropped) note();
-  if (rest) dropped = { events: state.events, place, rest };
+  if (rest) dropped = { events: state.events, place, rest, of: "the schedule that followed" };
   state.events = [...state.events.slice(0, place), ...events];
   state.place = end;
   return move();
+}
+
+// another test begins without the schedule of the one before it
+export function startAnew() {
+  const { events, place } = state;
+  if (!events.length) return;
+  dropped = { events, place, rest: events.length, of: "the other test's schedule" };
+  Object.assign(state, { events: [], place: 0 });
 }
 
 export function go(place) {
@@ -102,7 +114,8 @@ export async function move() {
     if (isStopped(error)) return;
     busy = false;
     later = [];
-    if (error.fault) note(error.message);
+    if (!error.fault) throw error;
+    note(error.message);
   }
 }
 
@@ -111,22 +124,21 @@ function showTravel() {
   for (const id of ["to-start", "back"]) allow(id, state.place > 0);
   for (const id of ["forward", "to-end", "to-break"]) allow(id, !isAtEnd);
   allow("shrink", isAtEnd && count > 0 && known.view.verdict !== "Unfinished");
-  for (const id of ["copy", "save-schedule", "save-picture"]) allow(id, count > 0);
+  for (const id of ["copy", "save-schedule", "save-picture", "save-image"]) allow(id, count > 0);
   by("to-break").hidden = !state.breaks.length;
   by("place").textContent = count ? `${state.place} of ${many(count, "event")}` : "no event yet";
   if (dropped) showDropped();
 }
 
 function showDropped() {
-  const { events, place, rest } = dropped;
+  const { events, place, rest, of } = dropped;
   const back = el("button", {}, "Bring them back");
   back.addEventListener("click", () => {
     Object.assign(state, { events, place });
     note();
     move();
   });
-  by("note").replaceChildren(`${many(rest, "event")} of the schedule that followed ${rest > 1 ? "were" : "was"} left out. `,
-    back);
+  by("note").replaceChildren(`${many(rest, "event")} of ${of} ${rest > 1 ? "were" : "was"} left out. `, back);
 }
 
 export function toggleBreak(hart, pc) {

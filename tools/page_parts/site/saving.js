@@ -4,12 +4,16 @@
 import { ask, waiting } from "./ask.js";
 import { svg } from "./chart.js";
 import { by, el } from "./dom.js";
-import { take } from "./editor.js";
+import { forgetRefused } from "./editor.js";
+import { replace } from "./own.js";
 import { note, setEvents } from "./run.js";
 import { HEAD, expanded, tokens } from "./schedules.js";
 import { known, state } from "./state.js";
+import { sayWhy } from "./why.js";
 
 const MARK = "#run=", LONGEST = 32000, MOST = 2 << 20;
+// how much finer than the screen's a saved picture is, and how many points a side of it may have
+const FINE = 2, SIDE = 16384;
 
 const scheduleText = () => `${HEAD}${tokens(state.events)}\n`;
 
@@ -64,9 +68,18 @@ export const saveSchedule = () => save(scheduleText(), "text/plain", ".schedule"
 
 export const saveTest = () => save(state.text, "text/plain", ".litmus");
 
-export function savePicture() {
-  if (svg()) save(svg(), "image/svg+xml", ".svg");
-  else note("There is no picture yet.");
+export const savePicture = () => save(svg(), "image/svg+xml", ".svg");
+
+// the picture in the colours that are seen, twice as fine
+export async function saveImage() {
+  const image = by("chart").querySelector("img"), { naturalWidth: width, naturalHeight: height } = image;
+  if (Math.max(width, height) * FINE > SIDE) {
+    sayWhy("This picture is too large for a PNG: save it as SVG.");
+    return;
+  }
+  const canvas = Object.assign(el("canvas"), { width: width * FINE, height: height * FINE });
+  canvas.getContext("2d").drawImage(image, 0, 0, canvas.width, canvas.height);
+  save(await new Promise(done => canvas.toBlob(done, "image/png")), "image/png", ".png");
 }
 
 // links
@@ -125,10 +138,10 @@ export async function loadLink(link) {
     note("This isn't a whole link of such a page.");
     return false;
   }
+  forgetRefused();
   state.buffer = run.buffer;
   by("buffer").value = String(run.buffer);
-  note();
-  await take(run.text, { events: expanded(run.tokens), place: Number.isInteger(run.place) ? run.place : null });
+  await replace(run.text, { events: expanded(run.tokens), place: Number.isInteger(run.place) ? run.place : null });
   return true;
 }
 

@@ -1,18 +1,23 @@
-// What the page is about, which goes with each question: the server keeps nothing of it.
+// What the page is about, which goes with each question: who answers keeps nothing of it. `kept` are one's own texts that
+// another one took the place of, each with its run.
 
-export const state = { text: "", buffer: 4, events: [], place: 0, breaks: [], memory: false };
+export const state = { text: "", buffer: 4, events: [], place: 0, breaks: [], memory: false, kept: [] };
 
-// what the server answered: the shelf, what the program can, the test, and the machine before and now
+// what was answered: the shelf, what the program can, the test, and the machine before and now
 export const known = { tests: [], sources: {}, limits: { events: 2000, runs: 100000 }, can: { c: [] },
   test: null, view: null, before: null };
 
 // what stays when the page is read anew: of this tab alone
 const KEPT = "ztso";
 
+// what is too large goes without the texts that were kept, the oldest first
 export function keep() {
-  try {
-    sessionStorage.setItem(KEPT, JSON.stringify(state));
-  } catch { /* too large, or switched off */ }
+  for (let count = state.kept.length; count >= 0; count -= 1) {
+    try {
+      sessionStorage.setItem(KEPT, JSON.stringify({ ...state, kept: state.kept.slice(0, count) }));
+      return;
+    } catch { /* too large, or switched off */ }
+  }
 }
 
 export function kept() {

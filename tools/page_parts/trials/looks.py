@@ -25,6 +25,11 @@ BROKEN = """[...document.querySelectorAll("th, button:not(.event)")].filter(one 
     const range = document.createRange(); range.selectNodeContents(one);
     return one.checkVisibility() && !/\\s/.test(one.textContent)
         && new Set([...range.getClientRects()].map(box => Math.round(box.top / 8))).size > 1; }).map(one => one.textContent)"""
+# controls that are seen and that a finger would miss: 24 pixels is what WCAG 2.2 asks for
+SMALL = """[...document.querySelectorAll("button, select, input, summary, textarea")].filter(one => one.checkVisibility()
+    && !one.closest(".unseen") && one.getBoundingClientRect().width).map(one => [one, (one.type === "checkbox" ? one.parentElement
+    : one).getBoundingClientRect()]).filter(([, { width, height }]) => width < 24 || height < 24)
+    .map(([one, { width, height }]) => `${one.id || one.textContent} ${width} x ${height}`)"""
 CONTROLS = ("button", "combobox", "textbox", "checkbox", "region", "dialog", "image", "img")
 
 
@@ -51,8 +56,21 @@ def part(count, page):
     page.draw()
     broken = page.run(BROKEN)
     count.told("nor is a short word broken there", not broken and not page.wide(), broken)
+    phone(count, page)
     page.browser.size(1280, 800)
     page.choose("sb")
+
+
+def phone(count, page):
+    """A phone's window: targets for fingers, and a picture that is scrolled in its own box."""
+    page.browser.size(390, 844)
+    page.event("a0", "a1")
+    page.click('[data-key="break 1 4"]')
+    small = page.run(SMALL)
+    count.told("no target is below 24 pixels on a phone", not small, small)
+    found = page.run("""(() => { const box = document.getElementById("chart"), rows = document.querySelector(".rows");
+        return [box.scrollWidth > box.clientWidth, rows.clientHeight / 2 >= 24]; })()""")
+    count.told("nor a row of the picture, which is scrolled", found == [True, True] and not page.wide(), found)
 
 
 def shown(page):

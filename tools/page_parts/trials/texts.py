@@ -95,17 +95,30 @@ def links(count, page):
 
 def saved(count, page, folder):
     page.browser.send("Browser.setDownloadBehavior", behavior="allow", downloadPath=str(folder), session=None)
-    for button, name, begins in (("save-schedule", "SB.schedule", "ztso-schedule 1\na0 a1 l0"),
-                                 ("save-test", "SB.litmus", "RISCV SB"), ("save-picture", "SB.svg", "<?xml")):
-        if button == "save-picture" and not page.run("!!document.querySelector('#chart img')"):
-            continue
+    for button, name, begins in (("save-schedule", "SB.schedule", b"ztso-schedule 1\na0 a1 l0"),
+                                 ("save-test", "SB.litmus", b"RISCV SB")):
         page.click("#saving summary")
         page.click(f"#{button}")
         count.told("a choice closes the menu", not page.run("document.getElementById('saving').open"))
-        path, until = folder / name, time.monotonic() + 20
-        while not (path.exists() and path.stat().st_size) and time.monotonic() < until:
-            time.sleep(0.05)
-        count.told(f"saved: {name}", path.exists() and path.read_text().startswith(begins))
+        count.told(f"saved: {name}", content(folder / name).startswith(begins))
+    if page.run("!!document.querySelector('#chart img')"):
+        page.click("#save-picture")
+        count.told("saved: SB.svg", content(folder / "SB.svg").startswith(b"<?xml"))
+        page.click("#save-image")
+        size = page.run("(({naturalWidth, naturalHeight}) => [naturalWidth, naturalHeight])(document.querySelector('#chart img'))")
+        # a PNG's first part has its width and height
+        found = content(folder / "SB.png")
+        wide, high = (int.from_bytes(found[at:at + 4], "big") for at in (16, 20))
+        count.told("saved: SB.png, twice as fine", found.startswith(b"\x89PNG") and [wide, high] == [2 * one for one in size],
+                   [wide, high, size])
+
+
+def content(path):
+    """What is saved in a file, once it is there."""
+    until = time.monotonic() + 20
+    while not (path.exists() and path.stat().st_size) and time.monotonic() < until:
+        time.sleep(0.05)
+    return path.read_bytes() if path.exists() else b""
 
 
 def dropped(count, page, folder):
@@ -125,7 +138,7 @@ def dropped(count, page, folder):
     drop(page, ROOT / "examples/c/dekker.c")
     compilers = page.served.shelf()["can"]["c"]
     if not compilers:
-        count.told("C without a compiler", "isn't installed" in page.note(), page.note())
+        count.told("C without a compiler", "isn't installed" in page.text("#refused"), page.text("#refused"))
         return
     count.told("dropped: C", page.note().startswith("Made by tools/from-c") and "exists" in page.text("#verdict code")
                and page.text("#question") == f"tools/from-c dropped.c --compiler {compilers[0]}", page.note())
