@@ -17,7 +17,22 @@ MOST = 1 << 20
 
 
 class Refused(Exception):
-    """What can't be brought, in words for its author."""
+    """What can't be brought, in words for its author; `before` are lines of another program, which come before them."""
+
+    def __init__(self, words, before=()):
+        super().__init__(words)
+        self.before = before
+
+
+def plain(text):
+    """A stranger's text, as a terminal may show it: `?` for each character that isn't printable."""
+    return "".join(each if each.isprintable() else "?" for each in text)
+
+
+def complain(tool, *words, before=()):
+    """Says on standard error what is wrong: after the lines of another program, a line of the tool's own."""
+    for line in [*before, ": ".join(map(str, [tool, *words]))]:
+        print(plain(line), file=sys.stderr)
 
 
 class Words(argparse.ArgumentParser):
@@ -46,6 +61,24 @@ def text_of(path, most=MOST):
         return content.decode()
     except UnicodeDecodeError:
         raise Refused(f"{path}: it is no UTF-8") from None
+
+
+def put(path, text):
+    """Writes a file whole, or not at all, and makes its folders."""
+    path = Path(path).resolve()
+    part = path.with_name(f".{path.name}.{os.getpid()}")
+    try:
+        path.parent.mkdir(parents=True, exist_ok=True)
+        if path.exists() and not path.is_file():
+            path.write_text(text)  # a device, or what else takes no other file's place
+            return
+        part.write_text(text)
+        part.replace(path)
+    except OSError as error:
+        raise Refused(f"{path}: {error.strerror}") from None
+    finally:
+        if part.exists():
+            part.unlink()
 
 
 def program_of(named=None):

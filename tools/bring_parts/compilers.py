@@ -38,9 +38,10 @@ class Compiler:
         return lines[0].strip() if lines else "of no version"
 
     def compile(self, source, module, flags, folders):
-        """Compiles a C file to a module."""
+        """Compiles a C file to a module. What a compiler leaves otherwise, as where it crashes, it leaves beside that."""
         include = [word for folder in (HERE, *folders) for word in ("-I", folder)]
-        output([*self.words, *self.flags, *flags, *include, "-c", "-o", module, "-x", "c", source])
+        words = [*self.words, *self.flags, *flags, *include, "-c", "-o", module, "-x", "c", source]
+        output(words, {"TMPDIR": str(Path(module).parent)})
 
 
 def binutil(name):
@@ -49,17 +50,18 @@ def binutil(name):
 
 
 def limited():
-    """A compiler may write so much, and no more."""
+    """A compiler may write so much, and no more, and no image of its memory where it crashes."""
     resource.setrlimit(resource.RLIMIT_FSIZE, (FILE_BYTES, FILE_BYTES))
+    resource.setrlimit(resource.RLIMIT_CORE, (0, 0))
 
 
-def output(words):
-    """What a command prints; what it complains of is the refusal."""
+def output(words, variables=()):
+    """What a command prints; what it complains of is the refusal. Its environment has these variables further."""
     words = [str(word) for word in words]
     try:
         # signals stay ignored as they are here, so that a file that is too large is an error and no signal
         done = subprocess.run(words, stdin=subprocess.DEVNULL, capture_output=True, text=True, errors="replace",
-                              timeout=SECONDS, env={**os.environ, "LC_ALL": "C"}, preexec_fn=limited,
+                              timeout=SECONDS, env={**os.environ, **dict(variables), "LC_ALL": "C"}, preexec_fn=limited,
                               restore_signals=False, check=False)
     except (FileNotFoundError, PermissionError):
         package = PACKAGES.get(words[0], PACKAGES[BINUTIL] if words[0].startswith(PREFIXES) else None)
@@ -69,6 +71,6 @@ def output(words):
     if done.returncode:
         lines = done.stderr.strip().splitlines() or [f"it ended with {done.returncode}, and said nothing"]
         begin = next((at for at, line in enumerate(lines) if "error" in line), 0)
-        lines = lines[begin:]
-        raise Refused("\n".join([f"{words[0]} fails:", *lines[:LINES], *["[..]"] * (len(lines) > LINES)]))
+        lines = [each.replace("\t", " ") for each in lines[begin:]]
+        raise Refused(f"{words[0]} fails", [*lines[:LINES], *["[..]"] * (len(lines) > LINES)])
     return done.stdout

@@ -131,7 +131,7 @@ class Ending:
         if self.filtered:
             front = grouped(written(self.filtered, place))
             whole = f"(~{front} \\/ {whole})" if self.kind == "forall" else f"({front} /\\ {whole})"
-        shown = lefts_in(self.pieces + self.filtered) + [place] * self.needs_place()
+        shown = {*lefts_in(self.pieces + self.filtered), *[place] * self.needs_place()}
         further = [always(each) for each in dict.fromkeys(self.places) if each not in shown]
         if further:
             whole = "(" + " /\\ ".join([whole, *further]) + ")"

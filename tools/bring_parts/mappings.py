@@ -54,7 +54,7 @@ class Comparison:
             try:
                 self.ways[name] = compiled(path, compiler, options, states)
             except Refused as refused:
-                self.refused[name] = " ".join(str(refused).split("\n")[:2])
+                self.refused[name] = ": ".join([str(refused), *refused.before[:1]])
 
     def is_whole(self):
         """Whether each way was taken, and searched to the end."""

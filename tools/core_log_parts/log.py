@@ -3,7 +3,8 @@
 import re
 from dataclasses import dataclass, field
 
-D, H = "[0-9]+", "[0-9A-Fa-f]+"
+# decimal and hex, of 64 bits at most
+D, H = "[0-9]{1,20}", "[0-9A-Fa-f]{1,16}"
 # the fields of each line: decimal or hex. What begins with any other word is no line of the log
 SHAPES = {
     "run": (D,),
@@ -80,7 +81,7 @@ def fields_of(kind, words, number):
         raise LogError(f"line {number}: `{kind}` has {len(shapes)} fields, not {len(words)}")
     for word, shape in zip(words, shapes):
         if not re.fullmatch(shape, word):
-            raise LogError(f"line {number}: `{word}` is no field of `{kind}`")
+            raise LogError(f"line {number}: `{word[:40]}` is no field of `{kind}`")
     if words[-1] == "-":
         words = [*words[:-1], words[0]]
     return [int(word, 16 if shape == H else 10) for word, shape in zip(words, shapes)]

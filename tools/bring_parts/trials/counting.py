@@ -1,5 +1,6 @@
 """How many trials passed, and what is said of those that failed."""
 
+import os
 import subprocess
 import sys
 from pathlib import Path
@@ -24,12 +25,13 @@ class Count:
         return f"{self.passed} passed, {self.failed} failed"
 
 
-def run(tool, *words, text="", seconds=SECONDS):
-    """The status, standard output and standard error of a tool."""
+def run(tool, *words, text="", seconds=SECONDS, processor="unlimited", variables=()):
+    """The status, standard output and standard error of a tool, which may take so many seconds of a processor."""
     stdin = text.encode() if isinstance(text, str) else text
+    command = ["sh", "-c", f'ulimit -t {processor}; exec "$0" "$@"', sys.executable, str(TOOLS / tool), *map(str, words)]
     try:
-        done = subprocess.run([sys.executable, str(TOOLS / tool), *map(str, words)], input=stdin, capture_output=True,
-                              timeout=seconds, check=False)
+        done = subprocess.run(command, input=stdin, capture_output=True, timeout=seconds,
+                              env={**os.environ, **dict(variables)}, check=False)
     except subprocess.TimeoutExpired:
         return None, "", f"more than {seconds} seconds"
     return done.returncode, done.stdout.decode(errors="replace"), done.stderr.decode(errors="replace")

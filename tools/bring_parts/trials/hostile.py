@@ -14,10 +14,14 @@ from bring_parts.compilers import USUAL
 from bring_parts.trials.counting import run, write
 
 MIB = 1 << 20
+# the seconds of a processor that a tool may take; most take 1
+PROCESSOR = 15
 SB = (ROOT / "litmus/store-buffering/sb.litmus").read_text()
 STATE = "1 :>0:x7=0; 1:x7=0;"
 LOG = f"Test SB Allowed\nHistogram (1 states)\n{STATE}\nOk\n"
 MANY_STATES = "".join(f"1 :>0:x7={at}; 1:x7=0;\n" for at in range(1, 47000))
+# what would colour a terminal's text, clear it, and ring
+ESCAPE = "\x1b[31m\x9b2J\x07"
 TABLE = "3 0:x7=0 1:x7=0 ; a0*2 a1*2 l0 l1\nunfinished 0\n"
 C = "int x;\nint P0(void) { return x; }\n// exists (0:a0=0)\n"
 
@@ -47,6 +51,11 @@ def with_item(item):
     return SB.replace("{\n", "{\n" + item, 1)
 
 
+def names(front, count, end="", between=";"):
+    """So many different names."""
+    return between.join(f"{front}{number}{end}" for number in range(count))
+
+
 def herd(text, status, part, **more):
     return Row("from-herd", text, status, part, **more)
 
@@ -58,6 +67,10 @@ def to_log(text, status, part, **more):
 def allowed(text, status, part, **more):
     """The log comes on standard input where no other is named."""
     return Row("allowed", text, status, part, **{"words": ("-",), **more})
+
+
+def to_record(log, status, part):
+    return Row("core-log-to-record", SB, status, part, stdin=log)
 
 
 def from_c(text, status, part, **more):
@@ -94,6 +107,14 @@ HERD = [
     herd(SB.replace("sw x5,0(x6) |", "a" + filled(" ", 900000) + "b |", 1), 2, "no statement"),
     herd(SB.replace("sw x5,0(x6) |", "ld x5," + filled("1", 900000) + "(x6) |", 1), 2, "`ld x5,1111"),
     herd(SB, 2, "several files need", words=(ROOT / "litmus/store-buffering/sb.litmus",)),
+    herd(with_ending(f"locations [{names('a', 50000)};]\nexists " + names("b", 50000, "=0", " /\\ ")), 2, "refused 26"),
+    herd(with_item(names("uint32_t a", 50000)), 2, "no item"),
+    herd(SB.replace("sw x5,0(x6) |", f"{ESCAPE}sw |", 1), 2, "?[31m?2J?sw"),
+    herd(with_ending(f"exists {ESCAPE}=1"), 2, "?[31m?2J?"),
+    herd(SB.replace("sw x5,0(x6) |", f"sw x5,0(x6) # {ESCAPE}\n |", 1), 2, "refused"),
+    herd(f"{ESCAPE} SB\n{{}}\n", 2, "the header is `?[31m"),
+    herd(None, 2, "a?[31m?2J?.litmus: No such file", words=(f"a{ESCAPE}.litmus", "--to", "none")),
+    herd(SB, 2, "from-herd: /dev/null/input", words=("--to", "/dev/null")),
 ]
 LOGS = [
     to_log(SB, 0, "Observation SB Always 3 0", stdin=TABLE),
@@ -160,6 +181,14 @@ SOURCES = [
     from_c("C a\n{" + filled("(* ", 300000), 2, "no init"),
     from_c(C.replace("exists", "init " + filled("1", 300000) + "\n// exists"), 2, "no item"),
     from_c(C + filled(" "), 2, "more than"),
+    from_c(C.replace("exists", f"init {ESCAPE}\n// exists"), 2, "`?[31m?2J?` is no item"),
+    from_c(C.replace("(void)", f"({ESCAPE})"), 2, "the parameter `?[31m"),
+    from_c(C, 2, f"there is no mapping a?", words=("--mapping", "a\x1b.h")),
+    to_record("run 1" + filled("1", 5000), 2, "is no field of `run`"),
+    to_record("run 1\nend " + filled("1", MIB), 2, "is no field of `end`"),
+    to_record("run 1\nretire 0 0 " + filled("f", 9000) + " 13 0 0 0 0 0 0 0 0\n", 2, "is no field of `retire`"),
+    to_record(f"run 1\ndrain 1 0 0 f {ESCAPE}\n", 2, "`?[31m?2J?` is no field of `drain`"),
+    to_record(b"\xff\nrun 1\nend 1\n", 0, "ztso-schedule 2"),
     Row("compare-mappings", None, 2, "refused", words=("--compiler", "no-such-compiler")),
 ]
 # what is judged after the C is compiled, so these rows are left out where there is no gcc for RISC-V
@@ -167,6 +196,7 @@ COMPILED = [
     from_c(C.replace("0:a0", "1:a0"), 2, "there is no P1"),
     from_c(C.replace("0:a0", "0:x"), 2, "its local x has no last value"),
     from_c(C.replace("0:a0", "0:r7"), 2, "no local of that name"),
+    from_c(C.replace("return x", f"return x{ESCAPE}"), 2, "input: riscv64-unknown-elf-gcc fails\n"),
 ] if any(map(shutil.which, USUAL["gcc"])) else []
 
 
@@ -186,13 +216,30 @@ def missing(count):
             count.told(f"no {compiler}", status == 2 and f"apt-get install {package}\n" in told, told)
 
 
+def crash(count):
+    """Where a compiler fails, or crashes, its lines come first, and no file is left."""
+    crashes = "#pragma clang __debug crash\n"
+    jobs = [(name, text) for name, text in (("gcc", "#error\n"), ("clang", "#error\n"), ("clang", crashes))
+            if any(map(shutil.which, USUAL[name]))]
+    with tempfile.TemporaryDirectory() as folder, tempfile.TemporaryDirectory() as scratch:
+        for compiler, text in jobs:
+            path, made = write(folder, "c.c", text + C), Path(folder, "made.litmus")
+            status, _, error = run("from-c", path, "--compiler", compiler, "-o", made, variables={"TMPDIR": scratch})
+            last = error.splitlines()[-1:]
+            good = status == 2 and last[0].startswith(f"from-c: {path}: ") and last[0].endswith(" fails")
+            count.told(f"{compiler} on {text!r}", good, error)
+            left = [*Path(scratch).iterdir(), *([made] if made.exists() else [])]
+            count.told(f"{compiler} on {text!r} leaves nothing", not left, str(left))
+
+
 def failure(job):
     """What is wrong with a row's answer, or nothing."""
     row, folder = job
     name = write(folder, row.name, row.text) if row.text is not None else f"{folder}/none"
     words = [*row.words, name] if row.tool == "allowed" else [name, *row.words]
-    status, printed, error = run(row.tool, *words, text=row.stdin)
+    status, printed, error = run(row.tool, *words, text=row.stdin, processor=PROCESSOR)
     is_good = status == row.status and row.part in printed + error and "Traceback" not in error
+    is_good = is_good and all(line.isprintable() for line in error.split("\n"))
     return "" if is_good else f"status {status}: {(error + printed)[-300:]}"
 
 
@@ -207,3 +254,4 @@ def part(count):
             text, stdin = (row.text or "")[:40], row.stdin[:60]
             count.told(f"{row.tool} {row.words} on {text!r}, {stdin!r}", not wrong, wrong)
     missing(count)
+    crash(count)

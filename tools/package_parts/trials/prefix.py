@@ -2,6 +2,7 @@
 
 import signal
 import subprocess
+from pathlib import Path
 
 import tree
 
@@ -25,6 +26,8 @@ def part(count, program):
         taken_away(count, prefix, alone)
     with workplace(program) as (folder, alone):
         refusals(count, folder, alone)
+        links(count, folder, alone)
+        made_folders(count, folder, alone)
 
 
 def contents(prefix):
@@ -146,6 +149,51 @@ def refusals(count, folder, alone):
         (folder / "victim").write_text("")
         refused(count, f"a list with {place}", prefix, str(listed), "--uninstall")
         count.told("the file stays", (folder / "victim").exists())
+
+
+def links(count, folder, alone):
+    """Nothing is written or removed where a symbolic link leads out of the prefix; one that stays inside is followed."""
+    prefix, outside = folder / "linked", folder / "outside"
+    outside.mkdir()
+    prefix.mkdir()
+    (prefix / "share").symlink_to(outside)
+    refused(count, "a share that leads out", prefix, f"{prefix / 'share'} is a symbolic link", "--program", alone)
+    count.same("nothing is written outside", (below(outside), below(prefix)), ([], ["share"]))
+    (prefix / "share").unlink()
+    install("--prefix", prefix, "--program", alone)
+    for place in ("share", "lib/ztso"):
+        moved = outside / Path(place).name
+        (prefix / place).rename(moved)
+        (prefix / place).symlink_to(moved)
+        stood = below(outside)
+        refused(count, f"taking away by {place}", prefix, f"{prefix / place} is a symbolic link", "--uninstall")
+        count.same("nothing is removed outside", below(outside), stood)
+        (prefix / place).unlink()
+        moved.rename(prefix / place)
+    (prefix / "bin").rename(prefix / "other")
+    (prefix / "bin").symlink_to("other")
+    status, _, faults = install("--uninstall", "--prefix", prefix)
+    count.same("a link inside", (status, faults, below(prefix)), (0, "", ["bin", "other"]))
+    (folder / "circle").mkdir()
+    (folder / "circle/share").symlink_to("share")
+    refused(count, "a link in a circle", folder / "circle", "share", "--program", alone)
+
+
+def made_folders(count, folder, alone):
+    """Folders have the usual rights, whatever the umask, and those above the prefix go too when they are empty."""
+    for umask in (0o000, 0o077, 0o777):
+        prefix = folder / f"umask-{umask:o}/above/prefix"
+        status, said, faults = install("--prefix", prefix, "--program", alone, umask=umask)
+        rights = {path.stat().st_mode & 0o777 for path in (folder / f"umask-{umask:o}", *prefix.parent.rglob("*"))
+                  if path.is_dir()}
+        count.same(f"rights by the umask {umask:o}", (status, rights), (0, {0o755}))
+        keeps = umask == 0
+        if keeps:
+            (folder / f"umask-{umask:o}/own").write_text("of the user\n")
+        status, said, faults = install("--uninstall", "--prefix", prefix)
+        left = ["own"] if keeps else []
+        count.same(f"folders above the prefix, {umask:o}", (status, faults, below(folder / f"umask-{umask:o}")), (0, "", left))
+        count.same(f"the outermost one, {umask:o}", (folder / f"umask-{umask:o}").exists(), keeps)
 
 
 def refused(count, name, prefix, why, *words):
