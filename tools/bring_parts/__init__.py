@@ -89,11 +89,10 @@ def program_of(named=None):
     return program.resolve()
 
 
-def answer(program, *words):
-    """What the program prints. A verdict that doesn't hold is no fault."""
+def answer(program, *words, text=""):
+    """What the program prints, where this text stands on standard input. A verdict that doesn't hold is no fault."""
     try:
-        done = subprocess.run([str(program), *map(str, words)], stdin=subprocess.DEVNULL, capture_output=True, text=True,
-                              check=False)
+        done = subprocess.run([str(program), *map(str, words)], input=text, capture_output=True, text=True, check=False)
     except OSError as error:
         raise Refused(f"{program}: {error.strerror}; scripts/build makes crates/ztso/out/ztso") from None
     if done.returncode not in (0, 1) or done.stderr:

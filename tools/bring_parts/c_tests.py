@@ -3,9 +3,10 @@
 import re
 import tempfile
 import textwrap
+from collections import Counter
 from pathlib import Path
 
-from bring_parts import MOST, Refused, columns, objects, texts
+from bring_parts import MOST, Refused, columns, fields, objects, texts
 from bring_parts.compilers import HERE
 
 # where a local's last value is kept for the condition
@@ -118,17 +119,36 @@ class Words:
     """The names and opening values of memory's words. Word 0 has a name of its own, since its address is that of a
     null pointer."""
 
-    def __init__(self, values, symbols):
+    def __init__(self, values, symbols, parts_of=lambda name: ()):
         self.values, self.names = values, [None] * len(values)
-        # the word of an object's name, and of its further words; the names of those with fewer than 4 bytes
-        self.places, self.small = {}, {name for _, size, name in symbols if size < 4}
+        # the word of an object's name, and of its further words; that of a part by its name in C; and the names of
+        # what has fewer than 4 bytes
+        self.places, self.parts, self.small = {}, {}, {name for _, size, name in symbols if size < 4}
+        called = self.called_in_c(symbols, parts_of)
         words = [(address // 4 + at, name, at) for address, size, name in symbols for at in range((size + 3) // 4 or 1)]
         for place, name, at in sorted(words, key=lambda word: word[2]):
             self.places.setdefault((name, at), place)
             if place < len(self.names) and self.names[place] is None:
-                self.names[place] = self.fresh(re.sub(r"\W", "_", name) + (f"_{at}" if at else ""))
+                self.names[place] = self.fresh(called.get(place) or re.sub(r"\W", "_", name) + (f"_{at}" if at else ""))
         for place, name in enumerate(self.names):
             self.names[place] = name or self.fresh(f"const{4 * place}" if place else "null")
+
+    def called_in_c(self, symbols, parts_of):
+        """A name for each word by the first part of an object that begins there: `q_tail` for `q.tail`, and `q_slot` for
+        `q.slot[0]`. Notes the parts that have a word for themselves."""
+        called = {}
+        for address, _, name in symbols:
+            parts = parts_of(name)
+            alone = Counter(part.at // 4 for part in parts)
+            for part in parts:
+                place, offset = divmod(address + part.at, 4)
+                if offset:
+                    continue
+                called.setdefault(place, re.sub(r"\W+", "_", re.sub(r"(?<!\])\[0\]$", "", part.name)).strip("_"))
+                if part.size == 4 or alone[part.at // 4] == 1:
+                    self.parts.setdefault(part.name, place)
+                    self.small |= {part.name} if part.size < 4 else set()
+        return called
 
     def fresh(self, name):
         """A name that no word has yet."""
@@ -137,9 +157,9 @@ class Words:
         return name
 
     def named(self, text, what):
-        """The name of a word that C calls `x` or `a[2]`."""
+        """The name of a word that C calls `x`, `a[2]` or `q.tail`."""
         shape = re.fullmatch(r"(\w+)(?:\[([0-9]+)\])?", text)
-        place = self.places.get((shape[1], int(shape[2] or 0))) if shape else None
+        place = self.parts.get(text, self.places.get((shape[1], int(shape[2] or 0))) if shape else None)
         if place is None and text not in self.names:
             raise Refused(f"{what} {text}, which is no shared word")
         return text if place is None else self.names[place]
@@ -223,7 +243,7 @@ def litmus_text(source, compiler, flags, folders, fences, note, told):
     results = results_of(source)
     with tempfile.TemporaryDirectory() as folder:
         program = compiled(source, results, compiler, flags, folders, folder)
-        words = Words(objects.data_of(program, folder), objects.symbols(program))
+        words = Words(objects.data_of(program, folder), objects.symbols(program), fields.types_of(program).parts_of)
         functions = objects.functions_of(program)
     words.open(source.words)
     made = [columns.column(hart, functions, fences, note and note()) for hart in range(len(source.functions))]

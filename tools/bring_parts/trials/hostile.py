@@ -190,6 +190,11 @@ SOURCES = [
     to_record(f"run 1\ndrain 1 0 0 f {ESCAPE}\n", 2, "`?[31m?2J?` is no field of `drain`"),
     to_record(b"\xff\nrun 1\nend 1\n", 0, "ztso-schedule 2"),
     Row("compare-mappings", None, 2, "refused", words=("--compiler", "no-such-compiler")),
+    *[row for tool in ("reference/explore", "reference/axioms") for row in (
+        Row(tool, SB, 0, f"\n\ntools/{tool} FILE", words=("--help",)), Row(tool, SB, 0, "0:x7=1 1:x7=0"),
+        Row(tool, "no litmus", 2, "refused 21"), Row(tool, None, 2, "No such file"), Row(tool, b"\xff", 2, "no UTF-8"),
+        Row(tool, SB, 2, "usage: tools/reference/", words=("1", "2")))],
+    Row("reference/explore", SB, 2, "is no capacity", words=(filled("1", 5000),)),
 ]
 # what is judged after the C is compiled, so these rows are left out where there is no gcc for RISC-V
 COMPILED = [
