@@ -1,0 +1,63 @@
+"""The checksum of all that the checks of a crate's mutants read.
+
+Of the crate itself these are its sources as they are and its line of crates.txt, of the crates below what they state:
+their specs/, and of their src/ the text without the functions' bodies. A body below is no part of a check here, which
+cites its contract, and neither are the lemmas of proofs/ below: they are proved, so no lemma makes a wrong body right.
+"""
+
+import hashlib
+import shutil
+import subprocess
+
+from crates import SOURCES, TOP
+
+from . import functions
+
+DIGITS = 16
+
+
+def kit():
+    """The number of the kit's logic, as `rt version` prints it; None where there is no kit."""
+    if not shutil.which("rt"):
+        return None
+    words = subprocess.run(["rt", "version"], stdin=subprocess.DEVNULL, capture_output=True, text=True, check=False).stdout.split()
+    return words[words.index("logic") + 1] if "logic" in words[:-1] else None
+
+
+def digest(parts):
+    """One sum of many texts."""
+    whole = hashlib.sha256()
+    for part in parts:
+        data = part if isinstance(part, bytes) else part.encode()
+        whole.update(b"%d:" % len(data) + data)
+    return whole.hexdigest()[:DIGITS]
+
+
+def files(folder, suffix=""):
+    """The files below a folder, sorted, each by its name there."""
+    return [(path.relative_to(folder).as_posix(), path) for path in sorted(folder.rglob(f"*{suffix}")) if path.is_file()]
+
+
+def stated(crate):
+    """What a crate states, as texts."""
+    yield crate.name
+    for name, path in files(crate / "specs"):
+        yield from (name, path.read_bytes())
+    for name, path in files(crate / "src", ".rt"):
+        yield from (name, *functions.statements(path.read_text()))
+
+
+def read_by(name, crates, logic, top=TOP):
+    """The sum of all that the checks of a crate read, but its mutants."""
+    own = top / "crates" / name
+    parts = [logic, *(line for line in (top / "crates.txt").read_text().splitlines() if line.partition(":")[0].split()[:1] == [name])]
+    for part in SOURCES:
+        parts += [text for at, path in files(own / part) for text in (f"{part}/{at}", path.read_bytes())]
+    for low in sorted(crates.below(name)):
+        parts += stated(top / "crates" / low)
+    return digest(parts)
+
+
+def of_edits(edits):
+    """The sum of mutants' own texts."""
+    return digest(text for edit in edits for text in (edit.name, edit.file.read_bytes()))

@@ -1,0 +1,1 @@
+"""Tests of scripts/mutants that need no prover: what checks printed is kept in outputs/."""

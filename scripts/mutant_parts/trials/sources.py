@@ -1,0 +1,170 @@
+"""Functions of a source, edits of them, passes and sums, over a crate of a few lines."""
+
+import tempfile
+import unittest
+from pathlib import Path
+
+from crates import Crates
+
+from mutant_parts import functions, passes, sums, table
+from mutant_parts.edits import Unfit, edits_of
+
+LOW = '''//! Rows, as "fn text() {" has none.
+
+ghost use Rattle.low.specs.Rows.{row};
+
+/// The next row; '{' opens nothing.
+#[tactic(auto)]
+pub fn next(number: u32) -> u32
+    requires few { number < 10 }
+    ensures { result ≡ row number }
+{
+    let open = '{';
+    number + 1
+}
+
+impl<'a> Rows<'a> {
+    pub fn last(&self) -> u32 {
+        match self.rows { 0 => next(0), _ => next(9) }
+    }
+}
+
+pub const fn width() -> u32 {
+    4
+}
+'''
+HIGH = "pub fn both() -> u32\n    ensures { result ≡ 1 }\n{\n    low::next(0)\n}\n"
+EDITS = {
+    "next_skips": "file: src/lib.rt\nold: number + 1\nnew: number + 2\n",
+    "last_is_next": "file: src/lib.rt\nold: next(9)\nnew: next(8)\n",
+    "next_stays": "file: src/lib.rt\nold: number + 1\nnew: number + 0\n",
+    "wide": "file: src/lib.rt\nold:     4\nnew:     8\n",
+    "row_of_all": "file: specs/Rows.antt\nold: row n = n\nnew: row n = 1\n",
+    "more_numbers": "file: src/lib.rt\nold: number < 10\nnew: number < 11\n",
+}
+
+
+class House(unittest.TestCase):
+    """A repository of two crates."""
+
+    def setUp(self):
+        folder = tempfile.TemporaryDirectory()
+        self.addCleanup(folder.cleanup)
+        self.top = Path(folder.name)
+        self.crates = Crates({"low": [], "high": ["low"]})
+        (self.top / "crates.txt").write_text("low:\nhigh: low\n")
+        self.write("low/src/lib.rt", LOW)
+        self.write("low/specs/Rows.antt", "row n = n\n")
+        self.write("low/proofs/next/Answers.antt", "returns c = refl\n")
+        self.write("high/src/lib.rt", HIGH)
+        for name, text in EDITS.items():
+            self.write(f"low/mutants/{name}.edit", text)
+
+    def write(self, name, text):
+        path = self.top / "crates" / name
+        path.parent.mkdir(parents=True, exist_ok=True)
+        path.write_text(text)
+
+
+class Functions(unittest.TestCase):
+    def test_where_they_stand(self):
+        found = [(one.name, one.owner, one.first, one.last) for one in functions.functions(LOW)]
+        self.assertEqual(found, [("next", "", 6, 13), ("last", "impl<'a> Rows<'a>", 16, 18)])
+
+    def test_statements_have_no_bodies_and_no_comments(self):
+        other = LOW.replace("number + 1", "1 + number").replace("/// The next row", "/// One row further")
+        self.assertEqual(functions.statements(LOW), functions.statements(other))
+        self.assertNotEqual(functions.statements(LOW), functions.statements(LOW.replace("number < 10", "number < 11")))
+
+    def test_what_a_constant_computes_is_a_statement(self):
+        self.assertNotEqual(functions.statements(LOW), functions.statements(LOW.replace("    4\n", "    8\n")))
+
+
+class Passes(House):
+    def setUp(self):
+        super().setUp()
+        self.edits = {edit.name: edit for edit in edits_of(self.top / "crates/low")}
+        self.bodies = {name: found for name, edit in self.edits.items() if (found := passes.body_changed(edit))}
+
+    def test_only_bodies_go_together(self):
+        self.assertEqual({name: of[1].name for name, of in self.bodies.items()},
+                         {"next_skips": "next", "next_stays": "next", "last_is_next": "last"})
+
+    def test_a_function_is_edited_once_and_not_with_its_callee(self):
+        pairs = [(self.edits[name], of) for name, of in self.bodies.items()]
+        found = passes.packed(pairs, passes.Calls(self.top / "crates/low"))
+        self.assertEqual([[edit.name for edit, _ in one] for one in found], [["next_skips"], ["next_stays"], ["last_is_next"]])
+
+    def test_what_a_check_told_parts_them_too(self):
+        of = {"next_skips": ("src/lib.rt", functions.Function("next", "", 1, 2, 0, 0)),
+              "last_is_next": ("src/lib.rt", functions.Function("other", "", 3, 4, 0, 0))}
+        pairs, calls = [(self.edits[name], one) for name, one in of.items()], passes.Calls(self.top / "crates/low")
+        self.assertEqual(len(passes.packed(pairs, calls)), 1)
+        self.assertEqual(len(passes.packed(pairs, calls, {("last_is_next", "next_skips")})), 2)
+
+    def test_an_edit_that_does_not_apply(self):
+        self.write("low/mutants/gone.edit", "file: src/lib.rt\nold: number - 1\nnew: number\n")
+        with self.assertRaises(Unfit):
+            edits_of(self.top / "crates/low")[0].applied()
+
+    def test_an_edit_that_changes_nothing(self):
+        self.write("low/mutants/a.edit", "file: src/lib.rt\nold: next(9)\nnew: next(9)\n")
+        with self.assertRaises(Unfit):
+            edits_of(self.top / "crates/low")[0].applied()
+
+
+class Sums(House):
+    def of(self, name="high"):
+        return sums.read_by(name, self.crates, "logic", self.top)
+
+    def changed(self, name, old, new, of="high"):
+        before, text = self.of(of), (self.top / "crates" / name).read_text()
+        self.assertEqual(text.count(old), 1)
+        self.write(name, text.replace(old, new))
+        return self.of(of) != before
+
+    def test_a_body_below_does_not_count(self):
+        self.assertFalse(self.changed("low/src/lib.rt", "number + 1", "1 + number"))
+
+    def test_a_statement_below_counts(self):
+        self.assertTrue(self.changed("low/src/lib.rt", "number < 10", "number < 11"))
+
+    def test_a_definition_below_counts(self):
+        self.assertTrue(self.changed("low/specs/Rows.antt", "row n = n", "row n = 1"))
+
+    def test_a_proof_below_does_not_count(self):
+        self.assertFalse(self.changed("low/proofs/next/Answers.antt", "refl", "omega"))
+
+    def test_all_of_its_own_counts(self):
+        self.assertTrue(self.changed("low/src/lib.rt", "number + 1", "1 + number", "low"))
+        self.assertTrue(self.changed("low/proofs/next/Answers.antt", "refl", "omega", "low"))
+
+    def test_its_line_of_crates_txt_counts(self):
+        before = self.of()
+        (self.top / "crates.txt").write_text("low:\nhigh may_wait=1: low\n")
+        self.assertNotEqual(self.of(), before)
+
+    def test_the_kit_counts(self):
+        self.assertNotEqual(self.of(), sums.read_by("high", self.crates, "another", self.top))
+
+    def test_a_mutant_counts(self):
+        crate = self.top / "crates/low"
+        before = sums.of_edits(edits_of(crate))
+        self.write("low/mutants/wide.edit", EDITS["wide"].replace("8", "16"))
+        self.assertNotEqual(sums.of_edits(edits_of(crate)), before)
+
+
+class Table(House):
+    def test_it_is_read_as_it_was_written(self):
+        file, rows = self.top / "mutants.tsv", {"low": table.Row("1", "2", ("a", "b")), "high": table.Row("3", "4", ("c",))}
+        table.write(rows, file)
+        self.assertEqual(table.read(file), rows)
+        self.assertEqual(list(table.wrong({"low": ["a", "b", "more"], "high": ["c"]}, file)), [])
+
+    def test_a_row_that_does_not_fit(self):
+        file = self.top / "mutants.tsv"
+        table.write({"low": table.Row("1", "2", ("a", "b"))}, file)
+        self.assertIn("low has no mutant b", "".join(table.wrong({"low": ["a"]}, file)))
+        self.assertIn("there is no crate low", "".join(table.wrong({"high": ["a", "b"]}, file)))
+        file.write_text(file.read_text() + "low\t1\n")
+        self.assertIn("mutants.tsv:3: a row has the columns", "".join(table.wrong({"low": ["a", "b"]}, file)))
