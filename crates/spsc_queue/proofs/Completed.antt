@@ -1,0 +1,62 @@
+-- Whether a hart is in a call and what its calls completed, at the end of a list of entries.
+use Rattle.std.proofs.Common.{ℕ, ◌*◌, ◌≡◌, ◌==◌, ◌&&◌, Bool, true, false, if◌then◌else◌, List, [], ◌∷◌, ◌++◌, Some, refl, sym, ◌∙◌, ap}
+use Rattle.std.proofs.Common.{append-nil, append_assoc}
+use Rattle.std.specs.Prelude.{slice_index}
+use Rattle.std.proofs.lemmas.Bool.{eqb-true}
+use Rattle.hart.specs.State.{HartState}
+use Rattle.hart.specs.Steps.{advanced}
+use Rattle.step_machine.specs.declared.events.Entry.{Entry}
+use Rattle.step_machine.specs.History.{OpeningValue, history_of}
+use Rattle.step_machine.specs.Entries.{is_own}
+use Rattle.step_machine.specs.Paths.{value_of, state_of}
+use Rattle.spsc_queue.specs.Calls.{Block, enters, is_in_call_after, is_in_call_by, is_in_call_with, is_in_call_from}
+use Rattle.spsc_queue.specs.Calls.{completed_at, completed_in, completed_by_entry, completed_words_from}
+
+pub is_in_call-last : (M : ℕ) (o : OpeningValue) (h n : ℕ) (k : Block) (b : Bool) (front es : List Entry) (e : Entry)
+    → is_in_call_from M o h n k b front (es ++ e ∷ []) ≡ is_in_call_with M o h n k (is_in_call_from M o h n k b front es) (front ++ es) e
+is_in_call-last M o h n k b front [] e = ap (λ xs. is_in_call_with M o h n k b xs e) (sym (append-nil front))
+is_in_call-last M o h n k b front (d ∷ es) e =
+    is_in_call-last M o h n k (is_in_call_with M o h n k b front d) (front ++ d ∷ []) es e
+    ∙ ap (λ xs. is_in_call_with M o h n k (is_in_call_from M o h n k (is_in_call_with M o h n k b front d) (front ++ d ∷ []) es) xs e)
+    (append_assoc front (d ∷ []) es)
+
+pub completed-last : (M : ℕ) (o : OpeningValue) (h n : ℕ) (k : Block) (b : Bool) (front es : List Entry) (e : Entry)
+    → completed_words_from M o h n k b front (es ++ e ∷ []) ≡ completed_words_from M o h n k b front es
+    ++ completed_by_entry M o h n (is_in_call_from M o h n k b front es) (front ++ es) e
+completed-last M o h n k b front [] e = append-nil (completed_by_entry M o h n b front e)
+    ∙ ap (λ xs. completed_by_entry M o h n b xs e) (sym (append-nil front))
+completed-last M o h n k b front (d ∷ es) e =
+    ap (λ ws. completed_by_entry M o h n b front d ++ ws) (completed-last M o h n k (is_in_call_with M o h n k b front d) (front ++ d ∷ []) es e
+    ∙ ap (λ xs. completed_words_from M o h n k (is_in_call_with M o h n k b front d) (front ++ d ∷ []) es
+    ++ completed_by_entry M o h n (is_in_call_from M o h n k (is_in_call_with M o h n k b front d) (front ++ d ∷ []) es) xs e) (append_assoc front (d ∷ []) es))
+    ∙ sym (append_assoc (completed_by_entry M o h n b front d) (completed_words_from M o h n k (is_in_call_with M o h n k b front d) (front ++ d ∷ []) es)
+    (completed_by_entry M o h n (is_in_call_from M o h n k (is_in_call_with M o h n k b front d) (front ++ d ∷ []) es) (front ++ (d ∷ es)) e))
+
+-- an entry that isn't the hart's own leaves both, and its own go by its state
+pub none_completed : (M : ℕ) (o : OpeningValue) (h n : ℕ) (b : Bool) (front : List Entry) (e : Entry) (ws : List ℕ) → is_own h e ≡ false
+    → ws ≡ ws ++ completed_by_entry M o h n b front e
+none_completed M o h n b front e ws off = sym (ap (λ c. ws ++ (if c then completed_in n b (state_of M (history_of o front) h) else [])) off ∙ append-nil ws)
+
+pub same_call : (M : ℕ) (o : OpeningValue) (h n : ℕ) (k : Block) (b : Bool) (front : List Entry) (e : Entry) → is_own h e ≡ false
+    → b ≡ is_in_call_with M o h n k b front e
+same_call M o h n k b front e off = sym (ap (λ c. if c then is_in_call_by n k b (state_of M (history_of o front) h) (value_of e) else b) off)
+
+pub own_completed : (M : ℕ) (o : OpeningValue) (h n : ℕ) (b : Bool) (front : List Entry) (e : Entry) (s : HartState) → is_own h e ≡ true
+    → state_of M (history_of o front) h ≡ Some s → completed_at n b s ≡ completed_by_entry M o h n b front e
+own_completed M o h n b front e s own at = sym (ap (λ c. if c then completed_in n b (state_of M (history_of o front) h) else []) own ∙ ap (completed_in n b) at)
+
+pub own_call : (M : ℕ) (o : OpeningValue) (h n : ℕ) (k : Block) (b : Bool) (front : List Entry) (e : Entry) (s : HartState) → is_own h e ≡ true
+    → state_of M (history_of o front) h ≡ Some s → is_in_call_after n k b s (advanced s (value_of e)) ≡ is_in_call_with M o h n k b front e
+own_call M o h n k b front e s own at =
+    sym (ap (λ c. if c then is_in_call_by n k b (state_of M (history_of o front) h) (value_of e) else b) own ∙ ap (λ x. is_in_call_by n k b x (value_of e)) at)
+
+-- where a hart enters
+pub entered : (n : ℕ) (k : Block) (s : HartState) → enters n k s ≡ true → (s.pc ≡ 4 * n) × (slice_index s.registers 10 ≡ k.base)
+entered n k s is = at (s.pc == 4 * n) refl (slice_index s.registers 10 == k.base) refl
+  where
+    at : (b : Bool) → (s.pc == 4 * n) ≡ b → (c : Bool) → (slice_index s.registers 10 == k.base) ≡ c → (s.pc ≡ 4 * n) × (slice_index s.registers 10 ≡ k.base)
+    at true one true two = (eqb-true s.pc (4 * n) one, eqb-true (slice_index s.registers 10) k.base two)
+    at true one false two =
+        let no : false ≡ true = sym (ap (λ c. c && (slice_index s.registers 10 == k.base)) one ∙ two) ∙ is in cc
+    at false one c two =
+        let no : false ≡ true = sym (ap (λ c. c && (slice_index s.registers 10 == k.base)) one) ∙ is in cc

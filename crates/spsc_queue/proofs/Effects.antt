@@ -1,0 +1,79 @@
+-- What an entry does to the words of the block and to the pending stores that go to it: only a landing or a store of
+-- the block's own does anything. So whatever else runs, the block is as it was.
+use Rattle.std.proofs.Common.{ℕ, ◌+◌, ◌%◌, ◌≤◌, ◌≡◌, ◌==◌, inl, inr, Bool, true, false, if◌then◌else◌}
+use Rattle.std.proofs.Common.{List, [], ◌∷◌, ◌++◌, length, drop, refl, ◌∙◌, ap, subst, append-nil}
+use Rattle.std.specs.Prelude.{All}
+use Rattle.std.proofs.lemmas.List.Elements.{filter-append, All-head, All-tail, All-nil, All-cons}
+use Rattle.memory.specs.declared.writes.Write.{Write}
+use Rattle.memory.specs.Writes.{byte_after, joined, IsWholeWord}
+use Rattle.memory.proofs.Bytes.{joined-same}
+use Rattle.step_machine.specs.declared.events.Entry.{Entry}
+use Rattle.step_machine.specs.History.{OpeningValue}
+use Rattle.step_machine.specs.Entries.{store_of, land_of, write_of, pending, memory_byte, memory_word, read, stores, lands}
+use Rattle.step_machine.proofs.Appended.{pending-last}
+use Rattle.step_machine.proofs.Stays.{memory_byte-other, memory_byte-write}
+use Rattle.spsc_queue.specs.RingBuffers.{RingBuffer, IsWordIn, overlaps, writes_to}
+use Rattle.spsc_queue.proofs.Words.{seen, Tidy, off_word, whole_word, read_through}
+
+-- ---- words of memory
+
+module _ (o : OpeningValue) (es : List Entry) (e : Entry) where
+  pub memory-quiet : (a : ℕ) → write_of es e ≡ [] → memory_word o (es ++ e ∷ []) a ≡ memory_word o es a
+  memory-quiet a none = joined-same (λ i. memory_byte o (es ++ e ∷ []) (a + i)) (λ i. memory_byte o es (a + i)) 4
+      (λ i lt. memory_byte-other o es e (a + i) none)
+
+  memory-after : (a : ℕ) (w : Write) → write_of es e ≡ w ∷ []
+      → memory_word o (es ++ e ∷ []) a ≡ joined (λ i. byte_after w (a + i) (memory_byte o es (a + i))) 4
+  memory-after a w is = joined-same (λ i. memory_byte o (es ++ e ∷ []) (a + i)) (λ i. byte_after w (a + i) (memory_byte o es (a + i))) 4
+      (λ i lt. memory_byte-write o es e w (a + i) is)
+
+  -- a write off the block, of bytes or of a word
+  pub memory-off : (r : RingBuffer) (a : ℕ) (w : Write) → write_of es e ≡ w ∷ [] → IsWordIn r a → overlaps r w ≡ false
+      → memory_word o (es ++ e ∷ []) a ≡ memory_word o es a
+  memory-off r a w is word off = memory-after a w is ∙ off_word r w a (memory_byte o es) word off
+
+  pub memory-whole : (a : ℕ) (w : Write) → write_of es e ≡ w ∷ [] → a % 4 ≡ 0 → IsWholeWord w
+      → memory_word o (es ++ e ∷ []) a ≡ (if w.addr == a then w.value else memory_word o es a)
+  memory-whole a w is aligned whole = memory-after a w is ∙ whole_word w a (memory_byte o es) aligned whole
+
+-- ---- what is pending
+
+pub on-append : (r : RingBuffer) (ws vs : List Write) → writes_to r (ws ++ vs) ≡ writes_to r ws ++ writes_to r vs
+on-append r ws vs = filter-append (overlaps r) ws vs
+
+pub on-one : (r : RingBuffer) (w : Write) → overlaps r w ≡ true → writes_to r (w ∷ []) ≡ w ∷ []
+on-one r w on = ap (λ b. if b then w ∷ [] else []) on
+
+pub on-none : (r : RingBuffer) (w : Write) → overlaps r w ≡ false → writes_to r (w ∷ []) ≡ []
+on-none r w off = ap (λ b. if b then w ∷ [] else []) off
+
+-- where what goes to the block is of whole words, all is tidy
+pub tidy-from : (r : RingBuffer) (ws : List Write) → All IsWholeWord (writes_to r ws) → All (Tidy r) ws
+tidy-from r [] all = All-nil (Tidy r)
+tidy-from r (w ∷ ws) all = at (overlaps r w) refl (λ more. tidy-from r ws more)
+  where
+    at : (b : Bool) → overlaps r w ≡ b → (All IsWholeWord (writes_to r ws) → All (Tidy r) ws) → All (Tidy r) (w ∷ ws)
+    at false off rest =
+        All-cons (Tidy r) w ws (inl off) (rest (subst (All IsWholeWord) (ap (λ b. if b then w ∷ writes_to r ws else writes_to r ws) off) all))
+    at true on rest =
+        let both : All IsWholeWord (w ∷ writes_to r ws) = subst (All IsWholeWord) (ap (λ b. if b then w ∷ writes_to r ws else writes_to r ws) on) all in
+        All-cons (Tidy r) w ws (inr (All-head IsWholeWord w (writes_to r ws) both)) (rest (All-tail IsWholeWord w (writes_to r ws) both))
+
+-- what a hart reads in a word of the block: the last of its own pending stores there, else the word of memory
+pub reads-word : (r : RingBuffer) (o : OpeningValue) (es : List Entry) (h a : ℕ) → IsWordIn r a → All IsWholeWord (writes_to r (pending h es))
+    → read o es h a 4 ≡ seen a (memory_word o es a) (writes_to r (pending h es))
+reads-word r o es h a is all = read_through r a (memory_byte o es) (pending h es) is (tidy-from r (pending h es) all)
+
+module _ (es : List Entry) (e : Entry) (h : ℕ) (le : lands h es ≤ length (stores h es)) where
+  pub pending-quiet : store_of h e ≡ [] → land_of h e ≡ 0 → pending h (es ++ e ∷ []) ≡ pending h es
+  pending-quiet none still = pending-last h es e le ∙ ap (λ n. drop n (pending h es ++ store_of h e)) still
+      ∙ ap (λ ws. pending h es ++ ws) none ∙ append-nil (pending h es)
+
+  pub pending-more : (w : Write) → store_of h e ≡ w ∷ [] → land_of h e ≡ 0 → pending h (es ++ e ∷ []) ≡ pending h es ++ w ∷ []
+  pending-more w one still = pending-last h es e le ∙ ap (λ n. drop n (pending h es ++ store_of h e)) still
+      ∙ ap (λ ws. pending h es ++ ws) one
+
+  pub pending-first : (w : Write) (rest : List Write) → pending h es ≡ w ∷ rest → store_of h e ≡ [] → land_of h e ≡ 1
+      → pending h (es ++ e ∷ []) ≡ rest
+  pending-first w rest is none one = pending-last h es e le ∙ ap (λ n. drop n (pending h es ++ store_of h e)) one
+      ∙ ap (λ ws. drop 1 (pending h es ++ ws)) none ∙ ap (drop 1) (append-nil (pending h es)) ∙ ap (drop 1) is

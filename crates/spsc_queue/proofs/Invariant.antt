@@ -1,0 +1,82 @@
+-- What holds of the block, of the pending stores to it and of both parties after every run that keeps the rules.
+use Rattle.std.proofs.Common.{ℕ, zero, suc, ◌+◌, ◌<◌, ◌≤◌, ◌≡◌, ◌≢◌, List, [], ◌∷◌, ◌++◌, arith}
+use Rattle.step_machine.specs.declared.events.Entry.{Entry}
+use Rattle.step_machine.specs.History.{OpeningValue}
+use Rattle.step_machine.specs.Entries.{pending, memory_word}
+use Rattle.spsc_queue.specs.RingBuffers.{RingBuffer, offset, slot, writes_to}
+use Rattle.spsc_queue.specs.Protocol.{SenderState, resting, placed, roomy, filled, ReceiverState, idle, asked, waiting, holding, Protocol}
+use Rattle.spsc_queue.proofs.Spread.{spread, sent_store, freed_store}
+
+-- how many of the block's stores have landed: words in their slots, heads, tails
+pub record Landed : Type 0 where
+  pub slots : ℕ
+  pub heads : ℕ
+  pub tails : ℕ
+
+-- the first n words of L
+abbrev pub firsts : (ℕ → ℕ) → ℕ → List ℕ
+firsts L zero = []
+firsts L (suc n) = firsts L n ++ L n ∷ []
+
+pub record Order (r : RingBuffer) (s : Protocol) (d : Landed) : Type 0 where
+  pub heads_slots : d.heads ≤ d.slots
+  pub slots_heads : d.slots ≤ d.heads + 1
+  pub slots_stored : d.slots ≤ s.stored
+  pub heads_published : d.heads ≤ s.published
+  pub published_stored : s.published ≤ s.stored
+  pub stored_published : s.stored ≤ s.published + 1
+  pub consumed_heads : s.consumed ≤ d.heads
+  pub landed_consumed : d.tails ≤ s.consumed
+  pub room : s.stored + 1 ≤ d.tails + r.size
+
+-- the words of the block: its slots hold the words that landed and that no tail in memory has passed
+pub record Words (r : RingBuffer) (L : ℕ → ℕ) (d : Landed) (word : ℕ → ℕ) : Type 0 where
+  pub head : word r.head ≡ offset r d.heads
+  pub tail : word r.tail ≡ offset r d.tails
+  pub slots : (j : ℕ) → d.tails ≤ j → j < d.slots → word (slot r j) ≡ L j
+
+-- what the sender knows, where t tails have landed
+abbrev pub SendingIs : RingBuffer → (stored published t : ℕ) → SenderState → Type 0
+SendingIs r stored published t resting = stored ≡ published
+SendingIs r stored published t (placed u) = (stored ≡ published) × (u ≡ offset r published)
+SendingIs r stored published t (roomy u) = (stored ≡ published) × (u ≡ offset r published) × (stored + 2 ≤ t + r.size)
+SendingIs r stored published t (filled u) = (stored ≡ published + 1) × (u ≡ offset r published)
+
+-- what the receiver knows, where h heads have landed
+abbrev pub ReceivingIs : RingBuffer → (ℕ → ℕ) → (tails h : ℕ) → ReceiverState → Type 0
+ReceivingIs r L tails h idle = Unit {0}
+ReceivingIs r L tails h (asked u) = u ≡ offset r tails
+ReceivingIs r L tails h (waiting u) = (u ≡ offset r tails) × (tails < h)
+ReceivingIs r L tails h (holding u w) = (u ≡ offset r tails) × (tails < h) × (w ≡ L tails)
+
+-- the pending stores that go to the block, hart by hart
+pub record Buffers (r : RingBuffer) (L : ℕ → ℕ) (es : List Entry) (s : Protocol) (d : Landed) : Type 0 where
+  pub unsent : ℕ
+  pub unread : ℕ
+  pub mine : writes_to r (pending r.sender es) ≡ spread (sent_store r L) (d.slots + d.heads) unsent
+  pub mine_count : unsent + (d.slots + d.heads) ≡ s.stored + s.published
+  pub theirs : writes_to r (pending r.receiver es) ≡ spread (freed_store r) d.tails unread
+  pub theirs_count : unread + d.tails ≡ s.consumed
+  pub others : (h : ℕ) → h ≢ r.sender → h ≢ r.receiver → writes_to r (pending h es) ≡ []
+
+pub record Invariant (r : RingBuffer) (L : ℕ → ℕ) (o : OpeningValue) (es : List Entry) (s : Protocol) : Type 0 where
+  pub landed : Landed
+  pub order : Order r s landed
+  pub words : Words r L landed (memory_word o es)
+  pub sending : SendingIs r s.stored s.published landed.tails s.sending
+  pub receiving : ReceivingIs r L s.consumed landed.heads s.receiving
+  pub buffers : Buffers r L es s landed
+  pub sent : s.sent ≡ firsts L s.stored
+  pub received : s.received ≡ firsts L s.consumed
+
+pub sending-more : (r : RingBuffer) (stored published t u : ℕ) (p : SenderState) → t ≤ u → SendingIs r stored published t p → SendingIs r stored published u p
+sending-more r stored published t u resting le h = h
+sending-more r stored published t u (placed x) le h = h
+sending-more r stored published t u (roomy x) le h = (h.0, h.1, omega (arith, le, h.2))
+sending-more r stored published t u (filled x) le h = h
+
+pub receiving-more : (r : RingBuffer) (L : ℕ → ℕ) (tails h g : ℕ) (p : ReceiverState) → h ≤ g → ReceivingIs r L tails h p → ReceivingIs r L tails g p
+receiving-more r L tails h g idle le is = is
+receiving-more r L tails h g (asked u) le is = is
+receiving-more r L tails h g (waiting u) le is = (is.0, omega (arith, le, is.1))
+receiving-more r L tails h g (holding u w) le is = (is.0, omega (arith, le, is.1), is.2)

@@ -1,0 +1,156 @@
+-- What a party knows after a load, whichever word it loads.
+use Rattle.std.proofs.Common.{ℕ, ◌+◌, ◌*◌, ◌%◌, ◌^◌, ◌<◌, ◌≡◌, ◌≢◌, ◌==◌, not, ◌&&◌, Bool, true, false, if◌then◌else◌}
+use Rattle.std.proofs.Common.{List, refl, sym, ◌∙◌, ap, subst, arith}
+use Rattle.std.specs.Prelude.{All}
+use Rattle.std.proofs.lemmas.Bool.{eqb-true, eqb-false}
+use Rattle.std.proofs.Math.Nat.{add-mod_right}
+use Rattle.memory.specs.Writes.{IsWholeWord}
+use Rattle.step_machine.specs.declared.events.Entry.{Entry}
+use Rattle.step_machine.specs.History.{OpeningValue}
+use Rattle.step_machine.specs.Entries.{pending, memory_word, read}
+use Rattle.spsc_queue.specs.RingBuffers.{RingBuffer, IsRingBuffer, IsWordIn, offset, slot, next, writes_to}
+use Rattle.spsc_queue.specs.Protocol.{SenderState, resting, placed, roomy, filled, ReceiverState, idle, asked, waiting, holding, Protocol, read_tail, send_load}
+use Rattle.spsc_queue.specs.Protocol.{look, receive_load}
+use Rattle.spsc_queue.proofs.Modulo.{offset_step, offset_wrap}
+use Rattle.spsc_queue.proofs.Words.{seen}
+use Rattle.spsc_queue.proofs.Spread.{spread, spread-all, sent_store, freed_store, seen-none, seen-tails, seen-heads, sent-not-tail, sent-whole, offset_low}
+use Rattle.spsc_queue.proofs.Spread.{slot_not_tail}
+use Rattle.spsc_queue.proofs.Effects.{reads-word}
+use Rattle.spsc_queue.proofs.Invariant.{Landed, SendingIs, ReceivingIs, Invariant}
+
+-- the offset after that of word j
+pub next_offset : (r : RingBuffer) (is : IsRingBuffer r) (u j : ℕ) → u ≡ offset r j → next r u ≡ offset r (j + 1)
+next_offset r is u j at = by (u + 4 == 4 * r.size) refl
+  where
+    by : (b : Bool) → (u + 4 == 4 * r.size) ≡ b → (if b then 0 else u + 4) ≡ offset r (j + 1)
+    by true full = let same : u + 4 ≡ 4 * r.size = eqb-true (u + 4) (4 * r.size) full in
+        let wrap : 4 * ((j + 1) % r.size) ≡ 0 = offset_wrap r.size j (omega (arith, is.some_slots)) (omega arith) in omega arith
+    by false more = let other : u + 4 ≢ 4 * r.size = eqb-false (u + 4) (4 * r.size) more in
+        let step : 4 * (j % r.size) + 4 ≡ 4 * ((j + 1) % r.size) = offset_step r.size j (omega (arith, is.some_slots)) (λ e. other (omega arith)) in omega arith
+
+-- a ring's size on is the same offset
+pub offset_again : (r : RingBuffer) (is : IsRingBuffer r) (j k : ℕ) → k ≡ j + r.size → offset r k ≡ offset r j
+offset_again r is j k at = ap (λ x. 4 * (x % r.size)) at ∙ ap (λ x. 4 * x) (add-mod_right j r.size)
+
+pub slot_word : (r : RingBuffer) (is : IsRingBuffer r) (j : ℕ) → IsWordIn r (slot r j)
+slot_word r is j = record {
+  above = omega (arith, is.slots_above);
+  below = omega (arith, is.slots_below, offset_low r is j);
+  aligned = omega (arith, is.slots_aligned);
+}
+
+module _ (r : RingBuffer) (is : IsRingBuffer r) (L : ℕ → ℕ) (small : (j : ℕ) → L j < 2 ^ 32) (o : OpeningValue) (es : List Entry) (s : Protocol)
+    (inv : Invariant r L o es s) where
+  abbrev d : Landed
+  d = inv.landed
+
+  pub mine-whole : All IsWholeWord (writes_to r (pending r.sender es))
+  mine-whole = subst (All IsWholeWord) (sym inv.buffers.mine)
+      (spread-all IsWholeWord (sent_store r L) (d.slots + d.heads) inv.buffers.unsent (sent-whole r is L small))
+
+  pub freed-whole : (p : ℕ) → IsWholeWord (freed_store r p)
+  freed-whole p = record { whole = refl; aligned = is.tail.aligned; small = omega (arith, offset_low r is (p + 1), is.small) }
+
+  pub theirs-whole : All IsWholeWord (writes_to r (pending r.receiver es))
+  theirs-whole = subst (All IsWholeWord) (sym inv.buffers.theirs)
+      (spread-all IsWholeWord (freed_store r) d.tails inv.buffers.unread freed-whole)
+
+  -- the sender reads its own head, and the tail that landed last
+  pub sender-head : read o es r.sender r.head 4 ≡ offset r s.published
+  sender-head = reads-word r o es r.sender r.head is.head mine-whole
+      ∙ ap (seen r.head (memory_word o es r.head)) inv.buffers.mine
+      ∙ ap (λ v. seen r.head v (spread (sent_store r L) (d.slots + d.heads) inv.buffers.unsent))
+      (inv.words.head ∙ ap (offset r) (omega (arith, inv.order.heads_slots, inv.order.slots_heads)))
+      ∙ seen-heads r is L (d.slots + d.heads) inv.buffers.unsent
+      ∙ ap (offset r) (omega (arith, inv.buffers.mine_count, inv.order.published_stored, inv.order.stored_published))
+
+  pub sender-tail : read o es r.sender r.tail 4 ≡ offset r d.tails
+  sender-tail = reads-word r o es r.sender r.tail is.tail mine-whole
+      ∙ ap (seen r.tail (memory_word o es r.tail)) inv.buffers.mine
+      ∙ seen-none r.tail (memory_word o es r.tail) (sent_store r L) (d.slots + d.heads) inv.buffers.unsent (sent-not-tail r is L)
+      ∙ inv.words.tail
+
+  -- the receiver reads its own tail, and all else as memory has it
+  pub receiver-tail : read o es r.receiver r.tail 4 ≡ offset r s.consumed
+  receiver-tail = reads-word r o es r.receiver r.tail is.tail theirs-whole
+      ∙ ap (seen r.tail (memory_word o es r.tail)) inv.buffers.theirs
+      ∙ ap (λ v. seen r.tail v (spread (freed_store r) d.tails inv.buffers.unread)) inv.words.tail
+      ∙ seen-tails r d.tails inv.buffers.unread
+      ∙ ap (offset r) (omega (arith, inv.buffers.theirs_count))
+
+  pub receiver-other : (a : ℕ) → IsWordIn r a → r.tail ≢ a → read o es r.receiver a 4 ≡ memory_word o es a
+  receiver-other a word other = reads-word r o es r.receiver a word theirs-whole
+      ∙ ap (seen a (memory_word o es a)) inv.buffers.theirs
+      ∙ seen-none a (memory_word o es a) (freed_store r) d.tails inv.buffers.unread (λ p. other)
+
+  -- the sender's loads
+  tail-says : (u v : ℕ) → (s.stored ≡ s.published) → u ≡ offset r s.published → v ≡ offset r d.tails
+      → SendingIs r s.stored s.published d.tails (read_tail r v (placed u))
+  tail-says u v level at is_tail = by (v == next r u) refl
+    where
+      by : (b : Bool) → (v == next r u) ≡ b → SendingIs r s.stored s.published d.tails (if b then placed u else roomy u)
+      by true same = (level, at)
+      by false other =
+          let apart : v ≢ next r u = eqb-false v (next r u) other in
+          let far : s.published + 1 ≢ d.tails + r.size =
+          λ full. apart (is_tail ∙ sym (offset_again r is d.tails (s.published + 1) full) ∙ sym (next_offset r is u s.published at)) in
+          (level, at, omega (arith, inv.order.room))
+
+  loaded : (a v : ℕ) (p : SenderState) → s.stored ≡ s.published → v ≡ read o es r.sender a 4 → SendingIs r s.stored s.published d.tails p
+      → SendingIs r s.stored s.published d.tails (read_tail r (offset r d.tails) p)
+      → SendingIs r s.stored s.published d.tails (if a == r.head then placed v else (if a == r.tail then read_tail r v p else p))
+  loaded a v p level is_read holds tail = by (a == r.head) refl (a == r.tail) refl
+    where
+      by : (b : Bool) → (a == r.head) ≡ b → (c : Bool) → (a == r.tail) ≡ c
+          → SendingIs r s.stored s.published d.tails (if b then placed v else (if c then read_tail r v p else p))
+      by true same c other = (level, is_read ∙ ap (λ x. read o es r.sender x 4) (eqb-true a r.head same) ∙ sender-head)
+      by false apart true same = subst (λ x. SendingIs r s.stored s.published d.tails (read_tail r x p))
+          (sym (is_read ∙ ap (λ x. read o es r.sender x 4) (eqb-true a r.tail same) ∙ sender-tail)) tail
+      by false apart false other = holds
+
+  pub sending-load : (a v : ℕ) (p : SenderState) → v ≡ read o es r.sender a 4 → SendingIs r s.stored s.published d.tails p
+      → SendingIs r s.stored s.published d.tails (send_load r a v p)
+  sending-load a v resting is_read holds = loaded a v resting holds is_read holds holds
+  sending-load a v (placed u) is_read holds = loaded a v (placed u) holds.0 is_read holds (tail-says u (offset r d.tails) holds.0 holds.1 refl)
+  sending-load a v (roomy u) is_read holds = loaded a v (roomy u) holds.0 is_read holds holds
+  sending-load a v (filled u) is_read holds = holds
+
+  -- the receiver's
+  looked : (a v : ℕ) (p : ReceiverState) → a ≢ r.tail → v ≡ read o es r.receiver a 4 → ReceivingIs r L s.consumed d.heads p
+      → ReceivingIs r L s.consumed d.heads (look r a v p)
+  looked a v idle other is_read holds = tt
+  looked a v (asked u) other is_read holds = by (a == r.head) refl (v == u) refl
+    where
+      by : (b : Bool) → (a == r.head) ≡ b → (c : Bool) → (v == u) ≡ c
+          → ReceivingIs r L s.consumed d.heads (if b && not c then waiting u else asked u)
+      by true same false apart =
+          let place : a ≡ r.head = eqb-true a r.head same in
+          let head : v ≡ offset r d.heads = is_read ∙ ap (λ x. read o es r.receiver x 4) place
+          ∙ receiver-other r.head is.head (λ e. is.apart (sym e)) ∙ inv.words.head in
+          let far : v ≢ u = eqb-false v u apart in
+          let more : s.consumed ≢ d.heads = λ e. far (head ∙ ap (offset r) (sym e) ∙ sym holds) in
+          (holds, omega (arith, more, inv.order.consumed_heads))
+      by true same true x = holds
+      by false y true x = holds
+      by false y false x = holds
+  looked a v (waiting u) other is_read holds = by (a == r.slots + u) refl
+    where
+      by : (b : Bool) → (a == r.slots + u) ≡ b → ReceivingIs r L s.consumed d.heads (if b then holding u v else waiting u)
+      by true same =
+          let place : a ≡ slot r s.consumed = eqb-true a (r.slots + u) same ∙ ap (λ x. r.slots + x) holds.0 in (
+            holds.0,
+            holds.1,
+            is_read ∙ ap (λ x. read o es r.receiver x 4) place
+                ∙ receiver-other (slot r s.consumed) (slot_word r is s.consumed) (λ e. slot_not_tail r is s.consumed (sym e))
+                ∙ inv.words.slots s.consumed inv.order.landed_consumed (omega (arith, holds.1, inv.order.heads_slots)),
+          )
+      by false apart = holds
+  looked a v (holding u w) other is_read holds = holds
+
+  pub receiving-load : (a v : ℕ) (p : ReceiverState) → v ≡ read o es r.receiver a 4 → ReceivingIs r L s.consumed d.heads p
+      → ReceivingIs r L s.consumed d.heads (receive_load r a v p)
+  receiving-load a v p is_read holds = by (a == r.tail) refl
+    where
+      by : (b : Bool) → (a == r.tail) ≡ b → ReceivingIs r L s.consumed d.heads (if b then asked v else look r a v p)
+      by true same = is_read ∙ ap (λ x. read o es r.receiver x 4) (eqb-true a r.tail same) ∙ receiver-tail
+      by false apart = looked a v p (eqb-false a r.tail apart) is_read holds

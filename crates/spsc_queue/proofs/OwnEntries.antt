@@ -1,0 +1,96 @@
+-- A hart's own entries in a run: what its state makes, and what other entries leave.
+use Rattle.std.proofs.Common.{ℕ, ◌<◌, ◌≡◌, ◌≢◌, ◌==◌, not, ◌&&◌, Bool, true, false, List, [], ◌∷◌, ◌++◌, length, Option, Some, None}
+use Rattle.std.proofs.Common.{refl, sym, ◌∙◌, ap, subst, append_assoc}
+use Rattle.std.specs.Prelude.{All, option_map}
+use Rattle.std.specs.List.{slice_get}
+use Rattle.std.proofs.Math.Seq.{drop-append_seam}
+use Rattle.std.proofs.lemmas.List.Elements.{All-head, All-drop}
+use Rattle.std.proofs.lemmas.Bool.{eq-eqb, ne_eqb}
+use Rattle.hart.specs.State.{HartState}
+use Rattle.hart.specs.Steps.{advanced}
+use Rattle.step_machine.specs.declared.events.Entry.{Entry}
+use Rattle.step_machine.specs.History.{HartOpeningValue, OpeningValue, history_of}
+use Rattle.step_machine.specs.Access.{Access, nothing, load, store, exchange, fence, land, access_of}
+use Rattle.step_machine.specs.Entries.{hart_of, is_landing, is_land, is_own, own}
+use Rattle.step_machine.specs.Paths.{value_of, CanMake, opens_as, state_of, PathOf, Path}
+use Rattle.step_machine.specs.Legal.{WellFormed, IsOfHarts}
+use Rattle.step_machine.proofs.Appended.{own-append, Makes-front}
+use Rattle.step_machine.proofs.Follows.{state_after, advance_by, state_of-mine, state_of-other, Path-last}
+use Rattle.step_machine.proofs.States.{state_keeps}
+use Rattle.spsc_queue.specs.Listings.{Listed}
+use Rattle.spsc_queue.specs.Calls.{StandsIn, HasFunction}
+use Rattle.spsc_queue.proofs.Courses.{Equipped}
+
+pub joined_on : (before done : List Entry) (e : Entry) (more : List Entry) → before ++ (done ++ e ∷ more) ≡ ((before ++ done) ++ e ∷ []) ++ more
+joined_on before done e more = sym (append_assoc before done (e ∷ more)) ∙ sym (append_assoc (before ++ done) (e ∷ []) more)
+
+path-part : (M : ℕ) (so : Option HartOpeningValue) (es fs : List Entry) → PathOf M so (es ++ fs) → PathOf M so es
+path-part M None es fs p = p
+path-part M (Some o) es fs p = Makes-front (opens_as M o) es fs p
+
+pub path_upto : (M : ℕ) (o : OpeningValue) (h : ℕ) (es fs : List Entry) → Path M (history_of o (es ++ fs)) h → Path M (history_of o es) h
+path_upto M o h es fs p = path-part M (slice_get o.harts h) (own h es) (own h fs) (subst (PathOf M (slice_get o.harts h)) (own-append h es fs) p)
+
+-- a hart's own entry is what its state makes
+pub made_by : (B M : ℕ) (o : OpeningValue) (before done : List Entry) (e : Entry) (more : List Entry)
+    → WellFormed B M (history_of o (before ++ (done ++ e ∷ more))) → is_land e ≡ false → (s : HartState)
+    → hart_of e < length o.harts → state_of M (history_of o (before ++ done)) (hart_of e) ≡ Some s → CanMake s e
+made_by B M o before done e more run act s known is =
+    Path-last M (history_of o (before ++ done)) (hart_of e) e s refl act
+    (path_upto M o (hart_of e) ((before ++ done) ++ e ∷ []) more
+    (subst (λ xs. Path M (history_of o xs) (hart_of e)) (joined_on before done e more) (run.paths (hart_of e) known))) is
+
+-- the hart of each entry is one, and so has a state
+pub known_hart : (o : OpeningValue) (front : List Entry) (e : Entry) (more : List Entry) → All (IsOfHarts o) (front ++ e ∷ more) → hart_of e < length o.harts
+known_hart o front e more all = All-head (IsOfHarts o) e more
+    (subst (All (IsOfHarts o)) (drop-append_seam front (e ∷ more)) (All-drop (IsOfHarts o) (length front) (front ++ e ∷ more) all))
+
+-- a hart that opens with a function is in a state, and has the function there
+module _ (M : ℕ) (o : OpeningValue) (h n : ℕ) (listing : List Listed) (has : HasFunction o h n listing) (es : List Entry) where
+  abbrev pub state_here : HartState
+  state_here = state_after M (own h es) has.opens
+
+  pub is_here : state_of M (history_of o es) h ≡ Some state_here
+  is_here = ap (option_map (state_after M (own h es))) has.is
+
+  pub equipped : (s : HartState) → state_of M (history_of o es) h ≡ Some s → Equipped M n listing s
+  equipped s at =
+      let keeps = state_keeps M (history_of o es) h has.opens s has.is at in
+      record {
+        code = subst (λ ws. StandsIn ws n listing) (sym keeps.code) has.code;
+        words = keeps.words;
+        size = keeps.registers ∙ has.registers;
+        zero = keeps.zero;
+      }
+
+-- a hart that does nothing by an entry keeps its state, and one that acts goes on from it
+module _ (M : ℕ) (o : OpeningValue) (es : List Entry) (e : Entry) (h : ℕ) where
+  pub same_state : is_own h e ≡ false → (s : HartState) → state_of M (history_of o (es ++ e ∷ [])) h ≡ Some s → state_of M (history_of o es) h ≡ Some s
+  same_state off s is = sym (state_of-other M (history_of o es) h e off) ∙ is
+
+  pub next_state : hart_of e ≡ h → is_land e ≡ false → (s z : HartState) → state_of M (history_of o es) h ≡ Some s
+      → state_of M (history_of o (es ++ e ∷ [])) h ≡ Some z → advanced s (value_of e) ≡ z
+  next_state mine act s z before after =
+      let goes : Some (advanced s (value_of e)) ≡ Some z = sym (ap (option_map (advance_by e)) before) ∙ sym (state_of-mine M (history_of o es) h e mine act)
+      ∙ after in cc
+
+pub own_land : (h : ℕ) (e : Entry) → is_land e ≡ true → is_own h e ≡ false
+own_land h e lands = ap (λ b. (hart_of e == h) && not b) lands ∙ off (hart_of e == h)
+  where
+    off : (b : Bool) → b && not true ≡ false
+    off true = refl
+    off false = refl
+
+pub own_other : (h : ℕ) (e : Entry) → hart_of e ≢ h → is_own h e ≡ false
+own_other h e other = ap (λ b. b && not (is_land e)) (ne_eqb (hart_of e) h other)
+
+pub land_is : (x : Access) → is_landing x ≡ true → x ≡ land
+land_is nothing is = cc
+land_is (load a width v) is = cc
+land_is (store w) is = cc
+land_is (exchange a old new) is = cc
+land_is (fence full) is = cc
+land_is land is = refl
+
+pub own_is : (h : ℕ) (e : Entry) → hart_of e ≡ h → is_land e ≡ false → is_own h e ≡ true
+own_is h e mine act = ap (λ b. b && not (is_land e)) (eq-eqb (hart_of e) h mine) ∙ ap not act

@@ -1,0 +1,126 @@
+-- Rows of stores: those of a party to the block, in order, and what a word is after some of them.
+use Rattle.std.proofs.Common.{ℕ, zero, suc, ◌+◌, ◌*◌, ◌/◌, ◌%◌, ◌^◌, ◌<◌, ◌≤◌, ◌≡◌, ◌≢◌, ◌==◌, ◌⊎◌, inl, inr, if◌then◌else◌, Bool, true, false}
+use Rattle.std.proofs.Common.{List, [], ◌∷◌, ◌++◌, refl, ◌∙◌, ap, arith}
+use Rattle.std.specs.Prelude.{All}
+use Rattle.std.proofs.lemmas.Bool.{cases_eq}
+use Rattle.std.proofs.lemmas.Bool.Decides.{nat_tests}
+use Rattle.std.proofs.lemmas.Nat.{mod_below}
+use Rattle.std.proofs.lemmas.List.Elements.{All-nil, All-cons}
+use Rattle.memory.specs.declared.writes.Write.{Write}
+use Rattle.memory.specs.Writes.{write, IsWholeWord}
+use Rattle.spsc_queue.specs.RingBuffers.{RingBuffer, IsRingBuffer, offset, slot}
+use Rattle.spsc_queue.proofs.Words.{seen}
+
+-- n of the stores of a row, from the i-th on
+abbrev pub spread : (ℕ → Write) → ℕ → ℕ → List Write
+spread f i zero = []
+spread f i (suc n) = f i ∷ spread f (suc i) n
+
+pub spread-more : (f : ℕ → Write) (i n : ℕ) → spread f i n ++ f (i + n) ∷ [] ≡ spread f i (suc n)
+spread-more f i zero = ap (λ j. f j ∷ []) (omega arith)
+spread-more f i (suc n) =
+    let more : spread f (suc i) n ++ f (suc i + n) ∷ [] ≡ spread f (suc i) (suc n) = spread-more f (suc i) n in
+    let place : i + suc n ≡ suc i + n = omega arith in
+    ap (λ j. f i ∷ (spread f (suc i) n ++ f j ∷ [])) place ∙ ap (λ ws. f i ∷ ws) more
+
+pub spread-all : (P : Write → Type 0) (f : ℕ → Write) (i n : ℕ) → ((p : ℕ) → P (f p)) → All P (spread f i n)
+spread-all P f i zero each = All-nil P
+spread-all P f i (suc n) each = All-cons P (f i) (spread f (suc i) n) (each i) (spread-all P f (suc i) n each)
+
+-- the sender's row, of the words L: word j into its slot, then the head after it
+abbrev pub sent_store : RingBuffer → (ℕ → ℕ) → ℕ → Write
+sent_store r L p = if p % 2 == 0 then write (slot r (p / 2)) 4 (L (p / 2)) else write r.head 4 (offset r (p / 2 + 1))
+
+-- the receiver's: the tail after word j
+abbrev pub freed_store : RingBuffer → ℕ → Write
+freed_store r p = write r.tail 4 (offset r (p + 1))
+
+pub sent-slot : (r : RingBuffer) (L : ℕ → ℕ) (p j : ℕ) → p ≡ 2 * j → sent_store r L p ≡ write (slot r j) 4 (L j)
+sent-slot r L p j is =
+    let even : (p % 2 == 0) ≡ true = grind (arith, nat_tests) in
+    let half : p / 2 ≡ j = omega arith in
+    ap (λ b. if b then write (slot r (p / 2)) 4 (L (p / 2)) else write r.head 4 (offset r (p / 2 + 1))) even
+    ∙ ap (λ k. write (slot r k) 4 (L k)) half
+
+pub sent-head : (r : RingBuffer) (L : ℕ → ℕ) (p j : ℕ) → p ≡ 2 * j + 1 → sent_store r L p ≡ write r.head 4 (offset r (j + 1))
+sent-head r L p j is =
+    let odd : (p % 2 == 0) ≡ false = grind (arith, nat_tests) in
+    let half : p / 2 ≡ j = omega arith in
+    ap (λ b. if b then write (slot r (p / 2)) 4 (L (p / 2)) else write r.head 4 (offset r (p / 2 + 1))) odd
+    ∙ ap (λ k. write r.head 4 (offset r (k + 1))) half
+
+-- none goes to this word
+pub seen-none : (a v : ℕ) (f : ℕ → Write) (i n : ℕ) → ((p : ℕ) → (f p).addr ≢ a) → seen a v (spread f i n) ≡ v
+seen-none a v f i zero other = refl
+seen-none a v f i (suc n) other =
+    let off : ((f i).addr == a) ≡ false = grind (arith, nat_tests, other i) in
+    ap (λ b. seen a (if b then (f i).value else v) (spread f (suc i) n)) off ∙ seen-none a v f (suc i) n other
+
+-- each goes to this word
+pub seen-tails : (r : RingBuffer) (i n : ℕ) → seen r.tail (offset r i) (spread (freed_store r) i n) ≡ offset r (i + n)
+seen-tails r i zero = ap (offset r) (omega arith)
+seen-tails r i (suc n) =
+    let on : (r.tail == r.tail) ≡ true = grind (arith, nat_tests) in
+    ap (λ b. seen r.tail (if b then offset r (i + 1) else offset r i) (spread (freed_store r) (suc i) n)) on
+    ∙ ap (λ j. seen r.tail (offset r j) (spread (freed_store r) (suc i) n)) (omega arith)
+    ∙ seen-tails r (suc i) n
+    ∙ ap (offset r) (omega arith)
+
+module _ (r : RingBuffer) (is : IsRingBuffer r) where
+  pub offset_low : (j : ℕ) → offset r j + 4 ≤ 4 * r.size
+  offset_low j = let below : j % r.size < r.size = mod_below j r.size (omega (arith, is.some_slots)) in omega arith
+
+  pub slot_not_head : (j : ℕ) → slot r j ≢ r.head
+  slot_not_head j same = elim is.head_apart [
+    | inl below ↦ omega (arith, below, same, offset_low j)
+    | inr above ↦ omega (arith, above, same, offset_low j)
+  ]
+
+  pub slot_not_tail : (j : ℕ) → slot r j ≢ r.tail
+  slot_not_tail j same = elim is.tail_apart [
+    | inl below ↦ omega (arith, below, same, offset_low j)
+    | inr above ↦ omega (arith, above, same, offset_low j)
+  ]
+
+  module _ (L : ℕ → ℕ) where
+    -- each store of the sender's row is one of these
+    pub sent-cases : (P : Write → Type 0) (p : ℕ) → ((j : ℕ) → P (write (slot r j) 4 (L j))) → ((j : ℕ) → P (write r.head 4 (offset r j)))
+        → P (sent_store r L p)
+    sent-cases P p one two = at (p % 2 == 0)
+      where
+        at : (b : Bool) → P (if b then write (slot r (p / 2)) 4 (L (p / 2)) else write r.head 4 (offset r (p / 2 + 1)))
+        at true = one (p / 2)
+        at false = two (p / 2 + 1)
+
+    pub sent-not-tail : (p : ℕ) → (sent_store r L p).addr ≢ r.tail
+    sent-not-tail p = sent-cases (λ w. w.addr ≢ r.tail) p slot_not_tail (λ j. is.apart)
+
+    pub sent-whole : ((j : ℕ) → L j < 2 ^ 32) → (p : ℕ) → IsWholeWord (sent_store r L p)
+    sent-whole small p = sent-cases IsWholeWord p
+        (λ j. record { whole = refl; aligned = omega (arith, is.slots_aligned); small = small j })
+        (λ j. record { whole = refl; aligned = is.head.aligned; small = omega (arith, offset_low j, is.small) })
+
+    -- the sender finds the head after its last store of one
+    pub seen-heads : (p n : ℕ) → seen r.head (offset r (p / 2)) (spread (sent_store r L) p n) ≡ offset r ((p + n) / 2)
+    seen-heads p zero = ap (offset r) (omega arith)
+    seen-heads p (suc n) =
+        ap (λ v. seen r.head v (spread (sent_store r L) (suc p) n)) (one (cases_eq (p % 2) 0))
+        ∙ seen-heads (suc p) n ∙ ap (offset r) (omega arith)
+      where
+        w : Write
+        w = sent_store r L p
+
+        one : (p % 2 ≡ 0) ⊎ (p % 2 ≢ 0) → (if w.addr == r.head then w.value else offset r (p / 2)) ≡ offset r (suc p / 2)
+        one (inl even) =
+            let is : sent_store r L p ≡ write (slot r (p / 2)) 4 (L (p / 2)) = sent-slot r L p (p / 2) (omega arith) in
+            let apart : slot r (p / 2) ≢ r.head = slot_not_head (p / 2) in
+            let off : (slot r (p / 2) == r.head) ≡ false = grind (arith, nat_tests) in
+            ap (λ (x : Write). if x.addr == r.head then x.value else offset r (p / 2)) is
+            ∙ ap (λ b. if b then L (p / 2) else offset r (p / 2)) off
+            ∙ ap (offset r) (omega arith)
+        one (inr odd) =
+            let is : sent_store r L p ≡ write r.head 4 (offset r (p / 2 + 1)) = sent-head r L p (p / 2) (omega arith) in
+            let on : (r.head == r.head) ≡ true = grind (arith, nat_tests) in
+            ap (λ (x : Write). if x.addr == r.head then x.value else offset r (p / 2)) is
+            ∙ ap (λ b. if b then offset r (p / 2 + 1) else offset r (p / 2)) on
+            ∙ ap (offset r) (omega arith)

@@ -1,0 +1,49 @@
+-- What a load reads of a store that has reached memory.
+use Rattle.std.proofs.Common.{ℕ, zero, suc, ◌-◌, ◌<◌, ◌≡◌, true, if◌then◌else◌, List, [], ◌∷◌, ◌++◌, length, Option, Some, None, refl, ◌∙◌, ap, arith}
+use Rattle.std.specs.Prelude.{All, unwrap_or}
+use Rattle.std.specs.List.{slice_get}
+use Rattle.std.specs.Int.{byte_at}
+use Rattle.std.proofs.lemmas.List.Elements.{All-head, All-tail}
+use Rattle.memory.specs.declared.writes.Write.{Write}
+use Rattle.memory.specs.Writes.{covers, newest_of}
+use Rattle.memory.proofs.Newest.{newest_of-append}
+use Rattle.step_machine.specs.declared.events.Entry.{Entry}
+use Rattle.step_machine.specs.History.{OpeningValue, history_of}
+use Rattle.step_machine.specs.Entries.{stores, lands, pending, opening_byte, memory_byte, read_byte}
+use Rattle.step_machine.specs.Legal.{Legal}
+use Rattle.step_machine.proofs.Appended.{stores-append}
+use Rattle.spsc_queue.specs.StoreBuffers.{IsGloballyPerformed, LeavesByte}
+use Rattle.spsc_queue.proofs.Publication.{reached}
+
+pub passed_over : (x : ℕ) (found : Option ℕ) (ws : List Write) → All (LeavesByte x) ws → newest_of x found ws ≡ found
+passed_over x found [] all = refl
+passed_over x found (w ∷ ws) all =
+    ap (λ c. newest_of x (if c then Some (byte_at (x - w.addr) w.value) else found) ws) (All-head (LeavesByte x) w ws all)
+    ∙ passed_over x found ws (All-tail (LeavesByte x) w ws all)
+
+-- a byte of the store, where nothing was written over it since
+pub byte_seen : (o : OpeningValue) (es : List Entry) (w : Write) (h : IsGloballyPerformed es w) (x : ℕ) → covers w x ≡ true → All (LeavesByte x) h.later
+    → memory_byte o es x ≡ byte_at (x - w.addr) w.value
+byte_seen o es w h x on all =
+    ap (λ ws. unwrap_or (newest_of x None ws) (opening_byte o x)) h.is
+    ∙ ap (λ f. unwrap_or f (opening_byte o x)) (newest_of-append x None h.earlier (w ∷ h.later)
+    ∙ ap (λ c. newest_of x (if c then Some (byte_at (x - w.addr) w.value) else newest_of x None h.earlier) h.later) on
+    ∙ passed_over x (Some (byte_at (x - w.addr) w.value)) h.later all)
+
+-- and so a hart reads it that has stored nothing there itself
+pub read_seen : (o : OpeningValue) (es : List Entry) (w : Write) (h : IsGloballyPerformed es w) (hart x : ℕ) → covers w x ≡ true → All (LeavesByte x) h.later
+    → All (LeavesByte x) (pending hart es) → read_byte o es hart x ≡ byte_at (x - w.addr) w.value
+read_seen o es w h hart x on all own =
+    ap (λ f. unwrap_or f (memory_byte o es x)) (passed_over x None (pending hart es) own) ∙ byte_seen o es w h x on all
+
+front_get : {X : Type 0} (xs ys : List X) (i : ℕ) (x : X) → slice_get xs i ≡ Some x → (i < length xs) × (slice_get (xs ++ ys) i ≡ Some x)
+front_get [] ys i x is = cc
+front_get (y ∷ xs) ys zero x is = (omega arith, is)
+front_get (y ∷ xs) ys (suc i) x is = let more = front_get xs ys i x is in (omega (arith, more.0), more.1)
+
+-- each store of a hart up to a point has reached memory, where more than it had made by then have landed
+pub all_reached : (B : ℕ) (o : OpeningValue) (front back : List Entry) (h i : ℕ) (w : Write) → Legal B (history_of o (front ++ back))
+    → length (stores h front) < lands h (front ++ back) → slice_get (stores h front) i ≡ Some w → IsGloballyPerformed (front ++ back) w
+all_reached B o front back h i w legal landed is =
+    let got = front_get (stores h front) (stores h back) i w is in
+    reached B o (front ++ back) h i w legal (ap (λ ws. slice_get ws i) (stores-append h front back) ∙ got.1) (omega (arith, got.0, landed))

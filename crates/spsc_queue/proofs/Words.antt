@@ -1,0 +1,113 @@
+-- What a word of the block is after writes, of which those to the block are of whole words: whatever the others are,
+-- bytes or words, they leave it.
+use Rattle.std.proofs.Common.{ℕ, ◌+◌, ◌-◌, ◌%◌, ◌<◌, ◌≡◌, ◌==◌, ◌⊎◌, inl, inr, Bool, true, false, if◌then◌else◌}
+use Rattle.std.proofs.Common.{List, [], ◌∷◌, Option, Some, None, refl, sym, ◌∙◌, ap, arith}
+use Rattle.std.specs.Prelude.{unwrap_or, All}
+use Rattle.std.specs.Int.{byte_at}
+use Rattle.std.proofs.lemmas.Bool.{eqb-true, eqb-false}
+use Rattle.std.proofs.lemmas.Bool.Decides.{nat_tests}
+use Rattle.std.proofs.lemmas.List.Elements.{All-head, All-tail}
+use Rattle.memory.specs.declared.writes.Write.{Write}
+use Rattle.memory.specs.Writes.{covers, byte_after, newest_of, joined, IsWholeWord}
+use Rattle.memory.proofs.Bytes.{joined-same, word_of_bytes, covers-yes, covers-from, covers-other}
+use Rattle.spsc_queue.specs.RingBuffers.{RingBuffer, IsWordIn, overlaps, writes_to}
+
+-- the value of the word at a after these writes of whole words, where it was v before
+abbrev pub seen : ℕ → ℕ → List Write → ℕ
+seen a v [] = v
+seen a v (w ∷ ws) = seen a (if w.addr == a then w.value else v) ws
+
+-- a write that is off the block, or of a whole word
+abbrev pub Tidy : RingBuffer → Write → Type 0
+Tidy r w = (overlaps r w ≡ false) ⊎ IsWholeWord w
+
+-- the frame: a write off the block covers no byte of a word of the block
+pub off_covers : (r : RingBuffer) (w : Write) (a i : ℕ) → IsWordIn r a → i < 4 → overlaps r w ≡ false → covers w (a + i) ≡ false
+off_covers r w a i is lt off = at (covers w (a + i)) refl
+  where
+    at : (c : Bool) → covers w (a + i) ≡ c → c ≡ false
+    at false c = refl
+    at true c = let from = covers-from w (a + i) c in absurd (grind (arith, nat_tests, is.above, is.below))
+
+pub off_word : (r : RingBuffer) (w : Write) (a : ℕ) (f : ℕ → ℕ) → IsWordIn r a → overlaps r w ≡ false
+    → joined (λ i. byte_after w (a + i) (f (a + i))) 4 ≡ joined (λ i. f (a + i)) 4
+off_word r w a f is off = joined-same (λ i. byte_after w (a + i) (f (a + i))) (λ i. f (a + i)) 4
+    (λ i lt. ap (λ c. if c then byte_at (a + i - w.addr) w.value else f (a + i)) (off_covers r w a i is lt off))
+
+-- a write of a whole word
+pub whole_word : (w : Write) (a : ℕ) (f : ℕ → ℕ) → a % 4 ≡ 0 → IsWholeWord w
+    → joined (λ i. byte_after w (a + i) (f (a + i))) 4 ≡ (if w.addr == a then w.value else joined (λ i. f (a + i)) 4)
+whole_word w a f aligned is = at (w.addr == a) refl
+  where
+    at : (c : Bool) → (w.addr == a) ≡ c
+        → joined (λ i. byte_after w (a + i) (f (a + i))) 4 ≡ (if c then w.value else joined (λ i. f (a + i)) 4)
+    at true same =
+        let here : w.addr ≡ a = eqb-true w.addr a same in
+        let width : w.width ≡ 4 = is.whole in
+        joined-same (λ i. byte_after w (a + i) (f (a + i))) (λ i. byte_at i w.value) 4 (λ i lt.
+        let held : covers w (a + i) ≡ true = covers-yes w (a + i) (omega arith) (omega arith) in
+        let place : a + i - w.addr ≡ i = omega arith in
+        ap (λ c. if c then byte_at (a + i - w.addr) w.value else f (a + i)) held ∙ ap (λ j. byte_at j w.value) place)
+        ∙ word_of_bytes w.value is.small
+    at false apart =
+        let elsewhere : w.addr ≡ a → ⊥ = eqb-false w.addr a apart in
+        let width : w.width ≡ 4 = is.whole in
+        let base : w.addr % 4 ≡ 0 = is.aligned in
+        joined-same (λ i. byte_after w (a + i) (f (a + i))) (λ i. f (a + i)) 4 (λ i lt.
+        let none : covers w (a + i) ≡ false = covers-other w (a + i) (omega arith) (λ q. elsewhere (omega arith)) in
+        ap (λ c. if c then byte_at (a + i - w.addr) w.value else f (a + i)) none)
+
+-- what is found before a list counts where nothing is found in it
+newest-found : (x d : ℕ) (found : Option ℕ) (ws : List Write)
+    → unwrap_or (newest_of x found ws) d ≡ unwrap_or (newest_of x None ws) (unwrap_or found d)
+newest-found x d found [] = refl
+newest-found x d found (w ∷ ws) = at (covers w x) (λ e g. newest-found x e g ws)
+  where
+    b : ℕ
+    b = byte_at (x - w.addr) w.value
+
+    at : (c : Bool) → ((e : ℕ) (g : Option ℕ) → unwrap_or (newest_of x g ws) e ≡ unwrap_or (newest_of x None ws) (unwrap_or g e))
+        → unwrap_or (newest_of x (if c then Some b else found) ws) d
+        ≡ unwrap_or (newest_of x (if c then Some b else None) ws) (unwrap_or found d)
+    at true more = more d (Some b) ∙ sym (more (unwrap_or found d) (Some b))
+    at false more = more d found
+
+newest-first : (x d : ℕ) (w : Write) (ws : List Write)
+    → unwrap_or (newest_of x None (w ∷ ws)) d ≡ unwrap_or (newest_of x None ws) (byte_after w x d)
+newest-first x d w ws = at (covers w x)
+  where
+    b : ℕ
+    b = byte_at (x - w.addr) w.value
+
+    at : (c : Bool) → unwrap_or (newest_of x (if c then Some b else None) ws) d
+        ≡ unwrap_or (newest_of x None ws) (if c then b else d)
+    at true = newest-found x d (Some b) ws
+    at false = refl
+
+-- one write, and then more
+seen-first : (r : RingBuffer) (a v : ℕ) (w : Write) (ws : List Write) (b : Bool) → overlaps r w ≡ b
+    → seen a v (writes_to r (w ∷ ws)) ≡ seen a (if b then (if w.addr == a then w.value else v) else v) (writes_to r ws)
+seen-first r a v w ws true on = ap (λ b. seen a v (if b then w ∷ writes_to r ws else writes_to r ws)) on
+seen-first r a v w ws false on = ap (λ b. seen a v (if b then w ∷ writes_to r ws else writes_to r ws)) on
+
+-- the law of reads: bytes read through tidy writes join to the word that those to the block leave
+pub read_through : (r : RingBuffer) (a : ℕ) (f : ℕ → ℕ) (ws : List Write) → IsWordIn r a → All (Tidy r) ws
+    → joined (λ i. unwrap_or (newest_of (a + i) None ws) (f (a + i))) 4 ≡ seen a (joined (λ i. f (a + i)) 4) (writes_to r ws)
+read_through r a f [] is all = refl
+read_through r a f (w ∷ ws) is all =
+    joined-same (λ i. unwrap_or (newest_of (a + i) None (w ∷ ws)) (f (a + i)))
+    (λ i. unwrap_or (newest_of (a + i) None ws) (byte_after w (a + i) (f (a + i)))) 4
+    (λ i lt. newest-first (a + i) (f (a + i)) w ws)
+    ∙ read_through r a (λ x. byte_after w x (f x)) ws is (All-tail (Tidy r) w ws all)
+    ∙ at (overlaps r w) refl (All-head (Tidy r) w ws all)
+  where
+    v : ℕ
+    v = joined (λ i. f (a + i)) 4
+
+    new : ℕ
+    new = joined (λ i. byte_after w (a + i) (f (a + i))) 4
+
+    at : (b : Bool) → overlaps r w ≡ b → Tidy r w → seen a new (writes_to r ws) ≡ seen a v (writes_to r (w ∷ ws))
+    at false off tidy = ap (λ x. seen a x (writes_to r ws)) (off_word r w a f is off) ∙ sym (seen-first r a v w ws false off)
+    at true on (inl off) = cc
+    at true on (inr whole) = ap (λ x. seen a x (writes_to r ws)) (whole_word w a f is.aligned whole) ∙ sym (seen-first r a v w ws true on)

@@ -1,0 +1,43 @@
+-- What a ring of functions promises, of every run whose entries keep its rules.
+use Rattle.std.specs.Prelude.{false, ℕ, true, ◌≡◌, ◌+◌, ◌≤◌, List, ◌∷◌, ◌++◌, take}
+use Rattle.memory.specs.declared.writes.Write.{Write}
+use Rattle.memory.specs.Writes.{covers}
+use Rattle.step_machine.specs.declared.events.Entry.{Entry}
+use Rattle.step_machine.specs.History.{OpeningValue, history_of}
+use Rattle.step_machine.specs.Access.{store, access_of}
+use Rattle.step_machine.specs.Entries.{hart_of, lands, landed}
+use Rattle.step_machine.specs.Legal.{Legal}
+use Rattle.spsc_queue.specs.RingBuffers.{RingBuffer, IsRingBuffer, overlaps, IsEmptyAndQuiescent}
+use Rattle.spsc_queue.specs.Protocol.{Protocol, at_start, ReceiverState, waiting, holding, SenderState, roomy, filled, KeepsProtocol}
+
+-- xs is a beginning of ys
+abbrev pub IsPrefix : List ℕ → List ℕ → Type 0
+IsPrefix xs ys = (rest : List ℕ) × (ys ≡ xs ++ rest)
+
+-- the entries of a run from where the ring was at rest on: they are legal after those before, and keep the rules
+pub record FollowsSpscProtocol (B : ℕ) (r : RingBuffer) (o : OpeningValue) (before es : List Entry) : Type 0 where
+  pub ring : IsRingBuffer r
+  pub legal : Legal B (history_of o (before ++ es))
+  pub quiet : IsEmptyAndQuiescent r o before
+  pub rules : KeepsProtocol r at_start es
+
+-- the words of the sends that are complete: their heads are stored
+abbrev pub published_words : Protocol → List ℕ
+published_words s = take s.published s.sent
+
+-- how many words the receiver knows of: those that it took, and one that waits there
+abbrev pub known_by_state : ReceiverState → ℕ
+known_by_state (waiting u) = 1
+known_by_state (holding u w) = 1
+known_by_state p = 0
+
+abbrev pub known_count : Protocol → ℕ
+known_count s = s.consumed + known_by_state s.receiving
+
+-- the words that are stored or that the sender is about to store
+abbrev pub ready_by_state : SenderState → ℕ
+ready_by_state (roomy u) = 1
+ready_by_state p = 0
+
+abbrev pub ready_count : Protocol → ℕ
+ready_count s = s.stored + ready_by_state s.sending

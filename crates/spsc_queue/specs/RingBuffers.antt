@@ -1,0 +1,63 @@
+-- A ring in memory that two harts share, wherever its parts lie, and what the words of its places are.
+use Rattle.std.specs.Prelude.{ℕ, ◌≡◌, ◌≢◌, ◌⊎◌, ◌+◌, ◌*◌, ◌%◌, ◌^◌, ◌≤◌, ◌==◌, ◌&&◌, Bool, nat_lt, if◌then◌else◌, List, []}
+use Rattle.std.specs.List.{filter}
+use Rattle.memory.specs.declared.writes.Write.{Write}
+use Rattle.step_machine.specs.declared.events.Entry.{Entry}
+use Rattle.step_machine.specs.History.{OpeningValue}
+use Rattle.step_machine.specs.Entries.{pending, memory_word}
+
+-- the harts that send and receive; where the block begins and ends; the words that hold the sender's index and the
+-- receiver's, as byte offsets among the slots; where the slots begin, and how many they are. Nothing says in which
+-- order these lie, nor how far apart, so each index may have a cache line of its own
+pub record RingBuffer : Type 0 where
+  pub sender : ℕ
+  pub receiver : ℕ
+  pub first : ℕ
+  pub end : ℕ
+  pub head : ℕ
+  pub tail : ℕ
+  pub slots : ℕ
+  pub size : ℕ
+
+-- a word of the block
+pub record IsWordIn (r : RingBuffer) (a : ℕ) : Type 0 where
+  pub above : r.first ≤ a
+  pub below : a + 4 ≤ r.end
+  pub aligned : a % 4 ≡ 0
+
+pub record IsRingBuffer (r : RingBuffer) : Type 0 where
+  pub parties : r.sender ≢ r.receiver
+  pub some_slots : 2 ≤ r.size
+  pub head : IsWordIn r r.head
+  pub tail : IsWordIn r r.tail
+  pub slots_above : r.first ≤ r.slots
+  pub slots_below : r.slots + 4 * r.size ≤ r.end
+  pub slots_aligned : r.slots % 4 ≡ 0
+  pub apart : r.head ≢ r.tail
+  pub head_apart : (r.head + 4 ≤ r.slots) ⊎ (r.slots + 4 * r.size ≤ r.head)
+  pub tail_apart : (r.tail + 4 ≤ r.slots) ⊎ (r.slots + 4 * r.size ≤ r.tail)
+  pub small : 4 * r.size ≤ 2 ^ 32
+
+-- the offset of word j among the slots, its slot, and the offset after one
+abbrev pub offset : RingBuffer → ℕ → ℕ
+offset r j = 4 * (j % r.size)
+
+abbrev pub slot : RingBuffer → ℕ → ℕ
+slot r j = r.slots + offset r j
+
+abbrev pub next : RingBuffer → ℕ → ℕ
+next r u = if u + 4 == 4 * r.size then 0 else u + 4
+
+-- a write of some byte of the block
+abbrev pub overlaps : RingBuffer → Write → Bool
+overlaps r w = nat_lt w.addr r.end && nat_lt r.first (w.addr + w.width)
+
+abbrev pub writes_to : RingBuffer → List Write → List Write
+writes_to r ws = filter (overlaps r) ws
+
+-- the block is empty and at rest: both indices are 0 in memory, and no hart has a pending store to the block. So a
+-- machine may open, or a program may leave it so at any point of its run
+pub record IsEmptyAndQuiescent (r : RingBuffer) (o : OpeningValue) (es : List Entry) : Type 0 where
+  pub head : memory_word o es r.head ≡ 0
+  pub tail : memory_word o es r.tail ≡ 0
+  pub pending : (h : ℕ) → writes_to r (pending h es) ≡ []

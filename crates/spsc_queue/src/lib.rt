@@ -1,0 +1,155 @@
+//! A queue of one sender and one receiver as two functions, `try_send` and `try_receive`, that any code calls: Lamport's
+//! ring buffer in memory, with no fence and no atomic instruction.
+//!
+//! The contract: [`laws_of_calls`] states what code gets that calls them and keeps what `CallerObligation` asks of it,
+//! whatever else its harts and others execute before, between and after. [`call_effects`] states what one call does.
+//! Below these, [`laws_of_protocol`] states the same of loads and stores alone, of any program that keeps the queue's
+//! protocol, and [`laws_of_store_buffers`] what holds of any program. The crate has no code to run: it gives the words
+//! of both functions.
+
+#![tactic(auto)]
+
+ghost use Rattle.std.specs.Prelude.{ℕ, ◌≡◌, ◌<◌, ◌≤◌, ◌+◌, ◌-◌, All, List, [], ◌∷◌, ◌++◌, length, Some, map, true, false, slice_index};
+ghost use Rattle.std.specs.List.{slice_get};
+ghost use Rattle.std.specs.Int.{byte_at};
+ghost use Rattle.memory.specs.declared.writes.Write.{Write};
+ghost use Rattle.memory.specs.Writes.{covers};
+ghost use Rattle.rv_decode.specs.Meaning.{meaning};
+ghost use Rattle.hart.specs.State.{HartState};
+ghost use Rattle.step_machine.specs.declared.events.Entry.{Entry};
+ghost use Rattle.step_machine.specs.History.{OpeningValue, history_of};
+ghost use Rattle.step_machine.specs.Entries.{hart_of, stores, lands, pending, read_byte};
+ghost use Rattle.step_machine.specs.Access.{access_of, load};
+ghost use Rattle.step_machine.specs.Paths.{state_of};
+ghost use Rattle.step_machine.specs.Legal.{Legal, WellFormed};
+ghost use Rattle.spsc_queue.specs.RingBuffers.{RingBuffer, next, writes_to};
+ghost use Rattle.spsc_queue.specs.Protocol.{at_start, protocol_after, asked, placed};
+ghost use Rattle.spsc_queue.specs.StoreBuffers.{IsGloballyPerformed, LeavesByte, AllLeaveByte, IsOnlyWriter};
+ghost use Rattle.spsc_queue.specs.Laws.{IsPrefix, FollowsSpscProtocol, published_words, known_count, ready_count};
+ghost use Rattle.spsc_queue.specs.Listings.{try_send, try_receive, words_of, lines_of};
+ghost use Rattle.spsc_queue.specs.Calls.{SpscQueue, buffer, is_sender_in_call, is_receiver_in_call, sent_words, received_words};
+ghost use Rattle.spsc_queue.specs.Calls.{CallerObligation, UsesAsSpscQueue};
+
+/// The words of `try_send`: a0 is the block, a1 the word, a2 the bytes of the slots.
+const TRY_SEND: [u32; 13] = [
+    0x00052283, 0x04052303, 0x00428393, 0x00C39463, 0x00000393, 0x00730C63, 0x005502B3, 0x08B2A023,
+    0x00752023, 0x00100513, 0x00008067, 0x00000513, 0x00008067,
+];
+
+/// The words of `try_receive`: a0 is the block, a2 the bytes of the slots; the word comes back in a1.
+const TRY_RECEIVE: [u32; 13] = [
+    0x04052283, 0x00052303, 0x02628263, 0x005503B3, 0x0803A583, 0x00428293, 0x00C29463, 0x00000293,
+    0x04552023, 0x00100513, 0x00008067, 0x00000513, 0x00008067,
+];
+
+/// The words of the function that sends.
+pub fn try_send_words() -> &'static [u32]
+    ensures { result.now ≡ words_of try_send }
+{
+    &TRY_SEND
+}
+
+/// The words of the function that receives.
+pub fn try_receive_words() -> &'static [u32]
+    ensures { result.now ≡ words_of try_receive }
+{
+    &TRY_RECEIVE
+}
+
+/// The words of both listings mean their lines' instructions. It does nothing.
+#[tactic(auto, using(crate::proofs::Registers::send_decoded, crate::proofs::Registers::receive_decoded))]
+pub fn tables_mean()
+    ensures send { map meaning (words_of try_send) ≡ map Some (lines_of try_send) }
+    ensures receive { map meaning (words_of try_receive) ≡ map Some (lines_of try_receive) }
+{}
+
+/// Of any program: if more than n stores of a hart have landed, its n-th store has reached memory, and stays among what
+/// has. A hart reads each byte of it, unless something that landed later covers that byte, or a pending store of its own.
+/// What a hart reads of a byte, every hart reads once that hart's stores have landed, if no other hart had a pending store
+/// over the byte and none of the entries in between writes it. It does nothing.
+pub fn laws_of_store_buffers()
+    ensures performed { (B : ℕ) (o : OpeningValue) (es : List Entry) (h n : ℕ) (w : Write) → Legal B (history_of o es)
+        → slice_get (stores h es) n ≡ Some w → n < lands h es → IsGloballyPerformed es w }
+    ensures later { (es fs : List Entry) (w : Write) → IsGloballyPerformed es w → IsGloballyPerformed (es ++ fs) w }
+    ensures read { (o : OpeningValue) (es : List Entry) (w : Write) (p : IsGloballyPerformed es w) (h x : ℕ) → covers w x ≡ true
+        → All (LeavesByte x) p.later → All (LeavesByte x) (pending h es) → read_byte o es h x ≡ byte_at (x - w.addr) w.value }
+    ensures handed_over { (B : ℕ) (o : OpeningValue) (a h x : ℕ) (es fs : List Entry) → Legal B (history_of o (es ++ fs))
+        → length (stores a es) ≤ lands a (es ++ fs) → IsOnlyWriter a x es → AllLeaveByte x fs
+        → read_byte o (es ++ fs) h x ≡ read_byte o es a x }
+{}
+
+/// Of every run whose entries keep the queue's protocol, from where the queue was empty and at rest. The words received
+/// are a prefix of the words published. Once the receiver knows of more words than were published at some point, all that
+/// the sender's hart had stored there has landed. Once as many words more are ready as the queue has slots than were
+/// consumed at some point, all that the receiver's hart had stored there has landed. Where a receiver that has read its
+/// tail reads the same in the head, each word whose head has landed is consumed; where a sender that has read its head
+/// reads the next offset in the tail, all slots but one hold words whose tail hasn't landed. It does nothing.
+pub fn laws_of_protocol()
+    ensures fifo { (B : ℕ) (r : RingBuffer) (o : OpeningValue) (before es : List Entry) → FollowsSpscProtocol B r o before es
+        → IsPrefix (protocol_after r at_start es).received (published_words (protocol_after r at_start es)) }
+    ensures publication { (B : ℕ) (r : RingBuffer) (o : OpeningValue) (before es fs : List Entry) → FollowsSpscProtocol B r o before (es ++ fs)
+        → (protocol_after r at_start es).published < known_count (protocol_after r at_start (es ++ fs))
+        → length (stores r.sender (before ++ es)) < lands r.sender (before ++ (es ++ fs)) }
+    ensures reclamation { (B : ℕ) (r : RingBuffer) (o : OpeningValue) (before es fs : List Entry) → FollowsSpscProtocol B r o before (es ++ fs)
+        → (protocol_after r at_start es).consumed + r.size ≤ ready_count (protocol_after r at_start (es ++ fs))
+        → length (stores r.receiver (before ++ es)) < lands r.receiver (before ++ (es ++ fs)) }
+    ensures linearization_of_empty { (B : ℕ) (r : RingBuffer) (o : OpeningValue) (before es : List Entry) (e : Entry) (fs : List Entry)
+        → FollowsSpscProtocol B r o before (es ++ e ∷ fs) → (v : ℕ) → hart_of e ≡ r.receiver → access_of e ≡ load r.head 4 v
+        → (protocol_after r at_start es).receiving ≡ asked v
+        → (protocol_after r at_start es).published ≤ (protocol_after r at_start es).consumed + length (writes_to r (pending r.sender (before ++ es))) }
+    ensures linearization_of_full { (B : ℕ) (r : RingBuffer) (o : OpeningValue) (before es : List Entry) (e : Entry) (fs : List Entry)
+        → FollowsSpscProtocol B r o before (es ++ e ∷ fs) → (u : ℕ) → hart_of e ≡ r.sender → access_of e ≡ load r.tail 4 (next r u)
+        → (protocol_after r at_start es).sending ≡ placed u
+        → (protocol_after r at_start es).consumed + r.size
+        ≡ (protocol_after r at_start es).stored + 1 + length (writes_to r (pending r.receiver (before ++ es))) }
+{}
+
+/// Of every run in which one hart's code calls `try_send` and another's `try_receive` for a block, and each entry keeps
+/// what is owed. It does nothing.
+///
+/// - `follows`: the run keeps the protocol.
+/// - `fifo`: where the sender is in no call, the words that receives returned are a prefix of those that sends sent.
+/// - `fifo_within`: at any point, that holds with the word in the sender's a1 after those that were sent.
+/// - `capacity`: where the receiver is in no call, fewer words were sent than were returned and the queue has slots.
+/// - `publication`: once more words are returned than had been sent at a point where the sender was in no call, all that
+///   its hart had stored at that point has landed.
+/// - `message_passing`: then every hart reads of a byte what the sender's hart read there, if no other hart had a pending
+///   store over that byte, and nobody has written it since.
+/// - `reclamation` and `handing_back`: the same from the receiver to the sender, once as many words more are sent as the
+///   queue has slots than had been returned.
+/// - `extends` and `fronts`: an entry more that owes nothing keeps the premises, and they hold up to each point.
+pub fn laws_of_calls()
+    ensures follows { (B M : ℕ) (o : OpeningValue) (q : SpscQueue) (before es : List Entry) → UsesAsSpscQueue B M o q before es
+        → FollowsSpscProtocol B (buffer q) o before es }
+    ensures fifo { (B M : ℕ) (o : OpeningValue) (q : SpscQueue) (before es : List Entry) → UsesAsSpscQueue B M o q before es
+        → is_sender_in_call M o q before es ≡ false → IsPrefix (received_words M o q before es) (sent_words M o q before es) }
+    ensures fifo_within { (B M : ℕ) (o : OpeningValue) (q : SpscQueue) (before es : List Entry) → UsesAsSpscQueue B M o q before es
+        → (s : HartState) → state_of M (history_of o (before ++ es)) q.sender ≡ Some s
+        → IsPrefix (received_words M o q before es) (sent_words M o q before es ++ slice_index s.registers 11 ∷ []) }
+    ensures capacity { (B M : ℕ) (o : OpeningValue) (q : SpscQueue) (before es : List Entry) → UsesAsSpscQueue B M o q before es
+        → is_receiver_in_call M o q before es ≡ false
+        → length (sent_words M o q before es) < length (received_words M o q before es) + q.block.size }
+    ensures publication { (B M : ℕ) (o : OpeningValue) (q : SpscQueue) (before es fs : List Entry) → UsesAsSpscQueue B M o q before (es ++ fs)
+        → is_sender_in_call M o q before es ≡ false
+        → length (sent_words M o q before es) < length (received_words M o q before (es ++ fs))
+        → length (stores q.sender (before ++ es)) < lands q.sender (before ++ (es ++ fs)) }
+    ensures message_passing { (B M : ℕ) (o : OpeningValue) (q : SpscQueue) (before es fs : List Entry) → UsesAsSpscQueue B M o q before (es ++ fs)
+        → is_sender_in_call M o q before es ≡ false
+        → length (sent_words M o q before es) < length (received_words M o q before (es ++ fs))
+        → (h x : ℕ) → IsOnlyWriter q.sender x (before ++ es) → AllLeaveByte x fs
+        → read_byte o (before ++ (es ++ fs)) h x ≡ read_byte o (before ++ es) q.sender x }
+    ensures reclamation { (B M : ℕ) (o : OpeningValue) (q : SpscQueue) (before es fs : List Entry) → UsesAsSpscQueue B M o q before (es ++ fs)
+        → is_receiver_in_call M o q before es ≡ false
+        → length (received_words M o q before es) + q.block.size ≤ length (sent_words M o q before (es ++ fs))
+        → length (stores q.receiver (before ++ es)) < lands q.receiver (before ++ (es ++ fs)) }
+    ensures handing_back { (B M : ℕ) (o : OpeningValue) (q : SpscQueue) (before es fs : List Entry) → UsesAsSpscQueue B M o q before (es ++ fs)
+        → is_receiver_in_call M o q before es ≡ false
+        → length (received_words M o q before es) + q.block.size ≤ length (sent_words M o q before (es ++ fs))
+        → (h x : ℕ) → IsOnlyWriter q.receiver x (before ++ es) → AllLeaveByte x fs
+        → read_byte o (before ++ (es ++ fs)) h x ≡ read_byte o (before ++ es) q.receiver x }
+    ensures extends { (B M : ℕ) (o : OpeningValue) (q : SpscQueue) (before es : List Entry) (e : Entry) → UsesAsSpscQueue B M o q before es
+        → WellFormed B M (history_of o (before ++ (es ++ e ∷ []))) → CallerObligation M o q before es e
+        → UsesAsSpscQueue B M o q before (es ++ e ∷ []) }
+    ensures fronts { (B M : ℕ) (o : OpeningValue) (q : SpscQueue) (before es fs : List Entry) → UsesAsSpscQueue B M o q before (es ++ fs)
+        → UsesAsSpscQueue B M o q before es }
+{}
