@@ -41,7 +41,7 @@ def crates():
 
 
 def manifest_of(name, uses):
-    lines = ["[package]", f'name = "{name}"', 'version = "0.0.0"', 'edition = "2024"', "publish = false", "",
+    lines = ["[package]", f'name = "{name}"', 'version = "0.0.0"', 'edition = "2024"', 'rust-version = "1.85"', "publish = false", "",
              "[lints]", "workspace = true", "", "[dependencies]",
              'std = { package = "kit_std", path = "../../stand_ins/kit_std" }']
     for low in uses:

@@ -13,6 +13,7 @@ pub mod io;
 mod macros;
 pub mod marker;
 mod memory;
+mod older;
 pub mod prelude;
 pub mod process;
 pub mod rt;

@@ -2,6 +2,7 @@
 
 pub use crate::io::Input;
 pub use crate::marker::Drop;
+pub use crate::older::{CastSigned, CastUnsigned};
 pub use crate::rt::{AllocGlobal, Eprint, HostRuntime, Print};
 pub use crate::string::{String, ToStringIn};
 pub use crate::test::ExpectOn;

@@ -9,7 +9,6 @@ pub struct HostRuntime(());
 
 impl HostRuntime {
     #[doc(hidden)]
-    #[expect(clippy::new_without_default, reason = "nobody else makes one")]
     pub fn new() -> HostRuntime {
         HostRuntime(())
     }

@@ -75,6 +75,7 @@ impl String {
     }
 
     /// A copy.
+    #[expect(clippy::should_implement_trait, reason = "the kit's copy needs memory")]
     pub fn clone(&self) -> Result<String, AllocError> {
         String::from_str(Global, &self.0)
     }

@@ -113,6 +113,7 @@ impl<T> Vec<T> {
     }
 
     /// A copy.
+    #[expect(clippy::should_implement_trait, reason = "the kit's copy needs memory")]
     pub fn clone(&self) -> Result<Self, AllocError>
     where
         T: Copy,

@@ -51,6 +51,7 @@ impl Lcg64Xsh32 {
     }
 
     /// A copy, for which there is always memory.
+    #[expect(clippy::should_implement_trait, reason = "the kit's copy is a call that may fail")]
     pub fn clone(&self) -> Result<Self, AllocError> {
         Ok(Lcg64Xsh32 { state: self.state, increment: self.increment })
     }

@@ -5,9 +5,9 @@ use thiserror::Error;
 #[derive(Error)]
 #[error("{fault} at line {line}")]
 #[error_bound(F: Display)]
-pub struct AtLine<F> {
-    pub line: u64,
-    pub fault: F,
+struct AtLine<F> {
+    line: u64,
+    fault: F,
 }
 
 #[derive(Error)]

@@ -11,8 +11,12 @@ pub trait Promise<T> {}
 /// Where threads are started that are joined before [`scope`] returns, so they may borrow what lives as long as `'s`.
 pub struct Scope<'s, E> {
     started: Mutex<Vec<Started<'s>>>,
-    lifetime: PhantomData<(fn(&'s ()) -> &'s (), fn() -> E)>,
+    lifetime: PhantomData<Lifetime<'s>>,
+    environment: PhantomData<fn() -> E>,
 }
+
+/// Neither longer nor shorter than `'s`.
+type Lifetime<'s> = fn(&'s ()) -> &'s ();
 
 type Work<'s> = Box<dyn FnMut() + Send + 's>;
 
@@ -38,7 +42,7 @@ pub fn scope_env() {}
 
 /// Does work that may start threads, and waits for them.
 pub fn scope<'s, E, R: Threads, T, F: FnOnce(&Scope<'s, E>) -> T>(_env: E, _rt: &R, work: F) -> T {
-    let scope = Scope { started: Mutex::default(), lifetime: PhantomData };
+    let scope = Scope { started: Mutex::default(), lifetime: PhantomData, environment: PhantomData };
     work(&scope)
 }
 
@@ -115,7 +119,7 @@ mod tests {
     fn threads_borrow_and_answer() {
         let rt = HostRuntime::new();
         let texts = [String::from("one"), String::from("three")];
-        let lengths = scope(scope_env(), &rt, |scope: &Scope<'_, ()>| {
+        let lengths = scope(0, &rt, |scope: &Scope<'_, i32>| {
             let handles: Vec<_> = texts.iter().map(|text| scope.spawn_with((), || text.len()).unwrap()).collect();
             handles.into_iter().map(|handle| handle.join(&rt)).collect::<Vec<_>>()
         });
@@ -125,7 +129,7 @@ mod tests {
     #[test]
     fn a_scope_waits_for_threads_that_nobody_joins() {
         let done = Mutex::new(0);
-        scope(scope_env(), &HostRuntime::new(), |scope: &Scope<'_, ()>| {
+        scope(0, &HostRuntime::new(), |scope: &Scope<'_, i32>| {
             for _ in 0..8 {
                 let _ = scope.spawn_with((), || *done.lock().unwrap() += 1);
             }
