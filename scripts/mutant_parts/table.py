@@ -22,10 +22,12 @@ def read(file=FILE):
     return {crate: Row(reads, edits, tuple(names.split())) for crate, reads, edits, names in lines}
 
 
-def write(rows, file=FILE):
-    """Writes the rows, sorted by their crate."""
-    lines = [HEAD, *((crate, *row[:2], " ".join(row.refused)) for crate, row in sorted(rows.items()))]
-    file.write_text("".join("\t".join(line) + "\n" for line in lines))
+def put(crate, row, file=FILE):
+    """Puts a crate's row into the table; those of other crates may have come meanwhile, and stay."""
+    lines = [HEAD, *((name, *it[:2], " ".join(it.refused)) for name, it in sorted({**read(file), crate: row}.items()))]
+    new = file.with_suffix(".new")
+    new.write_text("".join("\t".join(line) + "\n" for line in lines))
+    new.replace(file)
 
 
 def wrong(there, file=FILE):

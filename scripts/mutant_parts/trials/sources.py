@@ -157,13 +157,14 @@ class Sums(House):
 class Table(House):
     def test_it_is_read_as_it_was_written(self):
         file, rows = self.top / "mutants.tsv", {"low": table.Row("1", "2", ("a", "b")), "high": table.Row("3", "4", ("c",))}
-        table.write(rows, file)
+        for crate, row in rows.items():
+            table.put(crate, row, file)
         self.assertEqual(table.read(file), rows)
         self.assertEqual(list(table.wrong({"low": ["a", "b", "more"], "high": ["c"]}, file)), [])
 
     def test_a_row_that_does_not_fit(self):
         file = self.top / "mutants.tsv"
-        table.write({"low": table.Row("1", "2", ("a", "b"))}, file)
+        table.put("low", table.Row("1", "2", ("a", "b")), file)
         self.assertIn("low has no mutant b", "".join(table.wrong({"low": ["a"]}, file)))
         self.assertIn("there is no crate low", "".join(table.wrong({"high": ["a", "b"]}, file)))
         file.write_text(file.read_text() + "low\t1\n")
