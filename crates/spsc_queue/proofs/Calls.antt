@@ -1,5 +1,5 @@
 -- Code that calls the functions follows the protocol, and each party stands where its outline says.
-use Rattle.std.proofs.Common.{ℕ, ◌*◌, ◌<◌, ◌≡◌, ◌≢◌, ◌⊎◌, inl, inr, Bool, true, false, List, [], ◌∷◌, ◌++◌, length, Some}
+use Rattle.std.proofs.Common.{ℕ, ◌*◌, ◌<◌, ◌≡◌, ◌≢◌, ◌⊎◌, inl, inr, Bool, true, false, if◌then◌else◌, List, [], ◌∷◌, ◌++◌, length, Some}
 use Rattle.std.proofs.Common.{refl, sym, ◌∙◌, ap, subst, arith, append-nil, append_assoc}
 use Rattle.std.specs.Prelude.{All, slice_index}
 use Rattle.hart.specs.State.{HartState}
@@ -19,6 +19,7 @@ use Rattle.spsc_queue.specs.Listings.{try_send, try_receive}
 use Rattle.spsc_queue.specs.Calls.{Block, SpscQueue, ring_of, buffer, enters, is_in_call_after, is_in_call_with, is_sender_in_call, is_receiver_in_call}
 use Rattle.spsc_queue.specs.Calls.{completed_at, completed_by_entry, sent_words, received_words, HasArguments, CallerObligation, SharesQueue}
 use Rattle.spsc_queue.specs.Calls.{UsesAsSpscQueue}
+use Rattle.spsc_queue.specs.CallEffects.{completed_word}
 use Rattle.spsc_queue.proofs.Invariant.{Invariant}
 use Rattle.spsc_queue.proofs.Landings.{role-cases}
 use Rattle.spsc_queue.proofs.Runs.{invariant-of, talk-append}
@@ -46,6 +47,7 @@ begins_send n k r ws s t on given level sent =
       place = there.0 ∙ omega arith;
       row = record {
         frame = record { left = record { args = given; kept = λ i a b c d e. refl; count = omega arith }; block = there.1 };
+        same = refl;
         word = refl;
         level = level;
         sent = sent;
@@ -62,6 +64,7 @@ begins_receive n k r ws s t on given received =
       place = there.0 ∙ omega arith;
       row = record {
         frame = record { left = record { args = given; kept = λ i a b c d e. refl; count = omega arith }; block = there.1 };
+        same = refl;
         received = received;
         did = refl;
       };
@@ -166,9 +169,21 @@ module _ (B M : ℕ) (o : OpeningValue) (q : SpscQueue) (before es : List Entry)
     -- an entry of a call of the sender
     module _ (mine : hart_of e ≡ a) (act : is_land e ≡ false) (busy : C ≡ true) (s : HartState) (was : state_of M (history_of o (before ++ done)) a ≡ Some s)
         (d : Course) (inside : sending.Inside n k r A d s (sender_part T)) where
-      sender_moves : sending.Moves n k r (is_in_call_after n k true s (advanced s (value_of e))) (A ++ completed_at n true s) d (hart_of e) s T (value_of e)
-      sender_moves = sends_at M n a b k c.block (hart_of e) s T (value_of e) (equipped M o a n try_send c.sends (before ++ done) s was) near d A
+      sender_line : sending.Moves n k r (is_in_call_after n k true s (advanced s (value_of e))) (A ++ completed_at n true s) d (hart_of e) s T (value_of e)
+          × (completed_at n true s ≡ (if is_in_call_after n k true s (advanced s (value_of e)) then [] else completed_word (advanced s (value_of e))))
+      sender_line = sends_at M n a b k c.block (hart_of e) s T (value_of e) (equipped M o a n try_send c.sends (before ++ done) s was) near d A
           inside.line inside.place inside.row
+
+      sender_moves : sending.Moves n k r (is_in_call_after n k true s (advanced s (value_of e))) (A ++ completed_at n true s) d (hart_of e) s T (value_of e)
+      sender_moves = sender_line.0
+
+      -- if the call ends by this entry, it completes the word that its answer says
+      pub sender_completes : completed_by_entry M o a n C (before ++ done) e ≡ (if C_next then [] else completed_word (advanced s (value_of e)))
+      sender_completes =
+          let own_a : is_own a e ≡ true = own_is a e mine act in
+          let z : HartState = advanced s (value_of e) in
+          sym (own_completed M o a n C (before ++ done) e s own_a was) ∙ ap (λ p. completed_at n p s) busy ∙ sender_line.1
+          ∙ ap (λ p. if p then [] else completed_word z) (ap (λ p. is_in_call_after n k p s z) (sym busy) ∙ own_call M o a n k C (before ++ done) e s own_a was)
 
       sender_rule : KeepsProtocolBy r sends T (access_of e)
       sender_rule = subst (KeepsProtocolBy r sends T) (sym (does_by a mine act s was)) (send-keeps r T (moved (hart_of e) s (value_of e)) sender_moves.rule)
@@ -190,9 +205,20 @@ module _ (B M : ℕ) (o : OpeningValue) (q : SpscQueue) (before es : List Entry)
     -- an entry of a call of the receiver
     module _ (mine : hart_of e ≡ b) (act : is_land e ≡ false) (busy : D ≡ true) (s : HartState) (was : state_of M (history_of o (before ++ done)) b ≡ Some s)
         (d : Course) (inside : receiving.Inside m k r R d s (receiver_part T)) where
-      receiver_moves : receiving.Moves m k r (is_in_call_after m k true s (advanced s (value_of e))) (R ++ completed_at m true s) d (hart_of e) s T (value_of e)
-      receiver_moves = takes_at M m a b k c.block (hart_of e) s T (value_of e) (equipped M o b m try_receive c.receives (before ++ done) s was) fit d R
+      receiver_line : receiving.Moves m k r (is_in_call_after m k true s (advanced s (value_of e))) (R ++ completed_at m true s) d (hart_of e) s T (value_of e)
+          × (completed_at m true s ≡ (if is_in_call_after m k true s (advanced s (value_of e)) then [] else completed_word (advanced s (value_of e))))
+      receiver_line = takes_at M m a b k c.block (hart_of e) s T (value_of e) (equipped M o b m try_receive c.receives (before ++ done) s was) fit d R
           inside.line inside.place inside.row
+
+      receiver_moves : receiving.Moves m k r (is_in_call_after m k true s (advanced s (value_of e))) (R ++ completed_at m true s) d (hart_of e) s T (value_of e)
+      receiver_moves = receiver_line.0
+
+      pub receiver_completes : completed_by_entry M o b m D (before ++ done) e ≡ (if D_next then [] else completed_word (advanced s (value_of e)))
+      receiver_completes =
+          let own_b : is_own b e ≡ true = own_is b e mine act in
+          let z : HartState = advanced s (value_of e) in
+          sym (own_completed M o b m D (before ++ done) e s own_b was) ∙ ap (λ p. completed_at m p s) busy ∙ receiver_line.1
+          ∙ ap (λ p. if p then [] else completed_word z) (ap (λ p. is_in_call_after m k p s z) (sym busy) ∙ own_call M o b m k D (before ++ done) e s own_b was)
 
       receiver_rule : KeepsProtocolBy r receives T (access_of e)
       receiver_rule = subst (KeepsProtocolBy r receives T) (sym (does_by b mine act s was))

@@ -22,3 +22,7 @@ pub mod Completed
 pub mod Calls
 pub mod CallLaws
 pub mod Extend
+pub mod Accesses
+pub mod WholeCalls
+pub mod Obligations
+pub mod Example

@@ -5,7 +5,7 @@ use Rattle.std.specs.Prelude.{All, option_map}
 use Rattle.std.specs.List.{slice_get}
 use Rattle.std.proofs.Math.Seq.{drop-append_seam}
 use Rattle.std.proofs.lemmas.List.Elements.{All-head, All-drop}
-use Rattle.std.proofs.lemmas.Bool.{eq-eqb, ne_eqb}
+use Rattle.std.proofs.lemmas.Bool.{eq-eqb, ne_eqb, eqb-true}
 use Rattle.hart.specs.State.{HartState}
 use Rattle.hart.specs.Steps.{advanced}
 use Rattle.step_machine.specs.declared.events.Entry.{Entry}
@@ -73,6 +73,25 @@ module _ (M : ℕ) (o : OpeningValue) (es : List Entry) (e : Entry) (h : ℕ) wh
   next_state mine act s z before after =
       let goes : Some (advanced s (value_of e)) ≡ Some z = sym (ap (option_map (advance_by e)) before) ∙ sym (state_of-mine M (history_of o es) h e mine act)
       ∙ after in cc
+
+-- the same of the state of a hart that opens with a function
+module _ (M : ℕ) (o : OpeningValue) (h n : ℕ) (listing : List Listed) (has : HasFunction o h n listing) (es : List Entry) (e : Entry) where
+  pub here_same : is_own h e ≡ false → state_here M o h n listing has es ≡ state_here M o h n listing has (es ++ e ∷ [])
+  here_same off =
+      let one : Some (state_here M o h n listing has es) ≡ Some (state_here M o h n listing has (es ++ e ∷ [])) = sym (is_here M o h n listing has es)
+      ∙ same_state M o es e h off (state_here M o h n listing has (es ++ e ∷ [])) (is_here M o h n listing has (es ++ e ∷ [])) in cc
+
+  pub here_next : hart_of e ≡ h → is_land e ≡ false → advanced (state_here M o h n listing has es) (value_of e) ≡ state_here M o h n listing has (es ++ e ∷ [])
+  here_next mine act = next_state M o es e h mine act (state_here M o h n listing has es) (state_here M o h n listing has (es ++ e ∷ []))
+      (is_here M o h n listing has es) (is_here M o h n listing has (es ++ e ∷ []))
+
+pub own_parts : (h : ℕ) (e : Entry) → is_own h e ≡ true → (hart_of e ≡ h) × (is_land e ≡ false)
+own_parts h e on = at (hart_of e == h) refl (is_land e) refl
+  where
+    at : (b : Bool) → (hart_of e == h) ≡ b → (l : Bool) → is_land e ≡ l → (hart_of e ≡ h) × (is_land e ≡ false)
+    at true same false act = (eqb-true (hart_of e) h same, act)
+    at true same true land_e = let no : false ≡ true = sym (ap (λ b. b && not true) same) ∙ sym (ap (λ l. (hart_of e == h) && not l) land_e) ∙ on in cc
+    at false other l act = let no : false ≡ true = sym (ap (λ b. b && not (is_land e)) other) ∙ on in cc
 
 pub own_land : (h : ℕ) (e : Entry) → is_land e ≡ true → is_own h e ≡ false
 own_land h e lands = ap (λ b. (hart_of e == h) && not b) lands ∙ off (hart_of e == h)

@@ -22,7 +22,7 @@ use Rattle.spsc_queue.specs.Protocol.{SenderState, resting, placed, roomy, fille
 use Rattle.spsc_queue.specs.Protocol.{IsWord, IsSenderStore}
 use Rattle.spsc_queue.specs.Listings.{lines_of, try_send}
 use Rattle.spsc_queue.specs.Calls.{Block, IsBlock, ring_of, is_in_call_after, completed_at}
-use Rattle.spsc_queue.specs.CallEffects.{send_accesses, SendEffect}
+use Rattle.spsc_queue.specs.CallEffects.{send_accesses, completed_word, SendEffect}
 use Rattle.spsc_queue.proofs.Lines.{Line, word-plus, at_line, add_line, sum_line, load_line, store_line, same_jumps, other_goes_on, other_jumps}
 use Rattle.spsc_queue.proofs.Lines.{same_goes_on, return_line, loads, stores, goes_to, leaves_in}
 use Rattle.spsc_queue.proofs.Registers.{set-same, set-other, send_decoded, code_line, code_room, next_line, line_on}
@@ -65,6 +65,7 @@ looked r u v = load r.head 4 u ∷ load r.tail 4 v ∷ []
 
 -- it has loaded nothing; the head; the head and the tail
 pub record Fresh (n : ℕ) (k : Block) (r : RingBuffer) (c : Course) (xs x : List ℕ) (t : SenderPart) : Type 0 where
+  pub same : c.entry.registers ≡ x
   pub frame : Frame n k c 0 x
   pub word : slice_index x 11 ≡ word_of c
   pub level : IsLevel t.sending
@@ -177,7 +178,7 @@ pub record Moves (n : ℕ) (k : Block) (r : RingBuffer) (b : Bool) (ws : List �
 
 -- ---- what loads and tests say
 
-level-head : (r : RingBuffer) (a v : ℕ) (p : SenderState) → IsLevel p → a ≡ r.head → send_load r a v p ≡ placed v
+pub level-head : (r : RingBuffer) (a v : ℕ) (p : SenderState) → IsLevel p → a ≡ r.head → send_load r a v p ≡ placed v
 level-head r a v p level here = at p level
   where
     on : (a == r.head) ≡ true
@@ -532,14 +533,15 @@ module _ (M n a b : ℕ) (k : Block) (is : IsBlock M k) (h : ℕ) (s : HartState
       (goes at_30 (leaves_in s (reg_of 10) 0) Part (on 11 place (omega arith)) (answers_on 0 row, set-same x 10 0 (omega (arith, has.size))))
 
   -- a return
-  module _ {m answer : ℕ} {ws : List ℕ} (le : m ≤ 10) (here : IsAt s (Jalr (reg_of 0) (reg_of 1) (pos 0))) (f : Finished n k r c m ws x Part answer)
-      (says : slice_index x 10 ≡ answer) where
-    line : Line s need.Inner (λ q. goes_to s (slice_index x 1 / 2 * 2))
-    line = return_line here (omega (arith, back_of f.left, f.left.args.back_small))
-        (subst (λ y. y / 2 * 2 % 4 ≡ 0) (sym (back_of f.left)) f.left.args.back_even)
+  line : {m answer : ℕ} {ws : List ℕ} → IsAt s (Jalr (reg_of 0) (reg_of 1) (pos 0)) → Finished n k r c m ws x Part answer
+      → Line s need.Inner (λ q. goes_to s (slice_index x 1 / 2 * 2))
+  line here f = return_line here (omega (arith, back_of f.left, f.left.args.back_small))
+      (subst (λ y. y / 2 * 2 % 4 ≡ 0) (sym (back_of f.left)) f.left.args.back_even)
 
+  module _ {m answer : ℕ} {ws : List ℕ} (le : m ≤ 10) (here : IsAt s (Jalr (reg_of 0) (reg_of 1) (pos 0)))
+      (f : Finished n k r c m ws x Part answer) (says : slice_index x 10 ≡ answer) where
     sends_back : Moves n k r false ws c h s t v
-    sends_back = by_line need.Inner (λ q. goes_to s (slice_index x 1 / 2 * 2)) line tt (record {
+    sends_back = by_line need.Inner (λ q. goes_to s (slice_index x 1 / 2 * 2)) (line here f) tt (record {
       level = f.level;
       sent = f.sent;
       effect = record {
@@ -556,25 +558,46 @@ module _ (M n a b : ℕ) (k : Block) (is : IsBlock M k) (h : ℕ) (s : HartState
 
     goes_elsewhere : (advanced s v).pc ≢ 4 * n
     goes_elsewhere e =
-        let there : (advanced s v).pc ≡ slice_index x 1 / 2 * 2 = ap (λ (z : HartState). z.pc) (line.leaves v) in
+        let there : (advanced s v).pc ≡ slice_index x 1 / 2 * 2 = ap (λ (z : HartState). z.pc) ((line here f).leaves v) in
         f.left.args.back (ap (λ y. y / 2 * 2) (sym (back_of f.left)) ∙ sym there ∙ e)
+
+  -- the word that it completes, in the state after it
+  left_word : Line s need.Inner (λ q. goes_to s (slice_index x 1 / 2 * 2))
+      → completed_word (advanced s v) ≡ (if slice_index x 10 == 1 then slice_index x 11 ∷ [] else [])
+  left_word line = ap completed_word (line.leaves v)
+
+  one_word : {m answer : ℕ} {ws : List ℕ} → IsAt s (Jalr (reg_of 0) (reg_of 1) (pos 0)) → (f : Finished n k r c m ws x Part answer) → slice_index x 10 ≡ 1
+      → word_of c ∷ [] ≡ completed_word (advanced s v)
+  one_word here f one =
+      sym (left_word (line here f) ∙ ap (λ b. if b then slice_index x 11 ∷ [] else []) (eq-eqb (slice_index x 10) 1 one) ∙ ap (λ w. w ∷ []) f.word)
+
+  no_word : {m answer : ℕ} {ws : List ℕ} → IsAt s (Jalr (reg_of 0) (reg_of 1) (pos 0)) → (f : Finished n k r c m ws x Part answer) → slice_index x 10 ≡ 0
+      → [] ≡ completed_word (advanced s v)
+  no_word here f zero = sym (left_word (line here f)
+      ∙ ap (λ b. if b then slice_index x 11 ∷ [] else []) (ne_eqb (slice_index x 10) 1 (λ e. omega (arith, zero, e))))
 
   -- what is sent so far, with this line, and whether it is in a call after it
   abbrev Answered : Type 0
   Answered = Moves n k r (is_in_call_after n k true s (advanced s v)) (xs ++ completed_at n true s) c h s t v
 
-  to_answered : (b : Bool) (ws : List ℕ) → is_in_call_after n k true s (advanced s v) ≡ b → completed_at n true s ≡ ws → Moves n k r b (xs ++ ws) c h s t v
-      → Answered
-  to_answered b ws goes all moves =
-      subst (λ q. Moves n k r q (xs ++ completed_at n true s) c h s t v) (sym goes) (subst (λ q. Moves n k r b (xs ++ q) c h s t v) (sym all) moves)
+  abbrev Completes : Type 0
+  Completes = completed_at n true s ≡ (if is_in_call_after n k true s (advanced s v) then [] else completed_word (advanced s v))
 
-  none : (line : At) → s.pc ≡ 4 * (n + number line) → number line ≢ 10 → number line ≢ 12 → Moves n k r true xs c h s t v → Answered
+  to_answered : (b : Bool) (ws : List ℕ) → is_in_call_after n k true s (advanced s v) ≡ b → completed_at n true s ≡ ws
+      → ws ≡ (if b then [] else completed_word (advanced s v)) → Moves n k r b (xs ++ ws) c h s t v → Answered × Completes
+  to_answered b ws goes all word moves = (
+    subst (λ q. Moves n k r q (xs ++ completed_at n true s) c h s t v) (sym goes) (subst (λ q. Moves n k r b (xs ++ q) c h s t v) (sym all) moves),
+    all ∙ word ∙ ap (λ q. if q then [] else completed_word (advanced s v)) (sym goes),
+  )
+
+  none : (line : At) → s.pc ≡ 4 * (n + number line) → number line ≢ 10 → number line ≢ 12 → Moves n k r true xs c h s t v → Answered × Completes
   none line place ten twelve moves =
-      to_answered true [] (goes_on n k s (advanced s v) (number line) place ten twelve) (completes_none n k s (advanced s v) (number line) place ten twelve)
+      to_answered true [] (goes_on n k s (advanced s v) (number line) place ten twelve)
+      (completes_none n k s (advanced s v) (number line) place ten twelve) refl
       (subst (λ ws. Moves n k r true ws c h s t v) (sym (append-nil xs)) moves)
 
   -- each line
-  pub sends_at : (line : At) → s.pc ≡ 4 * (n + number line) → Row n k r c xs line x Part → Answered
+  pub sends_at : (line : At) → s.pc ≡ 4 * (n + number line) → Row n k r c xs line x Part → Answered × Completes
   sends_at at_00 place row = none at_00 place (λ e. omega arith) (λ e. omega arith) (sends_at_00 place row)
   sends_at at_04 place row = none at_04 place (λ e. omega arith) (λ e. omega arith) (sends_at_04 place row)
   sends_at at_08 place row = none at_08 place (λ e. omega arith) (λ e. omega arith) (sends_at_08 place row)
@@ -588,10 +611,10 @@ module _ (M n a b : ℕ) (k : Block) (is : IsBlock M k) (h : ℕ) (s : HartState
   sends_at at_28 place row =  -- jalr x0,0(x1)
       let here : IsAt s (Jalr (reg_of 0) (reg_of 1) (pos 0)) = line_at 10 place refl in
       to_answered false (word_of c ∷ []) (ends_10 n k s (advanced s v) place (goes_elsewhere (omega arith) here row.0 row.1))
-      (completes_one n k s (advanced s v) place row.1 ∙ ap (λ w. w ∷ []) row.0.word) (sends_back (omega arith) here row.0 row.1)
+      (completes_one n k s (advanced s v) place row.1 ∙ ap (λ w. w ∷ []) row.0.word) (one_word here row.0 row.1) (sends_back (omega arith) here row.0 row.1)
   sends_at at_2C place row = none at_2C place (λ e. omega arith) (λ e. omega arith) (sends_at_2C place row)
   sends_at at_30 place row =  -- jalr x0,0(x1)
       let here : IsAt s (Jalr (reg_of 0) (reg_of 1) (pos 0)) = line_at 12 place refl in
       to_answered false [] (ends_12 n k s (advanced s v) place (goes_elsewhere (omega arith) here row.0 row.1))
-      (completes_no_word n k s (advanced s v) place row.1)
+      (completes_no_word n k s (advanced s v) place row.1) (no_word here row.0 row.1)
       (subst (λ ws. Moves n k r false ws c h s t v) (sym (append-nil xs)) (sends_back (omega arith) here row.0 row.1))

@@ -16,6 +16,7 @@ use Rattle.spsc_queue.specs.Calls.{Block, SpscQueue, buffer, enters, is_in_call,
 pub record IsWholeCall (M : ℕ) (o : OpeningValue) (h n : ℕ) (k : Block) (before done call : List Entry) (s z : HartState) : Type 0 where
   pub entry : state_of M (history_of o (before ++ done)) h ≡ Some s
   pub enters : enters n k s ≡ true
+  pub begun : is_in_call M o h n k before done ≡ true
   pub within : (part : List Entry) (e : Entry) (rest : List Entry) → call ≡ part ++ e ∷ rest → is_in_call M o h n k before (done ++ part) ≡ true
   pub over : is_in_call M o h n k before (done ++ call) ≡ false
   pub return : state_of M (history_of o (before ++ (done ++ call))) h ≡ Some z
@@ -50,6 +51,10 @@ receive_accesses r w u v = load r.tail 4 u ∷ load r.head 4 v
 -- each register but x5, x6, x7, a0 and a1
 abbrev pub KeepsOtherRegisters : (xs ys : List ℕ) → Type 0
 KeepsOtherRegisters xs ys = (i : ℕ) → i ≢ 5 → i ≢ 6 → i ≢ 7 → i ≢ 10 → i ≢ 11 → slice_index ys i ≡ slice_index xs i
+
+-- the word that a call completes, which has returned in this state
+abbrev pub completed_word : HartState → List ℕ
+completed_word z = if slice_index z.registers 10 == 1 then slice_index z.registers 11 ∷ [] else []
 
 -- what every call does, of whichever function: it goes back to ra, keeps the other registers, and makes at most 11 entries
 pub record Returns (s z : HartState) (count : ℕ) : Type 0 where

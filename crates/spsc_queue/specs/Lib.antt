@@ -5,3 +5,5 @@ pub mod Laws
 pub mod Listings
 pub mod Calls
 pub mod CallEffects
+pub mod Obligations
+pub mod Example

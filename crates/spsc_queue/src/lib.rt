@@ -2,10 +2,10 @@
 //! ring buffer in memory, with no fence and no atomic instruction.
 //!
 //! The contract: [`laws_of_calls`] states what code gets that calls them and keeps what `CallerObligation` asks of it,
-//! whatever else its harts and others execute before, between and after. [`call_effects`] states what one call does.
-//! Below these, [`laws_of_protocol`] states the same of loads and stores alone, of any program that keeps the queue's
-//! protocol, and [`laws_of_store_buffers`] what holds of any program. The crate has no code to run: it gives the words
-//! of both functions.
+//! whatever else its harts and others execute before, between and after. [`laws_of_one_call`] states what one call does.
+//! [`laws_of_obligations`] states that what callers owe can be computed and kept. Below these, [`laws_of_protocol`] states
+//! the same of loads and stores alone, of any program that keeps the queue's protocol, and [`laws_of_store_buffers`] what
+//! holds of any program. The crate gives the words of both functions and runs none.
 
 #![tactic(auto)]
 
@@ -18,7 +18,7 @@ ghost use Rattle.rv_decode.specs.Meaning.{meaning};
 ghost use Rattle.hart.specs.State.{HartState};
 ghost use Rattle.step_machine.specs.declared.events.Entry.{Entry};
 ghost use Rattle.step_machine.specs.History.{OpeningValue, history_of};
-ghost use Rattle.step_machine.specs.Entries.{hart_of, stores, lands, pending, read_byte};
+ghost use Rattle.step_machine.specs.Entries.{hart_of, own, stores, lands, pending, read_byte};
 ghost use Rattle.step_machine.specs.Access.{access_of, load};
 ghost use Rattle.step_machine.specs.Paths.{state_of};
 ghost use Rattle.step_machine.specs.Legal.{Legal, WellFormed};
@@ -29,6 +29,9 @@ ghost use Rattle.spsc_queue.specs.Laws.{IsPrefix, FollowsSpscProtocol, published
 ghost use Rattle.spsc_queue.specs.Listings.{try_send, try_receive, words_of, lines_of};
 ghost use Rattle.spsc_queue.specs.Calls.{SpscQueue, buffer, is_sender_in_call, is_receiver_in_call, sent_words, received_words};
 ghost use Rattle.spsc_queue.specs.Calls.{CallerObligation, UsesAsSpscQueue};
+ghost use Rattle.spsc_queue.specs.CallEffects.{IsSend, IsReceive, accesses, completed_word, SendEffect, ReceiveEffect, FoundFull, FoundEmpty};
+ghost use Rattle.spsc_queue.specs.Obligations.{obligations_kept};
+ghost use Rattle.spsc_queue.specs.Example as example;
 
 /// The words of `try_send`: a0 is the block, a1 the word, a2 the bytes of the slots.
 const TRY_SEND: [u32; 13] = [
@@ -152,4 +155,47 @@ pub fn laws_of_calls()
         → UsesAsSpscQueue B M o q before (es ++ e ∷ []) }
     ensures fronts { (B M : ℕ) (o : OpeningValue) (q : SpscQueue) (before es fs : List Entry) → UsesAsSpscQueue B M o q before (es ++ fs)
         → UsesAsSpscQueue B M o q before es }
+{}
+
+/// Of one whole call in such a run, from its entry to its return, whatever others execute meanwhile. It does nothing.
+///
+/// - `send`: a call of `try_send` loads both indices. If the queue is full it returns a0 = 0; else it stores the word of
+///   its a1 into the slot, then the head, and returns a0 = 1. It goes back to ra, keeps all registers but x5, x6, x7 and
+///   a0, and makes at most 11 entries.
+/// - `receive`: a call of `try_receive` loads both indices. If the queue is empty it returns a0 = 0; else it loads the word
+///   into a1, stores the tail, and returns a0 = 1. The rest is as above, and a1 may change.
+/// - `sends` and `receives`: a call that returns 1 completes the word in a1, and one that returns 0 completes none.
+/// - `linearization_of_full` and `linearization_of_empty`: a call that returned 0 found the queue so at its second load,
+///   as far as the partner's stores had landed.
+pub fn laws_of_one_call()
+    ensures send { (B M : ℕ) (o : OpeningValue) (q : SpscQueue) (before done call : List Entry) (s z : HartState)
+        → UsesAsSpscQueue B M o q before (done ++ call) → IsSend M o q before done call s z
+        → SendEffect (buffer q) s z (length (own q.sender call)) (accesses q.sender call) }
+    ensures receive { (B M : ℕ) (o : OpeningValue) (q : SpscQueue) (before done call : List Entry) (s z : HartState)
+        → UsesAsSpscQueue B M o q before (done ++ call) → IsReceive M o q before done call s z
+        → ReceiveEffect (buffer q) s z (length (own q.receiver call)) (accesses q.receiver call) }
+    ensures sends { (B M : ℕ) (o : OpeningValue) (q : SpscQueue) (before done call : List Entry) (s z : HartState)
+        → UsesAsSpscQueue B M o q before (done ++ call) → IsSend M o q before done call s z
+        → sent_words M o q before (done ++ call) ≡ sent_words M o q before done ++ completed_word z }
+    ensures receives { (B M : ℕ) (o : OpeningValue) (q : SpscQueue) (before done call : List Entry) (s z : HartState)
+        → UsesAsSpscQueue B M o q before (done ++ call) → IsReceive M o q before done call s z
+        → received_words M o q before (done ++ call) ≡ received_words M o q before done ++ completed_word z }
+    ensures linearization_of_full { (B M : ℕ) (o : OpeningValue) (q : SpscQueue) (before done call : List Entry) (s z : HartState)
+        → UsesAsSpscQueue B M o q before (done ++ call) → IsSend M o q before done call s z
+        → slice_index z.registers 10 ≡ 0 → FoundFull M o q before done call }
+    ensures linearization_of_empty { (B M : ℕ) (o : OpeningValue) (q : SpscQueue) (before done call : List Entry) (s z : HartState)
+        → UsesAsSpscQueue B M o q before (done ++ call) → IsReceive M o q before done call s z
+        → slice_index z.registers 10 ≡ 0 → FoundEmpty M o q before done call }
+{}
+
+/// What callers owe can be computed, and can be kept. It does nothing.
+///
+/// - `decided`: where the computation over a run's entries says so, each entry keeps what is owed.
+/// - `met`, `sent` and `received`: the run of `specs/Example.antt` keeps all, and one word passes.
+pub fn laws_of_obligations()
+    ensures decided { (M : ℕ) (o : OpeningValue) (q : SpscQueue) (before es : List Entry) → obligations_kept M o q before es ≡ true
+        → (done : List Entry) (e : Entry) (more : List Entry) → es ≡ done ++ e ∷ more → CallerObligation M o q before done e }
+    ensures met { UsesAsSpscQueue 4 64 example.opening example.queue [] example.entries }
+    ensures sent { sent_words 64 example.opening example.queue [] example.entries ≡ 99 ∷ [] }
+    ensures received { received_words 64 example.opening example.queue [] example.entries ≡ 99 ∷ [] }
 {}

@@ -1,0 +1,87 @@
+-- The computation of what a caller owes is sound.
+use Rattle.std.proofs.Common.{ℕ, ◌*◌, ◌/◌, ◌%◌, ◌^◌, ◌<◌, ◌≡◌, ◌≢◌, ◌==◌, ◌&&◌, ◌||◌, not, Bool, true, false, if◌then◌else◌, List, [], ◌∷◌, ◌++◌}
+use Rattle.std.proofs.Common.{Some, refl, sym, ◌∙◌, ap, subst, arith, append-nil, append_assoc}
+use Rattle.std.specs.Prelude.{nat_lt, slice_index}
+use Rattle.std.proofs.lemmas.Bool.{ne_eqb}
+use Rattle.memory.specs.Writes.{write}
+use Rattle.hart.specs.State.{HartState}
+use Rattle.hart.specs.Steps.{advanced}
+use Rattle.step_machine.specs.declared.events.Entry.{Entry}
+use Rattle.step_machine.specs.Access.{Access, nothing, load, store, exchange, fence, land, access_of}
+use Rattle.step_machine.specs.History.{OpeningValue, history_of}
+use Rattle.step_machine.specs.Entries.{hart_of, is_land, is_own}
+use Rattle.step_machine.specs.Paths.{value_of, state_of}
+use Rattle.spsc_queue.specs.RingBuffers.{RingBuffer, overlaps}
+use Rattle.spsc_queue.specs.Protocol.{WritesNothingTo}
+use Rattle.spsc_queue.specs.Calls.{Block, SpscQueue, buffer, enters, is_in_call_with, is_in_call_from, HasArguments, PartyOwes, CallerObligation}
+use Rattle.spsc_queue.specs.Obligations.{writes_nothing_to, has_arguments, party_keeps_in, party_keeps, others_keep, obligation_kept, obligations_kept_from}
+use Rattle.spsc_queue.specs.Obligations.{obligations_kept}
+use Rattle.spsc_queue.proofs.OwnEntries.{own_is}
+
+both : (p q : Bool) → (p && q) ≡ true → (p ≡ true) × (q ≡ true)
+both true true is = (refl, refl)
+both true false is = absurd (cc)
+both false q is = absurd (cc)
+
+nothing_is : (r : RingBuffer) (y : Access) → writes_nothing_to r y ≡ true → WritesNothingTo r y
+nothing_is r (store w) is = grind (arith, is)
+nothing_is r (exchange a old new) is = grind (arith, is)
+nothing_is r nothing is = tt
+nothing_is r (load a width v) is = tt
+nothing_is r (fence full) is = tt
+nothing_is r land is = tt
+
+arguments_are : (n : ℕ) (k : Block) (s : HartState) → has_arguments n k s ≡ true → HasArguments n k s
+arguments_are n k s is = grind (arith, is)
+
+party_owes : (M : ℕ) (o : OpeningValue) (r : RingBuffer) (h n : ℕ) (k : Block) (before done : List Entry) (e : Entry)
+    → party_keeps M o r h n k (is_in_call_from M o h n k false before done) (before ++ done) e ≡ true → PartyOwes M o r h n k before done e
+party_owes M o r h n k before done e keeps mine act s at idle =
+    let here : party_keeps_in r n k (is_in_call_from M o h n k false before done) (state_of M (history_of o (before ++ done)) h) e ≡ true =
+    subst (λ b. (if b then party_keeps_in r n k (is_in_call_from M o h n k false before done)
+    (state_of M (history_of o (before ++ done)) h) e else true) ≡ true)
+    (own_is h e mine act) keeps in
+    let parts = both (writes_nothing_to r (access_of e)) (if enters n k (advanced s (value_of e)) then has_arguments n k (advanced s (value_of e)) else true)
+    (subst (λ b. party_keeps_in r n k b (Some s) e ≡ true) idle
+    (subst (λ z. party_keeps_in r n k (is_in_call_from M o h n k false before done) z e ≡ true) at here)) in (
+      nothing_is r (access_of e) parts.0,
+      λ on. arguments_are n k (advanced s (value_of e))
+          (subst (λ b. (if b then has_arguments n k (advanced s (value_of e)) else true) ≡ true) on parts.1),
+    )
+
+others_owe : (q : SpscQueue) (e : Entry) → others_keep q e ≡ true → hart_of e ≢ q.sender → hart_of e ≢ q.receiver → WritesNothingTo (buffer q) (access_of e)
+others_owe q e keeps not_sender not_receiver = nothing_is (buffer q) (access_of e)
+    (sym (ap (λ b. b || ((hart_of e == q.receiver) || writes_nothing_to (buffer q) (access_of e))) (ne_eqb (hart_of e) q.sender not_sender)
+    ∙ ap (λ b. b || writes_nothing_to (buffer q) (access_of e)) (ne_eqb (hart_of e) q.receiver not_receiver)) ∙ keeps)
+
+-- each entry of a list that keeps all is one that keeps what it owes
+one_of : (M : ℕ) (o : OpeningValue) (q : SpscQueue) (c d : Bool) (front done : List Entry) (e : Entry) (more : List Entry)
+    → obligations_kept_from M o q c d front (done ++ e ∷ more) ≡ true
+    → obligation_kept M o q (is_in_call_from M o q.sender q.send_line q.block c front done)
+    (is_in_call_from M o q.receiver q.receive_line q.block d front done) (front ++ done) e ≡ true
+one_of M o q c d front [] e more kept =
+    subst (λ zs. obligation_kept M o q c d zs e ≡ true) (sym (append-nil front))
+    (both (obligation_kept M o q c d front e) (obligations_kept_from M o q (is_in_call_with M o q.sender q.send_line q.block c front e)
+    (is_in_call_with M o q.receiver q.receive_line q.block d front e) (front ++ e ∷ []) more) kept).0
+one_of M o q c d front (x ∷ done) e more kept =
+    let c_next : Bool = is_in_call_with M o q.sender q.send_line q.block c front x in
+    let d_next : Bool = is_in_call_with M o q.receiver q.receive_line q.block d front x in
+    subst (λ zs. obligation_kept M o q (is_in_call_from M o q.sender q.send_line q.block c_next (front ++ x ∷ []) done)
+    (is_in_call_from M o q.receiver q.receive_line q.block d_next (front ++ x ∷ []) done) zs e ≡ true) (append_assoc front (x ∷ []) done)
+    (one_of M o q c_next d_next (front ++ x ∷ []) done e more
+    (both (obligation_kept M o q c d front x) (obligations_kept_from M o q c_next d_next (front ++ x ∷ []) (done ++ e ∷ more)) kept).1)
+
+pub obligations_decided : (M : ℕ) (o : OpeningValue) (q : SpscQueue) (before es : List Entry) → obligations_kept M o q before es ≡ true
+    → (done : List Entry) (e : Entry) (more : List Entry) → es ≡ done ++ e ∷ more → CallerObligation M o q before done e
+obligations_decided M o q before es kept done e more is =
+    let one = one_of M o q false false before done e more (subst (λ zs. obligations_kept M o q before zs ≡ true) is kept) in
+    let c : Bool = is_in_call_from M o q.sender q.send_line q.block false before done in
+    let d : Bool = is_in_call_from M o q.receiver q.receive_line q.block false before done in
+    let sender = both (party_keeps M o (buffer q) q.sender q.send_line q.block c (before ++ done) e)
+    (party_keeps M o (buffer q) q.receiver q.receive_line q.block d (before ++ done) e && others_keep q e) one in
+    let receiver = both (party_keeps M o (buffer q) q.receiver q.receive_line q.block d (before ++ done) e) (others_keep q e) sender.1 in
+    record {
+      sender = party_owes M o (buffer q) q.sender q.send_line q.block before done e sender.0;
+      receiver = party_owes M o (buffer q) q.receiver q.receive_line q.block before done e receiver.0;
+      others = others_owe q e receiver.1;
+    }

@@ -1,0 +1,15 @@
+use Rattle.spsc_queue.proofs.Obligations.{obligations_decided}
+use Rattle.spsc_queue.proofs.Example.{uses, sent, received}
+use Rattle.spsc_queue.proofs.laws_of_obligations.Goals as goal
+
+pub returns-clause-decided : goal.returns-clause-decided
+returns-clause-decided c = λ M o q before es kept done e more is. obligations_decided M o q before es kept done e more is
+
+pub returns-clause-met : goal.returns-clause-met
+returns-clause-met c = uses
+
+pub returns-clause-sent : goal.returns-clause-sent
+returns-clause-sent c = sent
+
+pub returns-clause-received : goal.returns-clause-received
+returns-clause-received c = received

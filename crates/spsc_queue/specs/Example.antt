@@ -1,0 +1,27 @@
+-- Two harts that use a queue of two slots at address 64 once: hart 0 sends 99, hart 1 receives it. Each has one
+-- instruction that does nothing, and then its function.
+use Rattle.std.specs.Prelude.{ℕ, List, [], ◌∷◌}
+use Rattle.step_machine.specs.declared.events.Entry.{Entry}
+use Rattle.step_machine.specs.declared.events.Entry.TheVariants as entry
+use Rattle.step_machine.specs.History.{HartOpeningValue, OpeningValue}
+use Rattle.spsc_queue.specs.Listings.{Listed, words_of, try_send, try_receive}
+use Rattle.spsc_queue.specs.Calls.{Block, SpscQueue}
+
+abbrev pub queue : SpscQueue
+queue = record { block = record { base = 64; size = 2 }; sender = 0; receiver = 1; send_line = 1; receive_line = 1 }
+
+-- 32 registers: ra = 56, past the code; a0 the block, a1 a word, a2 the bytes of the slots
+abbrev pub registers_with : ℕ → List ℕ
+registers_with word = 0 ∷ 56 ∷ 0 ∷ 0 ∷ 0 ∷ 0 ∷ 0 ∷ 0 ∷ 0 ∷ 0 ∷ 64 ∷ word ∷ 8 ∷ 0 ∷ 0 ∷ 0 ∷ 0 ∷ 0 ∷ 0 ∷ 0 ∷ 0 ∷ 0 ∷ 0 ∷ 0 ∷ 0 ∷ 0 ∷ 0 ∷ 0 ∷ 0 ∷ 0 ∷ 0 ∷ 0 ∷ []
+
+abbrev pub hart_with : List Listed → (word : ℕ) → HartOpeningValue
+hart_with listing word = record { code = 0x00000013 ∷ words_of listing; registers = registers_with word; inbox = [] }
+
+abbrev pub opening : OpeningValue
+opening = record { harts = hart_with try_send 99 ∷ hart_with try_receive 0 ∷ []; words = [] }
+
+abbrev pub entries : List Entry
+entries = entry.Inner 0 ∷ entry.Load 0 64 4 0 ∷ entry.Load 0 128 4 0 ∷ entry.Inner 0 ∷ entry.Inner 0 ∷ entry.Inner 0 ∷ entry.Inner 0 ∷ entry.Store 0 192 4 99
+    ∷ entry.Store 0 64 4 4 ∷ entry.Inner 0 ∷ entry.Inner 0 ∷ entry.Land 0 ∷ entry.Land 0 ∷ entry.Inner 1 ∷ entry.Load 1 128 4 0 ∷ entry.Load 1 64 4 4
+    ∷ entry.Inner 1 ∷ entry.Inner 1 ∷ entry.Load 1 192 4 99 ∷ entry.Inner 1 ∷ entry.Inner 1 ∷ entry.Store 1 128 4 4 ∷ entry.Inner 1 ∷ entry.Inner 1
+    ∷ entry.Land 1 ∷ []
