@@ -38,6 +38,7 @@ class Retired:
     read: int
     written: int
     performed: int
+    line: int = 0
 
 
 @dataclass(frozen=True)
@@ -48,6 +49,7 @@ class Trapped:
     pc: int
     insn: int
     cause: int
+    line: int = 0
 
     @property
     def performed(self):
@@ -62,16 +64,24 @@ class Drained:
     address: int
     lanes: int
     data: int
+    line: int = 0
 
 
 @dataclass
 class Run:
-    """A run: what happened, in the log's order, and the last state as far as the log has it."""
+    """A run: the line where it begins, what happened, in the log's order, whether it has a line `end` or `timeout`, and
+    the last state as far as the log has it. Each step has its line."""
     seed: int
+    line: int = 0
     steps: list = field(default_factory=list)
-    cycles: int = 0
+    cycles: int = None
     timed_out: bool = False
     state: dict = field(default_factory=dict)  # "0:pc", "0:pending", "0:x5" or "word 4": value
+
+
+STEPS = {"retire": Retired, "trap": Trapped, "drain": Drained}
+# of how many other words a log's reader takes note
+MOST_SKIPPED = 20
 
 
 def fields_of(kind, words, number):
@@ -87,14 +97,24 @@ def fields_of(kind, words, number):
     return [int(word, 16 if shape == H else 10) for word, shape in zip(words, shapes)]
 
 
-def take(run, kind, numbers):
+def is_of_words(step):
+    """Whether the addresses and masks of a step are of words of 32 bits."""
+    if isinstance(step, Drained):
+        masks = [step.lanes]
+    elif isinstance(step, Retired) and step.read_lanes | step.write_lanes:
+        masks = [step.read_lanes, step.write_lanes]
+    else:
+        return True
+    return step.address % 4 == 0 and all(mask < 1 << 4 for mask in masks)
+
+
+def take(run, kind, numbers, line):
     """Takes a line of a run."""
-    if kind == "retire":
-        run.steps.append(Retired(*numbers))
-    elif kind == "trap":
-        run.steps.append(Trapped(*numbers))
-    elif kind == "drain":
-        run.steps.append(Drained(*numbers))
+    if kind in STEPS:
+        step = STEPS[kind](*numbers, line)
+        if not is_of_words(step):
+            raise LogError(f"line {line}: the address {step.address:x} is no multiple of 4, or a mask has more than 4 bits")
+        run.steps.append(step)
     elif kind in ("end", "timeout"):
         run.cycles, run.timed_out = numbers[0], kind == "timeout"
     elif kind == "hart":
@@ -105,21 +125,25 @@ def take(run, kind, numbers):
         run.state[f"word {numbers[0]}"] = numbers[1]
 
 
-def runs(lines):
-    """The runs of a log, one after the other."""
+def runs(lines, skipped=None):
+    """The runs of a log, one after the other. Each word that begins another line than a log's goes into `skipped`, with
+    its first line and how often it came."""
     run = None
     for number, line in enumerate(lines, 1):
         kind, *words = line.split() or [""]
         if kind not in SHAPES:
+            if skipped is not None and kind and (kind in skipped or len(skipped) < MOST_SKIPPED):
+                first, count = skipped.get(kind, (number, 0))
+                skipped[kind] = first, count + 1
             continue
         numbers = fields_of(kind, words, number)
         if kind == "run":
             if run:
                 yield run
-            run = Run(numbers[0])
+            run = Run(numbers[0], number)
         elif run is None:
             raise LogError(f"line {number}: no line `run SEED` stands above")
         else:
-            take(run, kind, numbers)
+            take(run, kind, numbers, number)
     if run:
         yield run

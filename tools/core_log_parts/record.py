@@ -30,23 +30,25 @@ class Event:
         return " ".join(map(str, [self.name, self.hart, *self.values]))
 
 
-def access(name, address, lanes, data):
+def access(name, step, lanes, data):
     """The outcome of a load or a store: the bytes of its lanes, as one number."""
     low = (lanes & -lanes).bit_length() - 1
     width = lanes.bit_count()
     if width not in SUFFIXES or lanes >> low != (1 << width) - 1:
-        raise LogError(f"the mask {lanes:x} is of no load and no store")
-    return name + SUFFIXES[width], (address + low, data >> 8 * low & (1 << 8 * width) - 1)
+        raise LogError(f"line {step.line}: the mask {lanes:x} is of no load and no store")
+    return name + SUFFIXES[width], (step.address + low, data >> 8 * low & (1 << 8 * width) - 1)
 
 
 def retired(step):
     """The outcome of a retired instruction."""
     if step.read_lanes and step.write_lanes:
+        if (step.read_lanes, step.write_lanes) != (0xF, 0xF):
+            raise LogError(f"line {step.line}: the masks {step.read_lanes:x} and {step.write_lanes:x} are of no AMO")
         return "amo", (step.address, step.read, step.written)
     if step.read_lanes:
-        return access("load", step.address, step.read_lanes, step.read)
+        return access("load", step, step.read_lanes, step.read)
     if step.write_lanes:
-        return access("store", step.address, step.write_lanes, step.written)
+        return access("store", step, step.write_lanes, step.written)
     if step.insn & 0x7F == MISC_MEM:
         stores_before_loads = step.insn >> 24 & 1 and step.insn >> 21 & 1
         return "fence", ("full" if stores_before_loads and step.insn >> 20 != FENCE_TSO else "part",)
@@ -56,7 +58,7 @@ def retired(step):
 def event(step, opening):
     """The event of a step, or None where it is none: a hart that runs past its code's end has ended."""
     if step.hart >= len(opening.codes):
-        raise LogError(f"the log has a hart {step.hart}, and the test has {len(opening.codes)} harts")
+        raise LogError(f"line {step.line}: the log has a hart {step.hart}, and the test has {len(opening.codes)} harts")
     if isinstance(step, Drained):
         return Event("l", step.hart, "land", (), step)
     if isinstance(step, Retired):
@@ -64,7 +66,7 @@ def event(step, opening):
     if step.cause == FETCH_FAULT and step.pc == 4 * len(opening.codes[step.hart]):
         return None
     if step.cause not in STOPS:
-        raise LogError(f"no hart of the machine stops for the cause {step.cause}")
+        raise LogError(f"line {step.line}: no hart of the machine stops for the cause {step.cause}")
     return Event("a", step.hart, "stopped", (STOPS[step.cause],), step)
 
 
@@ -95,21 +97,3 @@ def events(run, opening, order="performed"):
 
 def text(found):
     return HEAD + "".join(f"{each.line()}\n" for each in found)
-
-
-def wrong_drains(run):
-    """A line for each drain that isn't its hart's oldest store, which a record can't say."""
-    pending = {}
-    for step in run.steps:
-        stores = pending.setdefault(step.hart, [])
-        if isinstance(step, Retired) and step.write_lanes and not step.read_lanes:
-            stores.append((step.address, step.write_lanes, step.written))
-        elif isinstance(step, Drained):
-            left = step.address, step.lanes, step.data
-            oldest = stores.pop(0) if stores else None
-            if left != oldest:
-                yield f"cycle {step.cycle}: hart {step.hart} drains {store_text(left)}, its oldest store is {store_text(oldest)}"
-
-
-def store_text(store):
-    return "none" if store is None else "{:x} mask {:x} data {:x}".format(*store)

@@ -3,15 +3,14 @@
 import tempfile
 from collections import Counter
 from dataclasses import dataclass, field
-from itertools import islice
 from pathlib import Path
 
 from bring_parts import Refused
-from core_log_parts import log, record
+from core_log_parts import faults, log, record
 from core_log_parts.opening import opening
 from shelf import Entry, Fault
 
-from . import Wrong, bench, explaining, judge
+from . import Wrong, bench, explaining, judge, keeping
 
 
 @dataclass
@@ -24,12 +23,13 @@ class Asked:
     order: str = record.ORDERS[0]
     buffer: int = 4
     registers: bool = False
+    keep: Path = None
 
 
 @dataclass
 class Report:
     """What came of a test's runs. The kinds of faults are `refused`, `unfinished`, `cut`, `state`, `drain`,
-    `outcome` and `register`."""
+    `code`, `outcome` and `register`."""
     name: str
     runs: int = 0
     failed: int = 0
@@ -54,13 +54,11 @@ def differences(run, state):
             for place in sorted(known.keys() | state.keys()) if known.get(place, 0) != state.get(place, 0)]
 
 
-def check_run(report, asked, entry, run, events, line):
+def check_run(report, asked, entry, test, run, events, line):
     """Notes what is wrong with a run, given the line of its judgement."""
     text, path = record.text(events), entry.path
-    if run.timed_out:
-        report.add("cut", run.seed, lambda: f"no end within {run.cycles} cycles")
-    for drain in islice(record.wrong_drains(run), 1):
-        report.add("drain", run.seed, lambda: drain)
+    for kind, words in {kind: words for kind, words in reversed(list(faults.faults(run, test)))}.items():
+        report.add(kind, run.seed, lambda words=words: words)
     if line not in (judge.ACCEPTED, judge.UNFINISHED):
         report.add("refused", run.seed, lambda: explaining.refused(asked, path, events, line))
         return
@@ -96,12 +94,16 @@ def report_of(asked, path):
         steps.flush()
         lines = bench.log_of(asked.bench, steps.name, asked.seed, asked.runs)
     found = [(run, record.events(run, test, asked.order)) for run in log.runs(lines)]
+    ends = [run.line - 1 for run, _ in found[1:]] + [len(lines)]
     if len(found) != asked.runs:
         raise Wrong(f"{asked.bench} wrote the logs of {len(found)} runs, not of {asked.runs}")
     answers = judge.judge(asked.program, entry.path, [record.text(events) for _, events in found], asked.buffer)
-    for (run, events), line in zip(found, answers):
-        before = report.faults.total()
-        check_run(report, asked, entry, run, events, line)
+    for (run, events), line, end in zip(found, answers, ends):
+        before, known = report.faults.total(), set(report.first)
+        check_run(report, asked, entry, test, run, events, line)
+        if asked.keep and (new := report.first.keys() - known):
+            kept = keeping.keep(asked, entry, test, run, lines[run.line - 1:end], events, line)
+            report.first[max(new)] += f"\n{kept}"
         report.runs += 1
         report.failed += report.faults.total() > before
         report.events += len(events)
