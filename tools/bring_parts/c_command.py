@@ -7,7 +7,8 @@ from pathlib import Path
 
 from bring_parts import ROOT, Refused, c_source, c_tests, columns, compilers, text_of
 
-MAPPINGS = ROOT / "examples/mappings"
+# the mappings, each of which includes this one at its end
+MAPPINGS, BASE = ROOT / "examples/mappings", "mapping.h"
 LONGEST = 44
 
 
@@ -24,10 +25,10 @@ class Way:
     def of(asked):
         return Way(asked.compiler, asked.mapping, asked.fences, tuple(asked.flag), asked.lines)
 
-    def words(self):
-        """The options as they are typed."""
+    def words(self, with_folder=False):
+        """The options as they are typed, with the mapping's folder or without."""
         words = ["--compiler", self.compiler]
-        words += ["--mapping", Path(self.mapping).name] if self.mapping else []
+        words += ["--mapping", self.mapping if with_folder else Path(self.mapping).name] if self.mapping else []
         words += ["--fences", self.fences] if self.fences != "all" else []
         words += [f"--flag={flag}" for flag in self.flags] + ["--lines"] * self.lines
         return shlex.join(words)
@@ -46,7 +47,7 @@ def mapping_of(name):
     for path in (Path(name), MAPPINGS / name):
         if path.is_file():
             return path.resolve()
-    names = " ".join(path.name for path in sorted(MAPPINGS.glob("*.h")))
+    names = " ".join(path.name for path in sorted(MAPPINGS.glob("*.h")) if path.name != BASE)
     raise Refused(f"there is no mapping {name}: examples/mappings has {names}")
 
 
@@ -59,7 +60,9 @@ def made(file, way):
     note = noted(source, text.split("\n")) if way.lines else None
     told = [f"tools/from-c {shlex.quote(Path(file).name)} {way.words()}", compiler.version(),
             " ".join([*compiler.flags, *way.flags])]
-    return c_tests.litmus_text(source, compiler, flags, [Path(file).resolve().parent], way.fences, note, told)
+    # a mapping of one's own finds what it includes
+    folders = [Path(file).resolve().parent, *[MAPPINGS] * bool(way.mapping)]
+    return c_tests.litmus_text(source, compiler, flags, folders, way.fences, note, told)
 
 
 def noted(source, lines):
