@@ -1,5 +1,6 @@
 """The page's questions, each answered by commands of the program. What the program printed is taken apart here, and
-put into words by the page."""
+put into words by the page. static/answers.js does the same where there is no server, and tools/page-tests holds both
+together."""
 
 import itertools
 import re
@@ -7,13 +8,11 @@ import re
 from page_parts import bringing, faults
 from page_parts.calls import SECONDS, Late
 from page_parts.faults import Fault
-from page_parts.listing import cells, listed
+from page_parts.listing import BLANKS, cells, listed
 from page_parts.programs import REFERENCE
-from page_parts.questions import EVENTS, HARTS, ROWS, too_long
+from page_parts.questions import BREAKS, EVENTS, HARTS, ONWARD, ROWS, too_long
 
 HEAD = "ztso-schedule 1\n"
-# how many instructions an act goes on over that touch no memory
-ONWARD = 400
 # what `find` says where it has no schedule
 NOT_FOUND = re.compile(r"ztso: not found in ([0-9]+) states?")
 # the assembler's own refusals of a cell: its name, its operands, its numbers
@@ -80,7 +79,7 @@ def faulty_cell(calls, text, line):
         _, _, err = calls.ztso("asm", typed=cell)
         fault = faults.of_line(err).said if err else {}
         if fault.get("number") in OF_CELLS:
-            return {"hart": hart, "text": cell.strip(), "words": fault["words"][:1]}
+            return {"hart": hart, "text": cell.strip(BLANKS), "words": fault["words"][:1]}
     return None
 
 
@@ -150,7 +149,7 @@ def onward(calls, asked):
 
 def seek(calls, asked):
     """How many events are done where a breakpoint stops the schedule, from a place on, or all of them."""
-    typed = "s\n" * asked["place"] + "".join(f"b {hart} {pc}\n" for hart, pc in asked["breaks"][:100]) + "g\nt\n"
+    typed = "s\n" * asked["place"] + "".join(f"b {hart} {pc}\n" for hart, pc in asked["breaks"][:BREAKS]) + "g\nt\n"
     return {"place": int(printed_of_run(calls, "debug", asked, typed=typed).splitlines()[-1])}
 
 

@@ -6,10 +6,12 @@ import re
 from page_parts.faults import Fault
 from page_parts.questions import CELLS
 
+# what separates words of a text
+BLANKS = " \t\r\n"
 COMMENT = re.compile(r"\(\*(.*?)(?:\*\)|\Z)", re.DOTALL)
 OPENING = re.compile(r"\n[ \t]*\{([^}]*)\}")
 # an item of the opening part that gives a name's address to a register
-POINTER = re.compile(r"\s*0*([0-9]{1,2})\s*:\s*([a-z0-9]+)\s*=\s*([A-Za-z_]\w*)\s*")
+POINTER = re.compile(r"\s*0*([0-9]{1,2})\s*:\s*([a-z0-9]+)\s*=\s*([A-Za-z_]\w*)\s*", re.ASCII)
 ABI = ("zero", "ra", "sp", "gp", "tp", "t0", "t1", "t2", "s0", "s1", *(f"a{n}" for n in range(8)),
        *(f"s{n}" for n in range(2, 12)), *(f"t{n}" for n in range(3, 7)))
 REGISTERS = {name: number for number, abi in enumerate(ABI) for name in (abi, f"x{number}")} | {"fp": 8}
@@ -70,9 +72,9 @@ def add_pointers(harts, locations, text):
 def question(text):
     """The first comment of a text, in which the shelf's tests have their question."""
     comment = COMMENT.search(text)
-    words = comment[1].strip() if comment else ""
+    words = comment[1].strip(BLANKS) if comment else ""
     # how a test of C was made: the compiler's flags follow
-    return words.partition("\n")[0] if words.startswith("tools/from-c ") else " ".join(words.split())
+    return words.partition("\n")[0] if words.startswith("tools/from-c ") else " ".join(re.split(f"[{BLANKS}]+", words))
 
 
 def cells(text, line):

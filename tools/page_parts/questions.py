@@ -4,9 +4,12 @@ import re
 
 from page_parts.faults import Fault
 
-# how much the page takes: events of a schedule, instructions of a test, outcomes of drawn runs, bytes of a question
-EVENTS, CELLS, ROWS, BODY = 2_000, 2_000, 1_000, 8 << 20
-RUNS = 100_000
+# how much the page takes: events of a schedule, instructions of a test, drawn runs and their outcomes, breakpoints, and
+# instructions without memory that an act goes on over
+EVENTS, CELLS, RUNS, ROWS, BREAKS, ONWARD = 2_000, 2_000, 100_000, 1_000, 100, 400
+LIMITS = {"events": EVENTS, "cells": CELLS, "runs": RUNS, "rows": ROWS, "breaks": BREAKS, "onward": ONWARD}
+# bytes of a question
+BODY = 8 << 20
 BUFFERS = (1, 2, 4, 16)
 HARTS, ADDRESSES = 64, 1 << 32
 # digits of a number

@@ -129,7 +129,7 @@ class Server(ThreadingHTTPServer):
         self.answers = answers.ANSWERS | {name: answer for name, answer in answers.IF_IT_CAN.items()
                                           if name in program.can}
         self.shelf = shelf.shelf() | {
-            "limits": {"events": questions.EVENTS, "runs": questions.RUNS},
+            "limits": questions.LIMITS,
             "program": program.named(), "reference": program.is_reference(),
             "can": {name: name in program.can for name in ("threads", "find", "memory")} | {"c": bringing.installed()}}
         # how many questions of a kind have a child at a time; the others wait. What may take a minute holds up no step

@@ -7,7 +7,8 @@ import { by, el } from "./dom.js";
 import { forgetRefused } from "./editor.js";
 import { replace } from "./own.js";
 import { note, setEvents } from "./run.js";
-import { HEAD, expanded, tokens } from "./schedules.js";
+import { HEAD, areTokens, counted, expanded, tokens } from "./schedules.js";
+import { WORDS, address } from "./source.js";
 import { known, state } from "./state.js";
 import { sayWhy } from "./why.js";
 
@@ -110,13 +111,13 @@ async function fragment() {
 }
 
 export async function copyLink() {
-  const link = await fragment();
+  const link = address() + await fragment();
   if (link.length > LONGEST) {
     note("This test is too long for a link: save it, and its schedule.");
     return;
   }
   const opens = el("a", { href: link, target: "_blank", rel: "noopener" }, "Open it in another tab");
-  await copy(link, "Copied: put it after the address of any such page, or into its Paste. ", opens, ".");
+  await copy(link, WORDS.linked, opens, ".");
 }
 
 // the run that a link holds, or null
@@ -125,8 +126,8 @@ export async function runOf(link) {
   try {
     const bytes = Uint8Array.from(atob(packed), letter => letter.charCodeAt(0));
     const run = JSON.parse(new TextDecoder().decode(await piped(bytes, new DecompressionStream("deflate-raw"))));
-    const isRun = typeof run.text === "string" && typeof run.tokens === "string" && [1, 2, 4, 16].includes(run.buffer);
-    return isRun && expanded(run.tokens).length <= known.limits.events ? run : null;
+    const isRun = typeof run.text === "string" && areTokens(run.tokens) && [1, 2, 4, 16].includes(run.buffer);
+    return isRun && counted(run.tokens) <= known.limits.events ? run : null;
   } catch {
     return null;
   }
@@ -141,7 +142,8 @@ export async function loadLink(link) {
   forgetRefused();
   state.buffer = run.buffer;
   by("buffer").value = String(run.buffer);
-  await replace(run.text, { events: expanded(run.tokens), place: Number.isInteger(run.place) ? run.place : null });
+  const events = expanded(run.tokens), isPlace = Number.isInteger(run.place) && run.place >= 0 && run.place <= events.length;
+  await replace(run.text, { events, place: isPlace ? run.place : null });
   return true;
 }
 

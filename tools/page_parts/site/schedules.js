@@ -18,6 +18,15 @@ export const token = (event, count) => count > 1 ? `${event}*${count}` : event;
 
 export const tokens = events => groups(events).map(({ event, count }) => token(event, count)).join(" ");
 
+// the tokens of a schedule that the page takes, as they stand in a link
+const TOKENS = /^(?:[al][0-9]{1,2}(?:\*[0-9]{1,4})?(?: |$))*$/;
+
+export const areTokens = text => typeof text === "string" && TOKENS.test(text);
+
+// how many events tokens are, whatever stands between them
+export const counted = text => [...text.matchAll(/[al][0-9]+(?:\*([0-9]+))?/g)].reduce((sum, [, count]) =>
+  sum + Number(count ?? 1), 0);
+
 export function expanded(text) {
   return text.split(/\s+/).filter(word => word).flatMap(word => {
     const [event, count] = word.split("*");

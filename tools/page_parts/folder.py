@@ -1,0 +1,65 @@
+"""The page as a folder of files that any web host serves: the scripts of site/, those of static/ in place of the
+server, the program as WebAssembly, and known.json, which has what the server would say of tests and refusals."""
+
+import hashlib
+import json
+import re
+import shutil
+
+from page_parts import ROOT, faults, questions, shelf
+from page_parts.server import SITE
+
+STATIC = SITE.parent / "static"
+# the server's policy, as far as a page can set it for itself: frames it can't forbid
+POLICY = ("default-src 'none'; script-src 'self' 'wasm-unsafe-eval'; style-src 'self'; img-src 'self' blob:; "
+          "connect-src 'self'; worker-src 'self'; base-uri 'none'; form-action 'none'; "
+          "require-trusted-types-for 'script'; trusted-types ztso")
+UNPROVED = ("Compiled by rustc from the sources that are proved; nothing is proved of this build. What matters, save as "
+            "test and schedule and give to <code>./ztso run</code>.")
+SLOW = ("The page hasn't begun. It needs scripts and a web host: in its folder, "
+        "<code>python3 -m http.server --bind 127.0.0.1</code> is one.")
+# what stands in page.html, and what stands in its place
+PAGE = {'<meta charset="utf-8">': f'<meta charset="utf-8">\n<meta http-equiv="Content-Security-Policy" content="{POLICY}">',
+        '<link rel="stylesheet" href="machine.css">':
+            '<link rel="stylesheet" href="machine.css">\n<link rel="stylesheet" href="static.css">',
+        "</header>": f'</header>\n<p id="unproved">{UNPROVED}</p>\n<p id="slow">{SLOW}</p>'}
+
+
+def write(out, wasm):
+    """Writes the folder, which isn't there yet, with this program."""
+    shutil.copytree(SITE, out)
+    shutil.copytree(STATIC, out, dirs_exist_ok=True)
+    (out / "page.html").rename(out / "index.html")
+    replace(out / "index.html", PAGE)
+    shutil.copyfile(wasm, out / "ztso.wasm")
+    (out / "known.json").write_text(json.dumps(known(), ensure_ascii=False))
+    name_files(out)
+    for path in out.iterdir():
+        path.chmod(0o644)
+
+
+def known():
+    version = (ROOT / "VERSION").read_text().strip()
+    return shelf.shelf() | {
+        "limits": questions.LIMITS, "program": f"ztso {version} in WebAssembly", "reference": False,
+        "can": {"threads": False, "find": True, "memory": True, "c": []}, "sections": faults.SECTIONS}
+
+
+def name_files(out):
+    """Puts the files' names and their sum into the script that keeps them."""
+    files = sorted(path for path in out.iterdir() if path.name != "offline.js")
+    total = hashlib.sha256()
+    for path in files:
+        total.update(f"{path.name} {hashlib.sha256(path.read_bytes()).hexdigest()}\n".encode())
+    names = ["./" if path.name == "index.html" else path.name for path in files]
+    replace(out / "offline.js", {'const FILES = [], VERSION = "";':
+                                 f'const FILES = {json.dumps(names)}, VERSION = "{total.hexdigest()[:16]}";'})
+
+
+def replace(path, parts):
+    text = path.read_text()
+    for old, new in parts.items():
+        if len(re.findall(re.escape(old), text)) != 1:
+            raise ValueError(f"{path.name} has {old!r} not once")
+        text = text.replace(old, new)
+    path.write_text(text)
