@@ -1,7 +1,6 @@
 """The page as a folder of files that any web host serves: the scripts of site/, those of static/ in place of the
 server, the program as WebAssembly, and known.json, which has what the server would say of tests and refusals."""
 
-import hashlib
 import json
 import re
 import shutil
@@ -11,8 +10,8 @@ from page_parts.server import SITE
 
 STATIC = SITE.parent / "static"
 # the server's policy, as far as a page can set it for itself: frames it can't forbid
-POLICY = ("default-src 'none'; script-src 'self' 'wasm-unsafe-eval'; style-src 'self'; img-src 'self' blob:; "
-          "connect-src 'self'; worker-src 'self'; base-uri 'none'; form-action 'none'; "
+POLICY = ("default-src 'none'; script-src 'self' blob: 'wasm-unsafe-eval'; style-src 'self'; img-src 'self' blob:; "
+          "connect-src 'self'; worker-src blob:; base-uri 'none'; form-action 'none'; "
           "require-trusted-types-for 'script'; trusted-types ztso")
 UNPROVED = ("Compiled by rustc from the sources that are proved; nothing is proved of this build. What matters, save as "
             "test and schedule and give to <code>./ztso run</code>.")
@@ -33,7 +32,6 @@ def write(out, wasm):
     replace(out / "index.html", PAGE)
     shutil.copyfile(wasm, out / "ztso.wasm")
     (out / "known.json").write_text(json.dumps(known(), ensure_ascii=False))
-    name_files(out)
     for path in out.iterdir():
         path.chmod(0o644)
 
@@ -42,18 +40,7 @@ def known():
     version = (ROOT / "VERSION").read_text().strip()
     return shelf.shelf() | {
         "limits": questions.LIMITS, "program": f"ztso {version} in WebAssembly", "reference": False,
-        "can": {"threads": False, "find": True, "memory": True, "c": []}, "sections": faults.SECTIONS}
-
-
-def name_files(out):
-    """Puts the files' names and their sum into the script that keeps them."""
-    files = sorted(path for path in out.iterdir() if path.name != "offline.js")
-    total = hashlib.sha256()
-    for path in files:
-        total.update(f"{path.name} {hashlib.sha256(path.read_bytes()).hexdigest()}\n".encode())
-    names = ["./" if path.name == "index.html" else path.name for path in files]
-    replace(out / "offline.js", {'const FILES = [], VERSION = "";':
-                                 f'const FILES = {json.dumps(names)}, VERSION = "{total.hexdigest()[:16]}";'})
+        "can": {"threads": False, "find": True, "memory": True, "herd": False, "c": []}, "sections": faults.SECTIONS}
 
 
 def replace(path, parts):

@@ -131,7 +131,8 @@ class Server(ThreadingHTTPServer):
         self.shelf = shelf.shelf() | {
             "limits": questions.LIMITS,
             "program": program.named(), "reference": program.is_reference(),
-            "can": {name: name in program.can for name in ("threads", "find", "memory")} | {"c": bringing.installed()}}
+            "can": {name: name in program.can for name in ("threads", "find", "memory")}
+            | {"herd": True, "c": bringing.installed()}}
         # how many questions of a kind have a child at a time; the others wait. What may take a minute holds up no step
         self.turns = {"long": threading.BoundedSemaphore(1), "step": threading.BoundedSemaphore(2)}
 

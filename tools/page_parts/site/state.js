@@ -7,11 +7,12 @@ export const state = { text: "", buffer: 4, events: [], place: 0, breaks: [], me
 export const known = { tests: [], sources: {}, limits: { events: 2000, runs: 100000 }, can: { c: [] },
   test: null, view: null, before: null };
 
-// what stays when the page is read anew: of this tab alone
-const KEPT = "ztso";
+// what stays when the page is read anew: of this tab alone. In another site's frame nothing does
+const KEPT = "ztso", IS_FRAMED = globalThis.top !== globalThis.self;
 
 // what is too large goes without the texts that were kept, the oldest first
 export function keep() {
+  if (IS_FRAMED) return;
   for (let count = state.kept.length; count >= 0; count -= 1) {
     try {
       sessionStorage.setItem(KEPT, JSON.stringify({ ...state, kept: state.kept.slice(0, count) }));
@@ -21,6 +22,7 @@ export function keep() {
 }
 
 export function kept() {
+  if (IS_FRAMED) return null;
   try {
     return JSON.parse(sessionStorage.getItem(KEPT));
   } catch {

@@ -15,32 +15,40 @@ const LONG = ["draw", "find"], SECONDS = 60;
 const PATIENCE = 500;
 const LATE = `The search took more than ${SECONDS} seconds and was ended. The command \`find\` has no such limit.`;
 
-// a browser with trusted types starts these scripts, and no other, beside the page
-const SCRIPTS = ["worker.js", "offline.js"];
-const policy = globalThis.trustedTypes?.createPolicy("ztso", { createScriptURL(name) {
-  if (!SCRIPTS.includes(name)) throw new TypeError(name);
-  return name;
+// the worker's scripts, each after those that it imports
+const SCRIPTS = ["state.js", "schedules.js", "known.js", "faults.js", "listing.js", "program.js", "answers.js", "worker.js"];
+// a browser with trusted types starts the worker's script and no other
+const policy = globalThis.trustedTypes?.createPolicy("ztso", { createScriptURL(address) {
+  if (address !== scripts["worker.js"]) throw new TypeError(address);
+  return address;
 } });
-const script = name => policy?.createScriptURL(name) ?? name;
 
+const scripts = {};
 let loading = null;
 
-// the program, and what the folder says of tests and refusals: loaded once
+// the program, what the folder says of tests and refusals, and the worker's scripts: loaded once, so that a worker begins
+// without a network too
 const loaded = () => loading ??= load();
 
 async function load() {
-  const [known, program] = await Promise.all([fetch("known.json"), fetch("ztso.wasm")]);
-  if (!known.ok || !program.ok) throw new Error("known.json or ztso.wasm isn't there");
+  const [known, program, ...texts] = await Promise.all(["known.json", "ztso.wasm", ...SCRIPTS].map(fetched));
+  SCRIPTS.forEach((name, at) => {
+    const text = new TextDecoder().decode(texts[at]).replace(/ from "\.\/([a-z]+\.js)";/g, (_, used) => ` from "${scripts[used]}";`);
+    scripts[name] = URL.createObjectURL(new Blob([text], { type: "text/javascript" }));
+  });
   // a host may not know the kind of file that compileStreaming wants
-  return { known: await known.json(), module: await WebAssembly.compile(await program.arrayBuffer()) };
+  return { known: JSON.parse(new TextDecoder().decode(known)), module: await WebAssembly.compile(program) };
+}
+
+async function fetched(name) {
+  const reply = await fetch(name);
+  if (!reply.ok) throw new Error(`${name} isn't there`);
+  return reply.arrayBuffer();
 }
 
 export async function shelf() {
   document.getElementById("slow")?.remove();
-  const { known } = await loaded();
-  // without a network too, from the next time on. Where the browser won't, the page needs one
-  if (isSecureContext) navigator.serviceWorker?.register(script("offline.js")).catch(() => {});
-  return known;
+  return (await loaded()).known;
 }
 
 // a worker, and the questions that it answers one after the other
@@ -75,7 +83,8 @@ class Answerer {
 
   async begin() {
     const given = await loaded();
-    const worker = new Worker(script("worker.js"), { type: "module", name: this.name });
+    const script = scripts["worker.js"], address = policy?.createScriptURL(script) ?? script;
+    const worker = new Worker(address, { type: "module", name: this.name });
     worker.addEventListener("message", ({ data }) => this.answer(data));
     worker.addEventListener("error", () => this.end({ error: WORDS.gone }));
     worker.postMessage(given);

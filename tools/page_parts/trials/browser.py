@@ -23,6 +23,8 @@ class Browser:
     def __init__(self, chromium="chromium"):
         self.folder = tempfile.TemporaryDirectory(prefix="browser-", ignore_cleanup_errors=True)
         self.number, self.rest, self.events = 0, b"", []
+        # the workers that run, by their sessions, with their names
+        self.workers = {}
         self.start(chromium)
 
     def start(self, chromium):
@@ -49,6 +51,7 @@ class Browser:
         self.session = self.send("Target.attachToTarget", targetId=self.target, flatten=True, session=None)["sessionId"]
         for domain in ("Page", "Runtime", "Log", "Network", "DOM", "Accessibility"):
             self.send(f"{domain}.enable")
+        self.send("Target.setAutoAttach", autoAttach=True, waitForDebuggerOnStart=False, flatten=True)
         self.size(width, height)
         self.send("Emulation.setScrollbarsHidden", hidden=True)
         self.dark(dark)
@@ -68,7 +71,12 @@ class Browser:
                 raise EOFError("the browser has gone")
             self.rest += piece
         one, _, self.rest = self.rest.partition(b"\0")
-        return json.loads(one)
+        got = json.loads(one)
+        if got.get("method") == "Target.attachedToTarget":
+            self.workers[got["params"]["sessionId"]] = got["params"]["targetInfo"]["title"]
+        elif got.get("method") == "Target.detachedFromTarget":
+            self.workers.pop(got["params"]["sessionId"], None)
+        return got
 
     def send(self, method, session=..., **words):
         self.number += 1

@@ -22,14 +22,19 @@ C = "#include <stdatomic.h>\natomic_int x;\nint P0(void) { atomic_store(&x, 1); 
 def part(count, program):
     served = Served(program)
     try:
-        known = served.shelf()
-        witnesses(count, served, known["tests"])
-        drawn(count, served)
-        onward(count, served)
-        others(count, served, known["can"])
-        brought(count, served, known["can"]["c"])
+        answers(count, served)
     finally:
         served.end()
+
+
+def answers(count, served):
+    known = served.shelf()
+    witnesses(count, served, known["tests"])
+    drawn(count, served)
+    onward(count, served)
+    others(count, served, known["can"])
+    if known["can"]["herd"]:
+        brought(count, served, known["can"]["c"])
 
 
 def witnesses(count, served, tests):

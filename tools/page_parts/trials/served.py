@@ -27,6 +27,8 @@ class Served:
         _, _, self.host, self.secret, _ = self.address.split("/")
         self.port = int(self.host.split(":")[1])
         self.own = f"/{self.secret}/"
+        # what a link begins with
+        self.link = "#run="
 
     def request(self, method, path, body=None, **headers):
         """The status, the content and the reply; a header that is None is left out."""

@@ -84,12 +84,13 @@ def links(count, page):
     page.click("#link")
     page.browser.until("document.getElementById('note').textContent.startsWith('Copied')")
     link = page.run("navigator.clipboard.readText()")
-    count.told("a link has no address", link.startswith("#run=") and page.served.secret not in link, link)
+    count.told("a link has no secret, and an address where there is none",
+               link.startswith(page.served.link) and page.served.secret not in link, link)
     page.choose("mp")
     page.paste(link)
     count.told("a pasted link", page.place() == "2 of 3 events" and page.strip() == "a0 a1 l0", page.place())
     page.choose("mp")
-    page.open(link)
+    page.open(link[link.index("#"):])
     count.told("an address with a link", page.place() == "2 of 3 events" and page.run("location.hash") == "", page.place())
 
 
@@ -122,12 +123,18 @@ def content(path):
 
 
 def dropped(count, page, folder):
-    for path, in_text in ((ROOT / "litmus/two-harts/lb.litmus", "RISCV LB"),
-                          (ROOT / "examples/herd/LB+typed.litmus", "RISCV LB+typed")):
-        drop(page, path)
-        text = page.run("document.getElementById('text').value")
-        count.told(f"dropped: {path.name}", text.startswith(in_text) and not page.text("#fault"), page.note())
-    count.told("what was rewritten is said", page.note().startswith("Rewritten: "), page.note())
+    drop(page, ROOT / "litmus/two-harts/lb.litmus")
+    text = page.run("document.getElementById('text').value")
+    count.told("dropped: a test", text.startswith("RISCV LB\n") and not page.text("#fault"), page.note())
+    drop(page, ROOT / "examples/herd/LB+typed.litmus")
+    text = page.run("document.getElementById('text').value")
+    if page.served.shelf()["can"]["herd"]:
+        count.told("dropped: a text of herd's", text.startswith("RISCV LB+typed") and not page.text("#fault"), page.note())
+        count.told("what was rewritten is said", page.note().startswith("Rewritten: "), page.note())
+    else:
+        said = page.text("#refused")
+        count.told("a text of herd's is refused, with the name of what takes it", "tools/from-herd" in said, said)
+    page.choose("lb")
     schedule = folder / "some.schedule"
     schedule.write_text("ztso-schedule 1\na0 a1\n")
     drop(page, schedule)
@@ -138,7 +145,8 @@ def dropped(count, page, folder):
     drop(page, ROOT / "examples/c/dekker.c")
     compilers = page.served.shelf()["can"]["c"]
     if not compilers:
-        count.told("C without a compiler", "isn't installed" in page.text("#refused"), page.text("#refused"))
+        said = page.text("#refused")
+        count.told("C without a compiler", "C " in said and "compiled" in said, said)
         return
     count.told("dropped: C", page.note().startswith("Made by tools/from-c") and "exists" in page.text("#verdict code")
                and page.text("#question") == f"tools/from-c dropped.c --compiler {compilers[0]}", page.note())
