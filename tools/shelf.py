@@ -15,7 +15,7 @@ sys.path[:0] = [str(ROOT / "tools/reference"), str(ROOT / "cases")]
 import litmus  # noqa: E402
 import schedules  # noqa: E402
 from faults import Fault  # noqa: E402
-from kit import form  # noqa: E402
+from kit import chosen, form  # noqa: E402
 
 RUNS = 100_000
 SEED = 1
@@ -136,9 +136,8 @@ def settled(work, entry):
 
 
 def program_and_tests(words):
-    """The program that the words name first, or the one that is built, and the tests that they name, or all."""
-    program = ROOT / "crates/ztso/out/ztso"
-    if words and (os.sep in words[0] or Path(words[0]).is_file()):
-        program, words = Path(words[0]).resolve(), words[1:]
+    """The program that the words name first, or the one that ./ztso runs, and the tests that they name, or all."""
+    named = words[0] if words and (os.sep in words[0] or Path(words[0]).is_file()) else None
+    program, words = chosen.program(named), words[named is not None:]
     entries = [Entry(path) for path in sorted(SHELF.glob("*/*.litmus"))]
     return program, [entry for entry in entries if not words or entry.name in words]

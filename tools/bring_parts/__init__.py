@@ -9,7 +9,8 @@ from pathlib import Path
 
 TOOLS = Path(__file__).resolve().parent.parent
 ROOT = TOOLS.parent
-BUILT, REFERENCE = ROOT / "crates/ztso/out/ztso", TOOLS / "reference/ztso"
+# what chooses the program of a checkout, and makes it; where ztso is installed there is none
+CHOOSER, REFERENCE = ROOT / "scripts/program", TOOLS / "reference/ztso"
 sys.path.insert(0, str(TOOLS / "reference"))
 
 # what the program reads of a text at most
@@ -82,11 +83,19 @@ def put(path, text):
 
 
 def program_of(named=None):
-    """The program that is named, or the built one, or the reference where none is built."""
-    program = Path(named) if named else BUILT if BUILT.exists() else REFERENCE
+    """The program that is named, or the one that ./ztso runs, or the reference where there is none."""
+    program = Path(named) if named else chosen() or REFERENCE
     if program.is_dir() or not os.access(program, os.X_OK):
-        raise Refused(f"{program}: no such program; scripts/build makes crates/ztso/out/ztso")
+        raise Refused(f"{program}: no such program; ./ztso --which makes and names one")
     return program.resolve()
+
+
+def chosen():
+    """The program that ./ztso runs, made where it isn't there, or None."""
+    if not CHOOSER.exists():
+        return None
+    made = subprocess.run([CHOOSER, "--quiet"], stdin=subprocess.DEVNULL, stdout=subprocess.PIPE, text=True, check=False)
+    return None if made.returncode else Path(made.stdout.strip())
 
 
 def answer(program, *words, text=""):
@@ -94,7 +103,7 @@ def answer(program, *words, text=""):
     try:
         done = subprocess.run([str(program), *map(str, words)], input=text, capture_output=True, text=True, check=False)
     except OSError as error:
-        raise Refused(f"{program}: {error.strerror}; scripts/build makes crates/ztso/out/ztso") from None
+        raise Refused(f"{program}: {error.strerror}; ./ztso --which makes and names one") from None
     if done.returncode not in (0, 1) or done.stderr:
         raise Refused(f"{' '.join(map(str, words))}: {done.stderr.strip() or f'status {done.returncode}'}")
     return done.stdout

@@ -1,7 +1,6 @@
-"""The program that answers: the built one, or one that is named; and which of its commands it has."""
+"""The program that answers: the one that ./ztso runs, or one that is named; and which of its commands it has."""
 
 import os
-import shutil
 import subprocess
 import sys
 import tempfile
@@ -9,9 +8,12 @@ from concurrent.futures import ThreadPoolExecutor
 from dataclasses import dataclass
 from pathlib import Path
 
-from page_parts import ROOT, TOOLS
+import bring_parts
+from bring_parts import REFERENCE
+from page_parts import ROOT
 
-BUILT, REFERENCE = ROOT / "crates/ztso/out/ztso", TOOLS / "reference/ztso"
+# what rustc builds of the sources
+STOCK = ROOT / "stock/out/ztso"
 SMALL = "RISCV SMALL\n{ }\n P0 ;\n nop ;\nexists (x=0)\n"
 # commands and options that not every program has, each with words that it takes
 PROBES = {"threads": ["threads", "test.litmus", "--turns", "1"], "find": ["find", "test.litmus", "--states", "1"],
@@ -31,20 +33,16 @@ class Program:
 
     def named(self):
         """How the page names it."""
-        return str(self.path.relative_to(ROOT)) if self.path.is_relative_to(ROOT) else self.path.name
+        name = str(self.path.relative_to(ROOT)) if self.path.is_relative_to(ROOT) else self.path.name
+        return f"{name}, which rustc built and of which nothing is proved" if self.path == STOCK else name
 
     def is_reference(self):
         return self.path == REFERENCE
 
 
 def found(named=None):
-    """The program that is named, or the built one, which is built first where it isn't there."""
-    if named:
-        path = Path(named).resolve()
-    elif BUILT.exists():
-        path = BUILT
-    else:
-        path = built()
+    """The program that is named, or the one that ./ztso runs, which is made first where it isn't there."""
+    path = Path(named).resolve() if named else made()
     if path.is_dir() or not os.access(path, os.X_OK):
         raise Missing(f"{path}: no such program")
     with ThreadPoolExecutor() as pool:
@@ -52,18 +50,13 @@ def found(named=None):
         return Program(path, frozenset(name for name, is_taken in zip(PROBES, taken) if is_taken))
 
 
-def built():
-    if not (ROOT / "scripts/build").exists():
+def made():
+    if not bring_parts.CHOOSER.exists():
         raise Missing("there is no program here, and no sources to build it of: name it by --program")
-    if not shutil.which("rt"):
-        print("page: the command rt isn't on the PATH, so the program can't be built: the second implementation "
-              "answers, tools/reference/ztso, of which nothing is proved", file=sys.stderr)
-        return REFERENCE
-    print("page: builds the program first. In another terminal `tools/page --program tools/reference/ztso` starts at "
-          "once, with the second implementation", file=sys.stderr)
-    if subprocess.run([ROOT / "scripts/build"], stdin=subprocess.DEVNULL, check=False).returncode:
-        raise Missing("the program wasn't built; tools/page --program tools/reference/ztso needs no build")
-    return BUILT
+    if path := bring_parts.chosen():
+        return path
+    print("page: the second implementation answers, tools/reference/ztso, of which nothing is proved", file=sys.stderr)
+    return REFERENCE
 
 
 def takes(path, words):
