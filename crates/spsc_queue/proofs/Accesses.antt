@@ -1,15 +1,15 @@
 -- The accesses of a hart's own entries: at the end of a list, one by one, and that a party that makes none leaves its part
 -- of the protocol.
-use Rattle.std.proofs.Common.{ℕ, suc, ◌+◌, ◌≡◌, ◌≢◌, ◌⊎◌, inl, inr, Bool, true, false, if◌then◌else◌, List, [], ◌∷◌, ◌++◌, length}
-use Rattle.std.proofs.Common.{refl, sym, ◌∙◌, ap, subst, arith, append-nil, append_assoc}
+use Rattle.std.proofs.Common.{ℕ, ◌+◌, ◌≡◌, ◌≢◌, ◌⊎◌, inl, inr, Bool, true, false, if◌then◌else◌, List, [], ◌∷◌, ◌++◌, length}
+use Rattle.std.proofs.Common.{refl, sym, ◌∙◌, ap, arith, append-nil, append_assoc}
 use Rattle.step_machine.specs.declared.events.Entry.{Entry}
 use Rattle.step_machine.specs.Access.{Access, nothing, load, store, exchange, fence, land, access_of}
 use Rattle.step_machine.specs.Entries.{hart_of, is_land, is_own, own}
 use Rattle.spsc_queue.specs.RingBuffers.{RingBuffer}
-use Rattle.spsc_queue.specs.Protocol.{Protocol, Role, sends, receives, passes, role_of, next_by, protocol_next, protocol_after}
+use Rattle.spsc_queue.specs.Protocol.{Protocol, sends, receives, passes, role_of, next_by, protocol_next, protocol_after}
 use Rattle.spsc_queue.specs.CallEffects.{memory_access, accesses}
-use Rattle.spsc_queue.proofs.SendFunction.{sender_part}
-use Rattle.spsc_queue.proofs.ReceiveFunction.{receiver_part}
+use Rattle.spsc_queue.proofs.SendOutline.{sender_part}
+use Rattle.spsc_queue.proofs.ReceiveOutline.{receiver_part}
 use Rattle.spsc_queue.proofs.Parts.{sends-leave, receives-leave, land-leaves}
 use Rattle.spsc_queue.proofs.Landings.{role-cases}
 use Rattle.spsc_queue.proofs.OwnEntries.{land_is, own_is}

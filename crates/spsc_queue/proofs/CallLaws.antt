@@ -1,5 +1,5 @@
 -- What calls of the functions deliver, publish and reclaim, and what they find.
-use Rattle.std.proofs.Common.{ℕ, ◌+◌, ◌<◌, ◌≤◌, ◌≡◌, ◌≢◌, ◌==◌, ◌⊎◌, inl, inr, Bool, true, false, if◌then◌else◌, List, [], ◌∷◌, ◌++◌, length, Some}
+use Rattle.std.proofs.Common.{ℕ, ◌+◌, ◌<◌, ◌≤◌, ◌≡◌, ◌==◌, ◌⊎◌, inl, inr, Bool, true, false, if◌then◌else◌, List, [], ◌∷◌, ◌++◌, length, Some}
 use Rattle.std.proofs.Common.{refl, sym, ◌∙◌, ap, subst, arith, take, drop, append-nil, append_assoc, length-append}
 use Rattle.std.specs.Prelude.{slice_index}
 use Rattle.std.proofs.Math.Seq.{take-length}
@@ -23,10 +23,10 @@ use Rattle.spsc_queue.proofs.Publication.{published, returned}
 use Rattle.spsc_queue.proofs.MessagePassing.{handed_over}
 use Rattle.spsc_queue.proofs.Linearization.{empty_landed, full_landed}
 use Rattle.spsc_queue.proofs.Courses.{At, at_00, at_04, at_08, at_0C, at_10, at_14, at_18, at_1C, at_20, at_24, at_28, at_2C, at_30, Course}
-use Rattle.spsc_queue.proofs.SendFunction.{IsLevel, SenderStands, sender_part, SenderPart}
-use Rattle.spsc_queue.proofs.SendFunction as sending
-use Rattle.spsc_queue.proofs.ReceiveFunction.{ReceiverStands, receiver_part, ReceiverPart}
-use Rattle.spsc_queue.proofs.ReceiveFunction as receiving
+use Rattle.spsc_queue.proofs.SendOutline.{IsLevel, SenderStands, sender_part, SenderPart}
+use Rattle.spsc_queue.proofs.SendOutline as sending
+use Rattle.spsc_queue.proofs.ReceiveOutline.{ReceiverStands, receiver_part, ReceiverPart}
+use Rattle.spsc_queue.proofs.ReceiveOutline as receiving
 use Rattle.spsc_queue.proofs.OwnEntries.{state_here, is_here}
 use Rattle.spsc_queue.proofs.Calls.{Stand, stands-at, calls_follow}
 

@@ -1,5 +1,5 @@
 -- Code that calls the functions follows the protocol, and each party stands where its outline says.
-use Rattle.std.proofs.Common.{ℕ, ◌*◌, ◌<◌, ◌≡◌, ◌≢◌, ◌⊎◌, inl, inr, Bool, true, false, if◌then◌else◌, List, [], ◌∷◌, ◌++◌, length, Some}
+use Rattle.std.proofs.Common.{ℕ, ◌<◌, ◌≡◌, ◌≢◌, ◌⊎◌, inl, inr, Bool, true, false, if◌then◌else◌, List, [], ◌∷◌, ◌++◌, length, Some}
 use Rattle.std.proofs.Common.{refl, sym, ◌∙◌, ap, subst, arith, append-nil, append_assoc}
 use Rattle.std.specs.Prelude.{All, slice_index}
 use Rattle.hart.specs.State.{HartState}
@@ -12,25 +12,27 @@ use Rattle.step_machine.specs.Paths.{value_of, CanMake, state_of}
 use Rattle.step_machine.specs.Legal.{WellFormed, LegalAfter, IsOfHarts}
 use Rattle.step_machine.proofs.Appended.{LegalAfter-front}
 use Rattle.spsc_queue.specs.RingBuffers.{RingBuffer, IsRingBuffer}
-use Rattle.spsc_queue.specs.Protocol.{Protocol, at_start, Role, sends, receives, passes, role_of, next_by, protocol_next, protocol_after}
-use Rattle.spsc_queue.specs.Protocol.{WritesNothingTo, KeepsProtocolBy, KeepsProtocol}
+use Rattle.spsc_queue.specs.Protocol.{Protocol, at_start, sends, receives, passes, role_of, next_by, protocol_next, protocol_after}
+use Rattle.spsc_queue.specs.Protocol.{KeepsProtocolBy, KeepsProtocol}
 use Rattle.spsc_queue.specs.Laws.{FollowsSpscProtocol}
 use Rattle.spsc_queue.specs.Listings.{try_send, try_receive}
-use Rattle.spsc_queue.specs.Calls.{Block, SpscQueue, ring_of, buffer, enters, is_in_call_after, is_in_call_with, is_sender_in_call, is_receiver_in_call}
+use Rattle.spsc_queue.specs.Calls.{Block, SpscQueue, buffer, enters, is_in_call_after, is_in_call_with, is_sender_in_call, is_receiver_in_call}
 use Rattle.spsc_queue.specs.Calls.{completed_at, completed_by_entry, sent_words, received_words, HasArguments, CallerObligation, SharesQueue}
 use Rattle.spsc_queue.specs.Calls.{UsesAsSpscQueue}
 use Rattle.spsc_queue.specs.CallEffects.{completed_word}
 use Rattle.spsc_queue.proofs.Invariant.{Invariant}
 use Rattle.spsc_queue.proofs.Landings.{role-cases}
 use Rattle.spsc_queue.proofs.Runs.{invariant-of, talk-append}
-use Rattle.spsc_queue.proofs.Courses.{at_00, Equipped, moved, Course, went}
-use Rattle.spsc_queue.proofs.SendFunction.{IsLevel, IsNear, SenderStands, sender_part, sends_at}
-use Rattle.spsc_queue.proofs.SendFunction as sending
-use Rattle.spsc_queue.proofs.ReceiveFunction.{IsFit, ReceiverStands, receiver_part, takes_at}
-use Rattle.spsc_queue.proofs.ReceiveFunction as receiving
+use Rattle.spsc_queue.proofs.Courses.{at_00, moved, Course, went}
+use Rattle.spsc_queue.proofs.SendOutline.{IsLevel, IsNear, SenderStands, sender_part}
+use Rattle.spsc_queue.proofs.SendFunction.{sends_at}
+use Rattle.spsc_queue.proofs.SendOutline as sending
+use Rattle.spsc_queue.proofs.ReceiveOutline.{IsFit, ReceiverStands, receiver_part}
+use Rattle.spsc_queue.proofs.ReceiveFunction.{takes_at}
+use Rattle.spsc_queue.proofs.ReceiveOutline as receiving
 use Rattle.spsc_queue.proofs.Parts.{ring_is, rules-more, stays-keeps, send-keeps, receive-keeps, sends-leave, receives-leave, level-next}
 use Rattle.spsc_queue.proofs.Parts.{off-sends, off-receives, near-of, fit-of, land-leaves, land-keeps}
-use Rattle.spsc_queue.proofs.OwnEntries.{joined_on, made_by, known_hart, same_state, next_state, own_land, own_other, land_is, own_is}
+use Rattle.spsc_queue.proofs.OwnEntries.{made_by, known_hart, same_state, next_state, own_land, own_other, land_is, own_is}
 use Rattle.spsc_queue.proofs.OwnEntries.{state_here, is_here, equipped}
 use Rattle.spsc_queue.proofs.Completed.{is_in_call-last, completed-last, none_completed, same_call, own_completed, own_call, entered}
 

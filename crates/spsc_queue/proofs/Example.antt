@@ -1,5 +1,5 @@
 -- The example's run uses its queue, and delivers its word.
-use Rattle.std.proofs.Common.{ℕ, zero, suc, ◌+◌, ◌*◌, ◌<◌, ◌≤◌, ◌≡◌, true, List, [], ◌∷◌, ◌++◌, length, refl, arith}
+use Rattle.std.proofs.Common.{ℕ, zero, suc, ◌<◌, ◌≡◌, true, List, [], ◌∷◌, refl, arith}
 use Rattle.std.specs.Prelude.{All}
 use Rattle.std.proofs.lemmas.List.Elements.{All-nil, All-cons}
 use Rattle.rv_decode.specs.Meaning.{meaning}
@@ -9,8 +9,8 @@ use Rattle.step_machine.specs.History.{history_of}
 use Rattle.step_machine.specs.Entries.{hart_of, own}
 use Rattle.step_machine.specs.Paths.{Makes, opens_as, Path}
 use Rattle.step_machine.specs.Legal.{Legal, IsOfHarts, WellFormed}
-use Rattle.spsc_queue.specs.Listings.{Listed, try_send, try_receive}
-use Rattle.spsc_queue.specs.Calls.{sent_words, received_words, HasFunction, UsesAsSpscQueue}
+use Rattle.spsc_queue.specs.Listings.{try_send, try_receive}
+use Rattle.spsc_queue.specs.Calls.{sent_words, received_words, UsesAsSpscQueue}
 use Rattle.spsc_queue.specs.Obligations.{obligations_kept}
 use Rattle.spsc_queue.specs.Example.{queue, hart_with, opening, entries}
 use Rattle.spsc_queue.proofs.Obligations.{obligations_decided}

@@ -14,7 +14,11 @@ pub mod Linearization
 pub mod Lines
 pub mod Registers
 pub mod Courses
+pub mod SendOutline
+pub mod SendLines
 pub mod SendFunction
+pub mod ReceiveOutline
+pub mod ReceiveLines
 pub mod ReceiveFunction
 pub mod Parts
 pub mod OwnEntries
@@ -24,5 +28,7 @@ pub mod CallLaws
 pub mod Extend
 pub mod Accesses
 pub mod WholeCalls
+pub mod SendCalls
+pub mod ReceiveCalls
 pub mod Obligations
 pub mod Example

@@ -1,11 +1,10 @@
 -- What a hart would read at an address, once its stores have landed, is what every hart reads there.
-use Rattle.std.proofs.Common.{ℕ, zero, suc, ◌+◌, ◌-◌, ◌<◌, ◌≤◌, ◌≡◌, ◌≢◌, ◌==◌, ◌⊎◌, inl, inr, Bool, true, false, if◌then◌else◌, Option, Some, None}
-use Rattle.std.proofs.Common.{List, [], ◌∷◌, ◌++◌, length, take, drop, refl, sym, ◌∙◌, ap, subst, arith, append-nil, append_assoc, length-append}
+use Rattle.std.proofs.Common.{ℕ, zero, suc, ◌-◌, ◌<◌, ◌≤◌, ◌≡◌, ◌≢◌, ◌==◌, ◌⊎◌, inl, inr, Bool, true, false, if◌then◌else◌, Option, Some, None}
+use Rattle.std.proofs.Common.{List, [], ◌∷◌, ◌++◌, length, take, drop, refl, sym, ◌∙◌, ap, subst, arith, append-nil, append_assoc}
 use Rattle.std.specs.Prelude.{All, unwrap_or}
 use Rattle.std.specs.Int.{byte_at}
-use Rattle.std.proofs.lemmas.Bool.{cases_eq, eqb-true, ne_eqb, eq-eqb}
-use Rattle.std.proofs.lemmas.List.{drop-append-le, drop-drop}
-use Rattle.std.proofs.lemmas.List.Elements.{All-head, All-tail, All-nil, All-cons, All-append, All-take, All-drop}
+use Rattle.std.proofs.lemmas.Bool.{cases_eq, eqb-true, eq-eqb}
+use Rattle.std.proofs.lemmas.List.Elements.{All-nil, All-cons, All-append, All-take, All-drop}
 use Rattle.memory.specs.declared.writes.Write.{Write}
 use Rattle.memory.specs.Writes.{write, covers, newest_of}
 use Rattle.memory.proofs.Newest.{newest_of-append}
@@ -15,7 +14,7 @@ use Rattle.step_machine.specs.Access.{Access, nothing, load, store, exchange, fe
 use Rattle.step_machine.specs.Entries.{hart_of, stored_by, landed_by, written_by, store_of, land_of, stores, lands, pending, write_of, landed, opening_byte}
 use Rattle.step_machine.specs.Entries.{memory_byte, read_byte}
 use Rattle.step_machine.specs.Legal.{AllowedBy, Allowed, LegalAfter, Legal}
-use Rattle.step_machine.proofs.Appended.{stores-append, lands-append, landed-last, pending-last, LegalAfter-back, LegalAfter-front}
+use Rattle.step_machine.proofs.Appended.{stores-append, landed-last, pending-last, LegalAfter-back, LegalAfter-front}
 use Rattle.step_machine.proofs.Balanced.{balanced-last, balanced}
 use Rattle.spsc_queue.specs.StoreBuffers.{LeavesByte, LeavesByteBy, AllLeaveByte, IsOnlyWriter}
 use Rattle.spsc_queue.proofs.StoreBuffers.{passed_over}

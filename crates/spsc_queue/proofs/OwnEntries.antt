@@ -10,7 +10,7 @@ use Rattle.hart.specs.State.{HartState}
 use Rattle.hart.specs.Steps.{advanced}
 use Rattle.step_machine.specs.declared.events.Entry.{Entry}
 use Rattle.step_machine.specs.History.{HartOpeningValue, OpeningValue, history_of}
-use Rattle.step_machine.specs.Access.{Access, nothing, load, store, exchange, fence, land, access_of}
+use Rattle.step_machine.specs.Access.{Access, nothing, load, store, exchange, fence, land}
 use Rattle.step_machine.specs.Entries.{hart_of, is_landing, is_land, is_own, own}
 use Rattle.step_machine.specs.Paths.{value_of, CanMake, opens_as, state_of, PathOf, Path}
 use Rattle.step_machine.specs.Legal.{WellFormed, IsOfHarts}

@@ -1,7 +1,6 @@
 -- What an access leaves of each party's part of the protocol's state, and which accesses keep the protocol.
-use Rattle.std.proofs.Common.{ℕ, ◌+◌, ◌*◌, ◌≤◌, ◌%◌, ◌≡◌, ◌≢◌, ◌==◌, inl, inr, Bool, true, false, if◌then◌else◌, List, [], ◌∷◌, ◌++◌, refl, sym, ap, subst}
+use Rattle.std.proofs.Common.{ℕ, ◌≡◌, ◌≢◌, ◌==◌, inl, inr, Bool, true, false, if◌then◌else◌, List, [], ◌∷◌, ◌++◌, refl, sym, ap, subst}
 use Rattle.std.proofs.Common.{arith}
-use Rattle.hart.specs.State.{HartState}
 use Rattle.step_machine.specs.declared.events.Entry.{Entry}
 use Rattle.step_machine.specs.Access.{Access, nothing, load, store, exchange, fence, land, access_of}
 use Rattle.step_machine.specs.Entries.{hart_of}
@@ -12,10 +11,10 @@ use Rattle.spsc_queue.specs.Protocol.{protocol_next, protocol_after, WritesNothi
 use Rattle.spsc_queue.specs.Calls.{Block, IsBlock, ring_of}
 use Rattle.spsc_queue.proofs.Spread.{offset_low}
 use Rattle.spsc_queue.proofs.Invariant.{SendingIs, ReceivingIs}
-use Rattle.spsc_queue.proofs.SendFunction.{IsLevel, IsNear, sender_part, level-load}
-use Rattle.spsc_queue.proofs.SendFunction as sending
-use Rattle.spsc_queue.proofs.ReceiveFunction.{IsFit, receiver_part}
-use Rattle.spsc_queue.proofs.ReceiveFunction as receiving
+use Rattle.spsc_queue.proofs.SendOutline.{IsLevel, IsNear, sender_part, level-load}
+use Rattle.spsc_queue.proofs.SendOutline as sending
+use Rattle.spsc_queue.proofs.ReceiveOutline.{IsFit, receiver_part}
+use Rattle.spsc_queue.proofs.ReceiveOutline as receiving
 
 -- the ring buffer of a block
 pub ring_is : (M : ℕ) (k : Block) (a b : ℕ) → IsBlock M k → a ≢ b → IsRingBuffer (ring_of k a b)

@@ -6,7 +6,7 @@ use Rattle.hart.specs.State.{HartState}
 use Rattle.step_machine.specs.declared.events.Entry.{Entry}
 use Rattle.step_machine.specs.Access.{Access, nothing, load, store, access_of}
 use Rattle.step_machine.specs.History.{OpeningValue, history_of}
-use Rattle.step_machine.specs.Entries.{hart_of, is_own, own, pending}
+use Rattle.step_machine.specs.Entries.{hart_of, is_own, pending}
 use Rattle.step_machine.specs.Paths.{state_of}
 use Rattle.spsc_queue.specs.RingBuffers.{RingBuffer, next, writes_to}
 use Rattle.spsc_queue.specs.Calls.{Block, SpscQueue, buffer, enters, is_in_call, sent_words, received_words}

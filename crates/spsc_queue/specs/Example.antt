@@ -5,7 +5,7 @@ use Rattle.step_machine.specs.declared.events.Entry.{Entry}
 use Rattle.step_machine.specs.declared.events.Entry.TheVariants as entry
 use Rattle.step_machine.specs.History.{HartOpeningValue, OpeningValue}
 use Rattle.spsc_queue.specs.Listings.{Listed, words_of, try_send, try_receive}
-use Rattle.spsc_queue.specs.Calls.{Block, SpscQueue}
+use Rattle.spsc_queue.specs.Calls.{SpscQueue}
 
 abbrev pub queue : SpscQueue
 queue = record { block = record { base = 64; size = 2 }; sender = 0; receiver = 1; send_line = 1; receive_line = 1 }

@@ -1,14 +1,10 @@
 -- What a ring of functions promises, of every run whose entries keep its rules.
-use Rattle.std.specs.Prelude.{false, ℕ, true, ◌≡◌, ◌+◌, ◌≤◌, List, ◌∷◌, ◌++◌, take}
-use Rattle.memory.specs.declared.writes.Write.{Write}
-use Rattle.memory.specs.Writes.{covers}
+use Rattle.std.specs.Prelude.{ℕ, ◌≡◌, ◌+◌, List, ◌++◌, take}
 use Rattle.step_machine.specs.declared.events.Entry.{Entry}
 use Rattle.step_machine.specs.History.{OpeningValue, history_of}
-use Rattle.step_machine.specs.Access.{store, access_of}
-use Rattle.step_machine.specs.Entries.{hart_of, lands, landed}
 use Rattle.step_machine.specs.Legal.{Legal}
-use Rattle.spsc_queue.specs.RingBuffers.{RingBuffer, IsRingBuffer, overlaps, IsEmptyAndQuiescent}
-use Rattle.spsc_queue.specs.Protocol.{Protocol, at_start, ReceiverState, waiting, holding, SenderState, roomy, filled, KeepsProtocol}
+use Rattle.spsc_queue.specs.RingBuffers.{RingBuffer, IsRingBuffer, IsEmptyAndQuiescent}
+use Rattle.spsc_queue.specs.Protocol.{Protocol, at_start, ReceiverState, waiting, holding, SenderState, roomy, KeepsProtocol}
 
 -- xs is a beginning of ys
 abbrev pub IsPrefix : List ℕ → List ℕ → Type 0

@@ -1,5 +1,6 @@
 use Rattle.std.proofs.Common.{◌++◌, [], ap, sym, append-nil}
-use Rattle.spsc_queue.proofs.WholeCalls.{send_effect, receive_effect, send_completes, receive_completes, send_found, receive_found}
+use Rattle.spsc_queue.proofs.SendCalls.{send_effect, send_completes, send_found}
+use Rattle.spsc_queue.proofs.ReceiveCalls.{receive_effect, receive_completes, receive_found}
 use Rattle.spsc_queue.proofs.laws_of_one_call.Goals as goal
 
 pub returns-clause-send : goal.returns-clause-send
