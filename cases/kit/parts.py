@@ -1,5 +1,5 @@
-"""Parts of the repository's files, named `FILE#PART`: a listing of docs/channels.md, a program of an assembly
-file, a table of words in a source, or one that a mutant makes of it."""
+"""Parts of the repository's files, named `FILE#PART`: a listing of docs/channels.md or docs/functions.md, a program of
+an assembly file, a table of words in a source, or one that a mutant makes of it."""
 
 import re
 from pathlib import Path
@@ -11,6 +11,9 @@ CRATE = {"lamport": "lamport_ring", "fastforward": "fastforward", "cached": "lam
 ROLES = ("sender", "receiver")
 # the program that a ring shares with another one, by that one's name
 SHARED = {("cached", "receiver"): "lamport_receiver"}
+# the queue's functions, each with its table in FUNCTION_WORDS
+FUNCTIONS = {"lamport_try_send": "TRY_SEND", "lamport_try_receive": "TRY_RECEIVE"}
+FUNCTION_WORDS = ROOT / "crates/spsc_queue/src/lib.rt"
 # the words that all receivers share
 RECEIVER = ROOT / "crates/poll_close/src/listing.rt"
 
@@ -29,16 +32,23 @@ def programs():
     return [(kind, role) for kind in CRATE for role in ROLES if (kind, role) not in SHARED]
 
 
+def listed(page, heading):
+    """The listings below a heading: the lines of each and their remarks, by their offsets."""
+    section = page.split(f"{heading}\n")[1].split("\n## ")[0]
+    found = [re.findall(r"^\| ([0-9A-F]{2}) \| `([^`]*)` \|(.*)\|", part, re.MULTILINE)
+             for part in section.split("\n\n")]
+    return [{at: (line, remark.strip()) for at, line, remark in lines} for lines in found if lines]
+
+
 def listing(page, kind, role):
-    """The lines of a program's listing and their remarks, by their offsets. A receiver's are Lamport's, except
-    where the ring has lines of its own."""
-    def of(ring):
-        section = page.split(f"{HEADING[ring]}\n")[1].split("\n## ")[0]
-        found = [re.findall(r"^\| ([0-9A-F]{2}) \| `([^`]*)` \|(.*)\|", part, re.MULTILINE)
-                 for part in section.split("\n\n")]
-        return [{at: (line, remark.strip()) for at, line, remark in lines} for lines in found if lines]
-    sender, *own = of(kind)
-    return sender if role == "sender" else of("lamport")[1] | (own[0] if own else {})
+    """A program's listing. A receiver's lines are Lamport's, except where the ring has lines of its own."""
+    sender, *own = listed(page, HEADING[kind])
+    return sender if role == "sender" else listed(page, HEADING["lamport"])[1] | (own[0] if own else {})
+
+
+def function(page, name):
+    """The listing of one of the queue's functions."""
+    return listed(page, f"### {name}")[0]
 
 
 def program(assembly, name):
@@ -84,7 +94,8 @@ def content(name):
     text = read.decode()
     try:
         if path.endswith(".md"):
-            lines = [line for line, _ in listing(text, *part.split("-")).values()]
+            found = function(text, part) if part in FUNCTIONS else listing(text, *part.split("-"))
+            lines = [line for line, _ in found.values()]
         elif path.endswith(".S"):
             lines = program(text, part)
         elif path.endswith(".edit"):

@@ -171,6 +171,12 @@ module _ (B M : ℕ) (o : OpeningValue) (q : SpscQueue) (before es : List Entry)
     | inr l ↦ omega (arith, one_more R (slice_index z.registers 11) t.received l, consumed_count)
   ]
 
+  received_most : t.consumed ≤ length R + 1
+  received_most = elim received [
+    | inl l ↦ let same : length t.received ≡ length R = ap length l in omega (arith, same, consumed_count)
+    | inr l ↦ omega (arith, one_more R (slice_index z.registers 11) t.received l, consumed_count)
+  ]
+
   pub level_here : is_sender_in_call M o q before done ≡ false → IsLevel t.sending × (t.sent ≡ A)
   level_here idle = subst (λ b. SenderStands q.send_line q.block r b A s t) idle sender_here
 
@@ -187,7 +193,10 @@ module _ (B M : ℕ) (o : OpeningValue) (q : SpscQueue) (before es : List Entry)
   pub idle_received : is_receiver_in_call M o q before done ≡ false → t.consumed ≡ length R
   idle_received idle = let same : length t.received ≡ length R = ap length (all_here idle) in omega (arith, same, consumed_count)
 
-  -- at most as many words lie in the queue as it has slots, less one
+  -- at most as many words lie in the queue as it has slots, less one; and one that a call of the receiver is to return
+  pub capacity_within : length A ≤ length R + q.block.size
+  capacity_within = omega (arith, received_most, sent_least, inv.order.room, inv.order.landed_consumed)
+
   pub capacity : is_receiver_in_call M o q before done ≡ false → length A < length R + q.block.size
   capacity idle = omega (arith, idle_received idle, sent_least, inv.order.room, inv.order.landed_consumed)
 
@@ -227,6 +236,9 @@ module _ (B M : ℕ) (o : OpeningValue) (q : SpscQueue) (before es : List Entry)
         | inl l ↦ (slice_index s.registers 11 ∷ [], sym (ap (λ ws. ws ++ slice_index s.registers 11 ∷ []) l.1))
         | inr l ↦ ([], sym l ∙ sym (append-nil T.sent))
       ])
+
+  pub always_capacity : length (sent_words M o q before es) ≤ length (received_words M o q before es) + q.block.size
+  always_capacity = capacity_within B M o q before es c es [] (sym (append-nil es))
 
   pub capacity_at : is_receiver_in_call M o q before es ≡ false
       → length (sent_words M o q before es) < length (received_words M o q before es) + q.block.size

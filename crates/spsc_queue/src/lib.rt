@@ -113,7 +113,8 @@ pub fn laws_of_protocol()
 /// - `follows`: the run keeps the protocol.
 /// - `fifo`: where the sender is in no call, the words that receives returned are a prefix of those that sends sent.
 /// - `fifo_within`: at any point, that holds with the word in the sender's a1 after those that were sent.
-/// - `capacity`: where the receiver is in no call, fewer words were sent than were returned and the queue has slots.
+/// - `capacity`: where the receiver is in no call, fewer words than the queue has slots were sent and not returned.
+/// - `capacity_within`: at any point, at most as many as it has slots were.
 /// - `publication`: once more words are returned than had been sent at a point where the sender was in no call, all that
 ///   its hart had stored at that point has landed.
 /// - `message_passing`: then every hart reads of a byte what the sender's hart read there, if no other hart had a pending
@@ -132,6 +133,8 @@ pub fn laws_of_calls()
     ensures capacity { (B M : ℕ) (o : OpeningValue) (q : SpscQueue) (before es : List Entry) → UsesAsSpscQueue B M o q before es
         → is_receiver_in_call M o q before es ≡ false
         → length (sent_words M o q before es) < length (received_words M o q before es) + q.block.size }
+    ensures capacity_within { (B M : ℕ) (o : OpeningValue) (q : SpscQueue) (before es : List Entry) → UsesAsSpscQueue B M o q before es
+        → length (sent_words M o q before es) ≤ length (received_words M o q before es) + q.block.size }
     ensures publication { (B M : ℕ) (o : OpeningValue) (q : SpscQueue) (before es fs : List Entry) → UsesAsSpscQueue B M o q before (es ++ fs)
         → is_sender_in_call M o q before es ≡ false
         → length (sent_words M o q before es) < length (received_words M o q before (es ++ fs))

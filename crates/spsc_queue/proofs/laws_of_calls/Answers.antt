@@ -1,5 +1,5 @@
 use Rattle.spsc_queue.proofs.Calls.{calls_follow}
-use Rattle.spsc_queue.proofs.CallLaws.{fifo, fifo_within, capacity_at, publication, message_passing, reclamation, handing_back}
+use Rattle.spsc_queue.proofs.CallLaws.{fifo, fifo_within, always_capacity, capacity_at, publication, message_passing, reclamation, handing_back}
 use Rattle.spsc_queue.proofs.Extend.{extends, fronts}
 use Rattle.spsc_queue.proofs.laws_of_calls.Goals as goal
 
@@ -14,6 +14,9 @@ returns-clause-fifo_within c = λ B M o q before es uses s at. fifo_within B M o
 
 pub returns-clause-capacity : goal.returns-clause-capacity
 returns-clause-capacity c = λ B M o q before es uses idle. capacity_at B M o q before es uses idle
+
+pub returns-clause-capacity_within : goal.returns-clause-capacity_within
+returns-clause-capacity_within c = λ B M o q before es uses. always_capacity B M o q before es uses
 
 pub returns-clause-publication : goal.returns-clause-publication
 returns-clause-publication c = λ B M o q before es fs uses idle more. publication B M o q before es fs uses idle more
