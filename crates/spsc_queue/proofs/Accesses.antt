@@ -6,7 +6,7 @@ use Rattle.step_machine.specs.declared.events.Entry.{Entry}
 use Rattle.step_machine.specs.Access.{Access, nothing, load, store, exchange, fence, land, access_of}
 use Rattle.step_machine.specs.Entries.{hart_of, is_land, is_own, own}
 use Rattle.spsc_queue.specs.RingBuffers.{RingBuffer}
-use Rattle.spsc_queue.specs.Protocol.{Protocol, sends, receives, passes, role_of, next_by, protocol_next, protocol_after}
+use Rattle.spsc_queue.specs.Protocol.{ProtocolState, sends, receives, passes, role_of, next_by, protocol_next, protocol_after}
 use Rattle.spsc_queue.specs.CallEffects.{memory_access, accesses}
 use Rattle.spsc_queue.proofs.SendOutline.{sender_part}
 use Rattle.spsc_queue.proofs.ReceiveOutline.{receiver_part}
@@ -100,7 +100,7 @@ first_access h (e ∷ es) x xs is = at (is_own h e) refl (access_of e) refl (fir
 -- ---- a party that accesses nothing
 
 -- an entry of which the party makes no access leaves its part
-none-sends : (r : RingBuffer) (t : Protocol) (x : Access) → memory_access x ≡ [] → sender_part (next_by r sends t x) ≡ sender_part t
+none-sends : (r : RingBuffer) (t : ProtocolState) (x : Access) → memory_access x ≡ [] → sender_part (next_by r sends t x) ≡ sender_part t
 none-sends r t nothing none = refl
 none-sends r t (load a width v) none = cc
 none-sends r t (store w) none = cc
@@ -108,7 +108,7 @@ none-sends r t (exchange a old new) none = cc
 none-sends r t (fence full) none = cc
 none-sends r t land none = cc
 
-none-receives : (r : RingBuffer) (t : Protocol) (x : Access) → memory_access x ≡ [] → receiver_part (next_by r receives t x) ≡ receiver_part t
+none-receives : (r : RingBuffer) (t : ProtocolState) (x : Access) → memory_access x ≡ [] → receiver_part (next_by r receives t x) ≡ receiver_part t
 none-receives r t nothing none = refl
 none-receives r t (load a width v) none = cc
 none-receives r t (store w) none = cc
@@ -117,7 +117,7 @@ none-receives r t (fence full) none = cc
 none-receives r t land none = cc
 
 module _ (r : RingBuffer) where
-  pub sender_still : (t : Protocol) (e : Entry) → accesses r.sender (e ∷ []) ≡ [] → sender_part (protocol_next r t e) ≡ sender_part t
+  pub sender_still : (t : ProtocolState) (e : Entry) → accesses r.sender (e ∷ []) ≡ [] → sender_part (protocol_next r t e) ≡ sender_part t
   sender_still t e none = at (role-cases r (hart_of e)) (is_land e) refl
     where
       at : ((hart_of e ≡ r.sender) × (role_of r (hart_of e) ≡ sends))
@@ -131,7 +131,7 @@ module _ (r : RingBuffer) where
       at (inr (inl p)) false act = ap (λ role. sender_part (next_by r role t (access_of e))) p.2 ∙ receives-leave r t (access_of e)
       at (inr (inr p)) false act = ap (λ role. sender_part (next_by r role t (access_of e))) p.2
 
-  pub receiver_still : (t : Protocol) (e : Entry) → accesses r.receiver (e ∷ []) ≡ [] → receiver_part (protocol_next r t e) ≡ receiver_part t
+  pub receiver_still : (t : ProtocolState) (e : Entry) → accesses r.receiver (e ∷ []) ≡ [] → receiver_part (protocol_next r t e) ≡ receiver_part t
   receiver_still t e none = at (role-cases r (hart_of e)) (is_land e) refl
     where
       at : ((hart_of e ≡ r.sender) × (role_of r (hart_of e) ≡ sends))
@@ -153,12 +153,12 @@ module _ (r : RingBuffer) where
       at true (y ∷ ys) none = absurd (cc)
       at false ys none = (refl, none)
 
-  pub sender_unmoved : (t : Protocol) (es : List Entry) → accesses r.sender es ≡ [] → sender_part (protocol_after r t es) ≡ sender_part t
+  pub sender_unmoved : (t : ProtocolState) (es : List Entry) → accesses r.sender es ≡ [] → sender_part (protocol_after r t es) ≡ sender_part t
   sender_unmoved t [] none = refl
   sender_unmoved t (e ∷ es) none =
       let parts = front_none r.sender e es none in sender_unmoved (protocol_next r t e) es parts.1 ∙ sender_still t e parts.0
 
-  pub receiver_unmoved : (t : Protocol) (es : List Entry) → accesses r.receiver es ≡ [] → receiver_part (protocol_after r t es) ≡ receiver_part t
+  pub receiver_unmoved : (t : ProtocolState) (es : List Entry) → accesses r.receiver es ≡ [] → receiver_part (protocol_after r t es) ≡ receiver_part t
   receiver_unmoved t [] none = refl
   receiver_unmoved t (e ∷ es) none =
       let parts = front_none r.receiver e es none in receiver_unmoved (protocol_next r t e) es parts.1 ∙ receiver_still t e parts.0

@@ -12,7 +12,7 @@ use Rattle.step_machine.specs.Entries.{hart_of, stores, lands, pending, read_byt
 use Rattle.step_machine.specs.Paths.{state_of}
 use Rattle.step_machine.specs.Legal.{Legal}
 use Rattle.spsc_queue.specs.RingBuffers.{RingBuffer, next, writes_to}
-use Rattle.spsc_queue.specs.Protocol.{SenderState, resting, placed, roomy, filled, asked, Protocol, at_start, protocol_after, read_tail}
+use Rattle.spsc_queue.specs.Protocol.{SenderState, resting, placed, roomy, filled, asked, ProtocolState, at_start, protocol_after, read_tail}
 use Rattle.spsc_queue.specs.Laws.{IsPrefix, FollowsSpscProtocol, published_words}
 use Rattle.spsc_queue.specs.StoreBuffers.{IsOnlyWriter, AllLeaveByte}
 use Rattle.spsc_queue.specs.Listings.{try_send, try_receive}
@@ -63,7 +63,7 @@ sent_row n k r c ws at_28 s t row = inr (row.0.sent ∙ ap (λ w. ws ++ w ∷ []
 sent_row n k r c ws at_2C s t row = inl (row.level, row.sent)
 sent_row n k r c ws at_30 s t row = inl (row.0.level, row.0.sent)
 
-sent_part : (n : ℕ) (k : Block) (r : RingBuffer) (b : Bool) (ws : List ℕ) (s : HartState) (t : Protocol) → SenderStands n k r b ws s t
+sent_part : (n : ℕ) (k : Block) (r : RingBuffer) (b : Bool) (ws : List ℕ) (s : HartState) (t : ProtocolState) → SenderStands n k r b ws s t
     → Sent ws s (sender_part t)
 sent_part n k r false ws s t h = inl h
 sent_part n k r true ws s t h = sent_row n k r h.0 ws h.1.line s (sender_part t) h.1.row
@@ -88,7 +88,7 @@ received_row n k r c ws at_28 s t row = inr row.0.received
 received_row n k r c ws at_2C s t row = inl row.received
 received_row n k r c ws at_30 s t row = inl row.0.received
 
-received_part : (n : ℕ) (k : Block) (r : RingBuffer) (b : Bool) (ws : List ℕ) (s : HartState) (t : Protocol)
+received_part : (n : ℕ) (k : Block) (r : RingBuffer) (b : Bool) (ws : List ℕ) (s : HartState) (t : ProtocolState)
     → ReceiverStands n k r b ws s t → Received ws s (receiver_part t)
 received_part n k r false ws s t h = inl h
 received_part n k r true ws s t h = received_row n k r h.0 ws h.1.line s (receiver_part t) h.1.row
@@ -106,7 +106,7 @@ module _ (B M : ℕ) (o : OpeningValue) (q : SpscQueue) (before es : List Entry)
   abbrev r : RingBuffer
   r = buffer q
 
-  abbrev t : Protocol
+  abbrev t : ProtocolState
   t = protocol_after r at_start done
 
   abbrev L : ℕ → ℕ
@@ -215,7 +215,7 @@ module _ (B M : ℕ) (o : OpeningValue) (q : SpscQueue) (before es : List Entry)
 
   pub fifo : is_sender_in_call M o q before es ≡ false → IsPrefix (received_words M o q before es) (sent_words M o q before es)
   fifo idle =
-      let T : Protocol = protocol_after (buffer q) at_start es in
+      let T : ProtocolState = protocol_after (buffer q) at_start es in
       let counts = idle_counts B M o q before es c es [] (sym (append-nil es)) idle in
       let all = level_here B M o q before es c es [] (sym (append-nil es)) idle in
       let size : length T.sent ≡ length (sent_words M o q before es) = ap length all.1 in
@@ -226,7 +226,7 @@ module _ (B M : ℕ) (o : OpeningValue) (q : SpscQueue) (before es : List Entry)
   pub fifo_within : (s : HartState) → state_of M (history_of o (before ++ es)) q.sender ≡ Some s
       → IsPrefix (received_words M o q before es) (sent_words M o q before es ++ slice_index s.registers 11 ∷ [])
   fifo_within s at =
-      let T : Protocol = protocol_after (buffer q) at_start es in
+      let T : ProtocolState = protocol_after (buffer q) at_start es in
       let A : List ℕ = sent_words M o q before es in
       let point = stand B M o q before es c es [] (sym (append-nil es)) in
       let all : IsPrefix (received_words M o q before es) T.sent = prefix-joined (received_words M o q before es) (published_words T) T.sent delivered_prefix
@@ -289,7 +289,7 @@ module _ (B M : ℕ) (o : OpeningValue) (q : SpscQueue) (before es fs : List Ent
 
 module _ (B M : ℕ) (o : OpeningValue) (q : SpscQueue) (before done : List Entry) (e : Entry) (fs : List Entry)
     (c : UsesAsSpscQueue B M o q before (done ++ e ∷ fs)) where
-  abbrev T : Protocol
+  abbrev T : ProtocolState
   T = protocol_after (buffer q) at_start done
 
   all : FollowsSpscProtocol B (buffer q) o before (done ++ e ∷ fs)

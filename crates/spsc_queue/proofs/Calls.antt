@@ -12,7 +12,7 @@ use Rattle.step_machine.specs.Paths.{value_of, CanMake, state_of}
 use Rattle.step_machine.specs.Legal.{WellFormed, LegalAfter, IsOfHarts}
 use Rattle.step_machine.proofs.Appended.{LegalAfter-front}
 use Rattle.spsc_queue.specs.RingBuffers.{RingBuffer, IsRingBuffer}
-use Rattle.spsc_queue.specs.Protocol.{Protocol, at_start, sends, receives, passes, role_of, next_by, protocol_next, protocol_after}
+use Rattle.spsc_queue.specs.Protocol.{ProtocolState, at_start, sends, receives, passes, role_of, next_by, protocol_next, protocol_after}
 use Rattle.spsc_queue.specs.Protocol.{KeepsProtocolBy, KeepsProtocol}
 use Rattle.spsc_queue.specs.Laws.{FollowsSpscProtocol}
 use Rattle.spsc_queue.specs.Listings.{try_send, try_receive}
@@ -22,7 +22,7 @@ use Rattle.spsc_queue.specs.Calls.{UsesAsSpscQueue}
 use Rattle.spsc_queue.specs.CallEffects.{completed_word}
 use Rattle.spsc_queue.proofs.Invariant.{Invariant}
 use Rattle.spsc_queue.proofs.Landings.{role-cases}
-use Rattle.spsc_queue.proofs.Runs.{invariant-of, talk-append}
+use Rattle.spsc_queue.proofs.Runs.{invariant-of, protocol-append}
 use Rattle.spsc_queue.proofs.Courses.{at_00, moved, Course, went}
 use Rattle.spsc_queue.proofs.SendOutline.{IsLevel, IsNear, SenderStands, sender_part}
 use Rattle.spsc_queue.proofs.SendFunction.{sends_at}
@@ -30,7 +30,7 @@ use Rattle.spsc_queue.proofs.SendOutline as sending
 use Rattle.spsc_queue.proofs.ReceiveOutline.{IsFit, ReceiverStands, receiver_part}
 use Rattle.spsc_queue.proofs.ReceiveFunction.{takes_at}
 use Rattle.spsc_queue.proofs.ReceiveOutline as receiving
-use Rattle.spsc_queue.proofs.Parts.{ring_is, rules-more, stays-keeps, send-keeps, receive-keeps, sends-leave, receives-leave, level-next}
+use Rattle.spsc_queue.proofs.Parts.{ring_is, keeps-more, stays-keeps, send-keeps, receive-keeps, sends-leave, receives-leave, level-next}
 use Rattle.spsc_queue.proofs.Parts.{off-sends, off-receives, near-of, fit-of, land-leaves, land-keeps}
 use Rattle.spsc_queue.proofs.OwnEntries.{made_by, known_hart, same_state, next_state, own_land, own_other, land_is, own_is}
 use Rattle.spsc_queue.proofs.OwnEntries.{state_here, is_here, equipped}
@@ -98,17 +98,17 @@ module _ (B M : ℕ) (o : OpeningValue) (q : SpscQueue) (before es : List Entry)
 
   -- the protocol is kept so far, and each party stands in its code or in the function
   pub record Stand (done : List Entry) : Type 0 where
-    pub rules : KeepsProtocol r at_start done
+    pub keeps : KeepsProtocol r at_start done
     pub sender : (s : HartState) → state_of M (history_of o (before ++ done)) a ≡ Some s
         → SenderStands n k r (is_sender_in_call M o q before done) (sent_words M o q before done) s (protocol_after r at_start done)
     pub receiver : (s : HartState) → state_of M (history_of o (before ++ done)) b ≡ Some s
         → ReceiverStands m k r (is_receiver_in_call M o q before done) (received_words M o q before done) s (protocol_after r at_start done)
 
   module _ (done : List Entry) (e : Entry) (more : List Entry) (is : es ≡ done ++ e ∷ more) (st : Stand done) where
-    abbrev T : Protocol
+    abbrev T : ProtocolState
     T = protocol_after r at_start done
 
-    abbrev U : Protocol
+    abbrev U : ProtocolState
     U = protocol_next r T e
 
     run : WellFormed B M (history_of o (before ++ (done ++ e ∷ more)))
@@ -118,8 +118,8 @@ module _ (B M : ℕ) (o : OpeningValue) (q : SpscQueue) (before es : List Entry)
     follows = record {
       ring = ring;
       legal = LegalAfter-front B o [] (before ++ done) (e ∷ more) (subst (LegalAfter B o []) (sym (append_assoc before done (e ∷ more))) run.legal);
-      quiet = c.rest;
-      rules = st.rules;
+      rest = c.rest;
+      keeps = st.keeps;
     }
 
     abbrev L : ℕ → ℕ
@@ -386,21 +386,21 @@ module _ (B M : ℕ) (o : OpeningValue) (q : SpscQueue) (before es : List Entry)
 
       pub stands_on : Stand (done ++ e ∷ [])
       stands_on = record {
-        rules = rules-more r at_start done e st.rules goes.rule;
+        keeps = keeps-more r at_start done e st.keeps goes.rule;
         sender = λ y at. subst (λ p. SenderStands n k r p (sent_words M o q before (done ++ e ∷ [])) y (protocol_after r at_start (done ++ e ∷ [])))
             (sym (is_in_call-last M o a n k false before done e))
             (subst (λ ws. SenderStands n k r C_next ws y (protocol_after r at_start (done ++ e ∷ []))) (sym (completed-last M o a n k false before done e))
-            (subst (SenderStands n k r C_next A_next y) (sym (talk-append r at_start done (e ∷ [])))
+            (subst (SenderStands n k r C_next A_next y) (sym (protocol-append r at_start done (e ∷ [])))
             (goes.sender y (ap (λ xs. state_of M (history_of o xs) a) (append_assoc before done (e ∷ [])) ∙ at))));
         receiver = λ y at. subst (λ p. ReceiverStands m k r p (received_words M o q before (done ++ e ∷ [])) y (protocol_after r at_start (done ++ e ∷ [])))
             (sym (is_in_call-last M o b m k false before done e))
             (subst (λ ws. ReceiverStands m k r D_next ws y (protocol_after r at_start (done ++ e ∷ []))) (sym (completed-last M o b m k false before done e))
-            (subst (ReceiverStands m k r D_next R_next y) (sym (talk-append r at_start done (e ∷ [])))
+            (subst (ReceiverStands m k r D_next R_next y) (sym (protocol-append r at_start done (e ∷ [])))
             (goes.receiver y (ap (λ xs. state_of M (history_of o xs) b) (append_assoc before done (e ∷ [])) ∙ at))));
       }
 
   pub begins : Stand []
-  begins = record { rules = tt; sender = λ s at. (tt, refl); receiver = λ s at. refl }
+  begins = record { keeps = tt; sender = λ s at. (tt, refl); receiver = λ s at. refl }
 
 -- ---- one queue
 
@@ -420,6 +420,6 @@ module _ (B M : ℕ) (o : OpeningValue) (q : SpscQueue) (before es : List Entry)
   calls_follow = record {
     ring = ring_is M q.block q.sender q.receiver c.shares.block c.shares.parties;
     legal = c.shares.run.legal;
-    quiet = c.shares.rest;
-    rules = (stands-at es [] (sym (append-nil es))).rules;
+    rest = c.shares.rest;
+    keeps = (stands-at es [] (sym (append-nil es))).keeps;
   }

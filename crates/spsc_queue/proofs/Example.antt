@@ -15,41 +15,14 @@ use Rattle.spsc_queue.specs.Obligations.{obligations_kept}
 use Rattle.spsc_queue.specs.Example.{queue, hart_with, opening, entries}
 use Rattle.spsc_queue.proofs.Obligations.{obligations_decided}
 
+also : {X Y : Type 0} → X → Y → X × Y
+also x y = (x, y)
+
 legal : Legal 4 (history_of opening entries)
-legal = (
-  tt,
-  (
-    refl,
-    (
-      refl,
-      (
-        tt,
-        (
-          tt,
-          (
-            tt,
-            (
-              tt,
-              (
-                omega arith,
-                (
-                  omega arith,
-                  (
-                    tt,
-                    (
-                      tt,
-                      (omega arith, (omega arith, (tt, (refl, (refl, (tt, (tt, (refl, (tt, (tt, (omega arith, (tt, (tt, (omega arith, tt)))))))))))))),
-                    ),
-                  ),
-                ),
-              ),
-            ),
-          ),
-        ),
-      ),
-    ),
-  ),
-)
+legal =
+    also tt (also refl (also refl (also tt (also tt (also tt (also tt (also (omega arith) (also (omega arith) (also tt (also tt (also (omega arith)
+    (also (omega arith) (also tt (also refl (also refl (also tt (also tt (also refl (also tt (also tt (also (omega arith) (also tt (also tt
+    (also (omega arith) tt))))))))))))))))))))))))
 
 sender_path : Makes (opens_as 64 (hart_with try_send 99)) (own 0 entries)
 unfolding need_of advanced meaning
@@ -127,67 +100,11 @@ all_of [] l = All-nil (IsOfHarts opening)
 all_of (e ∷ es) l = All-cons (IsOfHarts opening) e es l.0 (all_of es l.1)
 
 two : AreOfTwo entries
-two = (
-  omega arith,
-  (
-    omega arith,
-    (
-      omega arith,
-      (
-        omega arith,
-        (
-          omega arith,
-          (
-            omega arith,
-            (
-              omega arith,
-              (
-                omega arith,
-                (
-                  omega arith,
-                  (
-                    omega arith,
-                    (
-                      omega arith,
-                      (
-                        omega arith,
-                        (
-                          omega arith,
-                          (
-                            omega arith,
-                            (
-                              omega arith,
-                              (
-                                omega arith,
-                                (
-                                  omega arith,
-                                  (
-                                    omega arith,
-                                    (
-                                      omega arith,
-                                      (
-                                        omega arith,
-                                        (omega arith, (omega arith, (omega arith, (omega arith, (omega arith, tt))))),
-                                      ),
-                                    ),
-                                  ),
-                                ),
-                              ),
-                            ),
-                          ),
-                        ),
-                      ),
-                    ),
-                  ),
-                ),
-              ),
-            ),
-          ),
-        ),
-      ),
-    ),
-  ),
-)
+two =
+    also (omega arith) (also (omega arith) (also (omega arith) (also (omega arith) (also (omega arith) (also (omega arith) (also (omega arith)
+    (also (omega arith) (also (omega arith) (also (omega arith) (also (omega arith) (also (omega arith) (also (omega arith) (also (omega arith)
+    (also (omega arith) (also (omega arith) (also (omega arith) (also (omega arith) (also (omega arith) (also (omega arith) (also (omega arith)
+    (also (omega arith) (also (omega arith) (also (omega arith) (also (omega arith) tt))))))))))))))))))))))))
 
 run : WellFormed 4 64 (history_of opening entries)
 run = record { legal = legal; paths = paths; of_harts = all_of entries two }

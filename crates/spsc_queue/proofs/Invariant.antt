@@ -1,10 +1,10 @@
--- What holds of the block, of the pending stores to it and of both parties after every run that keeps the rules.
+-- What holds of the block, of the pending stores to it and of both parties after every run that keeps the protocol.
 use Rattle.std.proofs.Common.{ℕ, zero, suc, ◌+◌, ◌<◌, ◌≤◌, ◌≡◌, ◌≢◌, List, [], ◌∷◌, ◌++◌, arith}
 use Rattle.step_machine.specs.declared.events.Entry.{Entry}
 use Rattle.step_machine.specs.History.{OpeningValue}
 use Rattle.step_machine.specs.Entries.{pending, memory_word}
 use Rattle.spsc_queue.specs.RingBuffers.{RingBuffer, offset, slot, writes_to}
-use Rattle.spsc_queue.specs.Protocol.{SenderState, resting, placed, roomy, filled, ReceiverState, idle, asked, waiting, holding, Protocol}
+use Rattle.spsc_queue.specs.Protocol.{SenderState, resting, placed, roomy, filled, ReceiverState, idle, asked, waiting, holding, ProtocolState}
 use Rattle.spsc_queue.proofs.Spread.{spread, sent_store, freed_store}
 
 -- how many of the block's stores have landed: words in their slots, heads, tails
@@ -18,7 +18,7 @@ abbrev pub firsts : (ℕ → ℕ) → ℕ → List ℕ
 firsts L zero = []
 firsts L (suc n) = firsts L n ++ L n ∷ []
 
-pub record Order (r : RingBuffer) (s : Protocol) (d : Landed) : Type 0 where
+pub record Order (r : RingBuffer) (s : ProtocolState) (d : Landed) : Type 0 where
   pub heads_slots : d.heads ≤ d.slots
   pub slots_heads : d.slots ≤ d.heads + 1
   pub slots_stored : d.slots ≤ s.stored
@@ -50,7 +50,7 @@ ReceivingIs r L tails h (waiting u) = (u ≡ offset r tails) × (tails < h)
 ReceivingIs r L tails h (holding u w) = (u ≡ offset r tails) × (tails < h) × (w ≡ L tails)
 
 -- the pending stores that go to the block, hart by hart
-pub record Buffers (r : RingBuffer) (L : ℕ → ℕ) (es : List Entry) (s : Protocol) (d : Landed) : Type 0 where
+pub record Buffers (r : RingBuffer) (L : ℕ → ℕ) (es : List Entry) (s : ProtocolState) (d : Landed) : Type 0 where
   pub unsent : ℕ
   pub unread : ℕ
   pub mine : writes_to r (pending r.sender es) ≡ spread (sent_store r L) (d.slots + d.heads) unsent
@@ -59,7 +59,7 @@ pub record Buffers (r : RingBuffer) (L : ℕ → ℕ) (es : List Entry) (s : Pro
   pub theirs_count : unread + d.tails ≡ s.consumed
   pub others : (h : ℕ) → h ≢ r.sender → h ≢ r.receiver → writes_to r (pending h es) ≡ []
 
-pub record Invariant (r : RingBuffer) (L : ℕ → ℕ) (o : OpeningValue) (es : List Entry) (s : Protocol) : Type 0 where
+pub record Invariant (r : RingBuffer) (L : ℕ → ℕ) (o : OpeningValue) (es : List Entry) (s : ProtocolState) : Type 0 where
   pub landed : Landed
   pub order : Order r s landed
   pub words : Words r L landed (memory_word o es)

@@ -10,7 +10,7 @@ use Rattle.step_machine.specs.History.{OpeningValue}
 use Rattle.step_machine.specs.Access.{exchange, land, access_of}
 use Rattle.step_machine.specs.Entries.{hart_of, write_of, pending, memory_word, stores, lands}
 use Rattle.spsc_queue.specs.RingBuffers.{RingBuffer, IsRingBuffer, IsWordIn, offset, slot, next, overlaps, writes_to}
-use Rattle.spsc_queue.specs.Protocol.{Protocol, sends, receives, passes}
+use Rattle.spsc_queue.specs.Protocol.{ProtocolState, sends, receives, passes}
 use Rattle.spsc_queue.specs.Protocol.{role_of}
 use Rattle.spsc_queue.proofs.Modulo.{mod_apart}
 use Rattle.spsc_queue.proofs.Spread.{spread, sent_store, freed_store, sent-slot, sent-head, slot_not_head, slot_not_tail, offset_low}
@@ -39,7 +39,7 @@ role-cases r h = at (h == r.sender) refl (h == r.receiver) refl
       ap (λ x. if x then sends else (if h == r.receiver then receives else passes)) one ∙ ap (λ x. if x then receives else passes) two,
     ))
 
-module _ (r : RingBuffer) (is : IsRingBuffer r) (L : ℕ → ℕ) (small : (j : ℕ) → L j < 2 ^ 32) (o : OpeningValue) (es : List Entry) (s : Protocol)
+module _ (r : RingBuffer) (is : IsRingBuffer r) (L : ℕ → ℕ) (small : (j : ℕ) → L j < 2 ^ 32) (o : OpeningValue) (es : List Entry) (s : ProtocolState)
     (inv : Invariant r L o es s) (e : Entry) (even : (h : ℕ) → lands h es ≤ length (stores h es)) where
   abbrev d : Landed
   d = inv.landed

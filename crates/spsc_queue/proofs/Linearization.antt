@@ -9,13 +9,13 @@ use Rattle.step_machine.specs.Entries.{hart_of, pending, read}
 use Rattle.step_machine.specs.Legal.{AllowedBy}
 use Rattle.step_machine.proofs.Appended.{LegalAfter-back}
 use Rattle.spsc_queue.specs.RingBuffers.{RingBuffer, offset, next, writes_to}
-use Rattle.spsc_queue.specs.Protocol.{placed, asked, Protocol, at_start, protocol_after}
+use Rattle.spsc_queue.specs.Protocol.{placed, asked, ProtocolState, at_start, protocol_after}
 use Rattle.spsc_queue.specs.Laws.{FollowsSpscProtocol}
 use Rattle.spsc_queue.proofs.Modulo.{same_offset, mod_apart}
 use Rattle.spsc_queue.proofs.Spread.{sent_store, freed_store}
 use Rattle.spsc_queue.proofs.Invariant.{Invariant, SendingIs, ReceivingIs}
 use Rattle.spsc_queue.proofs.Loads.{next_offset, sender-tail, receiver-other}
-use Rattle.spsc_queue.proofs.Runs.{invariant-of, talk-small}
+use Rattle.spsc_queue.proofs.Runs.{invariant-of, protocol-small}
 use Rattle.spsc_queue.proofs.Publication.{length-spread}
 
 -- what a load read
@@ -28,14 +28,14 @@ loaded B r o before es e fs a v t does =
 
 module _ (B : ℕ) (r : RingBuffer) (o : OpeningValue) (before es : List Entry) (e : Entry) (fs : List Entry)
     (t : FollowsSpscProtocol B r o before (es ++ e ∷ fs)) where
-  abbrev T : Protocol
+  abbrev T : ProtocolState
   T = protocol_after r at_start es
 
   abbrev L : ℕ → ℕ
   L = slice_index (protocol_after r at_start (es ++ e ∷ fs)).sent
 
   small : (j : ℕ) → L j < 2 ^ 32
-  small = talk-small r at_start (es ++ e ∷ fs) t.rules (λ j. omega arith)
+  small = protocol-small r at_start (es ++ e ∷ fs) t.keeps (λ j. omega arith)
 
   inv : Invariant r L o (before ++ es) T
   inv = invariant-of B r o before es (e ∷ fs) t

@@ -9,7 +9,8 @@ use Rattle.step_machine.specs.declared.events.Entry.{Entry}
 use Rattle.step_machine.specs.History.{OpeningValue}
 use Rattle.step_machine.specs.Entries.{pending, memory_word, read}
 use Rattle.spsc_queue.specs.RingBuffers.{RingBuffer, IsRingBuffer, IsWordIn, offset, slot, next, writes_to}
-use Rattle.spsc_queue.specs.Protocol.{SenderState, resting, placed, roomy, filled, ReceiverState, idle, asked, waiting, holding, Protocol, read_tail, send_load}
+use Rattle.spsc_queue.specs.Protocol.{SenderState, resting, placed, roomy, filled, ReceiverState, idle, asked, waiting, holding, ProtocolState, read_tail}
+use Rattle.spsc_queue.specs.Protocol.{send_load}
 use Rattle.spsc_queue.specs.Protocol.{look, receive_load}
 use Rattle.spsc_queue.proofs.Modulo.{offset_step, offset_wrap}
 use Rattle.spsc_queue.proofs.Words.{seen}
@@ -39,7 +40,7 @@ slot_word r is j = record {
   aligned = omega (arith, is.slots_aligned);
 }
 
-module _ (r : RingBuffer) (is : IsRingBuffer r) (L : ℕ → ℕ) (small : (j : ℕ) → L j < 2 ^ 32) (o : OpeningValue) (es : List Entry) (s : Protocol)
+module _ (r : RingBuffer) (is : IsRingBuffer r) (L : ℕ → ℕ) (small : (j : ℕ) → L j < 2 ^ 32) (o : OpeningValue) (es : List Entry) (s : ProtocolState)
     (inv : Invariant r L o es s) where
   abbrev d : Landed
   d = inv.landed

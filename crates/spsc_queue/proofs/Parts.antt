@@ -5,7 +5,7 @@ use Rattle.step_machine.specs.declared.events.Entry.{Entry}
 use Rattle.step_machine.specs.Access.{Access, nothing, load, store, exchange, fence, land, access_of}
 use Rattle.step_machine.specs.Entries.{hart_of}
 use Rattle.spsc_queue.specs.RingBuffers.{RingBuffer, IsRingBuffer, overlaps}
-use Rattle.spsc_queue.specs.Protocol.{SenderState, resting, placed, roomy, filled, ReceiverState, idle, asked, waiting, holding, Protocol}
+use Rattle.spsc_queue.specs.Protocol.{SenderState, resting, placed, roomy, filled, ReceiverState, idle, asked, waiting, holding, ProtocolState}
 use Rattle.spsc_queue.specs.Protocol.{Role, sends, receives, passes, role_of, send_load, send_store, receive_load, receive_store, next_by}
 use Rattle.spsc_queue.specs.Protocol.{protocol_next, protocol_after, WritesNothingTo, KeepsProtocolBy, KeepsProtocol}
 use Rattle.spsc_queue.specs.Calls.{Block, IsBlock, ring_of}
@@ -33,12 +33,12 @@ ring_is M k a b is parties = record {
 }
 
 -- the protocol, at the end of a list
-pub rules-more : (r : RingBuffer) (s : Protocol) (es : List Entry) (e : Entry) → KeepsProtocol r s es
+pub keeps-more : (r : RingBuffer) (s : ProtocolState) (es : List Entry) (e : Entry) → KeepsProtocol r s es
     → KeepsProtocolBy r (role_of r (hart_of e)) (protocol_after r s es) (access_of e) → KeepsProtocol r s (es ++ e ∷ [])
-rules-more r s [] e keeps one = (one, tt)
-rules-more r s (d ∷ es) e keeps one = (keeps.0, rules-more r (protocol_next r s d) es e keeps.1 one)
+keeps-more r s [] e keeps one = (one, tt)
+keeps-more r s (d ∷ es) e keeps one = (keeps.0, keeps-more r (protocol_next r s d) es e keeps.1 one)
 
-pub stays-keeps : (r : RingBuffer) (role : Role) (t : Protocol) (x : Access) → WritesNothingTo r x → KeepsProtocolBy r role t x
+pub stays-keeps : (r : RingBuffer) (role : Role) (t : ProtocolState) (x : Access) → WritesNothingTo r x → KeepsProtocolBy r role t x
 stays-keeps r sends t nothing off = tt
 stays-keeps r sends t (load a width v) off = tt
 stays-keeps r sends t (store w) off = inl off
@@ -54,7 +54,7 @@ stays-keeps r receives t land off = tt
 stays-keeps r passes t x off = off
 
 -- a line of a function keeps the protocol
-pub send-keeps : (r : RingBuffer) (t : Protocol) (x : Access) → sending.DoesBy r t x → KeepsProtocolBy r sends t x
+pub send-keeps : (r : RingBuffer) (t : ProtocolState) (x : Access) → sending.DoesBy r t x → KeepsProtocolBy r sends t x
 send-keeps r t nothing does = tt
 send-keeps r t (load a width v) does = tt
 send-keeps r t (store w) does = inr does
@@ -62,7 +62,7 @@ send-keeps r t (exchange a old new) does = absurd does
 send-keeps r t (fence full) does = tt
 send-keeps r t land does = tt
 
-pub receive-keeps : (r : RingBuffer) (t : Protocol) (x : Access) → receiving.DoesBy r t x → KeepsProtocolBy r receives t x
+pub receive-keeps : (r : RingBuffer) (t : ProtocolState) (x : Access) → receiving.DoesBy r t x → KeepsProtocolBy r receives t x
 receive-keeps r t nothing does = tt
 receive-keeps r t (load a width v) does = tt
 receive-keeps r t (store w) does = inr does
@@ -72,7 +72,7 @@ receive-keeps r t land does = tt
 
 -- ---- what an entry leaves of each party's part
 
-pub sends-leave : (r : RingBuffer) (t : Protocol) (x : Access) → receiver_part (next_by r sends t x) ≡ receiver_part t
+pub sends-leave : (r : RingBuffer) (t : ProtocolState) (x : Access) → receiver_part (next_by r sends t x) ≡ receiver_part t
 sends-leave r t nothing = refl
 sends-leave r t (load a width v) = at (width == 4)
   where
@@ -91,7 +91,7 @@ sends-leave r t (exchange a old new) = refl
 sends-leave r t (fence full) = refl
 sends-leave r t land = refl
 
-pub receives-leave : (r : RingBuffer) (t : Protocol) (x : Access) → sender_part (next_by r receives t x) ≡ sender_part t
+pub receives-leave : (r : RingBuffer) (t : ProtocolState) (x : Access) → sender_part (next_by r receives t x) ≡ sender_part t
 receives-leave r t nothing = refl
 receives-leave r t (load a width v) = at (width == 4)
   where
@@ -111,7 +111,7 @@ receives-leave r t (fence full) = refl
 receives-leave r t land = refl
 
 -- outside of the function no word becomes half sent
-pub level-next : (r : RingBuffer) (t : Protocol) (x : Access) → WritesNothingTo r x → IsLevel t.sending → IsLevel (next_by r sends t x).sending
+pub level-next : (r : RingBuffer) (t : ProtocolState) (x : Access) → WritesNothingTo r x → IsLevel t.sending → IsLevel (next_by r sends t x).sending
 level-next r t nothing off level = level
 level-next r t (load a width v) off level = at (width == 4)
   where
@@ -124,7 +124,7 @@ level-next r t (fence full) off level = level
 level-next r t land off level = level
 
 -- what stays off the block sends and frees nothing
-pub off-sends : (r : RingBuffer) (t : Protocol) (x : Access) → WritesNothingTo r x → (next_by r sends t x).sent ≡ t.sent
+pub off-sends : (r : RingBuffer) (t : ProtocolState) (x : Access) → WritesNothingTo r x → (next_by r sends t x).sent ≡ t.sent
 off-sends r t nothing off = refl
 off-sends r t (load a width v) off = at (width == 4)
   where
@@ -136,7 +136,7 @@ off-sends r t (exchange a old new) off = refl
 off-sends r t (fence full) off = refl
 off-sends r t land off = refl
 
-pub off-receives : (r : RingBuffer) (t : Protocol) (x : Access) → WritesNothingTo r x → (next_by r receives t x).received ≡ t.received
+pub off-receives : (r : RingBuffer) (t : ProtocolState) (x : Access) → WritesNothingTo r x → (next_by r receives t x).received ≡ t.received
 off-receives r t nothing off = refl
 off-receives r t (load a width v) off = at (width == 4)
   where
@@ -163,12 +163,12 @@ fit-of M k a b is L tails h (asked u) q = (omega (arith, q, offset_low (ring_of 
 fit-of M k a b is L tails h (waiting u) q = (omega (arith, q.0, offset_low (ring_of k a b) is tails), omega (arith, q.0))
 fit-of M k a b is L tails h (holding u w) q = (omega (arith, q.0, offset_low (ring_of k a b) is tails), omega (arith, q.0))
 
-pub land-leaves : (r : RingBuffer) (role : Role) (t : Protocol) → next_by r role t land ≡ t
+pub land-leaves : (r : RingBuffer) (role : Role) (t : ProtocolState) → next_by r role t land ≡ t
 land-leaves r sends t = refl
 land-leaves r receives t = refl
 land-leaves r passes t = refl
 
-pub land-keeps : (r : RingBuffer) (role : Role) (t : Protocol) → KeepsProtocolBy r role t land
+pub land-keeps : (r : RingBuffer) (role : Role) (t : ProtocolState) → KeepsProtocolBy r role t land
 land-keeps r sends t = tt
 land-keeps r receives t = tt
 land-keeps r passes t = tt

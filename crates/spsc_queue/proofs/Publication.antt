@@ -15,7 +15,7 @@ use Rattle.step_machine.specs.Legal.{Legal}
 use Rattle.step_machine.proofs.Appended.{stores-append, lands-append, landed_after-append}
 use Rattle.step_machine.proofs.Landings.{landed-counted}
 use Rattle.spsc_queue.specs.RingBuffers.{RingBuffer, overlaps, writes_to}
-use Rattle.spsc_queue.specs.Protocol.{SenderState, resting, placed, roomy, filled, ReceiverState, idle, asked, waiting, holding, Protocol, at_start, Role}
+use Rattle.spsc_queue.specs.Protocol.{SenderState, resting, placed, roomy, filled, ReceiverState, idle, asked, waiting, holding, ProtocolState, at_start, Role}
 use Rattle.spsc_queue.specs.Protocol.{sends, receives, passes}
 use Rattle.spsc_queue.specs.Protocol.{role_of, send_load, send_store, receive_load, receive_store, next_by, protocol_next, protocol_after, IsSenderStore}
 use Rattle.spsc_queue.specs.Protocol.{IsReceiverStore, KeepsProtocolBy, KeepsProtocol}
@@ -25,7 +25,7 @@ use Rattle.spsc_queue.proofs.Effects.{on-append}
 use Rattle.spsc_queue.proofs.Spread.{spread, sent_store, freed_store}
 use Rattle.spsc_queue.proofs.Invariant.{Invariant, SendingIs, ReceivingIs}
 use Rattle.spsc_queue.proofs.Landings.{role-cases}
-use Rattle.spsc_queue.proofs.Runs.{invariant-of, rules-front}
+use Rattle.spsc_queue.proofs.Runs.{invariant-of, keeps-front}
 
 -- ---- of any program: the first n stores of a hart of which n have landed are in memory
 
@@ -96,36 +96,36 @@ reached_later es fs w h = record {
 pub count-append : (r : RingBuffer) (ws vs : List Write) → length (writes_to r (ws ++ vs)) ≡ length (writes_to r ws) + length (writes_to r vs)
 count-append r ws vs = ap length (on-append r ws vs) ∙ length-append (writes_to r ws) (writes_to r vs)
 
-made : Protocol → ℕ
+made : ProtocolState → ℕ
 made s = s.stored + s.published
 
-sent-count : (w : Write) (p : SenderState) (r : RingBuffer) (s : Protocol) → IsSenderStore r p w
+sent-count : (w : Write) (p : SenderState) (r : RingBuffer) (s : ProtocolState) → IsSenderStore r p w
     → (send_store w p s).stored + (send_store w p s).published ≡ 1 + (s.stored + s.published)
 sent-count w resting r s keeps = absurd keeps
 sent-count w (placed u) r s keeps = absurd keeps
 sent-count w (roomy u) r s keeps = omega arith
 sent-count w (filled u) r s keeps = omega arith
 
-freed-count : (w : Write) (p : ReceiverState) (r : RingBuffer) (s : Protocol) → IsReceiverStore r p w → (receive_store p s).consumed ≡ 1 + s.consumed
+freed-count : (w : Write) (p : ReceiverState) (r : RingBuffer) (s : ProtocolState) → IsReceiverStore r p w → (receive_store p s).consumed ≡ 1 + s.consumed
 freed-count w idle r s keeps = absurd keeps
 freed-count w (asked u) r s keeps = absurd keeps
 freed-count w (waiting u) r s keeps = absurd keeps
 freed-count w (holding u v) r s keeps = omega arith
 
-freed-leaves : (p : ReceiverState) (s : Protocol) → (receive_store p s).stored + (receive_store p s).published ≡ s.stored + s.published
+freed-leaves : (p : ReceiverState) (s : ProtocolState) → (receive_store p s).stored + (receive_store p s).published ≡ s.stored + s.published
 freed-leaves idle s = refl
 freed-leaves (asked u) s = refl
 freed-leaves (waiting u) s = refl
 freed-leaves (holding u v) s = refl
 
-sent-leaves : (w : Write) (p : SenderState) (s : Protocol) → (send_store w p s).consumed ≡ s.consumed
+sent-leaves : (w : Write) (p : SenderState) (s : ProtocolState) → (send_store w p s).consumed ≡ s.consumed
 sent-leaves w resting s = refl
 sent-leaves w (placed u) s = refl
 sent-leaves w (roomy u) s = refl
 sent-leaves w (filled u) s = refl
 
 -- one access of the party, and of anyone else
-sends-one : (r : RingBuffer) (s : Protocol) (x : Access) → KeepsProtocolBy r sends s x
+sends-one : (r : RingBuffer) (s : ProtocolState) (x : Access) → KeepsProtocolBy r sends s x
     → length (writes_to r (stored_by true x)) + (s.stored + s.published) ≡ (next_by r sends s x).stored + (next_by r sends s x).published
 sends-one r s nothing keeps = omega arith
 sends-one r s (load a width v) keeps = at (width == 4)
@@ -146,7 +146,7 @@ sends-one r s (exchange a old new) keeps = omega arith
 sends-one r s (fence full) keeps = omega arith
 sends-one r s land keeps = omega arith
 
-others-send : (r : RingBuffer) (s : Protocol) (role : Role) (x : Access) → role ≢ sends
+others-send : (r : RingBuffer) (s : ProtocolState) (role : Role) (x : Access) → role ≢ sends
     → (next_by r role s x).stored + (next_by r role s x).published ≡ s.stored + s.published
 others-send r s sends x other = absurd (other refl)
 others-send r s receives nothing other = refl
@@ -166,7 +166,7 @@ others-send r s receives (fence full) other = refl
 others-send r s receives land other = refl
 others-send r s passes x other = refl
 
-receives-one : (r : RingBuffer) (s : Protocol) (x : Access) → KeepsProtocolBy r receives s x
+receives-one : (r : RingBuffer) (s : ProtocolState) (x : Access) → KeepsProtocolBy r receives s x
     → length (writes_to r (stored_by true x)) + s.consumed ≡ (next_by r receives s x).consumed
 receives-one r s nothing keeps = omega arith
 receives-one r s (load a width v) keeps = at (width == 4)
@@ -185,7 +185,7 @@ receives-one r s (exchange a old new) keeps = omega arith
 receives-one r s (fence full) keeps = omega arith
 receives-one r s land keeps = omega arith
 
-others-receive : (r : RingBuffer) (s : Protocol) (role : Role) (x : Access) → role ≢ receives → (next_by r role s x).consumed ≡ s.consumed
+others-receive : (r : RingBuffer) (s : ProtocolState) (role : Role) (x : Access) → role ≢ receives → (next_by r role s x).consumed ≡ s.consumed
 others-receive r s receives x other = absurd (other refl)
 others-receive r s sends nothing other = refl
 others-receive r s sends (load a width v) other = at (width == 4)
@@ -215,7 +215,7 @@ stored_none land = refl
 pub store-of : (h : ℕ) (e : Entry) (b : Bool) → (hart_of e == h) ≡ b → store_of h e ≡ stored_by b (access_of e)
 store-of h e b is = ap (λ c. stored_by c (access_of e)) is
 
-sender-one : (r : RingBuffer) (s : Protocol) (e : Entry) → KeepsProtocolBy r (role_of r (hart_of e)) s (access_of e)
+sender-one : (r : RingBuffer) (s : ProtocolState) (e : Entry) → KeepsProtocolBy r (role_of r (hart_of e)) s (access_of e)
     → length (writes_to r (store_of r.sender e)) + (s.stored + s.published) ≡ (protocol_next r s e).stored + (protocol_next r s e).published
 sender-one r s e keeps = elim (role-cases r (hart_of e)) [
   | inl is ↦ ap (λ ws. length (writes_to r ws) + (s.stored + s.published)) (store-of r.sender e true (eq-eqb (hart_of e) r.sender is.0))
@@ -231,7 +231,7 @@ sender-one r s e keeps = elim (role-cases r (hart_of e)) [
       ∙ sym (others-send r s (role_of r (hart_of e)) (access_of e) (λ h. let no : passes ≡ sends = sym is.2 ∙ h in cc))
 ]
 
-receiver-one : (r : RingBuffer) (s : Protocol) (e : Entry) → r.sender ≢ r.receiver → KeepsProtocolBy r (role_of r (hart_of e)) s (access_of e)
+receiver-one : (r : RingBuffer) (s : ProtocolState) (e : Entry) → r.sender ≢ r.receiver → KeepsProtocolBy r (role_of r (hart_of e)) s (access_of e)
     → length (writes_to r (store_of r.receiver e)) + s.consumed ≡ (protocol_next r s e).consumed
 receiver-one r s e parties keeps = elim (role-cases r (hart_of e)) [
   | inl is ↦ ap (λ ws. length (writes_to r ws) + s.consumed)
@@ -247,7 +247,7 @@ receiver-one r s e parties keeps = elim (role-cases r (hart_of e)) [
       ∙ sym (others-receive r s (role_of r (hart_of e)) (access_of e) (λ h. let no : passes ≡ receives = sym is.2 ∙ h in cc))
 ]
 
-sender-made : (r : RingBuffer) (s : Protocol) (es : List Entry) → KeepsProtocol r s es
+sender-made : (r : RingBuffer) (s : ProtocolState) (es : List Entry) → KeepsProtocol r s es
     → length (writes_to r (stores r.sender es)) + (s.stored + s.published) ≡ (protocol_after r s es).stored + (protocol_after r s es).published
 sender-made r s [] keeps = omega arith
 sender-made r s (e ∷ es) keeps =
@@ -256,7 +256,7 @@ sender-made r s (e ∷ es) keeps =
     let both : length (writes_to r (stores r.sender (e ∷ es))) ≡ _ = count-append r (store_of r.sender e) (stores r.sender es) in
     omega (arith, one, rest, both)
 
-receiver-made : (r : RingBuffer) (s : Protocol) (es : List Entry) → r.sender ≢ r.receiver → KeepsProtocol r s es
+receiver-made : (r : RingBuffer) (s : ProtocolState) (es : List Entry) → r.sender ≢ r.receiver → KeepsProtocol r s es
     → length (writes_to r (stores r.receiver es)) + s.consumed ≡ (protocol_after r s es).consumed
 receiver-made r s [] parties keeps = omega arith
 receiver-made r s (e ∷ es) parties keeps =
@@ -316,10 +316,10 @@ published-from B r o before es fs t heard =
     whole : List Entry
     whole = before ++ (es ++ fs)
 
-    s : Protocol
+    s : ProtocolState
     s = protocol_after r at_start (es ++ fs)
 
-    s1 : Protocol
+    s1 : ProtocolState
     s1 = protocol_after r at_start es
 
     L : ℕ → ℕ
@@ -329,10 +329,10 @@ published-from B r o before es fs t heard =
     inv = invariant-of B r o before (es ++ fs) [] (subst (FollowsSpscProtocol B r o before) (sym (append-nil (es ++ fs))) t)
 
     all : length (writes_to r (stores r.sender (es ++ fs))) + 0 ≡ s.stored + s.published
-    all = sender-made r at_start (es ++ fs) t.rules
+    all = sender-made r at_start (es ++ fs) t.keeps
 
     some : length (writes_to r (stores r.sender es)) + 0 ≡ s1.stored + s1.published
-    some = sender-made r at_start es (rules-front r at_start es fs t.rules)
+    some = sender-made r at_start es (keeps-front r at_start es fs t.keeps)
 
     whole_count : length (writes_to r (stores r.sender whole)) ≡ length (writes_to r (stores r.sender before)) + length
         (writes_to r (stores r.sender (es ++ fs)))
@@ -373,10 +373,10 @@ returned B r o before es fs t again =
     whole : List Entry
     whole = before ++ (es ++ fs)
 
-    s : Protocol
+    s : ProtocolState
     s = protocol_after r at_start (es ++ fs)
 
-    s1 : Protocol
+    s1 : ProtocolState
     s1 = protocol_after r at_start es
 
     L : ℕ → ℕ
@@ -386,10 +386,10 @@ returned B r o before es fs t again =
     inv = invariant-of B r o before (es ++ fs) [] (subst (FollowsSpscProtocol B r o before) (sym (append-nil (es ++ fs))) t)
 
     all : length (writes_to r (stores r.receiver (es ++ fs))) + 0 ≡ s.consumed
-    all = receiver-made r at_start (es ++ fs) t.ring.parties t.rules
+    all = receiver-made r at_start (es ++ fs) t.ring.parties t.keeps
 
     some : length (writes_to r (stores r.receiver es)) + 0 ≡ s1.consumed
-    some = receiver-made r at_start es t.ring.parties (rules-front r at_start es fs t.rules)
+    some = receiver-made r at_start es t.ring.parties (keeps-front r at_start es fs t.keeps)
 
     whole_count : length (writes_to r (stores r.receiver whole)) ≡ length (writes_to r (stores r.receiver before)) + length
         (writes_to r (stores r.receiver (es ++ fs)))

@@ -12,13 +12,13 @@ use Rattle.step_machine.specs.Access.{load, store, access_of}
 use Rattle.step_machine.specs.Entries.{is_own, own}
 use Rattle.step_machine.specs.Paths.{value_of, state_of}
 use Rattle.spsc_queue.specs.RingBuffers.{RingBuffer, next}
-use Rattle.spsc_queue.specs.Protocol.{asked, Protocol, at_start, receives, next_by, protocol_next}
+use Rattle.spsc_queue.specs.Protocol.{asked, ProtocolState, at_start, receives, next_by, protocol_next}
 use Rattle.spsc_queue.specs.Protocol.{protocol_after}
 use Rattle.spsc_queue.specs.Listings.{try_receive}
 use Rattle.spsc_queue.specs.Calls.{Block, SpscQueue, buffer, is_in_call_with, completed_by_entry, is_receiver_in_call}
 use Rattle.spsc_queue.specs.Calls.{received_words, UsesAsSpscQueue}
 use Rattle.spsc_queue.specs.CallEffects.{IsReceive, accesses, completed_word, ReceiveEffect, FoundEmpty}
-use Rattle.spsc_queue.proofs.Runs.{talk-append}
+use Rattle.spsc_queue.proofs.Runs.{protocol-append}
 use Rattle.spsc_queue.proofs.Courses.{at_00, Course}
 use Rattle.spsc_queue.proofs.ReceiveOutline.{receiver_part, ReceiverPart, ReceiverStands, load-tail}
 use Rattle.spsc_queue.proofs.ReceiveOutline as receiving
@@ -46,15 +46,12 @@ module _ (B M : ℕ) (o : OpeningValue) (q : SpscQueue) (before es : List Entry)
   abbrev receive_state : List Entry → HartState
   receive_state es = state_here M o q.receiver q.receive_line try_receive c.shares.receives (before ++ es)
 
-  abbrev receive_protocol : List Entry → Protocol
+  abbrev receive_protocol : List Entry → ProtocolState
   receive_protocol es = protocol_after receive_buffer at_start es
 
   receive_split : (part more : List Entry) → call ≡ part ++ more → es ≡ (done ++ part) ++ (more ++ rest)
   receive_split part more split =
       is ∙ ap (λ zs. done ++ (zs ++ rest)) split ∙ ap (λ zs. done ++ zs) (append_assoc part more rest) ∙ sym (append_assoc done part (more ++ rest))
-
-  receive_stand : (part more : List Entry) → call ≡ part ++ more → Stand B M o q before es c.shares (done ++ part)
-  receive_stand part more split = stands-at B M o q before es c (done ++ part) (more ++ rest) (receive_split part more split)
 
   -- the call up to here, and the words that are completed
   record ReceiveSo (here part : List Entry) : Type 0 where
@@ -110,8 +107,8 @@ module _ (B M : ℕ) (o : OpeningValue) (q : SpscQueue) (before es : List Entry)
         (here ++ e ∷ [])
     receive_worded = sym (completed-last M o q.receiver q.receive_line q.block false before here e)
 
-    receive_talked : protocol_next receive_buffer (receive_protocol here) e ≡ receive_protocol (here ++ e ∷ [])
-    receive_talked = sym (talk-append receive_buffer at_start here (e ∷ []))
+    receive_protocol_on : protocol_next receive_buffer (receive_protocol here) e ≡ receive_protocol (here ++ e ∷ [])
+    receive_protocol_on = sym (protocol-append receive_buffer at_start here (e ∷ []))
 
     receive_placed : state_here M o q.receiver q.receive_line try_receive c.shares.receives ((before ++ here) ++ e ∷ []) ≡ receive_state (here ++ e ∷ [])
     receive_placed = ap (state_here M o q.receiver q.receive_line try_receive c.shares.receives) (append_assoc before here (e ∷ []))
@@ -126,7 +123,7 @@ module _ (B M : ℕ) (o : OpeningValue) (q : SpscQueue) (before es : List Entry)
         record {
           stands = receive_carry q.receive_line q.block receive_buffer same all (course_same q.receiver s part e off)
               (here_same M o q.receiver q.receive_line try_receive c.shares.receives (before ++ here) e off ∙ receive_placed)
-              (sym (receiver_still receive_buffer (receive_protocol here) e (off_silent q.receiver e off [])) ∙ ap receiver_part receive_talked) so.stands;
+              (sym (receiver_still receive_buffer (receive_protocol here) e (off_silent q.receiver e off [])) ∙ ap receiver_part receive_protocol_on) so.stands;
           words = λ still. sym all ∙ so.words busy;
           over = λ idle. absurd (let no : true ≡ false = sym busy ∙ same ∙ idle in cc);
         }
@@ -155,7 +152,7 @@ module _ (B M : ℕ) (o : OpeningValue) (q : SpscQueue) (before es : List Entry)
         record {
           stands = receive_carry q.receive_line q.block receive_buffer receive_called receive_worded (course_on q.receiver s part e on) after
               (ap (λ role. receiver_part (next_by receive_buffer role (receive_protocol here) (access_of e)))
-              (sym (receiver_role (buffer q) c.shares.parties own.0)) ∙ ap receiver_part receive_talked)
+              (sym (receiver_role (buffer q) c.shares.parties own.0)) ∙ ap receiver_part receive_protocol_on)
               (receiver_course B M o q before es c.shares here e more there receive_stand_here own.0 own.1 busy receive_here was
               (course q.receiver s part) inside);
           words = λ still. all ∙ ap (λ b. received_words M o q before done ++ (if b then [] else completed_word (receive_state (here ++ e ∷ [])))) still
@@ -228,7 +225,7 @@ module _ (B M : ℕ) (o : OpeningValue) (q : SpscQueue) (before es : List Entry)
       let split : call ≡ part ++ g.entry ∷ g.rest = f.is ∙ ap (λ zs. f.part ++ f.entry ∷ zs) g.is
       ∙ sym (append_assoc f.part (f.entry ∷ g.part) (g.entry ∷ g.rest)) in
       let first = receive_fresh.1 in
-      let before_load : Protocol = protocol_after receive_buffer (receive_protocol done) f.part in
+      let before_load : ProtocolState = protocol_after receive_buffer (receive_protocol done) f.part in
       let unmoved : receiver_part before_load ≡ receiver_part (receive_protocol done) = receiver_unmoved receive_buffer (receive_protocol done) f.part f.none in
       let loaded : receiver_part (protocol_next receive_buffer before_load f.entry) ≡ receiver_part
       (next_by receive_buffer receives before_load (load receive_buffer.tail 4 u)) =
@@ -236,7 +233,7 @@ module _ (B M : ℕ) (o : OpeningValue) (q : SpscQueue) (before es : List Entry)
       (receiver_role (buffer q) c.shares.parties (own_parts q.receiver f.entry f.mine).0)
       ∙ ap (λ x. receiver_part (next_by receive_buffer receives before_load x)) f.does in
       let now : receiver_part (receive_protocol (done ++ part)) ≡ receiver_part (next_by receive_buffer receives before_load (load receive_buffer.tail 4 u)) =
-      ap receiver_part (talk-append receive_buffer at_start done part ∙ talk-append receive_buffer (receive_protocol done) f.part (f.entry ∷ g.part))
+      ap receiver_part (protocol-append receive_buffer at_start done part ∙ protocol-append receive_buffer (receive_protocol done) f.part (f.entry ∷ g.part))
       ∙ receiver_unmoved receive_buffer (protocol_next receive_buffer before_load f.entry) g.part g.none ∙ loaded in
       let so = receive_so part (g.entry ∷ g.rest) split in
       let same : (receive_protocol (done ++ part)).received ≡ received_words M o q before (done ++ part) =

@@ -7,7 +7,7 @@ use Rattle.rv_decode.specs.declared.instruction.Instr.TheVariants.{Jalr}
 use Rattle.hart.specs.State.{HartState}
 use Rattle.hart.specs.Steps.{advanced}
 use Rattle.hart.proofs.Instructions.{IsAt}
-use Rattle.spsc_queue.specs.Protocol.{Protocol}
+use Rattle.spsc_queue.specs.Protocol.{ProtocolState}
 use Rattle.spsc_queue.specs.Listings.{try_receive}
 use Rattle.spsc_queue.specs.Calls.{Block, IsBlock, ring_of, is_in_call_after, completed_at}
 use Rattle.spsc_queue.specs.CallEffects.{completed_word}
@@ -19,7 +19,7 @@ use Rattle.spsc_queue.proofs.ReceiveOutline.{Moves}
 use Rattle.spsc_queue.proofs.ReceiveLines.{takes_at_00, takes_at_04, takes_at_08, takes_at_0C, takes_at_10, takes_at_14, takes_at_18, takes_at_1C}
 use Rattle.spsc_queue.proofs.ReceiveLines.{takes_at_20, takes_at_24, takes_at_2C, line_at, takes_back, goes_elsewhere, one_word, no_word}
 
-module _ (M n a b : ℕ) (k : Block) (is : IsBlock M k) (h : ℕ) (s : HartState) (t : Protocol) (v : ℕ) (has : Equipped M n try_receive s)
+module _ (M n a b : ℕ) (k : Block) (is : IsBlock M k) (h : ℕ) (s : HartState) (t : ProtocolState) (v : ℕ) (has : Equipped M n try_receive s)
     (fit : IsFit k t.receiving) (c : Course) (ys : List ℕ) where
   -- what is received so far, with this line, and whether it is in a call after it
   abbrev Answered : Type 0

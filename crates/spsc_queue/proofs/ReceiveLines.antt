@@ -18,7 +18,7 @@ use Rattle.hart.proofs.Instructions.{IsAt}
 use Rattle.step_machine.specs.Access.{Access, nothing, load, store, access_of}
 use Rattle.step_machine.specs.Paths.{entry_of}
 use Rattle.spsc_queue.specs.RingBuffers.{RingBuffer, IsWordIn, next, overlaps}
-use Rattle.spsc_queue.specs.Protocol.{asked, waiting, holding, Protocol, receives, receive_load, receive_store, next_by}
+use Rattle.spsc_queue.specs.Protocol.{asked, waiting, holding, ProtocolState, receives, receive_load, receive_store, next_by}
 use Rattle.spsc_queue.specs.Protocol.{IsWord, IsReceiverStore}
 use Rattle.spsc_queue.specs.Listings.{lines_of, try_receive}
 use Rattle.spsc_queue.specs.Calls.{Block, IsBlock, ring_of}
@@ -34,7 +34,7 @@ use Rattle.spsc_queue.proofs.SendOutline.{IsOffset}
 use Rattle.spsc_queue.proofs.ReceiveOutline.{IsFit, ReceiverPart, receiver_part, looked, seen, Held, Finished, Row}
 use Rattle.spsc_queue.proofs.ReceiveOutline.{Inside, CourseStands, DoesBy, Moves, load-tail, asked-head, waiting-slot}
 
-module _ (M n a b : ℕ) (k : Block) (is : IsBlock M k) (h : ℕ) (s : HartState) (t : Protocol) (v : ℕ) (has : Equipped M n try_receive s)
+module _ (M n a b : ℕ) (k : Block) (is : IsBlock M k) (h : ℕ) (s : HartState) (t : ProtocolState) (v : ℕ) (has : Equipped M n try_receive s)
     (fit : IsFit k t.receiving) (c : Course) (ys : List ℕ) where
   abbrev r : RingBuffer
   r = ring_of k a b

@@ -7,7 +7,7 @@ use Rattle.hart.specs.State.{HartState}
 use Rattle.hart.specs.Steps.{advanced}
 use Rattle.step_machine.specs.Access.{Access, load, store, exchange}
 use Rattle.spsc_queue.specs.RingBuffers.{RingBuffer, next}
-use Rattle.spsc_queue.specs.Protocol.{ReceiverState, idle, asked, waiting, holding, Protocol, receives, look, receive_load, next_by}
+use Rattle.spsc_queue.specs.Protocol.{ReceiverState, idle, asked, waiting, holding, ProtocolState, receives, look, receive_load, next_by}
 use Rattle.spsc_queue.specs.Protocol.{IsReceiverStore}
 use Rattle.spsc_queue.specs.Calls.{Block}
 use Rattle.spsc_queue.specs.CallEffects.{receive_accesses, ReceiveEffect}
@@ -27,7 +27,7 @@ pub record ReceiverPart : Type 0 where
   pub receiving : ReceiverState
   pub received : List ℕ
 
-abbrev pub receiver_part : Protocol → ReceiverPart
+abbrev pub receiver_part : ProtocolState → ReceiverPart
 receiver_part t = record { receiving = t.receiving; received = t.received }
 
 -- what it has loaded: u as the tail, v as the head
@@ -121,7 +121,7 @@ abbrev pub PartStands : (n : ℕ) → Block → RingBuffer → Bool → List ℕ
 PartStands n k r false ws s p = p.received ≡ ws
 PartStands n k r true ws s p = (c : Course) × Inside n k r ws c s p
 
-abbrev pub ReceiverStands : (n : ℕ) → Block → RingBuffer → Bool → List ℕ → HartState → Protocol → Type 0
+abbrev pub ReceiverStands : (n : ℕ) → Block → RingBuffer → Bool → List ℕ → HartState → ProtocolState → Type 0
 ReceiverStands n k r b ws s t = PartStands n k r b ws s (receiver_part t)
 
 pub any_course : (n : ℕ) (k : Block) (r : RingBuffer) (b : Bool) (ws : List ℕ) (c : Course) (s : HartState) (p : ReceiverPart)
@@ -130,12 +130,12 @@ any_course n k r true ws c s p stands = (c, stands)
 any_course n k r false ws c s p stands = stands.received
 
 -- what a line of the function may do: it stores to the block what the protocol allows, and nothing elsewhere
-abbrev pub DoesBy : RingBuffer → Protocol → Access → Type 0
+abbrev pub DoesBy : RingBuffer → ProtocolState → Access → Type 0
 DoesBy r t (store w) = IsReceiverStore r t.receiving w
 DoesBy r t (exchange a old new) = ⊥
 DoesBy r t x = Unit {0}
 
-pub record Moves (n : ℕ) (k : Block) (r : RingBuffer) (b : Bool) (ws : List ℕ) (c : Course) (h : ℕ) (s : HartState) (t : Protocol) (v : ℕ) : Type 0 where
+pub record Moves (n : ℕ) (k : Block) (r : RingBuffer) (b : Bool) (ws : List ℕ) (c : Course) (h : ℕ) (s : HartState) (t : ProtocolState) (v : ℕ) : Type 0 where
   pub rule : DoesBy r t (moved h s v)
   pub after : CourseStands n k r b ws (went c (moved h s v)) (advanced s v) (receiver_part (next_by r receives t (moved h s v)))
 

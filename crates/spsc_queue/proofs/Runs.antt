@@ -1,4 +1,4 @@
--- Whole runs that keep the rules: what is received is a prefix of what was sent.
+-- Whole runs that keep the protocol: what is received is a prefix of what was sent.
 use Rattle.std.proofs.Common.{ℕ, zero, suc, ◌+◌, ◌-◌, ◌%◌, ◌^◌, ◌<◌, ◌≤◌, ◌≡◌, ◌==◌, ◌⊎◌, inl, inr, Bool, true, false, if◌then◌else◌}
 use Rattle.std.proofs.Common.{List, [], ◌∷◌, ◌++◌, length, take, refl, sym, ◌∙◌, ap, subst, arith, append-nil, append_assoc, length-append}
 use Rattle.std.specs.Prelude.{slice_index}
@@ -15,7 +15,7 @@ use Rattle.step_machine.specs.Legal.{AllowedBy, LegalAfter, Legal}
 use Rattle.step_machine.proofs.Appended.{LegalAfter-front, LegalAfter-back, LegalAfter-append}
 use Rattle.step_machine.proofs.Balanced.{balanced}
 use Rattle.spsc_queue.specs.RingBuffers.{RingBuffer, IsRingBuffer, offset, slot, overlaps, IsEmptyAndQuiescent}
-use Rattle.spsc_queue.specs.Protocol.{SenderState, resting, placed, roomy, filled, ReceiverState, idle, asked, waiting, holding, Protocol, at_start, Role}
+use Rattle.spsc_queue.specs.Protocol.{SenderState, resting, placed, roomy, filled, ReceiverState, idle, asked, waiting, holding, ProtocolState, at_start, Role}
 use Rattle.spsc_queue.specs.Protocol.{sends, receives, passes}
 use Rattle.spsc_queue.specs.Protocol.{role_of, send_load, send_store, receive_load, receive_store, next_by, protocol_next, protocol_after, IsSenderStore}
 use Rattle.spsc_queue.specs.Protocol.{IsReceiverStore, KeepsProtocolBy, KeepsProtocol}
@@ -38,24 +38,24 @@ firsts-split L m (suc k) =
 
 -- ---- what an access adds to the words that were sent
 
-stored-cases : (w : Write) (p : SenderState) (s : Protocol)
+stored-cases : (w : Write) (p : SenderState) (s : ProtocolState)
     → ((send_store w p s).sent ≡ s.sent) ⊎ ((u : ℕ) × (p ≡ roomy u) × ((send_store w p s).sent ≡ s.sent ++ w.value ∷ []))
 stored-cases w resting s = inl refl
 stored-cases w (placed u) s = inl refl
 stored-cases w (roomy u) s = inr (u, refl, refl)
 stored-cases w (filled u) s = inl refl
 
-freed-same : (p : ReceiverState) (s : Protocol) → (receive_store p s).sent ≡ s.sent
+freed-same : (p : ReceiverState) (s : ProtocolState) → (receive_store p s).sent ≡ s.sent
 freed-same idle s = refl
 freed-same (asked u) s = refl
 freed-same (waiting u) s = refl
 freed-same (holding u w) s = refl
 
-abbrev Adds : RingBuffer → Role → Protocol → Access → Write → Type 0
+abbrev Adds : RingBuffer → Role → ProtocolState → Access → Write → Type 0
 Adds r role s x w = (x ≡ store w) × (role ≡ sends) × (overlaps r w ≡ true) × ((u : ℕ) × (s.sending ≡ roomy u))
     × ((next_by r role s x).sent ≡ s.sent ++ w.value ∷ [])
 
-next-sent : (r : RingBuffer) (role : Role) (s : Protocol) (x : Access) → ((next_by r role s x).sent ≡ s.sent) ⊎ ((w : Write) × Adds r role s x w)
+next-sent : (r : RingBuffer) (role : Role) (s : ProtocolState) (x : Access) → ((next_by r role s x).sent ≡ s.sent) ⊎ ((w : Write) × Adds r role s x w)
 next-sent r sends s nothing = inl refl
 next-sent r sends s (load a width v) = at (width == 4)
   where
@@ -90,17 +90,17 @@ next-sent r receives s (fence full) = inl refl
 next-sent r receives s land = inl refl
 next-sent r passes s x = inl refl
 
-pub next-grows : (r : RingBuffer) (s : Protocol) (e : Entry) → (more : List ℕ) × ((protocol_next r s e).sent ≡ s.sent ++ more)
+pub next-grows : (r : RingBuffer) (s : ProtocolState) (e : Entry) → (more : List ℕ) × ((protocol_next r s e).sent ≡ s.sent ++ more)
 next-grows r s e = elim (next-sent r (role_of r (hart_of e)) s (access_of e)) [
   | inl same ↦ ([], same ∙ sym (append-nil s.sent))
   | inr adds ↦ (adds.0.value ∷ [], adds.1.4)
 ]
 
-pub talk-grows : (r : RingBuffer) (s : Protocol) (es : List Entry) → (more : List ℕ) × ((protocol_after r s es).sent ≡ s.sent ++ more)
-talk-grows r s [] = ([], sym (append-nil s.sent))
-talk-grows r s (e ∷ es) =
+pub protocol-grows : (r : RingBuffer) (s : ProtocolState) (es : List Entry) → (more : List ℕ) × ((protocol_after r s es).sent ≡ s.sent ++ more)
+protocol-grows r s [] = ([], sym (append-nil s.sent))
+protocol-grows r s (e ∷ es) =
     let one = next-grows r s e in
-    let rest = talk-grows r (protocol_next r s e) es in
+    let rest = protocol-grows r (protocol_next r s e) es in
     (one.0 ++ rest.0, rest.1 ∙ ap (λ xs. xs ++ rest.0) one.1 ∙ append_assoc s.sent one.0 rest.0)
 
 -- ---- words have 32 bits
@@ -122,7 +122,7 @@ off-small : (r : RingBuffer) (w : Write) (p : SenderState) (u : ℕ) → p ≡ r
 off-small r w p u at on (inl off) = cc
 off-small r w p u at on (inr keeps) = stored-small r w p u at keeps
 
-next-small : (r : RingBuffer) (s : Protocol) (role : Role) (x : Access) → KeepsProtocolBy r role s x → AreSmall s.sent → AreSmall (next_by r role s x).sent
+next-small : (r : RingBuffer) (s : ProtocolState) (role : Role) (x : Access) → KeepsProtocolBy r role s x → AreSmall s.sent → AreSmall (next_by r role s x).sent
 next-small r s role x keeps all = elim (next-sent r role s x) [
   | inl same ↦ subst AreSmall (sym same) all
   | inr adds ↦
@@ -131,9 +131,9 @@ next-small r s role x keeps all = elim (next-sent r role s x) [
       subst AreSmall (sym adds.1.4) (small-more s.sent adds.0.value all (off-small r adds.0 s.sending adds.1.3.0 adds.1.3.1 adds.1.2 known))
 ]
 
-pub talk-small : (r : RingBuffer) (s : Protocol) (es : List Entry) → KeepsProtocol r s es → AreSmall s.sent → AreSmall (protocol_after r s es).sent
-talk-small r s [] keeps all = all
-talk-small r s (e ∷ es) keeps all = talk-small r (protocol_next r s e) es keeps.1 (next-small r s (role_of r (hart_of e)) (access_of e) keeps.0 all)
+pub protocol-small : (r : RingBuffer) (s : ProtocolState) (es : List Entry) → KeepsProtocol r s es → AreSmall s.sent → AreSmall (protocol_after r s es).sent
+protocol-small r s [] keeps all = all
+protocol-small r s (e ∷ es) keeps all = protocol-small r (protocol_next r s e) es keeps.1 (next-small r s (role_of r (hart_of e)) (access_of e) keeps.0 all)
 
 -- ---- one entry
 
@@ -151,17 +151,17 @@ is_receiver r h whose = elim (role-cases r h) [
   | inr (inr is) ↦ let other : passes ≡ receives = sym is.2 ∙ whose in cc
 ]
 
-pub talk-append : (r : RingBuffer) (s : Protocol) (es fs : List Entry) → protocol_after r s (es ++ fs) ≡ protocol_after r (protocol_after r s es) fs
-talk-append r s [] fs = refl
-talk-append r s (e ∷ es) fs = talk-append r (protocol_next r s e) es fs
+pub protocol-append : (r : RingBuffer) (s : ProtocolState) (es fs : List Entry) → protocol_after r s (es ++ fs) ≡ protocol_after r (protocol_after r s es) fs
+protocol-append r s [] fs = refl
+protocol-append r s (e ∷ es) fs = protocol-append r (protocol_next r s e) es fs
 
-pub rules-front : (r : RingBuffer) (s : Protocol) (es fs : List Entry) → KeepsProtocol r s (es ++ fs) → KeepsProtocol r s es
-rules-front r s [] fs keeps = tt
-rules-front r s (e ∷ es) fs keeps = (keeps.0, rules-front r (protocol_next r s e) es fs keeps.1)
+pub keeps-front : (r : RingBuffer) (s : ProtocolState) (es fs : List Entry) → KeepsProtocol r s (es ++ fs) → KeepsProtocol r s es
+keeps-front r s [] fs keeps = tt
+keeps-front r s (e ∷ es) fs keeps = (keeps.0, keeps-front r (protocol_next r s e) es fs keeps.1)
 
-pub rules-back : (r : RingBuffer) (s : Protocol) (es fs : List Entry) → KeepsProtocol r s (es ++ fs) → KeepsProtocol r (protocol_after r s es) fs
-rules-back r s [] fs keeps = keeps
-rules-back r s (e ∷ es) fs keeps = rules-back r (protocol_next r s e) es fs keeps.1
+pub keeps-back : (r : RingBuffer) (s : ProtocolState) (es fs : List Entry) → KeepsProtocol r s (es ++ fs) → KeepsProtocol r (protocol_after r s es) fs
+keeps-back r s [] fs keeps = keeps
+keeps-back r s (e ∷ es) fs keeps = keeps-back r (protocol_next r s e) es fs keeps.1
 
 -- the words of F, where the next of them is known
 word_ahead : (F sent more : List ℕ) (v n : ℕ) → length sent ≡ n → F ≡ (sent ++ v ∷ []) ++ more → v ≡ slice_index F n
@@ -169,7 +169,7 @@ word_ahead F sent more v n size is =
     sym (ap (slice_index F) (sym size) ∙ ap (λ xs. slice_index xs (length sent)) (is ∙ append_assoc sent (v ∷ []) more)
     ∙ get_or-append_seam sent v more 0)
 
-module _ (B : ℕ) (r : RingBuffer) (is : IsRingBuffer r) (F : List ℕ) (small : AreSmall F) (o : OpeningValue) (es : List Entry) (s : Protocol)
+module _ (B : ℕ) (r : RingBuffer) (is : IsRingBuffer r) (F : List ℕ) (small : AreSmall F) (o : OpeningValue) (es : List Entry) (s : ProtocolState)
     (inv : Invariant r (slice_index F) o es s) (e : Entry) (even : (h : ℕ) → lands h es ≤ length (stores h es)) where
   abbrev L : ℕ → ℕ
   L = slice_index F
@@ -340,13 +340,13 @@ at_rest r is L o es quiet = record {
     first : offset r 0 ≡ 0
     first = let none : 0 % r.size ≡ 0 = zero-mod r.size in omega arith
 
-holds-after : (B : ℕ) (r : RingBuffer) (is : IsRingBuffer r) (F : List ℕ) (small : AreSmall F) (o : OpeningValue) (before : List Entry) (s : Protocol)
+holds-after : (B : ℕ) (r : RingBuffer) (is : IsRingBuffer r) (F : List ℕ) (small : AreSmall F) (o : OpeningValue) (before : List Entry) (s : ProtocolState)
     (es : List Entry)
     → Invariant r (slice_index F) o before s → Legal B (history_of o before) → LegalAfter B o before es → KeepsProtocol r s es
     → (more : List ℕ) × (F ≡ (protocol_after r s es).sent ++ more) → Invariant r (slice_index F) o (before ++ es) (protocol_after r s es)
 holds-after B r is F small o before s [] inv legal later keeps ahead = subst (λ xs. Invariant r (slice_index F) o xs s) (sym (append-nil before)) inv
 holds-after B r is F small o before s (e ∷ es) inv legal later keeps ahead =
-    let grown = talk-grows r (protocol_next r s e) es in
+    let grown = protocol-grows r (protocol_next r s e) es in
     let one : Invariant r (slice_index F) o (before ++ e ∷ []) (protocol_next r s e) =
     acts B r is F small o before s inv e (λ h. balanced B (history_of o before) h legal) (access_of e) refl (role_of r (hart_of e)) refl keeps.0 later.0
     (grown.0 ++ ahead.0, ahead.1 ∙ ap (λ xs. xs ++ ahead.0) grown.1 ∙ append_assoc (protocol_next r s e).sent grown.0 ahead.0) in
@@ -354,33 +354,33 @@ holds-after B r is F small o before s (e ∷ es) inv legal later keeps ahead =
     (holds-after B r is F small o (before ++ e ∷ []) (protocol_next r s e) es one
     (LegalAfter-append B o [] before (e ∷ []) legal (later.0, tt)) later.1 keeps.1 ahead)
 
--- the law of the invariant: of every run that keeps the rules, and each of its beginnings, by the words of the whole
+-- the law of the invariant: of every run that keeps the protocol, and each of its beginnings, by the words of the whole
 pub invariant-of : (B : ℕ) (r : RingBuffer) (o : OpeningValue) (before es fs : List Entry) → FollowsSpscProtocol B r o before (es ++ fs)
     → Invariant r (slice_index (protocol_after r at_start (es ++ fs)).sent) o (before ++ es) (protocol_after r at_start es)
 invariant-of B r o before es fs t =
-    holds-after B r t.ring F small o before at_start es (at_rest r t.ring (slice_index F) o before t.quiet)
+    holds-after B r t.ring F small o before at_start es (at_rest r t.ring (slice_index F) o before t.rest)
     (LegalAfter-front B o [] before (es ++ fs) t.legal)
     (LegalAfter-front B o before es fs (LegalAfter-back B o [] before (es ++ fs) t.legal))
-    (rules-front r at_start es fs t.rules) (grown.0, is)
+    (keeps-front r at_start es fs t.keeps) (grown.0, is)
   where
     F : List ℕ
     F = (protocol_after r at_start (es ++ fs)).sent
 
     small : AreSmall F
-    small = talk-small r at_start (es ++ fs) t.rules (λ j. omega arith)
+    small = protocol-small r at_start (es ++ fs) t.keeps (λ j. omega arith)
 
     grown : (more : List ℕ) × ((protocol_after r (protocol_after r at_start es) fs).sent ≡ (protocol_after r at_start es).sent ++ more)
-    grown = talk-grows r (protocol_after r at_start es) fs
+    grown = protocol-grows r (protocol_after r at_start es) fs
 
     is : F ≡ (protocol_after r at_start es).sent ++ grown.0
-    is = ap (λ (s : Protocol). s.sent) (talk-append r at_start es fs) ∙ grown.1
+    is = ap (λ (s : ProtocolState). s.sent) (protocol-append r at_start es fs) ∙ grown.1
 
 -- what is received is a prefix of what was sent, whatever else the harts do
 pub delivered : (B : ℕ) (r : RingBuffer) (o : OpeningValue) (before es : List Entry) → FollowsSpscProtocol B r o before es
     → IsPrefix (protocol_after r at_start es).received (published_words (protocol_after r at_start es))
 delivered B r o before es t = (rest.0, whole)
   where
-    s : Protocol
+    s : ProtocolState
     s = protocol_after r at_start es
 
     L : ℕ → ℕ

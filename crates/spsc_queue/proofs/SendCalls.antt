@@ -12,13 +12,13 @@ use Rattle.step_machine.specs.Access.{load, store, access_of}
 use Rattle.step_machine.specs.Entries.{is_own, own}
 use Rattle.step_machine.specs.Paths.{value_of, state_of}
 use Rattle.spsc_queue.specs.RingBuffers.{RingBuffer, next}
-use Rattle.spsc_queue.specs.Protocol.{placed, Protocol, at_start, sends, next_by, protocol_next}
+use Rattle.spsc_queue.specs.Protocol.{placed, ProtocolState, at_start, sends, next_by, protocol_next}
 use Rattle.spsc_queue.specs.Protocol.{protocol_after}
 use Rattle.spsc_queue.specs.Listings.{try_send}
 use Rattle.spsc_queue.specs.Calls.{Block, SpscQueue, buffer, is_in_call_with, completed_by_entry, is_sender_in_call}
 use Rattle.spsc_queue.specs.Calls.{sent_words, UsesAsSpscQueue}
 use Rattle.spsc_queue.specs.CallEffects.{IsSend, accesses, completed_word, SendEffect, FoundFull}
-use Rattle.spsc_queue.proofs.Runs.{talk-append}
+use Rattle.spsc_queue.proofs.Runs.{protocol-append}
 use Rattle.spsc_queue.proofs.Courses.{at_00, Course}
 use Rattle.spsc_queue.proofs.SendOutline.{IsLevel, sender_part, SenderPart, SenderStands, level-head}
 use Rattle.spsc_queue.proofs.SendOutline as sending
@@ -46,15 +46,12 @@ module _ (B M : ℕ) (o : OpeningValue) (q : SpscQueue) (before es : List Entry)
   abbrev send_state : List Entry → HartState
   send_state es = state_here M o q.sender q.send_line try_send c.shares.sends (before ++ es)
 
-  abbrev send_protocol : List Entry → Protocol
+  abbrev send_protocol : List Entry → ProtocolState
   send_protocol es = protocol_after send_buffer at_start es
 
   send_split : (part more : List Entry) → call ≡ part ++ more → es ≡ (done ++ part) ++ (more ++ rest)
   send_split part more split =
       is ∙ ap (λ zs. done ++ (zs ++ rest)) split ∙ ap (λ zs. done ++ zs) (append_assoc part more rest) ∙ sym (append_assoc done part (more ++ rest))
-
-  send_stand : (part more : List Entry) → call ≡ part ++ more → Stand B M o q before es c.shares (done ++ part)
-  send_stand part more split = stands-at B M o q before es c (done ++ part) (more ++ rest) (send_split part more split)
 
   -- the call up to here, and the words that are completed
   record SendSo (here part : List Entry) : Type 0 where
@@ -107,8 +104,8 @@ module _ (B M : ℕ) (o : OpeningValue) (q : SpscQueue) (before es : List Entry)
         ++ completed_by_entry M o q.sender q.send_line (is_sender_in_call M o q before here) (before ++ here) e ≡ sent_words M o q before (here ++ e ∷ [])
     send_worded = sym (completed-last M o q.sender q.send_line q.block false before here e)
 
-    send_talked : protocol_next send_buffer (send_protocol here) e ≡ send_protocol (here ++ e ∷ [])
-    send_talked = sym (talk-append send_buffer at_start here (e ∷ []))
+    send_protocol_on : protocol_next send_buffer (send_protocol here) e ≡ send_protocol (here ++ e ∷ [])
+    send_protocol_on = sym (protocol-append send_buffer at_start here (e ∷ []))
 
     send_placed : state_here M o q.sender q.send_line try_send c.shares.sends ((before ++ here) ++ e ∷ []) ≡ send_state (here ++ e ∷ [])
     send_placed = ap (state_here M o q.sender q.send_line try_send c.shares.sends) (append_assoc before here (e ∷ []))
@@ -122,7 +119,7 @@ module _ (B M : ℕ) (o : OpeningValue) (q : SpscQueue) (before es : List Entry)
         record {
           stands = send_carry q.send_line q.block send_buffer same all (course_same q.sender s part e off)
               (here_same M o q.sender q.send_line try_send c.shares.sends (before ++ here) e off ∙ send_placed)
-              (sym (sender_still send_buffer (send_protocol here) e (off_silent q.sender e off [])) ∙ ap sender_part send_talked) so.stands;
+              (sym (sender_still send_buffer (send_protocol here) e (off_silent q.sender e off [])) ∙ ap sender_part send_protocol_on) so.stands;
           words = λ still. sym all ∙ so.words busy;
           over = λ idle. absurd (let no : true ≡ false = sym busy ∙ same ∙ idle in cc);
         }
@@ -150,7 +147,7 @@ module _ (B M : ℕ) (o : OpeningValue) (q : SpscQueue) (before es : List Entry)
         record {
           stands = send_carry q.send_line q.block send_buffer send_called send_worded (course_on q.sender s part e on) after
               (ap (λ role. sender_part (next_by send_buffer role (send_protocol here) (access_of e)))
-              (sym (sender_role (buffer q) own.0)) ∙ ap sender_part send_talked)
+              (sym (sender_role (buffer q) own.0)) ∙ ap sender_part send_protocol_on)
               (sender_course B M o q before es c.shares here e more there send_stand_here own.0 own.1 busy send_here was (course q.sender s part) inside);
           words = λ still. all ∙ ap (λ b. sent_words M o q before done ++ (if b then [] else completed_word (send_state (here ++ e ∷ [])))) still
               ∙ append-nil (sent_words M o q before done);
@@ -222,14 +219,14 @@ module _ (B M : ℕ) (o : OpeningValue) (q : SpscQueue) (before es : List Entry)
       let split : call ≡ part ++ g.entry ∷ g.rest = f.is ∙ ap (λ zs. f.part ++ f.entry ∷ zs) g.is
       ∙ sym (append_assoc f.part (f.entry ∷ g.part) (g.entry ∷ g.rest)) in
       let first = send_fresh.1 in
-      let before_load : Protocol = protocol_after send_buffer (send_protocol done) f.part in
+      let before_load : ProtocolState = protocol_after send_buffer (send_protocol done) f.part in
       let unmoved : sender_part before_load ≡ sender_part (send_protocol done) = sender_unmoved send_buffer (send_protocol done) f.part f.none in
       let loaded : sender_part (protocol_next send_buffer before_load f.entry) ≡ sender_part
       (next_by send_buffer sends before_load (load send_buffer.head 4 u)) =
       ap (λ role. sender_part (next_by send_buffer role before_load (access_of f.entry))) (sender_role (buffer q) (own_parts q.sender f.entry f.mine).0)
       ∙ ap (λ x. sender_part (next_by send_buffer sends before_load x)) f.does in
       let now : sender_part (send_protocol (done ++ part)) ≡ sender_part (next_by send_buffer sends before_load (load send_buffer.head 4 u)) =
-      ap sender_part (talk-append send_buffer at_start done part ∙ talk-append send_buffer (send_protocol done) f.part (f.entry ∷ g.part))
+      ap sender_part (protocol-append send_buffer at_start done part ∙ protocol-append send_buffer (send_protocol done) f.part (f.entry ∷ g.part))
       ∙ sender_unmoved send_buffer (protocol_next send_buffer before_load f.entry) g.part g.none ∙ loaded in
       let so = send_so part (g.entry ∷ g.rest) split in
       let same : (send_protocol (done ++ part)).sent ≡ sent_words M o q before (done ++ part) =

@@ -6,7 +6,7 @@ use Rattle.rv_decode.specs.declared.instruction.Instr.TheVariants.{Jalr}
 use Rattle.hart.specs.State.{HartState}
 use Rattle.hart.specs.Steps.{advanced}
 use Rattle.hart.proofs.Instructions.{IsAt}
-use Rattle.spsc_queue.specs.Protocol.{Protocol}
+use Rattle.spsc_queue.specs.Protocol.{ProtocolState}
 use Rattle.spsc_queue.specs.Listings.{try_send}
 use Rattle.spsc_queue.specs.Calls.{Block, IsBlock, ring_of, is_in_call_after, completed_at}
 use Rattle.spsc_queue.specs.CallEffects.{completed_word}
@@ -18,7 +18,7 @@ use Rattle.spsc_queue.proofs.SendOutline.{Row, Moves}
 use Rattle.spsc_queue.proofs.SendLines.{sends_at_00, sends_at_04, sends_at_08, sends_at_0C, sends_at_10, sends_at_14, sends_at_18, sends_at_1C, sends_at_20}
 use Rattle.spsc_queue.proofs.SendLines.{sends_at_24, sends_at_2C, line_at, sends_back, goes_elsewhere, one_word, no_word}
 
-module _ (M n a b : ℕ) (k : Block) (is : IsBlock M k) (h : ℕ) (s : HartState) (t : Protocol) (v : ℕ) (has : Equipped M n try_send s)
+module _ (M n a b : ℕ) (k : Block) (is : IsBlock M k) (h : ℕ) (s : HartState) (t : ProtocolState) (v : ℕ) (has : Equipped M n try_send s)
     (near : IsNear k t.sending) (c : Course) (xs : List ℕ) where
   -- what is sent so far, with this line, and whether it is in a call after it
   abbrev Answered : Type 0

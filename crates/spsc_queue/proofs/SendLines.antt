@@ -18,7 +18,7 @@ use Rattle.hart.proofs.Instructions.{IsAt}
 use Rattle.step_machine.specs.Access.{Access, nothing, load, store, access_of}
 use Rattle.step_machine.specs.Paths.{entry_of}
 use Rattle.spsc_queue.specs.RingBuffers.{RingBuffer, IsWordIn, next, overlaps}
-use Rattle.spsc_queue.specs.Protocol.{placed, roomy, filled, Protocol, sends, read_tail, send_load, send_store, next_by}
+use Rattle.spsc_queue.specs.Protocol.{placed, roomy, filled, ProtocolState, sends, read_tail, send_load, send_store, next_by}
 use Rattle.spsc_queue.specs.Protocol.{IsWord, IsSenderStore}
 use Rattle.spsc_queue.specs.Listings.{lines_of, try_send}
 use Rattle.spsc_queue.specs.Calls.{Block, IsBlock, ring_of}
@@ -33,7 +33,7 @@ use Rattle.spsc_queue.proofs.Steps.{word_on}
 use Rattle.spsc_queue.proofs.SendOutline.{IsLevel, IsOffset, IsNear, SenderPart, sender_part, word_of, looked, KnowsBoth}
 use Rattle.spsc_queue.proofs.SendOutline.{Finished, Row, Inside, CourseStands, DoesBy, Moves, level-head, placed-tail, near-read}
 
-module _ (M n a b : ℕ) (k : Block) (is : IsBlock M k) (h : ℕ) (s : HartState) (t : Protocol) (v : ℕ) (has : Equipped M n try_send s)
+module _ (M n a b : ℕ) (k : Block) (is : IsBlock M k) (h : ℕ) (s : HartState) (t : ProtocolState) (v : ℕ) (has : Equipped M n try_send s)
     (near : IsNear k t.sending) (c : Course) (xs : List ℕ) where
   abbrev r : RingBuffer
   r = ring_of k a b

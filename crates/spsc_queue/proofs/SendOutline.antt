@@ -8,7 +8,7 @@ use Rattle.hart.specs.State.{HartState}
 use Rattle.hart.specs.Steps.{advanced}
 use Rattle.step_machine.specs.Access.{Access, load, store, exchange}
 use Rattle.spsc_queue.specs.RingBuffers.{RingBuffer, next}
-use Rattle.spsc_queue.specs.Protocol.{SenderState, resting, placed, roomy, filled, Protocol, sends, read_tail, send_load, next_by}
+use Rattle.spsc_queue.specs.Protocol.{SenderState, resting, placed, roomy, filled, ProtocolState, sends, read_tail, send_load, next_by}
 use Rattle.spsc_queue.specs.Protocol.{IsSenderStore}
 use Rattle.spsc_queue.specs.Calls.{Block}
 use Rattle.spsc_queue.specs.CallEffects.{send_accesses, SendEffect}
@@ -36,7 +36,7 @@ pub record SenderPart : Type 0 where
   pub sending : SenderState
   pub sent : List ℕ
 
-abbrev pub sender_part : Protocol → SenderPart
+abbrev pub sender_part : ProtocolState → SenderPart
 sender_part t = record { sending = t.sending; sent = t.sent }
 
 -- the word of a call stands in a1
@@ -142,7 +142,7 @@ abbrev pub PartStands : (n : ℕ) → Block → RingBuffer → Bool → List ℕ
 PartStands n k r false ws s p = IsLevel p.sending × (p.sent ≡ ws)
 PartStands n k r true ws s p = (c : Course) × Inside n k r ws c s p
 
-abbrev pub SenderStands : (n : ℕ) → Block → RingBuffer → Bool → List ℕ → HartState → Protocol → Type 0
+abbrev pub SenderStands : (n : ℕ) → Block → RingBuffer → Bool → List ℕ → HartState → ProtocolState → Type 0
 SenderStands n k r b ws s t = PartStands n k r b ws s (sender_part t)
 
 pub any_course : (n : ℕ) (k : Block) (r : RingBuffer) (b : Bool) (ws : List ℕ) (c : Course) (s : HartState) (p : SenderPart)
@@ -151,12 +151,12 @@ any_course n k r true ws c s p stands = (c, stands)
 any_course n k r false ws c s p stands = (stands.level, stands.sent)
 
 -- what a line of the function may do: it stores to the block what the protocol allows, and nothing elsewhere
-abbrev pub DoesBy : RingBuffer → Protocol → Access → Type 0
+abbrev pub DoesBy : RingBuffer → ProtocolState → Access → Type 0
 DoesBy r t (store w) = IsSenderStore r t.sending w
 DoesBy r t (exchange a old new) = ⊥
 DoesBy r t x = Unit {0}
 
-pub record Moves (n : ℕ) (k : Block) (r : RingBuffer) (b : Bool) (ws : List ℕ) (c : Course) (h : ℕ) (s : HartState) (t : Protocol) (v : ℕ) : Type 0 where
+pub record Moves (n : ℕ) (k : Block) (r : RingBuffer) (b : Bool) (ws : List ℕ) (c : Course) (h : ℕ) (s : HartState) (t : ProtocolState) (v : ℕ) : Type 0 where
   pub rule : DoesBy r t (moved h s v)
   pub after : CourseStands n k r b ws (went c (moved h s v)) (advanced s v) (sender_part (next_by r sends t (moved h s v)))
 

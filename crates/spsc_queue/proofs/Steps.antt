@@ -1,4 +1,4 @@
--- Each entry that memory and buffers allow, and that keeps the rules, keeps the invariant.
+-- Each entry that memory and buffers allow, and that keeps the protocol, keeps the invariant.
 use Rattle.std.proofs.Common.{ℕ, zero, suc, ◌+◌, ◌^◌, ◌<◌, ◌≤◌, ◌≡◌, ◌≢◌, ◌==◌, ◌⊎◌, inl, inr, true, false, if◌then◌else◌}
 use Rattle.std.proofs.Common.{List, [], ◌∷◌, ◌++◌, length, take, refl, sym, ◌∙◌, ap, subst, arith, append-nil, eq-eqb}
 use Rattle.std.proofs.lemmas.Bool.{cases_eq, ne_eqb}
@@ -10,7 +10,7 @@ use Rattle.step_machine.specs.History.{OpeningValue}
 use Rattle.step_machine.specs.Access.{Access, store, access_of}
 use Rattle.step_machine.specs.Entries.{hart_of, stored_by, landed_by, written_by, store_of, land_of, write_of, pending, memory_word, stores, lands}
 use Rattle.spsc_queue.specs.RingBuffers.{RingBuffer, IsRingBuffer, IsWordIn, offset, slot, next, overlaps, writes_to}
-use Rattle.spsc_queue.specs.Protocol.{SenderState, resting, roomy, filled, ReceiverState, idle, holding, Protocol}
+use Rattle.spsc_queue.specs.Protocol.{SenderState, resting, roomy, filled, ReceiverState, idle, holding, ProtocolState}
 use Rattle.spsc_queue.specs.Protocol.{IsWord}
 use Rattle.spsc_queue.proofs.Spread.{spread, spread-more, sent_store, freed_store, sent-slot, sent-head}
 use Rattle.spsc_queue.proofs.Effects.{memory-quiet, on-append, on-one, on-none, pending-quiet, pending-more}
@@ -43,7 +43,7 @@ pub some_first : (ws : List Write) → 0 < length ws → (w : Write) × (rest : 
 some_first [] some = absurd (omega arith)
 some_first (w ∷ ws) some = (w, ws, refl)
 
-module _ (r : RingBuffer) (is : IsRingBuffer r) (L : ℕ → ℕ) (small : (j : ℕ) → L j < 2 ^ 32) (o : OpeningValue) (es : List Entry) (s : Protocol)
+module _ (r : RingBuffer) (is : IsRingBuffer r) (L : ℕ → ℕ) (small : (j : ℕ) → L j < 2 ^ 32) (o : OpeningValue) (es : List Entry) (s : ProtocolState)
     (inv : Invariant r L o es s) (e : Entry) (even : (h : ℕ) → lands h es ≤ length (stores h es)) where
   abbrev d : Landed
   d = inv.landed

@@ -35,15 +35,3 @@ pub read_seen : (o : OpeningValue) (es : List Entry) (w : Write) (h : IsGlobally
     → All (LeavesByte x) (pending hart es) → read_byte o es hart x ≡ byte_at (x - w.addr) w.value
 read_seen o es w h hart x on all own =
     ap (λ f. unwrap_or f (memory_byte o es x)) (passed_over x None (pending hart es) own) ∙ byte_seen o es w h x on all
-
-front_get : {X : Type 0} (xs ys : List X) (i : ℕ) (x : X) → slice_get xs i ≡ Some x → (i < length xs) × (slice_get (xs ++ ys) i ≡ Some x)
-front_get [] ys i x is = cc
-front_get (y ∷ xs) ys zero x is = (omega arith, is)
-front_get (y ∷ xs) ys (suc i) x is = let more = front_get xs ys i x is in (omega (arith, more.0), more.1)
-
--- each store of a hart up to a point has reached memory, where more than it had made by then have landed
-pub all_reached : (B : ℕ) (o : OpeningValue) (front back : List Entry) (h i : ℕ) (w : Write) → Legal B (history_of o (front ++ back))
-    → length (stores h front) < lands h (front ++ back) → slice_get (stores h front) i ≡ Some w → IsGloballyPerformed (front ++ back) w
-all_reached B o front back h i w legal landed is =
-    let got = front_get (stores h front) (stores h back) i w is in
-    reached B o (front ++ back) h i w legal (ap (λ ws. slice_get ws i) (stores-append h front back) ∙ got.1) (omega (arith, got.0, landed))

@@ -1,4 +1,4 @@
--- A ring in memory that two harts share, wherever its parts lie, and what the words of its places are.
+-- A ring buffer in memory that two harts share, wherever its parts lie, and what the words of its places are.
 use Rattle.std.specs.Prelude.{ℕ, ◌≡◌, ◌≢◌, ◌⊎◌, ◌+◌, ◌*◌, ◌%◌, ◌^◌, ◌≤◌, ◌==◌, ◌&&◌, Bool, nat_lt, if◌then◌else◌, List, []}
 use Rattle.std.specs.List.{filter}
 use Rattle.memory.specs.declared.writes.Write.{Write}
