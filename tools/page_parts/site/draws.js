@@ -7,6 +7,7 @@ import { notShown } from "./excluded.js";
 import { note, setEvents, shrunk } from "./run.js";
 import { expanded } from "./schedules.js";
 import { known, state } from "./state.js";
+import { stops, stopWords } from "./stops.js";
 import { many, stores } from "./words.js";
 
 // the first part's runs, how long a part is to take, and how many outcomes are listed
@@ -58,7 +59,7 @@ export async function drawRuns() {
   const table = last = { rows: new Map(), done: 0, left: 0, unfinished: 0, shown: known.test.kind !== "exists", runs, length };
   try {
     await drawParts(table);
-    if (isMostlyUnfinished(table)) table.stops = await stops(table);
+    if (isMostlyUnfinished(table)) table.stops = await stops(table.length);
   } catch (error) {
     if (!isStopped(error)) by("drawn").prepend(el("p", { role: "alert" }, error.message));
     trouble();
@@ -69,16 +70,8 @@ export async function drawRuns() {
 
 const isMostlyUnfinished = ({ unfinished, done }) => unfinished > done / 2;
 
-// the harts that stop where all take turns, each with the number of its stop: no run in which one stops is finished
-async function stops({ length }) {
-  const turns = known.test.harts.flatMap((_, hart) => [`a${hart}`, `l${hart}`]);
-  const tokens = Array.from({ length }, (_, at) => turns[at % turns.length]).join(" ");
-  const { harts } = await ask("view", { text: state.text, buffer: state.buffer, tokens }, "stops");
-  return harts.flatMap(({ stop, stopped }, hart) => stopped ? [`P${hart} stops by ${stop} ${stopped.name}`] : []);
-}
-
 function unfinishedWords({ stops: found, done, runs }) {
-  if (found?.length) return `Most runs didn't finish: ${found.join(", ")}. A hart that stopped doesn't end.`;
+  if (found?.length) return `Most runs didn't finish: ${stopWords(found)}`;
   // of what was stopped nothing was looked up
   return done < runs ? "Most runs didn't finish." : "Most runs didn't finish: draw longer ones.";
 }

@@ -6,7 +6,8 @@ import { by, el } from "./dom.js";
 import { notShown } from "./excluded.js";
 import { note, setEvents } from "./run.js";
 import { expanded } from "./schedules.js";
-import { state } from "./state.js";
+import { known, state } from "./state.js";
+import { stops, stopWords } from "./stops.js";
 import { many } from "./words.js";
 
 // a command's answer, while its button says for how long it has run
@@ -31,13 +32,20 @@ async function made(route, told) {
     return;
   }
   const answer = await answered(route);
-  note(...told(answer));
+  note(...await told(answer));
   if (answer.tokens !== undefined) await setEvents(expanded(answer.tokens));
 }
 
-export const find = () => made("find", ({ states }) => states === undefined
-  ? ["A schedule of what the condition asks about; the search finds none with fewer events."]
-  : [`Not found in ${many(states, "state")}. `, ...notShown()]);
+// what was found, or what is known without it: of this machine, with this buffer
+async function found({ states, cut }) {
+  if (states === undefined) return ["A schedule of what the condition asks about; the search finds none with fewer events."];
+  const stop = stopWords(await stops(known.limits.events));
+  return [cut ? `Cut at ${many(states, "state")}: there may be more. `
+    : `Not found in ${many(states, "state")}, which are all that the search reaches with a buffer of ${state.buffer}. `,
+  stop && `${stop} `, ...notShown()];
+}
+
+export const find = () => made("find", found);
 
 export const threads = () => made("threads", () =>
   ["What threads of this machine did just now. Another time they do something else."]);

@@ -130,6 +130,10 @@ def slips(count, page):
     said = page.texts("#drawn p")[-1]
     count.told("which hart stops, and by which number",
                said == "Most runs didn't finish: P0 stops by 9 Misaligned. A hart that stopped doesn't end.", said)
+    if page.run("!document.getElementById('find').hidden"):
+        page.click("#find")
+        said = page.note()
+        count.told("also where a search finds nothing", "Not found in" in said and "P0 stops by 9 Misaligned." in said, said)
     page.over("text", SLIP)
     said = page.text("#lone")
     count.told("locations that one hart names", said.startswith("Only one hart names x (P0) and X (P1)."), said)

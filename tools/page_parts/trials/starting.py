@@ -62,10 +62,11 @@ def script(path, text):
 
 
 def found(count, program, stand_in):
-    """A program that has `find` and `chart --memory`: a stand-in, which finds nothing where it has a buffer of one, and
-    hands on what else it is asked."""
+    """A program that has `find` and `chart --memory`: a stand-in, which finds nothing where it has a buffer of one or two,
+    and hands on what else it is asked."""
     served = Served(script(stand_in, f"""case "$* " in
-        'find --buffer 1 '*) echo 'ztso: not found in 23 states' >&2; exit 1 ;;
+        'find --buffer 1 '*) echo 'ztso: all 23 states seen, none shows it' >&2; exit 1 ;;
+        'find --buffer 2 '*) echo 'ztso: cut at 100 states' >&2; exit 5 ;;
         find*) printf 'ztso-schedule 1\\na0*2 a1*2 l0 l1\\n' ;;
         chart*\\ --memory\\ *) echo 'rows of memory' ;;
         *) exec '{program or programs.REFERENCE}' "$@" ;;
@@ -78,7 +79,9 @@ def found(count, program, stand_in):
         answer = served.ask("find", text=SB, buffer=4)[1]
         count.told("the shortest schedule", answer == {"tokens": "a0*2 a1*2 l0 l1"}, answer)
         answer = served.ask("find", text=SB, buffer=1)[1]
-        count.told("and how many states had none", answer == {"states": 23}, answer)
+        count.told("how many states had none", answer == {"states": 23, "cut": False}, answer)
+        answer = served.ask("find", text=SB, buffer=2)[1]
+        count.told("and how many the search was cut at", answer == {"states": 100, "cut": True}, answer)
     finally:
         served.end()
 
