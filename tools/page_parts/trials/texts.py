@@ -1,7 +1,10 @@
 """Texts that are typed, pasted, dropped or linked: faults, hostile names, many harts, files, links."""
 
+import base64
+import json
 import tempfile
 import time
+import zlib
 from pathlib import Path
 
 from page_parts import ROOT
@@ -21,6 +24,7 @@ def part(count, page):
     sizes(count, page)
     pasted(count, page)
     links(count, page)
+    hostile_links(count, page)
     with tempfile.TemporaryDirectory(prefix="ztso-page-") as folder:
         saved(count, page, Path(folder))
         dropped(count, page, Path(folder))
@@ -92,6 +96,41 @@ def links(count, page):
     page.choose("mp")
     page.open(link[link.index("#"):])
     count.told("an address with a link", page.place() == "2 of 3 events" and page.run("location.hash") == "", page.place())
+
+
+def link_of(content):
+    """A link that holds this."""
+    squeezed = zlib.compressobj(wbits=-15)
+    packed = squeezed.compress(content if isinstance(content, bytes) else json.dumps(content).encode()) + squeezed.flush()
+    return "#run=" + base64.urlsafe_b64encode(packed).decode().rstrip("=")
+
+
+def hostile_links(count, page):
+    """Links that nobody copied from the page: each is refused as a whole, before a count in it is unfolded."""
+    run = {"text": SB, "buffer": 4, "tokens": "a0 a1", "place": 1}
+    page.choose("sb")
+    page.paste("a0 a1 l0")
+    begun = time.monotonic()
+    for name, content in (
+            ("an event 4,294,967,295 times", run | {"tokens": "a0*4294967295"}), ("2,001 events", run | {"tokens": "a0*2000 a1"}),
+            ("many large counts", run | {"tokens": "a0*9999 " * 200}), ("an option as tokens", run | {"tokens": "--svg"}),
+            ("lines as tokens", run | {"tokens": "a0\nl0"}), ("another buffer", run | {"buffer": 3}),
+            ("a text that is none", run | {"text": {"length": 1}}), ("no run", []), ("nothing", None), ("no JSON", b"RISCV"),
+            ("40 MB of one letter", json.dumps(run | {"text": "x" * 40_000_000}).encode())):
+        page.paste(link_of(content))
+        count.told(f"a link with {name}", "isn't a whole link" in page.note() and page.strip() == "a0 a1 l0", page.note() + page.strip())
+    count.told("which takes no time", time.monotonic() - begun < 20, time.monotonic() - begun)
+    for place in (-1, 3, 1e99, "1", None):
+        page.paste(link_of(run | {"place": place}))
+        count.told(f"a link with the place {place} shows the end", page.place() == "2 of 2 events", page.place())
+    page.paste(link_of(run))
+    count.told("one with a place shows it", page.place() == "1 of 2 events", page.place())
+    evil = link_of(run | {"text": EVIL})
+    page.open(evil)
+    broken = page.run("document.querySelectorAll('main [onclick], main script').length + (document.title === 'broken')")
+    count.told("tags in a link stay text", broken == 0 and page.place() == "1 of 2 events", broken)
+    page.choose("sb")
+    page.paste("a0 a1 l0")
 
 
 def saved(count, page, folder):
