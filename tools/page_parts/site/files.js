@@ -58,7 +58,7 @@ async function openText(name, text) {
     return;
   }
   forgetSource();
-  if (name.endsWith(".c") || /^\s*C\s/.test(text)) await openC(text);
+  if (name.endsWith(".c") || /^\s*C\s/.test(text)) await openC(name, text);
   else await openLitmus(name, text);
 }
 
@@ -77,9 +77,9 @@ async function openLitmus(name, text) {
   if (refusal !== null) refuse(`${name}: ${refusal}`);
 }
 
-async function openC(text) {
+async function openC(name, text) {
   if (!known.can.c.length) {
-    refuse(WORDS.noC);
+    refuse(`${name}: ${WORDS.noC}`);
     return;
   }
   by("compiler").replaceChildren(...known.can.c.map(name => el("option", {}, name)));
