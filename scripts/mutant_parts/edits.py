@@ -18,6 +18,11 @@ class Edit:
         if not self.pairs:
             raise Unfit("it has no lines 'old:' and 'new:'")
 
+    def within(self, crate):
+        """The same mutant of a copy of its crate."""
+        self.crate = crate
+        return self
+
     def read(self, path):
         """The text of a file of the crate as it stands."""
         if not path.startswith(PARTS) or not (self.crate / path).is_file():
