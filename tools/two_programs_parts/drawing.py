@@ -117,9 +117,12 @@ class Draw:
         return self.on_test("debug", "debug", self.buffer(), self.schedule_of(test), typed, test.text)
 
     def lists(self):
-        lists = [" ".join(str(self.random.randrange(1, 2**self.one_of(3, 32))) for _ in range(self.random.randrange(5)))
-                 for _ in range(self.random.randrange(1, 5))]
+        lists = [" ".join(self.list_word() for _ in range(self.random.randrange(5))) for _ in range(self.random.randrange(1, 5))]
         return self.whole_or_changed("\n".join(lists) + self.one_of("", "\n"), 6), len(lists) + 1
+
+    def list_word(self):
+        """A word of a sender's list, now and then one that it can't have."""
+        return self.one_of("0", "4294967296", "4294967295", *(str(self.random.randrange(1, 2**32)) for _ in range(40)))
 
     def channel(self):
         kind, (lists, harts) = self.one_of("lamport", "fastforward", "cached", "own", "other"), self.lists()
