@@ -1,5 +1,5 @@
 -- The example's run uses its queue, and delivers its word.
-use Rattle.std.proofs.Common.{ℕ, zero, suc, ◌<◌, ◌≡◌, true, List, [], ◌∷◌, refl, arith}
+use Rattle.std.proofs.Common.{ℕ, zero, suc, ◌<◌, ◌≡◌, ◌&&◌, Bool, true, List, [], ◌∷◌, ◌++◌, refl, sym, subst, arith, append-nil, append_assoc}
 use Rattle.std.specs.Prelude.{All}
 use Rattle.std.proofs.lemmas.List.Elements.{All-nil, All-cons}
 use Rattle.rv_decode.specs.Meaning.{meaning}
@@ -12,8 +12,10 @@ use Rattle.step_machine.specs.Legal.{Legal, IsOfHarts, WellFormed}
 use Rattle.spsc_queue.specs.Listings.{try_send, try_receive}
 use Rattle.spsc_queue.specs.Calls.{sent_words, received_words, UsesAsSpscQueue}
 use Rattle.spsc_queue.specs.Obligations.{obligations_kept}
-use Rattle.spsc_queue.specs.Example.{queue, hart_with, opening, entries}
-use Rattle.spsc_queue.proofs.Obligations.{obligations_decided}
+use Rattle.spsc_queue.specs.Example.{queue, hart_with, opening, entries, before_send, send, before_receive, receive, sender_after, receiver_after}
+use Rattle.spsc_queue.specs.Calls.{is_sender_in_call, is_receiver_in_call}
+use Rattle.spsc_queue.specs.CallEffects.{IsSend, IsReceive}
+use Rattle.spsc_queue.proofs.Obligations.{obligations_decided, both}
 
 also : {X Y : Type 0} → X → Y → X × Y
 also x y = (x, y)
@@ -142,4 +144,49 @@ uses = record {
     };
   };
   owed = obligations_decided 64 opening queue [] entries kept;
+}
+
+-- ---- its calls
+
+fronts_hold : (List Entry → Bool) → (front es : List Entry) → Bool
+fronts_hold P front [] = true
+fronts_hold P front (e ∷ es) = P front && fronts_hold P (front ++ e ∷ []) es
+
+fronts_are : (P : List Entry → Bool) (front part : List Entry) (e : Entry) (rest : List Entry) → fronts_hold P front (part ++ e ∷ rest) ≡ true
+    → P (front ++ part) ≡ true
+unfolding fronts_hold
+fronts_are P front [] e rest all = subst (λ zs. P zs ≡ true) (sym (append-nil front)) (both (P front) (fronts_hold P (front ++ e ∷ []) rest) all).0
+fronts_are P front (d ∷ part) e rest all = subst (λ zs. P zs ≡ true) (append_assoc front (d ∷ []) part)
+    (fronts_are P (front ++ d ∷ []) part e rest (both (P front) (fronts_hold P (front ++ d ∷ []) (part ++ e ∷ rest)) all).1)
+
+send_within : fronts_hold (λ es. is_sender_in_call 64 opening queue [] es) before_send send ≡ true
+unfolding need_of advanced meaning fronts_hold
+send_within = refl
+
+receive_within : fronts_hold (λ es. is_receiver_in_call 64 opening queue [] es) before_receive receive ≡ true
+unfolding need_of advanced meaning fronts_hold
+receive_within = refl
+
+pub is_send : IsSend 64 opening queue [] before_send send (sender_after before_send) (sender_after (before_send ++ send))
+unfolding need_of advanced meaning
+is_send = record {
+  entry = refl;
+  enters = refl;
+  begun = refl;
+  within = λ part e rest is. fronts_are (λ es. is_sender_in_call 64 opening queue [] es) before_send part e rest
+      (subst (λ zs. fronts_hold (λ es. is_sender_in_call 64 opening queue [] es) before_send zs ≡ true) is send_within);
+  over = refl;
+  return = refl;
+}
+
+pub is_receive : IsReceive 64 opening queue [] before_receive receive (receiver_after before_receive) (receiver_after (before_receive ++ receive))
+unfolding need_of advanced meaning
+is_receive = record {
+  entry = refl;
+  enters = refl;
+  begun = refl;
+  within = λ part e rest is. fronts_are (λ es. is_receiver_in_call 64 opening queue [] es) before_receive part e rest
+      (subst (λ zs. fronts_hold (λ es. is_receiver_in_call 64 opening queue [] es) before_receive zs ≡ true) is receive_within);
+  over = refl;
+  return = refl;
 }

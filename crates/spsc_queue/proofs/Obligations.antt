@@ -16,7 +16,7 @@ use Rattle.spsc_queue.specs.Obligations.{writes_nothing_to, has_arguments, party
 use Rattle.spsc_queue.specs.Obligations.{obligations_kept}
 use Rattle.spsc_queue.proofs.OwnEntries.{own_is}
 
-both : (p q : Bool) → (p && q) ≡ true → (p ≡ true) × (q ≡ true)
+pub both : (p q : Bool) → (p && q) ≡ true → (p ≡ true) × (q ≡ true)
 both true true is = (refl, refl)
 both true false is = absurd (cc)
 both false q is = absurd (cc)

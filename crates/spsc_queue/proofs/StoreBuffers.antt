@@ -1,19 +1,15 @@
 -- What a load reads of a store that has reached memory.
-use Rattle.std.proofs.Common.{ℕ, zero, suc, ◌-◌, ◌<◌, ◌≡◌, true, if◌then◌else◌, List, [], ◌∷◌, ◌++◌, length, Option, Some, None, refl, ◌∙◌, ap, arith}
+use Rattle.std.proofs.Common.{ℕ, ◌-◌, ◌≡◌, true, if◌then◌else◌, List, [], ◌∷◌, Option, Some, None, refl, ◌∙◌, ap}
 use Rattle.std.specs.Prelude.{All, unwrap_or}
-use Rattle.std.specs.List.{slice_get}
 use Rattle.std.specs.Int.{byte_at}
 use Rattle.std.proofs.lemmas.List.Elements.{All-head, All-tail}
 use Rattle.memory.specs.declared.writes.Write.{Write}
 use Rattle.memory.specs.Writes.{covers, newest_of}
 use Rattle.memory.proofs.Newest.{newest_of-append}
 use Rattle.step_machine.specs.declared.events.Entry.{Entry}
-use Rattle.step_machine.specs.History.{OpeningValue, history_of}
-use Rattle.step_machine.specs.Entries.{stores, lands, pending, opening_byte, memory_byte, read_byte}
-use Rattle.step_machine.specs.Legal.{Legal}
-use Rattle.step_machine.proofs.Appended.{stores-append}
+use Rattle.step_machine.specs.History.{OpeningValue}
+use Rattle.step_machine.specs.Entries.{pending, opening_byte, memory_byte, read_byte}
 use Rattle.spsc_queue.specs.StoreBuffers.{IsGloballyPerformed, LeavesByte}
-use Rattle.spsc_queue.proofs.Publication.{reached}
 
 pub passed_over : (x : ℕ) (found : Option ℕ) (ws : List Write) → All (LeavesByte x) ws → newest_of x found ws ≡ found
 passed_over x found [] all = refl

@@ -1,9 +1,12 @@
 -- Two harts that use a queue of two slots at address 64 once: hart 0 sends 99, hart 1 receives it. Each has one
 -- instruction that does nothing, and then its function.
-use Rattle.std.specs.Prelude.{ℕ, List, [], ◌∷◌}
+use Rattle.std.specs.Prelude.{ℕ, List, [], ◌∷◌, ◌++◌}
+use Rattle.hart.specs.State.{HartState}
 use Rattle.step_machine.specs.declared.events.Entry.{Entry}
 use Rattle.step_machine.specs.declared.events.Entry.TheVariants as entry
 use Rattle.step_machine.specs.History.{HartOpeningValue, OpeningValue}
+use Rattle.step_machine.specs.Entries.{own}
+use Rattle.step_machine.specs.Paths.{opens_as, after_entries}
 use Rattle.spsc_queue.specs.Listings.{Listed, words_of, try_send, try_receive}
 use Rattle.spsc_queue.specs.Calls.{SpscQueue}
 
@@ -20,8 +23,28 @@ hart_with listing word = record { code = 0x00000013 ∷ words_of listing; regist
 abbrev pub opening : OpeningValue
 opening = record { harts = hart_with try_send 99 ∷ hart_with try_receive 0 ∷ []; words = [] }
 
+-- hart 0 enters its function, and calls it
+abbrev pub before_send : List Entry
+before_send = entry.Inner 0 ∷ []
+
+abbrev pub send : List Entry
+send = entry.Load 0 64 4 0 ∷ entry.Load 0 128 4 0 ∷ entry.Inner 0 ∷ entry.Inner 0 ∷ entry.Inner 0 ∷ entry.Inner 0 ∷ entry.Store 0 192 4 99
+    ∷ entry.Store 0 64 4 4 ∷ entry.Inner 0 ∷ entry.Inner 0 ∷ []
+
+-- both stores land, and hart 1 enters its function and calls it
+abbrev pub before_receive : List Entry
+before_receive = before_send ++ (send ++ entry.Land 0 ∷ entry.Land 0 ∷ entry.Inner 1 ∷ [])
+
+abbrev pub receive : List Entry
+receive = entry.Load 1 128 4 0 ∷ entry.Load 1 64 4 4 ∷ entry.Inner 1 ∷ entry.Inner 1 ∷ entry.Load 1 192 4 99 ∷ entry.Inner 1 ∷ entry.Inner 1
+    ∷ entry.Store 1 128 4 4 ∷ entry.Inner 1 ∷ entry.Inner 1 ∷ []
+
 abbrev pub entries : List Entry
-entries = entry.Inner 0 ∷ entry.Load 0 64 4 0 ∷ entry.Load 0 128 4 0 ∷ entry.Inner 0 ∷ entry.Inner 0 ∷ entry.Inner 0 ∷ entry.Inner 0 ∷ entry.Store 0 192 4 99
-    ∷ entry.Store 0 64 4 4 ∷ entry.Inner 0 ∷ entry.Inner 0 ∷ entry.Land 0 ∷ entry.Land 0 ∷ entry.Inner 1 ∷ entry.Load 1 128 4 0 ∷ entry.Load 1 64 4 4
-    ∷ entry.Inner 1 ∷ entry.Inner 1 ∷ entry.Load 1 192 4 99 ∷ entry.Inner 1 ∷ entry.Inner 1 ∷ entry.Store 1 128 4 4 ∷ entry.Inner 1 ∷ entry.Inner 1
-    ∷ entry.Land 1 ∷ []
+entries = before_receive ++ (receive ++ entry.Land 1 ∷ [])
+
+-- a hart's state after entries of this run
+abbrev pub sender_after : List Entry → HartState
+sender_after es = after_entries (opens_as 64 (hart_with try_send 99)) (own 0 es)
+
+abbrev pub receiver_after : List Entry → HartState
+receiver_after es = after_entries (opens_as 64 (hart_with try_receive 0)) (own 1 es)
