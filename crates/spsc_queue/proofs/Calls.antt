@@ -241,6 +241,21 @@ module _ (B M : ℕ) (o : OpeningValue) (q : SpscQueue) (before es : List Entry)
           (subst (λ ws. receiving.CourseStands m k r (is_in_call_after m k true s z) ws (went d X) z
           (receiver_part (next_by r receives T X))) all receiver_moves.after))
 
+    -- in a call a party does what its line does
+    pub sender_does : hart_of e ≡ a → is_land e ≡ false → C ≡ true → sending.DoesBy r T (access_of e) × IsNear k T.sending
+    sender_does mine act busy =
+        let s : HartState = state_here M o a n try_send c.sends (before ++ done) in
+        let was : state_of M (history_of o (before ++ done)) a ≡ Some s = is_here M o a n try_send c.sends (before ++ done) in
+        let inside : sending.PartStands n k r true A s (sender_part T) = subst (λ f. SenderStands n k r f A s T) busy (st.sender s was) in
+        (subst (sending.DoesBy r T) (sym (does_by a mine act s was)) (sender_moves mine act busy s was inside.0 inside.1).rule, near)
+
+    pub receiver_does : hart_of e ≡ b → is_land e ≡ false → D ≡ true → receiving.DoesBy r T (access_of e)
+    receiver_does mine act busy =
+        let s : HartState = state_here M o b m try_receive c.receives (before ++ done) in
+        let was : state_of M (history_of o (before ++ done)) b ≡ Some s = is_here M o b m try_receive c.receives (before ++ done) in
+        let inside : receiving.PartStands m k r true R s (receiver_part T) = subst (λ f. ReceiverStands m k r f R s T) busy (st.receiver s was) in
+        subst (receiving.DoesBy r T) (sym (does_by b mine act s was)) (receiver_moves mine act busy s was inside.0 inside.1).rule
+
     module _ (w : CallerObligation M o q before done e) where
       -- what is to be shown of the entry
       record Goes : Type 0 where

@@ -32,3 +32,4 @@ pub mod SendCalls
 pub mod ReceiveCalls
 pub mod Obligations
 pub mod Example
+pub mod ManyQueues

@@ -7,3 +7,4 @@ pub mod Calls
 pub mod CallEffects
 pub mod Obligations
 pub mod Example
+pub mod ManyQueues

@@ -31,6 +31,7 @@ ghost use Rattle.spsc_queue.specs.Calls.{SpscQueue, buffer, is_sender_in_call, i
 ghost use Rattle.spsc_queue.specs.Calls.{CallerObligation, UsesAsSpscQueue};
 ghost use Rattle.spsc_queue.specs.CallEffects.{IsSend, IsReceive, accesses, completed_word, SendEffect, ReceiveEffect, FoundFull, FoundEmpty};
 ghost use Rattle.spsc_queue.specs.Obligations.{obligations_kept};
+ghost use Rattle.spsc_queue.specs.ManyQueues.{UsesManyQueues};
 ghost use Rattle.spsc_queue.specs.Example as example;
 
 /// The words of `try_send`: a0 is the block, a1 the word, a2 the bytes of the slots.
@@ -160,7 +161,16 @@ pub fn laws_of_calls()
         → UsesAsSpscQueue B M o q before es }
 {}
 
-/// Of one whole call in such a run, from its entry to its return, whatever others execute meanwhile. It does nothing.
+/// Of a run in which harts use several queues whose blocks don't meet: if an entry that a hart makes in no call at all
+/// writes to none of the blocks, and calls pass their arguments, each queue is used as [`laws_of_calls`] asks. So it is
+/// known that a call for one queue stays off the others. It does nothing.
+#[tactic(auto, using(crate::proofs::ManyQueues::each_is_used))]
+pub fn laws_of_many_queues()
+    ensures each { (B M : ℕ) (o : OpeningValue) (count : ℕ) (queues : ℕ → SpscQueue) (before es : List Entry)
+        → UsesManyQueues B M o count queues before es → (i : ℕ) → i < count → UsesAsSpscQueue B M o (queues i) before es }
+{}
+
+/// Of one whole call in a run of which [`laws_of_calls`] speaks, from its entry to its return, whatever others execute meanwhile. It does nothing.
 ///
 /// - `send`: a call of `try_send` loads both indices. If the queue is full it returns a0 = 0; else it stores the word of
 ///   its a1 into the slot, then the head, and returns a0 = 1. It goes back to ra, keeps all registers but x5, x6, x7 and
