@@ -13,8 +13,8 @@ STATIC = SITE.parent / "static"
 POLICY = ("default-src 'none'; script-src 'self' blob: 'wasm-unsafe-eval'; style-src 'self'; img-src 'self' blob:; "
           "connect-src 'self'; worker-src blob:; base-uri 'none'; form-action 'none'; "
           "require-trusted-types-for 'script'; trusted-types ztso")
-UNPROVED = ("Compiled by rustc from the sources that are proved; nothing is proved of this build. What matters, save as "
-            "test and schedule and give to <code>./ztso run</code>.")
+UNPROVED = ("Compiled by rustc from the sources that are proved; nothing is proved of this build. What matters, judge by the "
+            "proved program: save test and schedule, <code>./prove</code>, <code>./ztso run</code>.")
 SLOW = ("The page hasn't begun. It needs scripts and a web host: in its folder, "
         "<code>python3 -m http.server --bind 127.0.0.1</code> is one.")
 # what stands in page.html, and what stands in its place

@@ -87,8 +87,8 @@ def compare(count, name, known, ask):
     for one in wrong[:3]:
         print("  differs:", *(json.dumps(part)[:300] for part in one), sep="\n    ")
     faults = sum("fault" in answer for answer in known.values())
-    count.told(f"{len(known)} answers, {faults} of them refusals, are the server's: {name}", not wrong and faults > len(known) / 20,
-               f"{len(wrong)} differ, {faults} are refusals")
+    print(f"  same: {len(known)} answers, {faults} of them refusals, of {name}", flush=True)
+    count.told(f"the answers of {name} are the server's", not wrong and faults > len(known) / 20, f"{len(wrong)} differ")
 
 
 def differences(known, ask):
