@@ -9,6 +9,7 @@ shelf       the tests of litmus/ with their witnesses
 bringing    C, and texts of herd's, made into tests by tools/from-c and tools/from-herd
 faults      refusals, in the words of docs/errors.md
 calls       children, with the time, memory and output that each may take
+folder      the page as a folder that needs no server: site/, with static/ in the server's place
 """
 
 from pathlib import Path

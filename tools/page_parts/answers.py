@@ -197,7 +197,8 @@ def find(calls, asked):
         unfound = NOT_FOUND.fullmatch(fault.said["line"])
         if not unfound:
             raise
-        return {"states": int(unfound[2]), "cut": unfound[1] == "cut at"}
+        # a program that says neither leaves it open
+        return {"states": int(unfound[2]), "cut": {"all": False, "cut at": True}.get(unfound[1])}
     if counted(tokens_of(out)) > EVENTS:
         raise too_long(counted(tokens_of(out)))
     return {"tokens": tokens_of(out)}

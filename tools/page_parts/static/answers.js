@@ -154,7 +154,7 @@ function find(ztso, asked) {
   } catch (fault) {
     const [, how, states] = NOT_FOUND.exec(fault.said?.line ?? "") ?? [];
     if (states === undefined) throw fault;
-    return { states: Number(states), cut: how === "cut at" };
+    return { states: Number(states), cut: { all: false, "cut at": true }[how] ?? null };
   }
 }
 
