@@ -126,7 +126,7 @@ received = refl
 pub uses : UsesAsSpscQueue 4 64 opening queue [] entries
 uses = record {
   shares = record {
-    block = record { even = refl; some_slots = omega arith; inside = omega arith; small = omega arith };
+    block = record { aligned = refl; some_slots = omega arith; inside = omega arith; small = omega arith };
     parties = λ e. omega (arith, e);
     run = run;
     rest = record { head = refl; tail = refl; pending = λ h. refl };

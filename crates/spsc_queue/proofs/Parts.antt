@@ -21,11 +21,11 @@ pub ring_is : (M : ℕ) (k : Block) (a b : ℕ) → IsBlock M k → a ≢ b → 
 ring_is M k a b is parties = record {
   parties = parties;
   some_slots = is.some_slots;
-  head = record { above = omega arith; below = omega arith; aligned = is.even };
-  tail = record { above = omega arith; below = omega arith; aligned = omega (arith, is.even) };
+  head = record { above = omega arith; below = omega arith; aligned = is.aligned };
+  tail = record { above = omega arith; below = omega arith; aligned = omega (arith, is.aligned) };
   slots_above = omega arith;
   slots_below = omega arith;
-  slots_aligned = omega (arith, is.even);
+  slots_aligned = omega (arith, is.aligned);
   apart = λ e. omega arith;
   head_apart = inl (omega arith);
   tail_apart = inl (omega arith);

@@ -19,7 +19,7 @@ use Rattle.step_machine.specs.Access.{Access, nothing, load, store, access_of}
 use Rattle.step_machine.specs.Paths.{entry_of}
 use Rattle.spsc_queue.specs.RingBuffers.{RingBuffer, IsWordIn, next, overlaps}
 use Rattle.spsc_queue.specs.Protocol.{asked, waiting, holding, ProtocolState, receives, receive_load, receive_store, next_by}
-use Rattle.spsc_queue.specs.Protocol.{IsWord, IsReceiverStore}
+use Rattle.spsc_queue.specs.Protocol.{IsWordAt, IsReceiverStore}
 use Rattle.spsc_queue.specs.Listings.{lines_of, try_receive}
 use Rattle.spsc_queue.specs.Calls.{Block, IsBlock, ring_of}
 use Rattle.spsc_queue.specs.CallEffects.{receive_accesses, completed_word}
@@ -81,7 +81,7 @@ module _ (M n a b : ℕ) (k : Block) (is : IsBlock M k) (h : ℕ) (s : HartState
   pub takes_at_00 : Goes at_00  -- lw x5,64(x10)
   takes_at_00 place row =
       by_line (loads (slice_index x 10 + 64)) (λ q. leaves_in s (reg_of 5) q)
-      (load_line (line_at 0 place refl) (omega (arith, row.frame.block, is.even)) refl
+      (load_line (line_at 0 place refl) (omega (arith, row.frame.block, is.aligned)) refl
       (omega (arith, row.frame.block, is.inside, has.words, is.some_slots)) (omega (arith, has.words, is.small)))
       tt
       (goes at_04 (leaves_in s (reg_of 5) v) (record { receiving = receive_load r (slice_index x 10 + 64) v t.receiving; received = t.received })
@@ -98,7 +98,7 @@ module _ (M n a b : ℕ) (k : Block) (is : IsBlock M k) (h : ℕ) (s : HartState
       let five : slice_index x 5 ≡ slice_index (slice_set x 6 v) 5 = sym (set-other x 6 5 v (λ e. omega arith)) in
       let six : v ≡ slice_index (slice_set x 6 v) 6 = sym (set-same x 6 v (omega (arith, has.size))) in
       by_line (loads (slice_index x 10 + 0)) (λ q. leaves_in s (reg_of 6) q)
-      (load_line (line_at 1 place refl) (omega (arith, row.frame.block, is.even)) refl
+      (load_line (line_at 1 place refl) (omega (arith, row.frame.block, is.aligned)) refl
       (omega (arith, row.frame.block, is.inside, has.words, is.some_slots)) (omega (arith, has.words, is.small)))
       tt
       (goes at_08 (leaves_in s (reg_of 6) v) (record { receiving = receive_load r (slice_index x 10 + 0) v t.receiving; received = t.received })
@@ -181,7 +181,7 @@ module _ (M n a b : ℕ) (k : Block) (is : IsBlock M k) (h : ℕ) (s : HartState
       let bound : IsOffset k u = subst (IsFit k) row.0.knows fit in
       let eleven : v ≡ slice_index (slice_set x 11 v) 11 = sym (set-same x 11 v (omega (arith, has.size))) in
       by_line (loads (slice_index x 7 + 128)) (λ q. leaves_in s (reg_of 11) q)
-      (load_line (line_at 4 place refl) (omega (arith, row.1, is.even, bound.1)) refl
+      (load_line (line_at 4 place refl) (omega (arith, row.1, is.aligned, bound.1)) refl
       (omega (arith, row.1, bound.0, is.inside, has.words)) (omega (arith, has.words, is.small)))
       tt
       (goes at_14 (leaves_in s (reg_of 11) v) (record { receiving = receive_load r (slice_index x 7 + 128) v t.receiving; received = t.received })
@@ -262,15 +262,15 @@ module _ (M n a b : ℕ) (k : Block) (is : IsBlock M k) (h : ℕ) (s : HartState
       let u : ℕ = row.place in
       let bound : IsOffset k u = subst (IsFit k) row.knows fit in
       let made : Write = write (slice_index x 10 + 64) 4 (slice_index x 5) in
-      let here : IsWord made r.tail = record { place = omega (arith, row.frame.block); width = refl } in
-      let inside : IsWordIn r r.tail = record { above = omega arith; below = omega arith; aligned = omega (arith, is.even) } in
+      let here : IsWordAt made r.tail = record { place = omega (arith, row.frame.block); width = refl } in
+      let inside : IsWordIn r r.tail = record { above = omega arith; below = omega arith; aligned = omega (arith, is.aligned) } in
       let hits : overlaps r made ≡ true = word_on r made r.tail inside here in
       let rule : IsReceiverStore r (holding u (slice_index x 11)) made = (here, row.after) in
       let word : Access = load (r.slots + u) 4 (slice_index x 11) in
       let next_is : (if overlaps r made then receive_store t.receiving t else t) ≡ receive_store (holding u (slice_index x 11)) t =
       ap (λ b. if b then receive_store t.receiving t else t) hits ∙ ap (λ p. receive_store p t) row.knows in
       by_line (stores (slice_index x 10 + 64) (slice_index x 5)) (λ q. goes_to s (next_pc s.pc))
-      (store_line (line_at 8 place refl) (omega (arith, row.frame.block, is.even)) refl
+      (store_line (line_at 8 place refl) (omega (arith, row.frame.block, is.aligned)) refl
       (omega (arith, row.frame.block, is.inside, has.words, is.some_slots)) (omega (arith, has.words, is.small)))
       (subst (λ p. IsReceiverStore r p made) (sym row.knows) rule)
       (subst (λ z. Inside n k r ys (went c (store made)) (goes_to s (next_pc s.pc)) (receiver_part z)) (sym next_is)
@@ -321,7 +321,7 @@ module _ (M n a b : ℕ) (k : Block) (is : IsBlock M k) (h : ℕ) (s : HartState
   pub line : {m answer : ℕ} {ws : List ℕ} → IsAt s (Jalr (reg_of 0) (reg_of 1) (pos 0)) → Finished n k r c m ws x Part answer
       → Line s need.Inner (λ q. goes_to s (slice_index x 1 / 2 * 2))
   line here f = return_line here (omega (arith, back_of f.left, f.left.args.back_small))
-      (subst (λ y. y / 2 * 2 % 4 ≡ 0) (sym (back_of f.left)) f.left.args.back_even)
+      (subst (λ y. y / 2 * 2 % 4 ≡ 0) (sym (back_of f.left)) f.left.args.back_aligned)
 
   module _ {m answer : ℕ} {ws : List ℕ} (le : m ≤ 10) (here : IsAt s (Jalr (reg_of 0) (reg_of 1) (pos 0)))
       (f : Finished n k r c m ws x Part answer) (says : slice_index x 10 ≡ answer) where

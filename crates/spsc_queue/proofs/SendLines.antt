@@ -19,7 +19,7 @@ use Rattle.step_machine.specs.Access.{Access, nothing, load, store, access_of}
 use Rattle.step_machine.specs.Paths.{entry_of}
 use Rattle.spsc_queue.specs.RingBuffers.{RingBuffer, IsWordIn, next, overlaps}
 use Rattle.spsc_queue.specs.Protocol.{placed, roomy, filled, ProtocolState, sends, read_tail, send_load, send_store, next_by}
-use Rattle.spsc_queue.specs.Protocol.{IsWord, IsSenderStore}
+use Rattle.spsc_queue.specs.Protocol.{IsWordAt, IsSenderStore}
 use Rattle.spsc_queue.specs.Listings.{lines_of, try_send}
 use Rattle.spsc_queue.specs.Calls.{Block, IsBlock, ring_of}
 use Rattle.spsc_queue.specs.CallEffects.{completed_word}
@@ -83,7 +83,7 @@ module _ (M n a b : ℕ) (k : Block) (is : IsBlock M k) (h : ℕ) (s : HartState
   pub sends_at_00 : Goes at_00  -- lw x5,0(x10)
   sends_at_00 place row =
       by_line (loads (slice_index x 10 + 0)) (λ q. leaves_in s (reg_of 5) q)
-      (load_line (line_at 0 place refl) (omega (arith, row.frame.block, is.even)) refl
+      (load_line (line_at 0 place refl) (omega (arith, row.frame.block, is.aligned)) refl
       (omega (arith, row.frame.block, is.inside, has.words, is.some_slots)) (omega (arith, has.words, is.small)))
       tt
       (goes at_04 (leaves_in s (reg_of 5) v) (record { sending = send_load r (slice_index x 10 + 0) v t.sending; sent = t.sent }) (on 0 place (omega arith))
@@ -100,7 +100,7 @@ module _ (M n a b : ℕ) (k : Block) (is : IsBlock M k) (h : ℕ) (s : HartState
   pub sends_at_04 : Goes at_04  -- lw x6,64(x10)
   sends_at_04 place row =
       by_line (loads (slice_index x 10 + 64)) (λ q. leaves_in s (reg_of 6) q)
-      (load_line (line_at 1 place refl) (omega (arith, row.frame.block, is.even)) refl
+      (load_line (line_at 1 place refl) (omega (arith, row.frame.block, is.aligned)) refl
       (omega (arith, row.frame.block, is.inside, has.words, is.some_slots)) (omega (arith, has.words, is.small)))
       tt
       (goes at_08 (leaves_in s (reg_of 6) v) (record { sending = send_load r (slice_index x 10 + 64) v t.sending; sent = t.sent }) (on 1 place (omega arith))
@@ -247,14 +247,14 @@ module _ (M n a b : ℕ) (k : Block) (is : IsBlock M k) (h : ℕ) (s : HartState
       let u : ℕ = row.place in
       let bound : IsOffset k u = subst (IsNear k) row.knows near in
       let made : Write = write (slice_index x 5 + 128) 4 (slice_index x 11) in
-      let here : IsWord made (r.slots + u) = record { place = omega (arith, row.address); width = refl } in
-      let inside : IsWordIn r (r.slots + u) = record { above = omega arith; below = omega (arith, bound.0); aligned = omega (arith, is.even, bound.1) } in
+      let here : IsWordAt made (r.slots + u) = record { place = omega (arith, row.address); width = refl } in
+      let inside : IsWordIn r (r.slots + u) = record { above = omega arith; below = omega (arith, bound.0); aligned = omega (arith, is.aligned, bound.1) } in
       let hits : overlaps r made ≡ true = word_on r made (r.slots + u) inside here in
       let rule : IsSenderStore r (roomy u) made = (here, omega (arith, row.word, row.frame.left.args.word)) in
       let next_is : (if overlaps r made then send_store made t.sending t else t) ≡ send_store made (roomy u) t =
       ap (λ c. if c then send_store made t.sending t else t) hits ∙ ap (λ p. send_store made p t) row.knows in
       by_line (stores (slice_index x 5 + 128) (slice_index x 11)) (λ q. goes_to s (next_pc s.pc))
-      (store_line (line_at 7 place refl) (omega (arith, row.address, is.even, bound.1)) refl
+      (store_line (line_at 7 place refl) (omega (arith, row.address, is.aligned, bound.1)) refl
       (omega (arith, row.address, bound.0, is.inside, has.words)) (omega (arith, has.words, is.small)))
       (subst (λ p. IsSenderStore r p made) (sym row.knows) rule)
       (subst (λ z. Inside n k r xs (went c (store made)) (goes_to s (next_pc s.pc)) (sender_part z)) (sym next_is)
@@ -276,15 +276,15 @@ module _ (M n a b : ℕ) (k : Block) (is : IsBlock M k) (h : ℕ) (s : HartState
       let u : ℕ = row.place in
       let bound : IsOffset k u = subst (IsNear k) row.knows near in
       let made : Write = write (slice_index x 10 + 0) 4 (slice_index x 7) in
-      let here : IsWord made r.head = record { place = omega (arith, row.frame.block); width = refl } in
-      let inside : IsWordIn r r.head = record { above = omega arith; below = omega arith; aligned = is.even } in
+      let here : IsWordAt made r.head = record { place = omega (arith, row.frame.block); width = refl } in
+      let inside : IsWordIn r r.head = record { above = omega arith; below = omega arith; aligned = is.aligned } in
       let hits : overlaps r made ≡ true = word_on r made r.head inside here in
       let rule : IsSenderStore r (filled u) made = (here, row.after) in
       let first : Access = store (write (r.slots + u) 4 (word_of c)) in
       let next_is : (if overlaps r made then send_store made t.sending t else t) ≡ send_store made (filled u) t =
       ap (λ c. if c then send_store made t.sending t else t) hits ∙ ap (λ p. send_store made p t) row.knows in
       by_line (stores (slice_index x 10 + 0) (slice_index x 7)) (λ q. goes_to s (next_pc s.pc))
-      (store_line (line_at 8 place refl) (omega (arith, row.frame.block, is.even)) refl
+      (store_line (line_at 8 place refl) (omega (arith, row.frame.block, is.aligned)) refl
       (omega (arith, row.frame.block, is.inside, has.words, is.some_slots)) (omega (arith, has.words, is.small)))
       (subst (λ p. IsSenderStore r p made) (sym row.knows) rule)
       (subst (λ z. Inside n k r xs (went c (store made)) (goes_to s (next_pc s.pc)) (sender_part z)) (sym next_is)
@@ -335,7 +335,7 @@ module _ (M n a b : ℕ) (k : Block) (is : IsBlock M k) (h : ℕ) (s : HartState
   pub line : {m answer : ℕ} {ws : List ℕ} → IsAt s (Jalr (reg_of 0) (reg_of 1) (pos 0)) → Finished n k r c m ws x Part answer
       → Line s need.Inner (λ q. goes_to s (slice_index x 1 / 2 * 2))
   line here f = return_line here (omega (arith, back_of f.left, f.left.args.back_small))
-      (subst (λ y. y / 2 * 2 % 4 ≡ 0) (sym (back_of f.left)) f.left.args.back_even)
+      (subst (λ y. y / 2 * 2 % 4 ≡ 0) (sym (back_of f.left)) f.left.args.back_aligned)
 
   module _ {m answer : ℕ} {ws : List ℕ} (le : m ≤ 10) (here : IsAt s (Jalr (reg_of 0) (reg_of 1) (pos 0)))
       (f : Finished n k r c m ws x Part answer) (says : slice_index x 10 ≡ answer) where

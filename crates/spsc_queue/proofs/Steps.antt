@@ -11,18 +11,18 @@ use Rattle.step_machine.specs.Access.{Access, store, access_of}
 use Rattle.step_machine.specs.Entries.{hart_of, stored_by, landed_by, written_by, store_of, land_of, write_of, pending, memory_word, stores, lands}
 use Rattle.spsc_queue.specs.RingBuffers.{RingBuffer, IsRingBuffer, IsWordIn, offset, slot, next, overlaps, writes_to}
 use Rattle.spsc_queue.specs.Protocol.{SenderState, resting, roomy, filled, ReceiverState, idle, holding, ProtocolState}
-use Rattle.spsc_queue.specs.Protocol.{IsWord}
+use Rattle.spsc_queue.specs.Protocol.{IsWordAt}
 use Rattle.spsc_queue.proofs.Spread.{spread, spread-more, sent_store, freed_store, sent-slot, sent-head}
 use Rattle.spsc_queue.proofs.Effects.{memory-quiet, on-append, on-one, on-none, pending-quiet, pending-more}
 use Rattle.spsc_queue.proofs.Invariant.{Landed, firsts, SendingIs, ReceivingIs, Invariant}
 use Rattle.spsc_queue.proofs.Loads.{next_offset, slot_word}
 
 -- the write of a word, by its parts
-pub write-is : (w : Write) (a v : ℕ) → IsWord w a → w.value ≡ v → w ≡ write a 4 v
+pub write-is : (w : Write) (a v : ℕ) → IsWordAt w a → w.value ≡ v → w ≡ write a 4 v
 write-is w a v is value = ap (λ x. write x w.width w.value) is.place ∙ ap (λ x. write a x w.value) is.width ∙ ap (write a 4) value
 
 -- a store to a word of the block is on it
-pub word_on : (r : RingBuffer) (w : Write) (a : ℕ) → IsWordIn r a → IsWord w a → overlaps r w ≡ true
+pub word_on : (r : RingBuffer) (w : Write) (a : ℕ) → IsWordIn r a → IsWordAt w a → overlaps r w ≡ true
 word_on r w a word is = grind (arith, nat_tests, word.above, word.below, is.place, is.width)
 
 -- where what is on the block is a word of a row, and what comes after it
@@ -141,7 +141,7 @@ module _ (r : RingBuffer) (is : IsRingBuffer r) (L : ℕ → ℕ) (small : (j : 
         ∙ ap (λ vs. vs ++ w ∷ []) before ∙ ap (λ x. spread f i n ++ x ∷ []) is_next ∙ spread-more f i n
 
     -- the sender's two stores
-    pub sends-word : hart_of e ≡ r.sender → (u : ℕ) → s.sending ≡ roomy u → IsWord w (r.slots + u) → w.value ≡ L s.stored
+    pub sends-word : hart_of e ≡ r.sender → (u : ℕ) → s.sending ≡ roomy u → IsWordAt w (r.slots + u) → w.value ≡ L s.stored
         → overlaps r w ≡ true → Invariant r L o after (record s { sending = filled u; stored = s.stored + 1; sent = s.sent ++ w.value ∷ [] })
     sends-word mine u at word value on = record {
       landed = d;
@@ -189,7 +189,7 @@ module _ (r : RingBuffer) (is : IsRingBuffer r) (L : ℕ → ℕ) (small : (j : 
             (record { place = word.place ∙ ap (λ x. r.slots + x) (known.1 ∙ ap (offset r) (sym known.0)); width = word.width }) value
             ∙ sym (sent-slot r L ((d.slots + d.heads) + inv.buffers.unsent) s.stored (omega (arith, inv.buffers.mine_count, known.0)))
 
-    pub sends-head : hart_of e ≡ r.sender → (u : ℕ) → s.sending ≡ filled u → IsWord w r.head → w.value ≡ next r u
+    pub sends-head : hart_of e ≡ r.sender → (u : ℕ) → s.sending ≡ filled u → IsWordAt w r.head → w.value ≡ next r u
         → overlaps r w ≡ true → Invariant r L o after (record s { sending = resting; published = s.published + 1 })
     sends-head mine u at word value on = record {
       landed = d;
@@ -234,7 +234,7 @@ module _ (r : RingBuffer) (is : IsRingBuffer r) (L : ℕ → ℕ) (small : (j : 
             ∙ sym (sent-head r L ((d.slots + d.heads) + inv.buffers.unsent) s.published (omega (arith, inv.buffers.mine_count, known.0)))
 
     -- the receiver's
-    pub frees : hart_of e ≡ r.receiver → (u v : ℕ) → s.receiving ≡ holding u v → IsWord w r.tail → w.value ≡ next r u
+    pub frees : hart_of e ≡ r.receiver → (u v : ℕ) → s.receiving ≡ holding u v → IsWordAt w r.tail → w.value ≡ next r u
         → overlaps r w ≡ true → Invariant r L o after (record s { receiving = idle; consumed = s.consumed + 1; received = s.received ++ v ∷ [] })
     frees mine u v at word value on = record {
       landed = d;

@@ -35,7 +35,7 @@ same_arguments n k s z same a = record {
   bytes = ap (λ x. slice_index x 12) (sym same) ∙ a.bytes;
   word = subst (λ x. slice_index x 11 < 2 ^ 32) same a.word;
   back = λ e. a.back (ap (λ x. slice_index x 1 / 2 * 2) same ∙ e);
-  back_even = subst (λ x. slice_index x 1 / 2 * 2 % 4 ≡ 0) same a.back_even;
+  back_aligned = subst (λ x. slice_index x 1 / 2 * 2 % 4 ≡ 0) same a.back_aligned;
   back_small = subst (λ x. slice_index x 1 < 2 ^ 32) same a.back_small;
 }
 

@@ -22,7 +22,7 @@ pub record Block : Type 0 where
   pub size : ℕ
 
 pub record IsBlock (M : ℕ) (k : Block) : Type 0 where
-  pub even : k.base % 4 ≡ 0
+  pub aligned : k.base % 4 ≡ 0
   pub some_slots : 2 ≤ k.size
   pub inside : k.base + 128 + 4 * k.size ≤ 4 * M
   pub small : 4 * M < 2 ^ 32
@@ -138,7 +138,7 @@ pub record HasArguments (n : ℕ) (k : Block) (s : HartState) : Type 0 where
   pub bytes : slice_index s.registers 12 ≡ 4 * k.size
   pub word : slice_index s.registers 11 < 2 ^ 32
   pub back : slice_index s.registers 1 / 2 * 2 ≢ 4 * n
-  pub back_even : slice_index s.registers 1 / 2 * 2 % 4 ≡ 0
+  pub back_aligned : slice_index s.registers 1 / 2 * 2 % 4 ≡ 0
   pub back_small : slice_index s.registers 1 < 2 ^ 32
 
 -- what a party's hart h owes at an entry e of its own, which comes after done, where it is in no call: it writes nothing to

@@ -100,19 +100,19 @@ WritesNothingTo r (store w) = overlaps r w ≡ false
 WritesNothingTo r (exchange a old new) = overlaps r (write a 4 new) ≡ false
 WritesNothingTo r x = Unit {0}
 
-pub record IsWord (w : Write) (a : ℕ) : Type 0 where
+pub record IsWordAt (w : Write) (a : ℕ) : Type 0 where
   pub place : w.addr ≡ a
   pub width : w.width ≡ 4
 
 -- the sender's stores to the block: where a slot is free a word into it, and then the head after it
 abbrev pub IsSenderStore : RingBuffer → SenderState → Write → Type 0
-IsSenderStore r (roomy u) w = IsWord w (r.slots + u) × (w.value < 2 ^ 32)
-IsSenderStore r (filled u) w = IsWord w r.head × (w.value ≡ next r u)
+IsSenderStore r (roomy u) w = IsWordAt w (r.slots + u) × (w.value < 2 ^ 32)
+IsSenderStore r (filled u) w = IsWordAt w r.head × (w.value ≡ next r u)
 IsSenderStore r p w = ⊥
 
 -- the receiver's: where it has read a word, the tail after it
 abbrev pub IsReceiverStore : RingBuffer → ReceiverState → Write → Type 0
-IsReceiverStore r (holding u v) w = IsWord w r.tail × (w.value ≡ next r u)
+IsReceiverStore r (holding u v) w = IsWordAt w r.tail × (w.value ≡ next r u)
 IsReceiverStore r p w = ⊥
 
 abbrev pub KeepsProtocolBy : RingBuffer → Role → ProtocolState → Access → Type 0
