@@ -54,7 +54,7 @@ module _ (B : ℕ) (r : RingBuffer) (o : OpeningValue) (before es : List Entry) 
       ap length inv.buffers.mine ∙ length-spread (sent_store r L) (inv.landed.slots + inv.landed.heads) inv.buffers.unsent in
       omega (arith, same, left, inv.buffers.mine_count, inv.order.slots_stored, inv.order.heads_published)
 
-  -- the sender reads the next offset in the tail: all slots but one hold words of which no tail has landed
+  -- the sender reads the next offset in the tail: all slots except one hold words of which no tail has landed
   pub full_landed : (u : ℕ) → hart_of e ≡ r.sender → access_of e ≡ load r.tail 4 (next r u) → T.sending ≡ placed u
       → T.consumed + r.size ≡ T.stored + 1 + length (writes_to r (pending r.receiver (before ++ es)))
   full_landed u mine does was =

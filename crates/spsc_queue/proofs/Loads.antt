@@ -29,7 +29,7 @@ next_offset r is u j at = by (u + 4 == 4 * r.size) refl
     by false more = let other : u + 4 ≢ 4 * r.size = eqb-false (u + 4) (4 * r.size) more in
         let step : 4 * (j % r.size) + 4 ≡ 4 * ((j + 1) % r.size) = offset_step r.size j (omega (arith, is.some_slots)) (λ e. other (omega arith)) in omega arith
 
--- a ring's size on is the same offset
+-- a whole size on is the same offset
 pub offset_again : (r : RingBuffer) (is : IsRingBuffer r) (j k : ℕ) → k ≡ j + r.size → offset r k ≡ offset r j
 offset_again r is j k at = ap (λ x. 4 * (x % r.size)) at ∙ ap (λ x. 4 * x) (add-mod_right j r.size)
 

@@ -302,7 +302,7 @@ module _ (B : ℕ) (r : RingBuffer) (is : IsRingBuffer r) (F : List ℕ) (small 
 
 -- ---- whole runs
 
--- the invariant of a ring at rest
+-- the invariant of a queue that is empty and at rest
 pub at_rest : (r : RingBuffer) (is : IsRingBuffer r) (L : ℕ → ℕ) (o : OpeningValue) (es : List Entry) → IsEmptyAndQuiescent r o es → Invariant r L o es at_start
 at_rest r is L o es quiet = record {
   landed = record { slots = 0; heads = 0; tails = 0 };

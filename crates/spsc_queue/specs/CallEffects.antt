@@ -48,7 +48,7 @@ abbrev pub receive_accesses : RingBuffer → (w u v : ℕ) → List Access
 receive_accesses r w u v = load r.tail 4 u ∷ load r.head 4 v
     ∷ (if v == u then [] else load (r.slots + u) 4 w ∷ store (write r.tail 4 (next r u)) ∷ [])
 
--- each register but x5, x6, x7, a0 and a1
+-- every register except x5, x6, x7, a0 and a1
 abbrev pub KeepsOtherRegisters : (xs ys : List ℕ) → Type 0
 KeepsOtherRegisters xs ys = (i : ℕ) → i ≢ 5 → i ≢ 6 → i ≢ 7 → i ≢ 10 → i ≢ 11 → slice_index ys i ≡ slice_index xs i
 
@@ -85,8 +85,8 @@ pub record ReceiveEffect (r : RingBuffer) (s z : HartState) (count : ℕ) (did :
 
 -- ---- a call that returns 0
 
--- at an entry e of the call the sender loads the tail, and after the entries before e the queue is full: all slots but one
--- hold words that were sent and that no call returned, as far as the receiver's stores to the block have landed
+-- at an entry e of the call the sender loads the tail, and after the entries before e the queue is full: all slots except
+-- one hold words that were sent and that no call returned, as far as the receiver's stores to the block have landed
 pub record FoundFull (M : ℕ) (o : OpeningValue) (q : SpscQueue) (before done call : List Entry) : Type 0 where
   pub part : List Entry
   pub entry : Entry

@@ -87,7 +87,7 @@ pub fn laws_of_store_buffers()
 /// the sender's hart had stored there has landed. Once as many words more are ready as the queue has slots than were
 /// consumed at some point, all that the receiver's hart had stored there has landed. Where a receiver that has read its
 /// tail reads the same in the head, each word whose head has landed is consumed; where a sender that has read its head
-/// reads the next offset in the tail, all slots but one hold words whose tail hasn't landed. It does nothing.
+/// reads the next offset in the tail, all slots except one hold words whose tail hasn't landed. It does nothing.
 pub fn laws_of_protocol()
     ensures fifo { (B : ℕ) (r : RingBuffer) (o : OpeningValue) (before es : List Entry) → FollowsSpscProtocol B r o before es
         → IsPrefix (protocol_after r at_start es).received (published_words (protocol_after r at_start es)) }
@@ -173,7 +173,7 @@ pub fn laws_of_many_queues()
 /// Of one whole call in a run of which [`laws_of_calls`] speaks, from its entry to its return, whatever others execute meanwhile. It does nothing.
 ///
 /// - `send`: a call of `try_send` loads both indices. If the queue is full it returns a0 = 0; else it stores the word of
-///   its a1 into the slot, then the head, and returns a0 = 1. It goes back to ra, keeps all registers but x5, x6, x7 and
+///   its a1 into the slot, then the head, and returns a0 = 1. It goes back to ra, keeps all registers except x5, x6, x7 and
 ///   a0, and makes at most 11 entries.
 /// - `receive`: a call of `try_receive` loads both indices. If the queue is empty it returns a0 = 0; else it loads the word
 ///   into a1, stores the tail, and returns a0 = 1. The rest is as above, and a1 may change.
