@@ -111,7 +111,7 @@ two =
 run : WellFormed 4 64 (history_of opening entries)
 run = record { legal = legal; paths = paths; of_harts = all_of entries two }
 
-kept : obligations_kept 64 opening queue [] entries ≡ true
+pub kept : obligations_kept 64 opening queue [] entries ≡ true
 unfolding need_of advanced meaning
 kept = refl
 

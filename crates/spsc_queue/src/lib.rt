@@ -204,11 +204,12 @@ pub fn laws_of_one_call()
 /// What callers owe can be computed, and can be kept. It does nothing.
 ///
 /// - `decided`: where the computation over a run's entries says so, each entry keeps what is owed.
-/// - `met`, `sent` and `received`: the run of `specs/Example.antt` keeps all, and one word passes, by whole calls of both
-///   functions (`calls_send`, `calls_receive`).
+/// - `computed`, `met`, `sent` and `received`: it says so of the run of `specs/Example.antt`, which so keeps all, and one
+///   word passes, by whole calls of both functions (`calls_send`, `calls_receive`).
 pub fn laws_of_obligations()
     ensures decided { (M : ℕ) (o : OpeningValue) (q : SpscQueue) (before es : List Entry) → obligations_kept M o q before es ≡ true
         → (done : List Entry) (e : Entry) (more : List Entry) → es ≡ done ++ e ∷ more → CallerObligation M o q before done e }
+    ensures computed { obligations_kept 64 example.opening example.queue [] example.entries ≡ true }
     ensures met { UsesAsSpscQueue 4 64 example.opening example.queue [] example.entries }
     ensures calls_send { IsSend 64 example.opening example.queue [] example.before_send example.send (example.sender_after example.before_send)
         (example.sender_after (example.before_send ++ example.send)) }

@@ -1,9 +1,12 @@
 use Rattle.spsc_queue.proofs.Obligations.{obligations_decided}
-use Rattle.spsc_queue.proofs.Example.{uses, is_send, is_receive, sent, received}
+use Rattle.spsc_queue.proofs.Example.{kept, uses, is_send, is_receive, sent, received}
 use Rattle.spsc_queue.proofs.laws_of_obligations.Goals as goal
 
 pub returns-clause-decided : goal.returns-clause-decided
 returns-clause-decided c = λ M o q before es kept done e more is. obligations_decided M o q before es kept done e more is
+
+pub returns-clause-computed : goal.returns-clause-computed
+returns-clause-computed c = kept
 
 pub returns-clause-met : goal.returns-clause-met
 returns-clause-met c = uses
