@@ -41,6 +41,8 @@ FOLDERS = {
     "tools/reference": (".py",),
 }
 LEFT_OUT = ("out", "trials", "__pycache__")
+# where the page by a link is put
+PAGE = f"{SHARE}/page"
 
 
 class File(NamedTuple):
@@ -57,9 +59,11 @@ def below(folder, suffixes):
         yield from (path.relative_to(TOP).as_posix() for path in there if path.suffix in suffixes)
 
 
-def files(program):
-    """Each file below a prefix, sorted by its place, with this program."""
+def files(program, page=None):
+    """Each file below a prefix, sorted by its place, with this program and, where there is one, the folder of a page by a
+    link."""
     yield from sorted([
+        *(File(f"{PAGE}/{path.name}", path.read_bytes(), False) for path in (page.iterdir() if page else ())),
         File("lib/ztso/ztso", Path(program).read_bytes(), True),
         *(File(f"share/man/man1/{name}.1", b".so man1/ztso.1\n", False) for name in ("ztso-explain", "ztso-page")),
         *(File(place, (TOP / name).read_bytes(), True) for place, name in COMMANDS.items()),

@@ -21,8 +21,10 @@ def part(count, program):
     with workplace(program) as (folder, alone):
         packed = alone if is_binary(program) else STAND_IN.resolve()
         # what a package is made of has nothing of the folder, the time zone, the language or the rights of who makes it
-        first = package(folder / "first", packed, umask=0o022)
-        second = package(folder / "second" / "deep", packed, umask=0o077, variables={"TZ": "Asia/Tokyo", "LC_ALL": "C"})
+        page = page_by_a_link(count, folder)
+        first = package(folder / "first", packed, "--page", page, umask=0o022)
+        second = package(folder / "second" / "deep", packed, "--page", page, umask=0o077,
+                         variables={"TZ": "Asia/Tokyo", "LC_ALL": "C"})
         count.told("packs", first[0] == 0 and second[0] == 0, first[2] + second[2])
         made = below(folder / "first")
         version = tree.version()
@@ -36,12 +38,20 @@ def part(count, program):
         if packed == alone:
             there = [name for name in UNCALLED if b"\0%s\0" % name.encode() in alone.read_bytes()]
             count.same("functions that the program calls", there, [])
-        archive(count, folder, folder / "first" / made[1], packed)
+        archive(count, folder, folder / "first" / made[1], packed, page)
         debian(count, folder, folder / "first" / made[2], packed)
 
 
-def package(to, program, **options):
-    return call(tree.TOP / "tools/package", "--to", to, "--program", program, "--changed", **options)
+def package(to, program, *words, **options):
+    return call(tree.TOP / "tools/package", "--to", to, "--program", program, "--changed", *words, **options)
+
+
+def page_by_a_link(count, folder):
+    """A page by a link, whose program was compiled before and is a stand-in here."""
+    wasm, page = folder / "ztso.wasm", folder / "page"
+    wasm.write_bytes(b"\0asm")
+    count.same("a page by a link", call(tree.TOP / "scripts/static-page", "--wasm", wasm, page), (0, "", ""))
+    return page
 
 
 def refusals(count, folder, packed):
@@ -54,15 +64,17 @@ def refusals(count, folder, packed):
     count.told("a change", (status, said, faults.count("\n")) == (1, "", 1) and "VERSION" in faults, said + faults)
     status, said, faults = package(folder / "none", tree.TOP / "ztso")
     count.told("no program", (status, said, faults.count("\n")) == (1, "", 1), said + faults)
+    status, said, faults = package(folder / "none", packed, "--page", folder)
+    count.told("no page", (status, said, faults.count("\n")) == (1, "", 1) and "is no page" in faults, said + faults)
     count.same("nothing is made", (folder / "none").exists(), False)
 
 
-def archive(count, folder, path, packed):
+def archive(count, folder, path, packed, page):
     """The archive's commands run where it is unpacked, and it has the files that are installed."""
     (folder / "unpacked").mkdir()
     count.same("unpacks", call("tar", "-xf", path, "-C", folder / "unpacked"), (0, "", ""))
     (top,) = (folder / "unpacked").iterdir()
-    wanted = {file.place: (file.content, 0o100755 if file.executable else 0o100644) for file in tree.files(packed)}
+    wanted = {file.place: (file.content, 0o100755 if file.executable else 0o100644) for file in tree.files(packed, page)}
     count.told("the archive's files", prefix.contents(top) == wanted, "other files, contents or rights")
     witness(count, "from the archive", top / "bin/ztso", top / "share/ztso", packed)
 
