@@ -94,12 +94,11 @@ impl<const M: usize> Memory<M> {
         self.untouched = 0;
     }
 
-    /// The words up to the last that was written since the opening; those after them are the opening's.
+    /// A copy of the words up to the last that differs from the opening's.
     pub fn save(&self, alloc: Global) -> Result<Vec<u32>, AllocError>
-        ensures few { IfOk result (λ saved. length saved.items ≤ M) }
-        ensures same { IfOk result (λ saved. saved.items ++ drop (length saved.items) self.now.first ≡ self.now.words) }
+        ensures { IfOk result (λ saved. saved.items ≡ written_since self.now.first self.now.words) }
     {
-        Vec::from_slice(alloc, &self.words[..self.untouched])
+        Vec::from_slice(alloc, self.written())
     }
 
     /// The words up to the last that differs from the opening's.

@@ -11,6 +11,8 @@ use Rattle.hart.specs.Saved.{SavedView, IsSavedOf, put_back}
 use Rattle.hart.specs.declared.need.Report.{Report}
 use Rattle.hart.proofs.PutBack.{HasGoneOn, state_again, reports_again}
 use Rattle.memory.specs.declared.writes.Write.{Write}
+use Rattle.memory.specs.Words.{written_since}
+use Rattle.memory.proofs.Written.{written_back, written_few}
 use Rattle.step_machine.specs.declared.events.Entry.{Entry}
 use Rattle.step_machine.specs.History.{HartOpeningValue, OpeningValue, History, up_to}
 use Rattle.step_machine.specs.Entries.{own, reported}
@@ -96,7 +98,11 @@ same_stored : (s : SnapshotView) (a b : Stored) → a.first ≡ b.first → s.bu
     → restored_stored s.buffers s.words a ≡ b
 same_stored s a b first buffers words = grind arith
 
-same_again : (B M n k : ℕ) (t : History) (c d : Config) (s : SnapshotView) → IsMachineAt B M t c n → IsMachineAt B M (up_to k t) d 0 → IsSavedFrom M d s
+-- before the opening's words that they leave, the saved words are all words
+words_back : (M : ℕ) (s : Stored) (ws : List ℕ) → FitStored M s → ws ≡ written_since s.first s.words → ws ++ drop (length ws) s.first ≡ s.words
+words_back M s ws fit is = subst (λ (xs : List ℕ). xs ++ drop (length xs) s.first ≡ s.words) (sym is) (written_back s.first s.words (fit.first ∙ sym fit.words))
+
+same_again : (B M n k : ℕ) (t : History) (c d : Config) (s : SnapshotView) → IsMachineAt B M t c n → IsMachineAt B M (up_to k t) d 0 → IsSavedFrom d s
     → SameButRoom d (restored_config s c)
 same_again B M n k t c d s now then saved =
     let count : length c.harts ≡ length d.harts = now.count ∙ sym then.count in record {
@@ -104,7 +110,7 @@ same_again B M n k t c d s now then saved =
           (λ h v w x is_v is_w of_w. same_seen v w x of_w (gone_on B M n k t c d now then h v w is_v is_w));
       firsts = same_restored beginning c.harts d.harts s.harts saved.harts count
           (λ h v w x is_v is_w of_w. (gone_on B M n k t c d now then h v w is_v is_w).first);
-      stored = same_stored s c.stored d.stored (now.tied.holds.opens ∙ sym then.tied.holds.opens) saved.buffers saved.words;
+      stored = same_stored s c.stored d.stored (now.tied.holds.opens ∙ sym then.tied.holds.opens) saved.buffers (words_back M d.stored s.words then.fit.stored saved.words);
     }
 
 -- ---- the machine put back
@@ -150,6 +156,12 @@ buffers_back B M n t c s now taken = ap length taken.saved.buffers ∙ taken.sta
 
 pub pending_back : (B M : ℕ) (t : History) (s : SnapshotView) → IsTakenAt B M t s → All (InMemory M) s.buffers
 pending_back B M t s taken = subst (All (InMemory M)) (sym taken.saved.buffers) taken.stands.fit.stored.pending
+
+pub words_few : (B M : ℕ) (t : History) (s : SnapshotView) → IsTakenAt B M t s → length s.words ≤ M
+words_few B M t s taken =
+    let stored : Stored = taken.held.stored in
+    let few = written_few stored.first stored.words in
+    omega (arith, ap length taken.saved.words, taken.stands.fit.stored.words)
 
 -- what is put back fits
 

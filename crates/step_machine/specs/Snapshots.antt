@@ -1,14 +1,15 @@
 -- Snapshots: what a machine held at the end of a history, without the history.
-use Rattle.std.specs.Prelude.{ℕ, ◌≡◌, ◌≤◌, ◌++◌, List, [], ◌∷◌, length, drop}
+use Rattle.std.specs.Prelude.{ℕ, ◌≡◌, List, [], ◌∷◌, length}
 use Rattle.hart.specs.State.{HartView}
 use Rattle.hart.specs.Saved.{SavedView, IsSavedOf}
 use Rattle.memory.specs.declared.writes.Write.{Write}
+use Rattle.memory.specs.Words.{written_since}
 use Rattle.step_machine.specs.History.{History}
 use Rattle.step_machine.specs.Standing.{RepresentsHistory}
 use Rattle.step_machine.specs.inner.Config.{Config}
 
 -- what a contract sees of a snapshot: how many entries came before it, where each hart stood, what was
--- pending, and the words of memory up to the last that was written
+-- pending, and the words of memory up to the last that differs from the opening's
 pub record SnapshotView : Type 0 where
   pub count : ℕ
   pub harts : List SavedView
@@ -23,15 +24,14 @@ AreSaved (v ∷ vs) [] = ⊥
 AreSaved (v ∷ vs) (x ∷ xs) = IsSavedOf v x × AreSaved vs xs
 
 -- it is what the machine holds
-pub record IsSavedFrom (M : ℕ) (c : Config) (s : SnapshotView) : Type 0 where
+pub record IsSavedFrom (c : Config) (s : SnapshotView) : Type 0 where
   pub harts : AreSaved c.harts s.harts
   pub buffers : s.buffers ≡ c.stored.buffers
-  pub few : length s.words ≤ M
-  pub words : s.words ++ drop (length s.words) c.stored.first ≡ c.stored.words
+  pub words : s.words ≡ written_since c.stored.first c.stored.words
 
 -- it was taken at the end of the history
 pub record IsTakenAt (B M : ℕ) (t : History) (s : SnapshotView) : Type 0 where
   pub count : s.count ≡ length t.entries
   pub held : Config
   pub stands : RepresentsHistory B M t held
-  pub saved : IsSavedFrom M held s
+  pub saved : IsSavedFrom held s

@@ -163,7 +163,7 @@ impl<const B: usize, const M: usize> MachineState<B, M> {
     /// What it holds, as it stands after this number of entries.
     pub(crate) fn save(&self, alloc: Global, entries: u128) -> Result<Snapshot<B, M>, AllocError>
         ensures count { IfOk result (λ s. s.count ≡ entries) }
-        ensures saved { IfOk result (IsSavedFrom M self.now) }
+        ensures saved { IfOk result (IsSavedFrom self.now) }
     {
         let harts = save_harts(alloc, &self.harts)?;
         let (buffers, words) = self.stores.save(alloc)?;

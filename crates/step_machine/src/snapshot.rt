@@ -6,8 +6,9 @@ use hart::SavedHart;
 use memory::store_buffer::StoreBuffer;
 use std::marker::Model;
 
-/// Where each hart of a machine stood, what was pending, and the words of memory up to the last that was
-/// written. Its size depends on these, and neither on the memory nor on how much was done before.
+/// Where each hart of a machine stood, what was pending, and the words of memory up to the last that
+/// differed from the opening's. Its size depends on these, and neither on the memory nor on how much was done
+/// before.
 #[derive(Drop)]
 pub struct Snapshot<const B: usize, const M: usize> {
     pub(crate) entries: u128,

@@ -3,7 +3,7 @@ use Rattle.std.proofs.Common.{◌≡◌, List, take, sym, ◌∙◌, ap, subst, 
 use Rattle.step_machine.specs.History.{OpeningValue, HistoryWithRoom, history_of, up_to}
 use Rattle.step_machine.specs.Snapshots.{SnapshotView, IsTakenAt}
 use Rattle.step_machine.specs.declared.events.Entry.{Entry}
-use Rattle.step_machine.proofs.Snapshots.{within_back, buffers_back, pending_back, sound_put_to}
+use Rattle.step_machine.proofs.Snapshots.{within_back, buffers_back, pending_back, words_few, sound_put_to}
 use Rattle.step_machine.proofs.machine.Machine.back_to.Goals as goal
 
 pub restore-requires : goal.restore-requires
@@ -15,7 +15,7 @@ restore-requires g c =
     subst (λ (p : HistoryWithRoom). IsTakenAt g.row.B g.row.M (up_to s.count p.history) s) (sym c.self.view_is) c.requires in
     let harts = within_back g.row.B g.row.M c.self.inside.room (history_of o es) c.self.inside.machine_state s c.self.invariant.0 taken in
     let buffers = buffers_back g.row.B g.row.M c.self.inside.room (history_of o es) c.self.inside.machine_state s c.self.invariant.0 taken in
-    (lit< tt, (lit< tt, (harts, (buffers, (taken.saved.few, pending_back g.row.B g.row.M (up_to s.count (history_of o es)) s taken)))))
+    (lit< tt, (lit< tt, (harts, (buffers, (words_few g.row.B g.row.M (up_to s.count (history_of o es)) s taken, pending_back g.row.B g.row.M (up_to s.count (history_of o es)) s taken)))))
 
 pub invariant_of-self : goal.invariant_of-self
 invariant_of-self g c =
