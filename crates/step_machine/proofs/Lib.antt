@@ -26,3 +26,4 @@ pub mod Unpacked
 pub mod Packing
 pub mod Nexts
 pub mod TakingLaws
+pub mod PositionLaws

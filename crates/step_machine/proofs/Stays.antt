@@ -78,7 +78,7 @@ pub first_same : (hs gs : List HartView) (h : ℕ) → map beginning gs ≡ map 
     → option_map beginning (slice_get gs h) ≡ option_map beginning (slice_get hs h)
 first_same hs gs h same = first_at gs h ∙ ap (λ (ss : List HartState). slice_get ss h) same ∙ sym (first_at hs h)
 
-firsts_step_at : (hs : List HartView) (h v : ℕ) (so : Option HartView) → slice_get hs h ≡ so → map beginning (step_at hs h v so) ≡ map beginning hs
+pub firsts_step_at : (hs : List HartView) (h v : ℕ) (so : Option HartView) → slice_get hs h ≡ so → map beginning (step_at hs h v so) ≡ map beginning hs
 firsts_step_at hs h v None is = refl
 firsts_step_at hs h v (Some x) is = map-set_same beginning hs h (stepped x v) x (ap beginning (sym (get_or_from_slice_get hs h x x is)))
 

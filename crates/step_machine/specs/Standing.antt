@@ -27,10 +27,6 @@ MovesBy B M ev o old new = ForEachHistory B M old (λ t. (u : History) × Happen
 abbrev pub RunsBy : ℕ → ℕ → List Event → Config → Config → Type 0
 RunsBy B M evs old new = ForEachHistory B M old (λ t. (u : History) × RunFrom B M t evs u × RepresentsHistory B M u new)
 
--- no event
-abbrev pub StaysPut : ℕ → ℕ → Config → Config → Type 0
-StaysPut B M old new = ForEachHistory B M old (λ t. RepresentsHistory B M t new)
-
 -- back to where the history began
 abbrev pub BeginsAnew : ℕ → ℕ → Config → Config → Type 0
 BeginsAnew B M old new = ForEachHistory B M old (λ t. RepresentsHistory B M (at_opening t.opening) new)

@@ -8,7 +8,8 @@ ghost use Rattle.step_machine.specs.Legal.{IsOfHarts, WellFormed, Legal};
 ghost use Rattle.step_machine.specs.Paths.{PathOf};
 ghost use Rattle.step_machine.specs.MemoryEntries.{memory_of};
 ghost use Rattle.step_machine.specs.Placing.{diary_of, placed, IsMemory, Parts};
-ghost use Rattle.step_machine.specs.Positions.{IsSoundMachine, AreOfOneOpening, position_of, outcome_at, next_position, packed, put_at};
+ghost use Rattle.step_machine.specs.Positions.{IsSoundMachine, AreOfOneOpening, IsPositionOf, position_of, outcome_at, next_position, packed, put_at};
+ghost use Rattle.step_machine.specs.Standing.{RepresentsHistory};
 ghost use Rattle.step_machine.specs.inner.Config.{Config, outcome_of, after_outcome};
 ghost use Rattle.step_machine.specs.Runs.{Happens, Run, IsOwnRun};
 ghost use Rattle.step_machine.specs.WordReads.{AllWriteWords, OpensWithWords, word_in_memory, word_read};
@@ -59,7 +60,8 @@ pub fn laws_of_placing()
 
 /// The laws of positions. What an event answers, and the position after it, depend on the position alone. The
 /// words of a machine's position say where it stands: a machine of the same opening that is put at them stands
-/// there, and two machines of one opening with the same words stand at the same position. It does nothing.
+/// there, and two machines of one opening with the same words stand at the same position. A machine that stands
+/// at a history's end stands at the position where that ends. It does nothing.
 pub fn laws_of_positions()
     ensures outcome { (B : ℕ) (c : Config) (ev : Event) → outcome_of B c ev ≡ outcome_at B (position_of c) ev }
     ensures next { (B : ℕ) (c : Config) (ev : Event) → position_of (after_outcome c (outcome_of B c ev)) ≡ next_position B (position_of c) ev }
@@ -67,4 +69,5 @@ pub fn laws_of_positions()
         → position_of (put_at B M c (packed d)) ≡ position_of d }
     ensures one { (B M : ℕ) (c d : Config) → AreOfOneOpening c d → IsSoundMachine B M c → IsSoundMachine B M d
         → packed c ≡ packed d → position_of c ≡ position_of d }
+    ensures ends { (B M : ℕ) (t : History) (c : Config) → RepresentsHistory B M t c → IsPositionOf M t (position_of c) }
 {}

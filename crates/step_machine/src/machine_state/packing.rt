@@ -2,7 +2,7 @@
 
 ghost use Rattle.std.specs.Prelude.{◌≡◌, ◌++◌, length, slice_set, All, OnOk};
 ghost use Rattle.std.specs.List.{flat_map};
-ghost use Rattle.step_machine.specs.Positions.{packed, put_at, changed, pair_words, IsSoundMachine, IsSoundHart};
+ghost use Rattle.step_machine.specs.Positions.{packed, put_at, changed, pair_words, IsSoundMachine, IsSoundHart, AreOfOneOpening};
 ghost use Rattle.step_machine.specs.Positions.{packed_hart, status_number, status_named};
 ghost use Rattle.step_machine.specs.Positions.{unpacked_changes, unpacked_hart, unpacked_harts};
 
@@ -155,6 +155,7 @@ impl<const B: usize, const M: usize> MachineState<B, M> {
     /// no machine of this opening packed leave it at some position.
     pub fn unpack(&mut self, words: &[u32])
         ensures value { self.new ≡ put_at B M self.old words.now }
+        ensures opening { AreOfOneOpening self.old self.new }
         ensures harts { length self.new.harts ≡ length self.old.harts }
     {
         let rest = take_harts(&mut self.harts, words);

@@ -1,10 +1,12 @@
--- Whatever history the machine stands at the end of, the event makes the one that it then stands at.
+-- Whatever history the machine stands at the end of, the event makes the one that it then stands at; and whatever
+-- position it is at, the next one.
 use Rattle.std.proofs.Common.{◌≡◌, List, length, refl, ◌∙◌, ap, arith}
 use Rattle.hart.specs.State.{HartView}
 use Rattle.step_machine.specs.declared.events.Entry.{Entry}
 use Rattle.step_machine.specs.declared.events.Outcome.{Outcome}
 use Rattle.step_machine.specs.inner.Config.{Config, AllHaveRoom, after_outcome, entries_after}
 use Rattle.step_machine.specs.inner.Representation.{IsMachineAt}
+use Rattle.step_machine.proofs.PositionLaws.{answer_is, position_is_next, opening_stepped}
 use Rattle.step_machine.proofs.Rooms.{same-length}
 use Rattle.step_machine.proofs.Standings.{entry_count, sound_same, sound_stepped, happens_stepped}
 use Rattle.step_machine.proofs.machine_state.MachineState.step.Goals as goal
@@ -31,3 +33,16 @@ returns-clause-harts g c =
     ap (λ (k : Config). length k.harts) c.happen.ensures.after
     ∙ outcome_count c.reserve_for.new.self c.happen.result
     ∙ same-length c.args.self.now c.reserve_for.new.self c.reserve_for.ensures.same
+
+pub returns-clause-answers : goal.returns-clause-answers
+returns-clause-answers g c =
+    answer_is g.row.B c.args.self.now c.reserve_for.new.self c.args.event c.happen.result c.reserve_for.ensures.same c.happen.ensures.outcome
+
+pub returns-clause-position : goal.returns-clause-position
+returns-clause-position g c =
+    position_is_next g.row.B c.args.self.now c.reserve_for.new.self c.happen.new.self c.args.event c.happen.result
+    c.reserve_for.ensures.same c.happen.ensures.outcome c.happen.ensures.after
+
+pub returns-clause-opening : goal.returns-clause-opening
+returns-clause-opening g c =
+    opening_stepped c.args.self.now c.reserve_for.new.self c.happen.new.self c.happen.result c.reserve_for.ensures.same c.happen.ensures.after
