@@ -8,3 +8,4 @@ pub mod SeenLaws
 pub mod TestLaws
 pub mod PlaceLaws
 pub mod VerdictLaws
+pub mod PositionLaws

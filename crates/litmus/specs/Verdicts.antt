@@ -1,9 +1,12 @@
 -- What a test says of a machine: by the last registers of its harts and the last words of memory.
 use Rattle.std.specs.Prelude.{ℕ, ◌≡◌, ◌<◌, Bool, true, false, not, [], length, slice_index, Some, option_map, unwrap_or}
+use Rattle.std.specs.List.{slice_get}
 use Rattle.hart.specs.declared.status.Status.TheVariants as status
 use Rattle.step_machine.specs.History.{History}
 use Rattle.step_machine.specs.Entries.{pending, memory_word}
 use Rattle.step_machine.specs.Paths.{state_of}
+use Rattle.step_machine.specs.Positions.{Position}
+use Rattle.step_machine.specs.inner.Stored.{buffer_of, word_at}
 use Rattle.litmus.specs.declared.symbols.Place.{Place}
 use Rattle.litmus.specs.declared.symbols.Place.TheVariants as place
 use Rattle.litmus.specs.declared.verdict.Quantifier.{Quantifier}
@@ -37,3 +40,20 @@ abbrev pub IsVerdict : ℕ → LitmusTest → History → Verdict → Type 0
 IsVerdict M q t Holds = IsFinished M t × (is_satisfied q.quantifier (truth (final_value M t) q.condition) ≡ true)
 IsVerdict M q t Fails = IsFinished M t × (is_satisfied q.quantifier (truth (final_value M t) q.condition) ≡ false)
 IsVerdict M q t Unfinished = IsFinished M t → ⊥
+
+-- ---- the same of a machine's position, whatever led there
+
+abbrev pub HasFinishedAt : Position → ℕ → Type 0
+HasFinishedAt p h = (option_map (λ s. s.status) (slice_get p.harts h) ≡ Some status.Ended) × (buffer_of p.stored h ≡ [])
+
+abbrev pub IsFinishedAt : Position → Type 0
+IsFinishedAt p = (h : ℕ) → h < length p.harts → HasFinishedAt p h
+
+abbrev pub value_there : Position → Place → ℕ
+value_there p (place.Register h n) = unwrap_or (option_map (λ s. slice_index s.registers n) (slice_get p.harts h)) 0
+value_there p (place.Word a) = word_at p.stored a
+
+abbrev pub IsVerdictAt : LitmusTest → Position → Verdict → Type 0
+IsVerdictAt q p Holds = IsFinishedAt p × (is_satisfied q.quantifier (truth (value_there p) q.condition) ≡ true)
+IsVerdictAt q p Fails = IsFinishedAt p × (is_satisfied q.quantifier (truth (value_there p) q.condition) ≡ false)
+IsVerdictAt q p Unfinished = IsFinishedAt p → ⊥

@@ -1,11 +1,12 @@
-//! What a machine's last registers and words say of a condition.
+//! What a machine's last registers and words say of a condition, whatever led to them.
 
-ghost use Rattle.std.specs.Prelude.{◌≡◌, ◌↔◌, ◌<◌, IsTrue, IfOk, OnOk, All, true, length, map};
-ghost use Rattle.step_machine.specs.Standing.{ForEachHistory};
+ghost use Rattle.std.specs.Prelude.{◌≡◌, ◌↔◌, ◌<◌, ◌≤◌, IsTrue, IfOk, OnOk, All, true, length, map};
+ghost use Rattle.step_machine.specs.Positions.{position_of};
+ghost use Rattle.step_machine.specs.declared.opening.TheConstants.{MAX_HARTS};
 ghost use Rattle.litmus.specs.Formulas.{truth, places};
 ghost use Rattle.litmus.specs.LitmusTests.{IsThere};
 ghost use Rattle.litmus.specs.inner.Running.{done, all_done, AsksThere};
-ghost use Rattle.litmus.specs.Verdicts.{HasFinished, IsFinished, final_value, is_satisfied as satisfied};
+ghost use Rattle.litmus.specs.Verdicts.{HasFinishedAt, IsFinishedAt, value_there, is_satisfied as satisfied};
 
 use crate::condition::Condition;
 use crate::symbols::{Place, Step};
@@ -26,14 +27,15 @@ pub(crate) fn is_satisfied(quantifier: Quantifier, is_true: bool) -> bool
 
 fn has_finished<const B: usize, const M: usize>(machine: &MachineState<B, M>, hart: u32) -> bool
     requires { hart < length machine.now.harts }
-    ensures { ForEachHistory B M machine.now (λ t. IsTrue result ↔ HasFinished M t hart) }
+    ensures { IsTrue result ↔ HasFinishedAt (position_of machine.now) hart }
 {
     machine.status(hart) == Status::Ended && machine.pending(hart).is_empty()
 }
 
 /// Whether each hart has ended, and all its stores have landed.
 pub(crate) fn is_finished<const B: usize, const M: usize>(machine: &MachineState<B, M>) -> bool
-    ensures { ForEachHistory B M machine.now (λ t. IsTrue result ↔ IsFinished M t) }
+    requires { length machine.now.harts ≤ MAX_HARTS }
+    ensures { IsTrue result ↔ IsFinishedAt (position_of machine.now) }
 {
     for hart in 0..machine.harts() {
         if !has_finished(machine, hart) {
@@ -45,7 +47,7 @@ pub(crate) fn is_finished<const B: usize, const M: usize>(machine: &MachineState
 
 fn value_at<const B: usize, const M: usize>(place: Place, machine: &MachineState<B, M>) -> u32
     requires { IsThere (length machine.now.harts) M place }
-    ensures { ForEachHistory B M machine.now (λ t. result ≡ final_value M t place) }
+    ensures { result ≡ value_there (position_of machine.now) place }
 {
     match place {
         Place::Register { hart, number } => machine.register(hart, number),
@@ -60,7 +62,7 @@ pub(crate) fn values_of<const B: usize, const M: usize>(
     machine: &MachineState<B, M>,
 ) -> Result<Vec<u32>, AllocError>
     requires { All (IsThere (length machine.now.harts) M) places.now }
-    ensures { IfOk result (λ values. ForEachHistory B M machine.now (λ t. values.items ≡ map (final_value M t) places.now)) }
+    ensures { IfOk result (λ values. values.items ≡ map (value_there (position_of machine.now)) places.now) }
 {
     let mut values = Vec::new(alloc);
     values_into(&mut values, places, machine)?;
@@ -74,7 +76,7 @@ pub(crate) fn values_into<const B: usize, const M: usize>(
     machine: &MachineState<B, M>,
 ) -> Result<(), AllocError>
     requires { All (IsThere (length machine.now.harts) M) places.now }
-    ensures { OnOk result (ForEachHistory B M machine.now (λ t. values.new.items ≡ map (final_value M t) places.now)) }
+    ensures { OnOk result (values.new.items ≡ map (value_there (position_of machine.now)) places.now) }
 {
     values.clear();
     for place in places {
@@ -90,7 +92,7 @@ fn after_step<const B: usize, const M: usize>(
     machine: &MachineState<B, M>,
 ) -> (bool, usize)
     requires { AsksThere (length machine.now.harts) M step }
-    ensures { ForEachHistory B M machine.now (λ t. result ≡ done (final_value M t) step so_far) }
+    ensures { result ≡ done (value_there (position_of machine.now)) step so_far }
 {
     match step {
         Step::Is { place, value } => (value_at(place, machine) == value, 0),
@@ -102,7 +104,7 @@ fn after_step<const B: usize, const M: usize>(
 
 fn run_steps<const B: usize, const M: usize>(steps: &[Step], machine: &MachineState<B, M>) -> bool
     requires { All (AsksThere (length machine.now.harts) M) steps.now }
-    ensures { ForEachHistory B M machine.now (λ t. result ≡ all_done (final_value M t) true 0 steps.now) }
+    ensures { result ≡ all_done (value_there (position_of machine.now)) true 0 steps.now }
 {
     let mut so_far = true;
     let mut skip = 0;
@@ -122,7 +124,7 @@ pub(crate) fn is_true<const B: usize, const M: usize>(
     machine: &MachineState<B, M>,
 ) -> bool
     requires { All (IsThere (length machine.now.harts) M) (places condition.now) }
-    ensures { ForEachHistory B M machine.now (λ t. result ≡ truth (final_value M t) condition.now) }
+    ensures { result ≡ truth (value_there (position_of machine.now)) condition.now }
 {
     run_steps(condition.steps(), machine)
 }

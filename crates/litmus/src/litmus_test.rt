@@ -10,6 +10,7 @@ use crate::symbols::Place;
 use crate::verdict::{Quantifier, Verdict};
 use std::alloc::{AllocError, Global};
 use std::marker::Model;
+use step_machine::laws::laws_of_positions;
 use step_machine::{HartOpening, MachineState, Opening};
 
 /// How many locations a test may have. A memory of as many words has room for every test.
@@ -50,8 +51,10 @@ impl Test {
     ghost use Rattle.hart.specs.State.{HartState};
     ghost use Rattle.step_machine.specs.History.{OpeningValue};
     ghost use Rattle.step_machine.specs.Standing.{ForEachHistory};
+    ghost use Rattle.litmus.specs.Formulas.{places};
     ghost use Rattle.litmus.specs.LitmusTests.{IsTest, IsThere, litmus_test_of, left_sides, LitmusTest};
-    ghost use Rattle.litmus.specs.Verdicts.{IsVerdict, final_value};
+    ghost use Rattle.litmus.specs.Verdicts.{IsVerdict, IsVerdictAt, final_value};
+    ghost use Rattle.step_machine.specs.Positions.{position_of};
     ghost use Rattle.litmus.specs.declared.verdict.Quantifier.TheVariants.{Exists};
 
     /// A test. The words are the memory's first ones, the names those of the locations.
@@ -117,6 +120,7 @@ impl Test {
         requires words { length self.now.names ≤ M }
         ensures { IfOk result (λ values. ForEachHistory B M machine.now (λ t. values.items ≡ map (final_value M t) (left_sides self.now.condition))) }
     {
+        laws_of_positions();
         values_of(alloc, &self.lefts, machine)
     }
 
@@ -130,20 +134,34 @@ impl Test {
         requires words { length self.now.names ≤ M }
         ensures { OnOk result (ForEachHistory B M machine.now (λ t. values.new.items ≡ map (final_value M t) (left_sides self.now.condition))) }
     {
+        laws_of_positions();
         values_into(values, &self.lefts, machine)
     }
 
-    /// What the test says of a machine. It takes no memory.
-    #[tactic(auto, using(crate::proofs::TestLaws::condition_there))]
+    /// What the test says of a machine: of each history at whose end it stands, and of its position, whatever led
+    /// there. It takes no memory.
     pub fn verdict<const B: usize, const M: usize>(&self, machine: &MachineState<B, M>) -> Verdict
         requires harts { length machine.now.harts ≡ length self.now.opening.harts }
         requires words { length self.now.names ≤ M }
-        ensures { ForEachHistory B M machine.now (λ t. IsVerdict M self.now t result) }
+        ensures history { ForEachHistory B M machine.now (λ t. IsVerdict M self.now t result) }
+        ensures position { IsVerdictAt self.now (position_of machine.now) result }
     {
+        laws_of_positions();
+        self.verdict_there(machine)
+    }
+
+    #[tactic(auto, using(crate::proofs::TestLaws::condition_there))]
+    fn verdict_there<const B: usize, const M: usize>(&self, machine: &MachineState<B, M>) -> Verdict
+        requires harts { length machine.now.harts ≡ length self.now.opening.harts }
+        requires words { length self.now.names ≤ M }
+        ensures position { IsVerdictAt self.now (position_of machine.now) result }
+        ensures there { All (IsThere (length machine.now.harts) M) (places self.now.condition) }
+    {
+        let quantifier = self.quantifier;
         if !is_finished(machine) {
             return Verdict::Unfinished;
         }
-        if is_satisfied(self.quantifier, is_true(&self.condition, machine)) {
+        if is_satisfied(quantifier, is_true(&self.condition, machine)) {
             Verdict::Holds
         } else {
             Verdict::Fails

@@ -14,7 +14,7 @@ loop-place-init g c = λ o from. (
   at_opening o,
   refl,
   subst (λ (s : OpeningValue). RepresentsHistory g.row.B g.row.M (at_opening s) c.restart.new.self) from.2
-      (c.restart.ensures from.0 from.1),
+      (c.restart.ensures.history from.0 from.1),
   refl,
 )
 

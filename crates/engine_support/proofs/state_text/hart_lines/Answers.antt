@@ -8,7 +8,7 @@ pub returns : goal.returns
 unfolding hart_shown
 returns g c = λ t stands.
     let count = length c.pending-pending.result.now in
-    let pending = ap (λ n. hart_text c.args.hart (state_of g.row.M t c.args.hart) n) (ap length (sym (c.pending-pending.ensures t stands))) in
+    let pending = ap (λ n. hart_text c.args.hart (state_of g.row.M t c.args.hart) n) (ap length (sym (c.pending-pending.ensures.history t stands))) in
     let text = hart_text-is c.args.hart count c.pc.result c.status.result (state_of g.row.M t c.args.hart)
-    (c.status.ensures t stands) (c.pc.ensures t stands) in
+    (c.status.ensures.history t stands) (c.pc.ensures.history t stands) in
     rw (c.in_ok-push_registers.ensures t stands, c.in_ok-push_hart_line.ensures, c.new-lines.ensures.bytes) (sym (pending ∙ text))

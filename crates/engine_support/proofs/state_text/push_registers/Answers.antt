@@ -9,4 +9,4 @@ loop-number-init g c = λ t stands. none_added _ _ (registers_shown-none (state_
 pub loop-number-preserved : goal.loop-number-preserved
 loop-number-preserved g c = λ t stands.
     (one_added _ _ _ _ _ _ (c.loop-number.invariant t stands) c.in_ok-push_register_line.ensures
-    (registers_shown-more (state_of g.row.M t c.args.hart) c.loop-number.number c.register.result (c.register.ensures t stands)))
+    (registers_shown-more (state_of g.row.M t c.args.hart) c.loop-number.number c.register.result (c.register.ensures.history t stands)))

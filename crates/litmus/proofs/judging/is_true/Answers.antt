@@ -1,7 +1,8 @@
 use Rattle.std.proofs.Common.{◌∙◌, subst, sym, List, All, lit<, true, ap, length}
 use Rattle.litmus.specs.declared.symbols.Step.{Step}
+use Rattle.step_machine.specs.Positions.{position_of}
 use Rattle.litmus.specs.inner.Running.{AsksThere, all_done}
-use Rattle.litmus.specs.Verdicts.{final_value}
+use Rattle.litmus.specs.Verdicts.{value_there}
 use Rattle.litmus.proofs.RunLaws.{all_done-condition, AsksThere-steps_of}
 use Rattle.litmus.proofs.judging.is_true.Goals as goal
 
@@ -14,7 +15,7 @@ run_steps-requires g c = (
 )
 
 pub returns : goal.returns
-returns g c = λ t stands.
-    (c.run_steps.ensures t stands
-    ∙ ap (λ (steps : List Step). all_done (final_value g.row.M t) true 0 steps) c.steps.ensures
-    ∙ all_done-condition (final_value g.row.M t) c.args.condition.now)
+returns g c =
+    c.run_steps.ensures
+    ∙ ap (λ (steps : List Step). all_done (value_there (position_of c.args.machine.now)) true 0 steps) c.steps.ensures
+    ∙ all_done-condition (value_there (position_of c.args.machine.now)) c.args.condition.now

@@ -1,7 +1,7 @@
 use Rattle.std.proofs.Common.{◌≡◌, map, take}
-use Rattle.step_machine.specs.Standing.{ForEachHistory}
-use Rattle.litmus.specs.Verdicts.{final_value}
+use Rattle.step_machine.specs.Positions.{position_of}
+use Rattle.litmus.specs.Verdicts.{value_there}
 use Rattle.litmus.proofs.judging.values_into.Given as goal
 
 abbrev pub invariant-loop-place : goal.invariant-loop-place
-invariant-loop-place g l = ForEachHistory g.row.B g.row.M l.machine (λ t. l.values.items ≡ map (final_value g.row.M t) (take l.place-index l.places))
+invariant-loop-place g l = l.values.items ≡ map (value_there (position_of l.machine)) (take l.place-index l.places)

@@ -12,7 +12,7 @@ returns g c =
     let t = c.args.machine.now.history in
     let names = ap (map string_bytes) c.deref-3.ensures.value ∙ c.in_ok-names.ensures in (
       c.verdict.result,
-      c.verdict.ensures _ c.machine_state.ensures.stands,
+      c.verdict.ensures.history _ c.machine_state.ensures.stands,
       about_is g.row.M c.args.test.now (heading_of c.args.heading.now) t c.verdict.result _
           (c.in_ok-name.ensures ∙ ap (map shown) c.deref.ensures.value) c.harts-harts.ensures.value
           (c.in_ok-least.ensures ∙ ap (λ (ns : List (List ℕ)). least_widths ns t.opening.harts) names)
