@@ -118,6 +118,7 @@ impl<K: RingKind, const B: usize, const M: usize> Channel<K, B, M> {
     pub fn reserve(&mut self, n: usize) -> Result<(), AllocError>
         ensures history { self.new.history ≡ self.old.history }
         ensures room { OnOk result (n ≤ self.new.room) }
+        ensures kept { self.old.room ≤ self.new.room }
         ensures err { OnErr result (self.new ≡ self.old) }
     {
         self.machine.reserve(n)
