@@ -8,7 +8,7 @@ use Rattle.step_machine.specs.declared.events.Entry.{Entry}
 use Rattle.step_machine.specs.History.{OpeningValue, History}
 use Rattle.hart_threads.specs.Seats.{SeatView, acting_seat, landing_seat, seats_below, seats_of}
 use Rattle.hart_threads.specs.Parts.{part_of}
-use Rattle.hart_threads.specs.GettingOn.{OpensAs, AtMost}
+use Rattle.hart_threads.specs.GettingOn.{OpensAs, AtMost, SeatGetsOn, AllGetOn}
 use Rattle.hart_threads.specs.Returns.{GrowsInto, IsMerged}
 
 -- ---- each hart's seats are among them
@@ -60,3 +60,11 @@ opens_below M o (suc n) =
 
 pub fresh_opens : (M : ℕ) (o : OpeningValue) (seats : List SeatView) → seats ≡ seats_of M o → All (OpensAs M o) seats
 fresh_opens M o seats fresh = subst (All (OpensAs M o)) (sym fresh) (opens_below M o (length o.harts))
+
+-- ---- so each hart gets on where each seat's does
+
+pub fresh_get_on : (n M : ℕ) (o : OpeningValue) (seats : List SeatView) (t : History) → seats ≡ seats_of M o
+    → t.opening ≡ o → All (SeatGetsOn n M t) seats → AllGetOn n M t
+fresh_get_on n M o seats t fresh opening all h lt =
+    All-contains (SeatGetsOn n M t) (seats_of M o) (acting_seat M o h) (subst (All (SeatGetsOn n M t)) fresh all)
+    (acting_below M o (length o.harts) h (subst (λ (x : OpeningValue). h < length x.harts) opening lt)) refl

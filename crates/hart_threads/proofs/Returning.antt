@@ -1,5 +1,5 @@
 -- What threads made of the seats that were given, and how far each hart got in the record.
-use Rattle.std.proofs.Common.{◌⊎◌, inl, inr, ◌≡◌, ℕ, ◌<◌, ◌≤◌, Bool, true, List, length, get_or, Option, Some, None, sym, ◌∙◌, ap, subst, arith}
+use Rattle.std.proofs.Common.{◌⊎◌, inl, inr, ◌≡◌, ℕ, ◌+◌, ◌<◌, ◌≤◌, Bool, true, List, ◌++◌, length, get_or, Option, Some, None, sym, ◌∙◌, ap, subst, arith}
 use Rattle.std.specs.Prelude.{map, All, IsSomeAnd, option_map, if◌then◌else◌}
 use Rattle.std.specs.List.{AllZip, Contains, slice_get}
 use Rattle.std.proofs.lemmas.List.{get_or-map, length-map}
@@ -12,43 +12,33 @@ use Rattle.step_machine.specs.Paths.{after_entries, opens_as, state_of}
 use Rattle.hart_threads.specs.Seats.{SeatView, AsksBank, Continues, state_in}
 use Rattle.hart_threads.specs.Missing.{IsComplete}
 use Rattle.hart_threads.specs.Parts.{Fits, Merge, IsLeast, landings}
-use Rattle.hart_threads.specs.GettingOn.{GetsOn, AllGetOn, OpensAs}
+use Rattle.hart_threads.specs.GettingOn.{GetsOn, SeatGetsOn, OpensAs}
 use Rattle.hart_threads.specs.GettingOn.GetsOn.{over, goes, waits}
 use Rattle.hart_threads.specs.declared.turns.Ending.{Ending}
 use Rattle.hart_threads.specs.declared.turns.Calls.{Calls}
 use Rattle.hart_threads.specs.declared.turns.Ending.TheVariants as ending
 use Rattle.hart_threads.specs.inner.Threads.{Ran, WhereDone, GotOn, IsOver, MayHaveWaited}
 use Rattle.hart_threads.specs.Diaries.{acting_diary}
-use Rattle.hart_threads.proofs.Coming.{zip_right, zip_after, harts_within}
+use Rattle.hart_threads.proofs.Coming.{zip_left, zip_right, zip_after, harts_within}
 use Rattle.hart_threads.proofs.Gathering.{Acting, its_acting, role_of, number_of}
 use Rattle.hart_threads.proofs.GettingOn.{same_role}
 
 -- ---- one seat
 
--- its hart is over, has n entries, or may have waited
-abbrev GotThere : ℕ → SeatView → Type 0
-GotThere n t = IsOver t ⊎ ((n ≤ length t.diary) ⊎ MayHaveWaited t)
-
--- where the seat lets its hart act
-abbrev Went : ℕ → SeatView → Type 0
-Went n t = t.acts ≡ true → GotThere n t
+-- where the seat lets its hart act, that went on from where it was given
+abbrev Went : ℕ → SeatView → SeatView → Type 0
+Went n s t = t.acts ≡ true → GotOn n s t
 
 -- a seat that opened as its hart, and whose diary is its part of the entries
 abbrev OpensInto : ℕ → OpeningValue → List Entry → SeatView → Type 0
 OpensInto M o es t = OpensAs M o t × Fits es t
 
-abbrev WentInto : ℕ → ℕ → History → SeatView → Type 0
-WentInto n M t s = Went n s × OpensInto M t.opening t.entries s
-
 where_done : (e : Ending) (P : Type 0) → (e ≡ ending.NoMemory → ⊥) → (e ≡ ending.NoHart → ⊥) → WhereDone e P → P
 where_done e P found served done = grind arith
 
-got_there : (n : ℕ) (s t : SeatView) → GotOn n s t → GotThere n t
-got_there n s t h3 = grind arith
-
 went : (unheld : Type 0) (n : ℕ) (s : SeatView) (e : Ending) (c : Calls) (t : SeatView)
-    → unheld → Ran unheld n s e c t → (e ≡ ending.NoMemory → ⊥) → (t.acts ≡ true → e ≡ ending.NoHart → ⊥) → Went n t
-went unheld n s e c t is_open ran found served acts = grind (arith, got_there, where_done, same_role)
+    → unheld → Ran unheld n s e c t → (e ≡ ending.NoMemory → ⊥) → (t.acts ≡ true → e ≡ ending.NoHart → ⊥) → Went n s t
+went unheld n s e c t is_open ran found served acts = grind (arith, where_done, same_role)
 
 -- ---- in the record
 
@@ -72,14 +62,14 @@ module _ (M : ℕ) (t : History) (h : ℕ) (s : SeatView) (acts : s.acts ≡ tru
   in_state : (P : HartState → Type 0) → IsSomeAnd (state_in s) P → IsSomeAnd (state_of M t h) P
   in_state P some = by_seat (own h t.entries) P (subst (λ (es : List Entry). IsSomeAnd (option_map (λ f. after_entries f es) s.first) P) its_diary some)
 
-  gets_on : (n : ℕ) → GotThere n s → GetsOn n M t h
-  gets_on n (inl is_over) = over (in_state _ is_over)
-  gets_on n (inr (inl more)) = goes (subst (λ (es : List Entry). n ≤ length es) its_diary more)
-  gets_on n (inr (inr waited)) = waits (record {
-    front = waited.front;
+  gets_on : (n : ℕ) (given : SeatView) → GotOn n given s → GetsOn n M t h given.diary
+  gets_on n given (inl is_over) = over (in_state _ is_over)
+  gets_on n given (inr (inl more)) = goes (subst (λ (es : List Entry). length given.diary + n ≤ length es) its_diary more)
+  gets_on n given (inr (inr waited)) = waits (record {
+    more = waited.more;
     rest = waited.rest;
     whole = sym its_diary ∙ waited.whole;
-    there = by_seat waited.front _ waited.there;
+    there = by_seat (given.diary ++ waited.more) _ waited.there;
   })
 
 -- ---- all seats
@@ -93,10 +83,11 @@ module _ {R : Type 0} (seat : R → SeatView) (ending_of : R → Ending) (calls_
   pub came : AllZip (Continues n) given (map seat back)
   came = zip_after (λ (s : SeatView) (r : R). Ran unheld n s (ending_of r) (calls_of r) (seat r)) (Continues n) seat (λ s r made. made.on) given back ran
 
-  -- with memory and a hart in the bank a seat went on; without the hart it asked the bank
-  abbrev Served : R → Type 0
-  Served r = (ending_of r ≡ ending.NoMemory → ⊥) → ((seat r).acts ≡ true → ending_of r ≡ ending.NoHart → ⊥) → Went n (seat r)
+  -- a seat that comes back had memory and its hart in the bank, opened as its hart, and its diary is its part
+  abbrev Back : ℕ → History → R → Type 0
+  Back M t r = (ending_of r ≡ ending.NoMemory → ⊥) × ((seat r).acts ≡ true → ending_of r ≡ ending.NoHart → ⊥) × OpensInto M t.opening t.entries (seat r)
 
+  -- without the hart it asked the bank
   abbrev Asked : R → Type 0
   Asked r = (seat r).acts ≡ true → ending_of r ≡ ending.NoHart → IsSomeAnd (state_in (seat r)) AsksBank
 
@@ -110,24 +101,28 @@ module _ {R : Type 0} (seat : R → SeatView) (ending_of : R → Ending) (calls_
 
   pub all_get_on : (M : ℕ) (o : OpeningValue) (t : History) → t.opening ≡ o → unheld → All (OpensAs M o) given
       → All (λ r. ending_of r ≡ ending.NoMemory → ⊥) back
-      → All (λ r. (seat r).acts ≡ true → ending_of r ≡ ending.NoHart → ⊥) back → Merge (length o.harts) t.entries (map seat back) → AllGetOn n M t
-  all_get_on M o t opening is_open opens found served merge h lt =
-      at (its_acting (WentInto n M t) (length o.harts) h (map seat back) merge.complete (subst (λ (x : OpeningValue). h < length x.harts) opening lt) both)
+      → All (λ r. (seat r).acts ≡ true → ending_of r ≡ ending.NoHart → ⊥) back → Merge (length o.harts) t.entries (map seat back)
+      → All (SeatGetsOn n M t) given
+  all_get_on M o t opening is_open opens found served merge =
+      zip_left (λ (s : SeatView) (r : R). Ran unheld n s (ending_of r) (calls_of r) (seat r)) (Back M t) (SeatGetsOn n M t) one given back ran all_back
     where
-      each : All Served back
-      each = zip_right (λ (s : SeatView) (r : R). Ran unheld n s (ending_of r) (calls_of r) (seat r)) (OpensAs M o) Served
-          (λ s r made opens_so found_so served_so. went unheld n s (ending_of r) (calls_of r) (seat r) is_open made found_so served_so) given back ran opens
+      into : All (OpensInto M t.opening t.entries) (map seat back)
+      into = all_into M o t opening opens merge
 
-      all_went : All (Went n) (map seat back)
-      all_went = All-map (Went n) seat back (λ k d low. each k d low (found k d low) (served k d low))
+      all_back : All (Back M t) back
+      all_back k d low = (
+        found k d low,
+        served k d low,
+        subst (OpensInto M t.opening t.entries) (get_or-map seat back k d (seat d) low)
+            (into k (seat d) (subst (λ m. k < m) (sym (length-map back seat)) low)),
+      )
 
-      both : All (WentInto n M t) (map seat back)
-      both k d low = (all_went k d low, all_into M o t opening opens merge k d low)
-
-      at : Acting (WentInto n M t) h (acting_diary h (map seat back)) → GetsOn n M t h
-      at one =
-          let role : one.seat.acts ≡ true = role_of h one.seat one.acts in
-          gets_on M t h one.seat role (number_of h one.seat one.acts) one.holds.1 n (one.holds.0 role)
+      one : (s : SeatView) (r : R) → Ran unheld n s (ending_of r) (calls_of r) (seat r) → Back M t r → SeatGetsOn n M t s
+      one s r made came_back acts =
+          let role : (seat r).acts ≡ true = same_role n s (seat r) made.on ∙ acts in
+          let number : (seat r).hart ≡ s.hart = ap (λ (v : SeatView). v.hart) made.on.is in
+          gets_on M t s.hart (seat r) role number came_back.2 n s
+          (went unheld n s (ending_of r) (calls_of r) (seat r) is_open made came_back.0 came_back.1 role)
 
   -- a seat that is left without its hart is one of these
   pub lost_within : (k h : ℕ) (Good Bad : R → Type 0) → IsComplete k given → IsLeast (λ r. (seat r).hart) Good Bad back h → h < k

@@ -4,6 +4,7 @@ ghost use Rattle.std.specs.Prelude.{◌≡◌, ◌≤◌, IfOk, IfErr, OnOk, map
 ghost use Rattle.step_machine.specs.History.{FitsIn};
 ghost use Rattle.step_machine.specs.Entries.{reported};
 ghost use Rattle.poll_close.specs.Laws.{opening_of, opening_over, Accepted, AcceptedAt};
+ghost use Rattle.poll_close.specs.Layout.{dense};
 ghost use Rattle.poll_close.specs.Places.{layout_of};
 ghost use Rattle.poll_close.specs.Going.{AllGoOn};
 ghost use Rattle.poll_close.specs.Reports.{Clean};
@@ -118,6 +119,7 @@ pub fn deliver_threads<
     ensures reports { IfOk result (λ r. r.1.items ≡ reported 0 r.0.trace.entries) }
     ensures clean { IfOk result (λ r. Clean r.1.items (map (λ v. v.items) lists.now)) }
     ensures goes { IfOk result (λ r. AllGoOn r.0.trace.entries) }
+    ensures touches { IfOk result (λ r. AllTouch (dense ring) (length lists.now) r.0.trace.entries) }
     ensures few { IfOk result (λ r. AtMost turns r.0.trace) }
     ensures gets_on { G.is_open gate.now → IfOk result (λ r. AllGetOn turns M r.0.trace) }
     ensures fault { IfErr result (ChannelFails K.ring B M turns (map (λ v. v.items) lists.now) ring) }

@@ -4,7 +4,7 @@ ghost use Rattle.std.specs.Prelude.{◌≡◌, ◌≤◌, ◌<◌, ℕ, [], true
 ghost use Rattle.std.specs.List.{AllZip, HoldsAt};
 ghost use Rattle.hart_threads.specs.Missing.{is_missing, IsComplete, IsFirst};
 ghost use Rattle.hart_threads.specs.Records.{IsRecord};
-ghost use Rattle.hart_threads.specs.GettingOn.{AllGetOn, OpensAs};
+ghost use Rattle.hart_threads.specs.GettingOn.{SeatGetsOn, OpensAs};
 ghost use Rattle.hart_threads.specs.Returns.{IsMerged, Fails};
 ghost use Rattle.hart_threads.specs.inner.Searches.{Found};
 ghost use Rattle.hart_threads.specs.inner.Threads.{Ran};
@@ -230,7 +230,8 @@ pub fn run_harts<G: Gate + Sync, R: Threads + Wait + Sync, const B: usize, const
     ensures fault { IfErr result (Fails B M turns shared.entry seats.entry.items) }
     ensures record { IfOk result (IsRecord B M shared.entry) }
     ensures merge { IfOk result (λ r. IsMerged turns shared.entry r.trace.entries seats.entry.items) }
-    ensures gets_on { G.is_open gate.now → All (OpensAs M shared.entry) seats.entry.items → IfOk result (λ r. AllGetOn turns M r.trace) }
+    ensures gets_on { G.is_open gate.now → All (OpensAs M shared.entry) seats.entry.items
+        → IfOk result (λ r. All (SeatGetsOn turns M r.trace) seats.entry.items) }
 {
     let (back, room) = run_seats(rt, alloc, &shared, seats, gate, turns)?;
     let lost = least_lost(back.as_slice());

@@ -51,16 +51,16 @@ ActsAlone h s o = s.status ≡ status.Running → asks_memory (need_of s) ≡ fa
 abbrev pub IsOver : SeatView → Type 0
 IsOver t = IsSomeAnd (state_in t) (λ x. is_over x.status ≡ true)
 
--- somewhere on its path the seat's hart comes to a store, an AMO or a full fence
-pub record MayHaveWaited (t : SeatView) : Type 0 where
-  pub front : List Entry
+-- somewhere on its path from seat s to seat t the hart comes to a store, an AMO or a full fence
+pub record MayHaveWaited (s t : SeatView) : Type 0 where
+  pub more : List Entry
   pub rest : List Entry
-  pub whole : t.diary ≡ front ++ rest
-  pub there : IsSomeAnd (state_in (record t { diary = front })) (λ x. (x.status ≡ status.Running) × (may_wait (need_of x) ≡ true))
+  pub whole : t.diary ≡ s.diary ++ more ++ rest
+  pub there : IsSomeAnd (state_in (record t { diary = s.diary ++ more })) (λ x. (x.status ≡ status.Running) × (may_wait (need_of x) ≡ true))
 
 -- n entries more, or the hart may have waited
 abbrev pub Goes : ℕ → SeatView → SeatView → Type 0
-Goes n s t = (length s.diary + n ≤ length t.diary) ⊎ MayHaveWaited t
+Goes n s t = (length s.diary + n ≤ length t.diary) ⊎ MayHaveWaited s t
 
 -- n turns
 abbrev pub GotOn : ℕ → SeatView → SeatView → Type 0

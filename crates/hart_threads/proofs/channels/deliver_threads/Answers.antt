@@ -1,6 +1,7 @@
 -- The place is the dense one.
-use Rattle.std.proofs.Common.{ℕ, Vec, Global, map, subst}
+use Rattle.std.proofs.Common.{ℕ, Vec, Global, length, map, subst}
 use Rattle.poll_close.specs.Laws.{opening_over}
+use Rattle.poll_close.specs.Touching.{AllTouch}
 use Rattle.hart_threads.specs.Records.{IsRecord}
 use Rattle.hart_threads.specs.Returns.{ChannelFailsAt}
 use Rattle.hart_threads.specs.declared.fault.ChannelFaultAt.TheVariants as channel_at
@@ -17,3 +18,7 @@ returns-in-Err-Threads-clause-fault g c =
     subst (λ l. ChannelFailsAt g.K.RingKind.ring g.row.B g.row.M c.args.turns
     (map (λ (v : Vec ℕ Global). v.items) c.args.lists.now) l (channel_at.Threads c.in-Err-Threads.fault)) c.dense.ensures
     failed
+
+pub returns-in-Ok-clause-touches : goal.returns-in-Ok-clause-touches
+returns-in-Ok-clause-touches g c =
+    subst (λ l. AllTouch l (length c.args.lists.now) c.in-Ok.record.0.trace.entries) c.dense.ensures c.in-Ok.ensures.touches

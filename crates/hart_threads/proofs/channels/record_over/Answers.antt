@@ -5,7 +5,7 @@ use Rattle.step_machine.specs.History.{OpeningValue}
 use Rattle.hart_threads.specs.Seats.{SeatView, seats_of}
 use Rattle.hart_threads.specs.Records.{IsRecord}
 use Rattle.hart_threads.specs.Returns.{Fails}
-use Rattle.hart_threads.proofs.Fresh.{fresh_opens, fresh_few}
+use Rattle.hart_threads.proofs.Fresh.{fresh_opens, fresh_few, fresh_get_on}
 use Rattle.hart_threads.proofs.channels.record_over.Goals as goal
 
 pub open-requires : goal.open-requires
@@ -33,5 +33,6 @@ returns-clause-few g c =
 
 pub returns-clause-gets_on : goal.returns-clause-gets_on
 returns-clause-gets_on g c unheld =
-    c.in_ok-record.ensures.gets_on unheld (fresh_opens g.row.M c.in_ok-shared.shared _
-    (c.in_ok-shared.ensures.seats ∙ ap (seats_of g.row.M) (sym c.in_ok-shared.ensures.opening)))
+    let seats = c.in_ok-shared.ensures.seats ∙ ap (seats_of g.row.M) (sym c.in_ok-shared.ensures.opening) in
+    fresh_get_on c.args.turns g.row.M c.in_ok-shared.shared _ c.in_ok-record.record.trace seats c.in_ok-record.ensures.record.opening
+    (c.in_ok-record.ensures.gets_on unheld (fresh_opens g.row.M c.in_ok-shared.shared _ seats))

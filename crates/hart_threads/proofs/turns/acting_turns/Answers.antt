@@ -16,6 +16,6 @@ loop-calls-preserved g c =
       on = subst (λ (n : ℕ). Continues n c.args.seat.now c.turn-answer.new.seat) (sym made) on;
       goes = subst (λ (n : ℕ). Goes n c.args.seat.now c.turn-answer.new.seat) (sym made)
           (goes_on c.loop-calls.calls.made c.args.seat.now c.loop-calls.seat c.turn-answer.new.seat
-          c.turn-answer.result before.goes c.turn-answer.ensures.diary c.turn-answer.ensures.answers
+          c.turn-answer.result before.on before.goes c.turn-answer.ensures.diary c.turn-answer.ensures.answers
           (sym c.count.ensures.ending ∙ c.in_default.is));
     }

@@ -1,6 +1,6 @@
 use Rattle.std.proofs.Common.{◌∙◌, sym, ap}
 use Rattle.hart_threads.specs.Seats.{seats_of}
-use Rattle.hart_threads.proofs.Fresh.{fresh_few, fresh_opens}
+use Rattle.hart_threads.proofs.Fresh.{fresh_few, fresh_get_on, fresh_opens}
 use Rattle.ztso_engines.proofs.SeatsComplete.{threads_refused}
 use Rattle.ztso_engines.proofs.threads.answer.Goals as goal
 
@@ -15,4 +15,5 @@ returns-in-Ok g c =
     let seats = c.in_ok-shared.ensures.seats ∙ ap (seats_of g.row.M) (sym c.in_ok-shared.ensures.opening) in
     c.record_text.ensures.given c.args.turns
     (fresh_few c.args.turns g.row.M c.in_ok-shared.shared _ c.in-Ok.record.trace seats c.in-Ok.ensures.record.opening c.in-Ok.ensures.merge)
-    (c.in-Ok.ensures.gets_on tt (fresh_opens g.row.M c.in_ok-shared.shared _ seats))
+    (fresh_get_on c.args.turns g.row.M c.in_ok-shared.shared _ c.in-Ok.record.trace seats c.in-Ok.ensures.record.opening
+    (c.in-Ok.ensures.gets_on tt (fresh_opens g.row.M c.in_ok-shared.shared _ seats)))
