@@ -6,7 +6,8 @@ use Rattle.std.specs.Prelude.{◌==◌, ◌&&◌, nat_lt, nat_le, if◌then◌el
 use Rattle.std.specs.List.{flat_map}
 use Rattle.std.proofs.lemmas.List.{length-map, take_all, drop_all, set_at, set-get_or, length-take-le}
 use Rattle.std.proofs.Math.Seq.{take-suc, drop-cons}
-use Rattle.std.proofs.lemmas.List.Elements.{All-head, All-tail}
+use Rattle.std.proofs.lemmas.List.Elements.{All-nil, All-cons, All-head, All-tail}
+use Rattle.hart.specs.Saved.{IsOfItsOpening}
 use Rattle.memory.specs.declared.writes.Write.{Write}
 use Rattle.memory.specs.Words.{written_since}
 use Rattle.memory.proofs.Written.{written_back, written_few}
@@ -16,7 +17,7 @@ use Rattle.hart.specs.declared.status.Status.{Status}
 use Rattle.hart.specs.declared.status.Status.TheVariants as status
 use Rattle.hart.specs.declared.status.Stop.TheVariants as stop
 use Rattle.step_machine.specs.inner.Stored.{Stored, HasAddress, InMemory}
-use Rattle.step_machine.specs.inner.Config.{Config, beginning, view_state}
+use Rattle.step_machine.specs.inner.Config.{Config, Fit, beginning, view_state}
 use Rattle.step_machine.specs.Positions.{position_of, Change, unless_same, changed, pair_words}
 use Rattle.step_machine.specs.Positions.{packed_hart, packed_buffer, packed_stored, packed, store_words}
 use Rattle.step_machine.specs.Positions.{status_number, status_named, unpacked_changes, unpacked_hart, unpacked_harts}
@@ -97,15 +98,33 @@ record IsBack (w : HartView) (rest : List ℕ) (taken : HartView × List ℕ) : 
   state : taken.0.state ≡ w.state
   left : taken.1 ≡ rest
 
-hart_back : (v w : HartView) (rest : List ℕ) → v.first ≡ w.first → IsSoundHart v → IsSoundHart w → IsBack w rest (unpacked_hart v (packed_hart w ++ rest))
+-- the hart's code and its memory's size are those with which it opened
+pub record HasOwnCode (v : HartView) : Type 0 where
+  pub code : v.state.code ≡ v.first.code
+  pub words : v.state.words ≡ v.first.words
+
+own_code : (v : HartView) → IsOfItsOpening v → HasOwnCode v
+own_code v own = record { code = own.code; words = own.words }
+
+-- it is so before words say where it stands, where it is so after
+pub own_codes : (vs : List HartView) (words : List ℕ) → All IsOfItsOpening (unpacked_harts vs words).0 → All HasOwnCode vs
+own_codes [] words all = All-nil HasOwnCode
+own_codes (v ∷ vs) words all =
+    let one : HartView = (unpacked_hart v words).0 in
+    let others : List HartView = (unpacked_harts vs (unpacked_hart v words).1).0 in
+    let own : IsOfItsOpening one = All-head IsOfItsOpening one others all in
+    All-cons HasOwnCode v vs (record { code = own.code; words = own.words })
+    (own_codes vs (unpacked_hart v words).1 (All-tail IsOfItsOpening one others all))
+
+hart_back : (v w : HartView) (rest : List ℕ) → v.first ≡ w.first → HasOwnCode v → IsSoundHart w → IsBack w rest (unpacked_hart v (packed_hart w ++ rest))
 hart_back v w rest opens of_v of_w =
     let changes = changed w.first.registers w.state.registers 32 in
     let same : unpacked_changes (length changes) v.first.registers (flat_map pair_words changes ++ rest) ≡ (w.state.registers, rest) =
     ap (λ (f : HartState). unpacked_changes (length changes) f.registers (flat_map pair_words changes ++ rest)) opens
     ∙ registers_back w.first.registers w.state.registers rest of_w.first_size of_w.size in
     record {
-      state = same_state _ w.state (of_v.own.code ∙ ap (λ (f : HartState). f.code) opens ∙ sym of_w.own.code)
-          (of_v.own.words ∙ ap (λ (f : HartState). f.words) opens ∙ sym of_w.own.words)
+      state = same_state _ w.state (of_v.code ∙ ap (λ (f : HartState). f.code) opens ∙ sym of_w.own.code)
+          (of_v.words ∙ ap (λ (f : HartState). f.words) opens ∙ sym of_w.own.words)
           (ap (λ (p : List ℕ × List ℕ). slice_set p.0 0 0) same ∙ zero_again w.state.registers of_w.own.zero) refl
           (ap (λ (f : HartState). drop (length f.inbox - length w.state.inbox) f.inbox) opens ∙ of_w.own.inbox) (status_back w.state.status);
       left = ap (λ (p : List ℕ × List ℕ). p.1) same;
@@ -115,14 +134,14 @@ record AreBack (ws : List HartView) (rest : List ℕ) (taken : List HartView × 
   states : map view_state taken.0 ≡ map view_state ws
   left : taken.1 ≡ rest
 
-harts_back : (vs ws : List HartView) (rest : List ℕ) → map beginning vs ≡ map beginning ws → All IsSoundHart vs → All IsSoundHart ws
+harts_back : (vs ws : List HartView) (rest : List ℕ) → map beginning vs ≡ map beginning ws → All HasOwnCode vs → All IsSoundHart ws
     → AreBack ws rest (unpacked_harts vs (flat_map packed_hart ws ++ rest))
 harts_back [] [] rest opens of_vs of_ws = record { states = refl; left = refl }
 harts_back (v ∷ vs) (w ∷ ws) rest opens of_vs of_ws =
     let head : v.first ≡ w.first = cc in
     let tail : map beginning vs ≡ map beginning ws = cc in
-    let here = hart_back v w (flat_map packed_hart ws ++ rest) head (All-head IsSoundHart v vs of_vs) (All-head IsSoundHart w ws of_ws) in
-    let there = harts_back vs ws rest tail (All-tail IsSoundHart v vs of_vs) (All-tail IsSoundHart w ws of_ws) in
+    let here = hart_back v w (flat_map packed_hart ws ++ rest) head (All-head HasOwnCode v vs of_vs) (All-head IsSoundHart w ws of_ws) in
+    let there = harts_back vs ws rest tail (All-tail HasOwnCode v vs of_vs) (All-tail IsSoundHart w ws of_ws) in
     let later = subst (λ words. AreBack ws rest (unpacked_harts vs words)) (sym here.left) there in
     subst (λ words. AreBack (w ∷ ws) rest (unpacked_harts (v ∷ vs) words)) (sym (append_assoc (packed_hart w) (flat_map packed_hart ws) rest))
     (record { states = λ k. here.state k ∷ later.states k; left = later.left })
@@ -189,15 +208,19 @@ stored_back B M s t first count room has size same =
 same_length : (c d : Config) → AreOfOneOpening c d → length c.harts ≡ length d.harts
 same_length c d opens = sym (length-map c.harts beginning) ∙ ap length opens.harts ∙ length-map d.harts beginning
 
--- a machine that is put at the position of another of its opening stands there
-pub position_back : (B M : ℕ) (c d : Config) → AreOfOneOpening c d → IsSoundMachine B M c → IsSoundMachine B M d
+-- a machine that is put at the position of another of its opening stands there, whatever it held before
+pub position_put : (B M : ℕ) (c d : Config) → AreOfOneOpening c d → All HasOwnCode c.harts → Fit M c → IsSoundMachine B M d
     → position_of (put_at B M c (packed d)) ≡ position_of d
-position_back B M c d opens of_c of_d =
-    let harts = harts_back c.harts d.harts (packed_stored d.stored) opens.harts of_c.harts of_d.harts in
-    let count : length c.stored.buffers ≡ length d.stored.buffers = of_c.fit.buffers ∙ same_length c d opens ∙ sym of_d.fit.buffers in
+position_put B M c d opens own fit of_d =
+    let harts = harts_back c.harts d.harts (packed_stored d.stored) opens.harts own of_d.harts in
+    let count : length c.stored.buffers ≡ length d.stored.buffers = fit.buffers ∙ same_length c d opens ∙ sym of_d.fit.buffers in
     let stored = ap (unpacked_stored B M c.stored) harts.left
     ∙ stored_back B M c.stored d.stored opens.first count of_d.buffers of_d.fit.stored.pending of_d.fit.stored.first of_d.fit.stored.words in
     λ k. record { harts = harts.states k; stored = stored k }
+
+pub position_back : (B M : ℕ) (c d : Config) → AreOfOneOpening c d → IsSoundMachine B M c → IsSoundMachine B M d
+    → position_of (put_at B M c (packed d)) ≡ position_of d
+position_back B M c d opens of_c of_d = position_put B M c d opens (λ k v within. own_code _ (of_c.harts k v within).own) of_c.fit of_d
 
 -- two machines of one opening whose words are the same are at the same position
 pub position_is : (B M : ℕ) (c d : Config) → AreOfOneOpening c d → IsSoundMachine B M c → IsSoundMachine B M d

@@ -75,6 +75,12 @@ all_more {X} P xs i x within x_is so_far here =
     let next : take (i + 1) xs ≡ take i xs ++ x ∷ [] = take_more xs i x within ∙ ap (λ y. take i xs ++ y ∷ []) (sym x_is) in
     subst (λ (ys : List X). All P ys) (sym next) (All-append P (take i xs) (x ∷ []) so_far (All-cons P x [] here (All-nil P)))
 
+-- the same where the element is written there
+pub all_written : {X : Type 0} (P : X → Type 0) (xs : List X) (i : ℕ) (x : X) → i < length xs → All P (take i xs) → P x → All P (take (i + 1) (set xs i x))
+all_written {X} P xs i x within so_far here =
+    subst (λ (ys : List X). All P ys) (sym (take_more_set xs i x within))
+    (All-append P (take i xs) (x ∷ []) so_far (All-cons P x [] here (All-nil P)))
+
 -- ---- loops that take elements
 
 pub taken_none : {X : Type 0} (taken : List X → List ℕ → List X × List ℕ) (first : List X) (words : List ℕ) → AreTaken taken 0 first first words words

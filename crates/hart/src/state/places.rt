@@ -32,7 +32,8 @@ impl Hart {
     /// Puts the hart there: with these registers except x0, which is 0, with the last `left` words of its
     /// inbox still to be given, and with no report. It takes no memory, and the room for steps stays.
     pub fn stand(&mut self, registers: [u32; 32], pc: u32, left: usize, status: Status)
-        ensures { self.new ≡ standing self.old registers pc left status }
+        ensures value { self.new ≡ standing self.old registers pc left status }
+        ensures own { IsOfItsOpening self.new }
     {
         self.registers = registers;
         self.registers[0] = 0;

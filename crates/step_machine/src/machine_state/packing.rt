@@ -2,9 +2,11 @@
 
 ghost use Rattle.std.specs.Prelude.{◌≡◌, ◌++◌, length, slice_set, All, OnOk};
 ghost use Rattle.std.specs.List.{flat_map};
-ghost use Rattle.step_machine.specs.Positions.{packed, put_at, changed, pair_words, IsSoundMachine, IsSoundHart, AreOfOneOpening};
+ghost use Rattle.step_machine.specs.Positions.{packed, put_at, changed, pair_words, IsSoundMachine, IsSoundHart, AreOfOneOpening, position_of};
 ghost use Rattle.step_machine.specs.Positions.{packed_hart, status_number, status_named};
 ghost use Rattle.step_machine.specs.Positions.{unpacked_changes, unpacked_hart, unpacked_harts};
+ghost use Rattle.step_machine.specs.inner.Config.{Config};
+ghost use Rattle.hart.specs.Saved.{IsOfItsOpening};
 
 use crate::machine_state::MachineState;
 use crate::taking::{first_word, words_after};
@@ -116,6 +118,7 @@ fn take_changes<'a>(registers: &mut [u32; 32], count: u32, words: &'a [u32]) -> 
 /// Puts a hart where the words say, and returns those after its own.
 fn take_hart<'a>(hart: &mut Hart, words: &'a [u32]) -> &'a [u32]
     ensures hart { hart.new ≡ (unpacked_hart hart.old words.now).0 }
+    ensures own { IsOfItsOpening hart.new }
     ensures rest { result.now ≡ (unpacked_hart hart.old words.now).1 }
 {
     let pc = first_word(words);
@@ -130,6 +133,7 @@ fn take_hart<'a>(hart: &mut Hart, words: &'a [u32]) -> &'a [u32]
 
 fn take_harts<'a>(harts: &mut [Hart], words: &'a [u32]) -> &'a [u32]
     ensures harts { harts.new ≡ (unpacked_harts harts.old words.now).0 }
+    ensures own { All IsOfItsOpening harts.new }
     ensures rest { result.now ≡ (unpacked_harts harts.old words.now).1 }
 {
     let mut rest = words;
@@ -151,10 +155,13 @@ impl<const B: usize, const M: usize> MachineState<B, M> {
         self.stores.pack(out)
     }
 
-    /// Puts the machine at the position that the words say, with no report. It takes no memory. Words that
-    /// no machine of this opening packed leave it at some position.
+    /// Puts the machine at the position that the words say, with no report: where the machine of this opening
+    /// stands that packed them, whatever led either there. It takes no memory. Words that no machine of this opening
+    /// packed leave it at some position.
     pub fn unpack(&mut self, words: &[u32])
         ensures value { self.new ≡ put_at B M self.old words.now }
+        ensures there { (d : Config) → AreOfOneOpening self.old d → IsSoundMachine B M d → words.now ≡ packed d
+            → position_of self.new ≡ position_of d }
         ensures opening { AreOfOneOpening self.old self.new }
         ensures harts { length self.new.harts ≡ length self.old.harts }
     {
