@@ -73,7 +73,7 @@ all_arrived old new before after goes are =
 pub first_met : {B M : ℕ} {q : LitmusTest} {c : Config} (old new : List (List ℕ)) (before after : List Arrival) (arrival : Arrival) (found : Bool)
     → length old ≡ 0 → Meets B M q c old new before after arrival found → ForEachHistory B M c (λ t. IsTrue found ↔ EndsAsWanted M q t)
 first_met old new before after arrival found none (inl known) = absurd (omega (arith, slice_get_within old known.0 _ known.1.known, none))
-first_met old new before after arrival found none (inr gets) = gets.2
+first_met old new before after arrival found none (inr gets) = gets.3
 
 -- the way to a state that has an arrival has an event
 pub way_some : (arrivals : List Arrival) (at n : ℕ) → at < length arrivals → 1 ≤ n → way arrivals at n ≡ [] → ⊥

@@ -2,10 +2,11 @@
 
 ghost use Rattle.std.specs.Prelude.{◌≡◌, ◌≤◌, ◌↔◌, IsTrue, IfOk, length};
 ghost use Rattle.std.specs.String.{string_bytes};
+ghost use Rattle.step_machine.specs.Positions.{position_of};
 ghost use Rattle.step_machine.specs.Standing.{ForEachHistory};
 ghost use Rattle.engine_support.specs.Engines.{EndsBy};
 ghost use Rattle.engine_support.specs.inner.Making.{FindsByUpToReads, text_and_value};
-ghost use Rattle.finding.specs.Find.{EndsAsWanted, IsFindAnswer, IsFound, Shows};
+ghost use Rattle.finding.specs.Find.{EndsAsWanted, IsFindAnswer, IsFound, IsWantedAt, Shows};
 ghost use Rattle.litmus.specs.declared.litmus_test.TheConstants.{MAX_LOCATIONS};
 
 use crate::progress::SearchProgress;
@@ -28,14 +29,15 @@ pub enum Found {
     NotFound { states: u32 },
 }
 
-/// Whether the machine is finished with an outcome that is looked for.
+/// Whether the machine is finished with an outcome that is looked for, whatever led to where it stands.
 pub(crate) fn ends_as_wanted<const B: usize, const M: usize>(
     test: &Test,
     machine: &MachineState<B, M>,
 ) -> bool
     requires harts { length machine.now.harts ≡ length test.now.opening.harts }
     requires names { length test.now.names ≤ M }
-    ensures { ForEachHistory B M machine.now (λ t. IsTrue result ↔ EndsAsWanted M test.now t) }
+    ensures history { ForEachHistory B M machine.now (λ t. IsTrue result ↔ EndsAsWanted M test.now t) }
+    ensures position { IsTrue result ↔ IsWantedAt test.now (position_of machine.now) }
 {
     match test.verdict(machine) {
         Verdict::Holds => test.by_exists(),

@@ -3,12 +3,12 @@ use Rattle.std.specs.Prelude.{ℕ, zero, suc, ◌≡◌, ◌≤◌, ◌⊎◌, �
 use Rattle.std.specs.Prelude.{List, [], ◌∷◌, ◌++◌, length, map, Option, Some, None, IfSome, IsSomeAnd}
 use Rattle.std.specs.List.{Contains, range_with_len, slice_get}
 use Rattle.step_machine.specs.History.{History}
-use Rattle.step_machine.specs.Positions.{packed}
+use Rattle.step_machine.specs.Positions.{packed, position_of}
 use Rattle.step_machine.specs.Standing.{ForEachHistory}
 use Rattle.step_machine.specs.inner.Config.{Config}
 use Rattle.states.specs.Numbered.{GetsNextNumber, KeepsNumber}
 use Rattle.litmus.specs.LitmusTests.{LitmusTest}
-use Rattle.finding.specs.Find.{EndsAsWanted}
+use Rattle.finding.specs.Find.{EndsAsWanted, IsWantedAt}
 use Rattle.step_machine.specs.declared.events.Event.{Event}
 use Rattle.step_machine.specs.declared.events.Event.TheVariants.{Act, Land}
 use Rattle.recorder.specs.Schedule.{OfHarts}
@@ -39,6 +39,7 @@ abbrev pub Meets : (B M : ℕ) → LitmusTest → Config → (old new : List (Li
 Meets B M test machine old new before after arrival found =
     ((number : ℕ) × KeepsNumber old (packed machine) new number × (after ≡ before) × (found ≡ false))
     ⊎ (GetsNextNumber old (packed machine) new (length old) × (after ≡ before ++ arrival ∷ [])
+    × (IsTrue found ↔ IsWantedAt test (position_of machine))
     × ForEachHistory B M machine (λ t. IsTrue found ↔ EndsAsWanted M test t))
 
 -- A search went on from the state of this number by these events: the states that it met got the next numbers, and their
@@ -55,6 +56,7 @@ pub record GoesOn (from : ℕ) (events : List Event) (old new : List (List ℕ))
 pub record IsNewest (B M : ℕ) (test : LitmusTest) (machine : Config) (states : List (List ℕ)) : Type 0 where
   pub others : List (List ℕ)
   pub last : states ≡ others ++ packed machine ∷ []
+  pub wanted : IsWantedAt test (position_of machine)
   pub ends : ForEachHistory B M machine (λ t. EndsAsWanted M test t)
 
 -- A search from the end of this history hands over no event exactly where that end is as wanted, and saw that state alone.

@@ -15,7 +15,7 @@ ends_as_wanted-requires g c =
 pub returns : goal.returns
 returns g c =
     let ran = rw c.in_ok-opening.ensures.copy at c.in_ok-machine.ensures in
-    let ends = c.ends_as_wanted.ensures ran.0 ran.2 in (
+    let ends = c.ends_as_wanted.ensures.history ran.0 ran.2 in (
       λ shown. record { history = ran.0; ran = ran.1; ends = ends.0 shown },
       λ shows. ends.1 (subst (λ (t : History). EndsAsWanted g.row.M c.args.test.now t)
           (run-one g.row.B g.row.M (at_opening c.args.test.now.opening) c.args.events.now shows.history ran.0 shows.ran ran.1) shows.ends),
