@@ -24,7 +24,8 @@ use Rattle.step_machine.specs.declared.events.Outcome.TheVariants as outcome
 use Rattle.step_machine.specs.inner.Stored.{word_at, Stored, stored_after, restarted_stored}
 use Rattle.step_machine.specs.inner.Config.{Config, SameButRoom, without_room, beginning, view_state, after_outcome, harts_after}
 use Rattle.step_machine.specs.inner.Config.{outcome_of, restarted_config}
-use Rattle.step_machine.specs.Positions.{IsPositionOf, AreOfOneOpening, position_of, opening_position, outcome_at, next_position, unpacked_hart, unpacked_harts, put_at}
+use Rattle.step_machine.specs.Positions.{IsPositionOf, AreOfOneOpening, position_of, opening_position, outcome_at}
+use Rattle.step_machine.specs.Positions.{next_position, unpacked_hart, unpacked_harts, put_at}
 use Rattle.step_machine.proofs.Nexts.{outcome_is, next_is}
 use Rattle.step_machine.proofs.Stays.{firsts_step_at}
 

@@ -110,7 +110,8 @@ same_again B M n k t c d s now then saved =
           (λ h v w x is_v is_w of_w. same_seen v w x of_w (gone_on B M n k t c d now then h v w is_v is_w));
       firsts = same_restored beginning c.harts d.harts s.harts saved.harts count
           (λ h v w x is_v is_w of_w. (gone_on B M n k t c d now then h v w is_v is_w).first);
-      stored = same_stored s c.stored d.stored (now.tied.holds.opens ∙ sym then.tied.holds.opens) saved.buffers (words_back M d.stored s.words then.fit.stored saved.words);
+      stored = same_stored s c.stored d.stored (now.tied.holds.opens ∙ sym then.tied.holds.opens) saved.buffers
+          (words_back M d.stored s.words then.fit.stored saved.words);
     }
 
 -- ---- the machine put back

@@ -24,5 +24,6 @@ returns g c =
     lefts_there _ c.args.self.now (length c.args.machine.now.harts) g.row.M lefts c.self.invariant.0
     c.self.view_is c.requires.harts c.requires.words (c.deref.ensures.value ∙ c.self.invariant.1) in
     on_ok_weaker c.values_into.result (λ read t stands.
-    values_read (length c.args.machine.now.harts) g.row.M t (position_of c.args.machine.now) lefts (left_sides c.args.self.now.condition) c.values_into.new.values.items
+    values_read (length c.args.machine.now.harts) g.row.M t (position_of c.args.machine.now) lefts
+    (left_sides c.args.self.now.condition) c.values_into.new.values.items
     (c.laws_of_positions.ensures.ends g.row.B g.row.M t c.args.machine.now stands) there same read) c.values_into.ensures

@@ -15,7 +15,8 @@ restore-requires g c =
     subst (λ (p : HistoryWithRoom). IsTakenAt g.row.B g.row.M (up_to s.count p.history) s) (sym c.self.view_is) c.requires in
     let harts = within_back g.row.B g.row.M c.self.inside.room (history_of o es) c.self.inside.machine_state s c.self.invariant.0 taken in
     let buffers = buffers_back g.row.B g.row.M c.self.inside.room (history_of o es) c.self.inside.machine_state s c.self.invariant.0 taken in
-    (lit< tt, (lit< tt, (harts, (buffers, (words_few g.row.B g.row.M (up_to s.count (history_of o es)) s taken, pending_back g.row.B g.row.M (up_to s.count (history_of o es)) s taken)))))
+    let few = words_few g.row.B g.row.M (up_to s.count (history_of o es)) s taken in
+    (lit< tt, (lit< tt, (harts, (buffers, (few, pending_back g.row.B g.row.M (up_to s.count (history_of o es)) s taken)))))
 
 pub invariant_of-self : goal.invariant_of-self
 invariant_of-self g c =
