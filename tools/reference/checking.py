@@ -12,7 +12,7 @@ HEAD = re.compile(rb"ztso-schedule 2(?:\r?\n|\Z)")
 
 def texts(lines):
     """The texts of the records: each begins at a line that is the head of version 2. What stands before the first
-    one is a text too, unless it is blank and no longer than a text may be."""
+    one is a text too, unless its lines are blank and it is no longer than a text may be."""
     held = []
     for line in lines:
         if HEAD.fullmatch(line):
@@ -24,7 +24,7 @@ def texts(lines):
 
 def closed(lines):
     text = b"".join(lines)
-    if len(text) > TEXT_BYTES or text.strip(b" \t\r\n"):
+    if len(text) > TEXT_BYTES or text.replace(b"\r\n", b"\n").strip(b" \t\n"):
         yield text
 
 

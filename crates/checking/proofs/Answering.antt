@@ -16,7 +16,8 @@ use Rattle.engine_support.specs.inner.Inputs.{IsReadAsTest}
 use Rattle.engine_support.specs.inner.Making.{FindsByUpToReads}
 use Rattle.engine_support.proofs.Endings.{weaker}
 use Rattle.checking.specs.declared.tally.Tally.{Tally}
-use Rattle.checking.specs.RecordTexts.{is_left_out, texts_in, whole_lines}
+use Rattle.engine_support.specs.WholeLines.{whole_lines}
+use Rattle.checking.specs.RecordTexts.{is_left_out, texts_in}
 use Rattle.checking.specs.Judgements.{Judged, IsJudged}
 use Rattle.checking.specs.Reports.{report_line, reports_from}
 use Rattle.checking.specs.Outcomes.{IsTable}

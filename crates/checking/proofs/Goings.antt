@@ -1,6 +1,6 @@
 -- Records that are judged as they are read.
 use Rattle.std.proofs.Common.{arith, ◌≡◌, ℕ, ◌+◌, ◌<◌, ◌≤◌, true, false, List, [], ◌∷◌, ◌++◌, length, length-append}
-use Rattle.std.proofs.Common.{Option, Some, None, refl, sym, ap, subst, ◌∙◌, append_assoc, inl}
+use Rattle.std.proofs.Common.{Option, Some, None, refl, sym, ap, subst, ◌∙◌, append_assoc, inl, take_all}
 use Rattle.std.specs.Prelude.{IfSome}
 use Rattle.std.specs.Io.BufRead.{take_through, drop_through, DropsThrough}
 use Rattle.std.specs.Io.KnownBytes.{Appends}
@@ -8,7 +8,10 @@ use Rattle.std.proofs.lemmas.List.{append-nil}
 use Rattle.litmus.specs.LitmusTests.{LitmusTest}
 use Rattle.engine_support.proofs.Written.{appends_more, appends_nothing, no_byte}
 use Rattle.checking.specs.declared.tally.Tally.{Tally}
-use Rattle.checking.specs.RecordTexts.{whole_lines, begins_record, is_left_out, unless_blank, texts_in}
+use Rattle.engine_support.specs.Input.{kept_of}
+use Rattle.engine_support.specs.WholeLines.{whole_lines}
+use Rattle.engine_support.proofs.LineReading.{first_whole}
+use Rattle.checking.specs.RecordTexts.{begins_record, is_left_out, unless_blank, texts_in}
 use Rattle.checking.specs.Judgements.{Judged, IsJudged, AreJudged}
 use Rattle.checking.specs.Reports.{report_line, reports_from}
 use Rattle.checking.specs.Checking.{IsFront, OfLines}
@@ -18,7 +21,7 @@ use Rattle.checking.specs.inner.Reporting.Closes.{left_out, reported}
 use Rattle.checking.specs.inner.Reporting.TakesLine.{belongs, begins}
 use Rattle.checking.specs.inner.Tallies.{HasRoom, IsTallyOf}
 use Rattle.checking.proofs.TallyLaws.{has_room, tally_more}
-use Rattle.checking.proofs.TextLaws.{first_whole, texts_from, text_ends, text_goes_on, text_is_last, held_left_out, held_judged}
+use Rattle.checking.proofs.TextLaws.{begins_kept, texts_from, text_ends, text_goes_on, text_is_last, held_judged, held_kept, held_left_out}
 
 -- ---- one text more
 
@@ -50,6 +53,17 @@ AreDone (Some bytes) (Some rest) done = whole_lines bytes ≡ done ++ whole_line
 -- what was read next of what was left
 abbrev pub IsNext : (left next : Option (List ℕ)) → (line : List ℕ) → Type 0
 IsNext left next line = IfSome left (λ bytes. line ≡ take_through 10 bytes) × DropsThrough left next 10
+
+-- the line of which this was kept: what was read is as much as anyone knows where the input isn't known
+pub whole_of : (left : Option (List ℕ)) → (kept : List ℕ) → List ℕ
+whole_of None kept = kept
+whole_of (Some bytes) kept = take_through 10 bytes
+
+pub next_whole : (left next : Option (List ℕ)) (kept : List ℕ) → IfSome left (λ bytes. kept ≡ kept_of (take_through 10 bytes)) → DropsThrough left next 10
+    → length kept ≤ 1048577 → IsNext left next (whole_of left kept) × (kept_of (whole_of left kept) ≡ kept)
+unfolding whole_of
+next_whole None next kept is drops few = ((tt, drops), take_all 1048577 kept few)
+next_whole (Some bytes) next kept is drops few = ((refl, drops), sym is)
 
 -- Some lines of the input were read. The texts in them were judged, except the last one, of which this is
 -- held: the writer has got a line for each.
@@ -214,9 +228,10 @@ module _ {B M : ℕ} {test : LitmusTest} {input left before after : Option (List
           few = more.4;
         }
 
-    -- either way it was taken
-    pub going_line : (new : List ℕ) (newer : Tally) (later : Option (List ℕ)) → TakesLine B M test line held new tally newer after later
+    -- either way what is kept of it was taken
+    pub going_line : (new : List ℕ) (newer : Tally) (later : Option (List ℕ)) → TakesLine B M test (kept_of line) held new tally newer after later
         → Going B M test input next before later new newer (count + 1)
     going_line new newer later (belongs other held_more same stays) =
-        rw (same, stays) (going_on other new held_more)
-    going_line new newer later (begins at_head closes is) = going_anew at_head newer later closes new (inl is)
+        rw (same, stays) (going_on (sym (begins_kept line) ∙ other) new (λ whole is. held_kept line whole new (held_more whole is)))
+    going_line new newer later (begins at_head closes is) =
+        going_anew (sym (begins_kept line) ∙ at_head) newer later closes new (held_kept line [] new (inl is))

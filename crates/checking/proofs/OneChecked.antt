@@ -22,7 +22,8 @@ use Rattle.engine_support.proofs.OutcomeTables.{one_outcomes}
 use Rattle.engine_support.proofs.OneInput.{alike_by_test, one_refusal, value_or_refusal}
 use Rattle.engine_support.proofs.RunLaws.{one_place}
 use Rattle.checking.specs.EventLines.{line_of_event}
-use Rattle.checking.specs.RecordTexts.{texts_in, whole_lines}
+use Rattle.engine_support.specs.WholeLines.{whole_lines}
+use Rattle.checking.specs.RecordTexts.{texts_in}
 use Rattle.checking.specs.Judgements.{AreJudged, Difference, EndsAs, IsDifference, IsJudged, IsOfRun, IsSaidOf, Judged, judged_run, record_of}
 use Rattle.checking.specs.Judgements.Judged.{differing, no_record}
 use Rattle.checking.specs.Judgements.IsSaidOf.{of_run, of_difference}

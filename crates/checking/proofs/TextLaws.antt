@@ -1,38 +1,26 @@
 -- The texts in an input, line by line.
-use Rattle.std.proofs.Common.{arith, ◌≡◌, ℕ, ◌==◌, Bool, true, false, List, [], ◌∷◌, ◌++◌, length, length-append, refl}
-use Rattle.std.proofs.Common.{sym, ap, subst, ◌∙◌, append_assoc, inl, inr}
-use Rattle.std.specs.Prelude.{nat_eq, nat_le, if◌then◌else◌}
-use Rattle.std.specs.Io.BufRead.{take_through, drop_through}
+use Rattle.std.proofs.Common.{arith, ◌≡◌, ℕ, zero, suc, ◌-◌, ◌<◌, ◌==◌, true, false, List, [], ◌∷◌, ◌++◌, length, take}
+use Rattle.std.proofs.Common.{drop, Option, Some, None, length-append, refl}
+use Rattle.std.proofs.Common.{sym, ap, subst, ◌∙◌, ◌⊎◌, ◌≤◌, append_assoc, inl, inr, lit≤, take_all, take-take}
+use Rattle.std.specs.Prelude.{nat_eq, nat_le}
+use Rattle.std.specs.Prelude.{position}
+use Rattle.std.specs.List.{list_all}
+use Rattle.std.specs.Str.Lines.{lines, strip_carriage_return}
+use Rattle.texts.specs.Pieces.{is_blank}
+use Rattle.texts.proofs.PieceLaws.{lines_found, lines_whole, position_is}
 use Rattle.std.proofs.Math.Bool.{and-false}
-use Rattle.std.proofs.lemmas.Bool.{cases_Bool, eqb-true, lt-leb}
-use Rattle.std.proofs.lemmas.List.{append-nil}
+use Rattle.std.proofs.lemmas.Bool.{cases_Bool, cases_lt, eqb-true, lt-leb}
+use Rattle.std.proofs.lemmas.List.{append-nil, drop-take, length-take-le}
 use Rattle.step_machine.proofs.Placing.{and_left}
 use Rattle.litmus.specs.LitmusTests.{LitmusTest}
-use Rattle.recorder.specs.Reading.{has_head}
+use Rattle.recorder.specs.Reading.{ends_line, has_head}
+use Rattle.recorder.specs.Records.{record_head}
+use Rattle.engine_support.specs.Input.{kept_of}
 use Rattle.engine_support.proofs.Judging.{judged-large}
-use Rattle.checking.specs.RecordTexts.{whole_lines, before_lines, begins_record, before_record, records_in, is_left_out, unless_blank}
+use Rattle.checking.specs.RecordTexts.{are_blank_lines, begins_record, before_record, records_in, is_left_out, unless_blank}
 use Rattle.checking.specs.Judgements.{Judged, IsJudged, record_of}
 use Rattle.checking.specs.Judgements.IsJudged.{none, record_is}
 use Rattle.checking.specs.inner.Holding.{held_with, IsHeld}
-
--- ---- lines
-
-line_alone : (byte : ℕ) (ends : Bool)
-    → (if ends then (byte ∷ []) ∷ [] else before_lines byte []) ≡ (if ends then byte ∷ [] else byte ∷ [])
-    ∷ whole_lines (if ends then [] else [])
-line_alone byte true = refl
-line_alone byte false = refl
-
-line_more : (byte : ℕ) (ends : Bool) (bytes : List ℕ) → whole_lines bytes ≡ take_through 10 bytes ∷ whole_lines (drop_through 10 bytes)
-    → (if ends then (byte ∷ []) ∷ whole_lines bytes else before_lines byte (whole_lines bytes))
-    ≡ (if ends then byte ∷ [] else byte ∷ take_through 10 bytes) ∷ whole_lines (if ends then bytes else drop_through 10 bytes)
-line_more byte true bytes is = refl
-line_more byte false bytes is = ap (before_lines byte) is
-
--- the first line goes through the first LF
-pub first_whole : (byte : ℕ) (bytes : List ℕ) → whole_lines (byte ∷ bytes) ≡ take_through 10 (byte ∷ bytes) ∷ whole_lines (drop_through 10 (byte ∷ bytes))
-first_whole byte [] = line_alone byte (byte == 10)
-first_whole byte (next ∷ bytes) = line_more byte (byte == 10) (next ∷ bytes) (first_whole next bytes)
 
 -- ---- a line more
 
@@ -48,8 +36,26 @@ begins_by (byte ∷ rest) e =
     let whole = and_left _ _ e in
     (rest, ap (λ (b : ℕ). b ∷ rest) (sym (eqb-true 122 byte (and_left (nat_eq 122 byte) _ whole))))
 
+-- the first line keeps its first byte, which is no CR
+strip_keeps : (ys : List ℕ) → list_all is_blank (strip_carriage_return (122 ∷ ys)) ≡ false
+strip_keeps [] = refl
+strip_keeps (y ∷ ys) =
+    let less : length (122 ∷ y ∷ ys) - 1 ≡ suc (length ys) = omega arith in
+    grind (arith, cases_Bool, less)
+
+not_blank : (ys : List ℕ) → are_blank_lines (122 ∷ ys) ≡ false
+unfolding are_blank_lines
+not_blank ys = at (position (λ byte. byte == 10) (122 ∷ ys)) refl
+  where
+    at : (found : Option ℕ) → position (λ byte. byte == 10) (122 ∷ ys) ≡ found → list_all (list_all is_blank) (lines (122 ∷ ys)) ≡ false
+    at None missing = rw (lines_whole (122 ∷ ys) missing (omega arith)) refl
+    at (Some zero) found = let place = position_is (λ byte. byte == 10) (122 ∷ ys) zero found in absurd (omega (arith, place.1))
+    at (Some (suc i)) found = rw (lines_found (122 ∷ ys) (suc i) found, strip_keeps (take i ys)) refl
+
 not_left_out : (line more : List ℕ) → begins_record line ≡ true → is_left_out (line ++ more) ≡ false
-not_left_out line more e = let (rest, is) = begins_by line e in rw is (and-false (nat_le (length ((122 ∷ rest) ++ more)) 1048576))
+not_left_out line more e =
+    let (rest, is) = begins_by line e in
+    rw is (rw (not_blank (rest ++ more)) (and-false (nat_le (length ((122 ∷ rest) ++ more)) 1048576)))
 
 -- where a record begins, the line before ended the text
 pub text_ends : (text line : List ℕ) (lines : List (List ℕ)) → begins_record line ≡ true
@@ -64,6 +70,33 @@ text_goes_on text line lines other = rw (other, append_assoc text line (before_r
 -- and so does the end
 pub text_is_last : (text : List ℕ) → texts_from text [] ≡ unless_blank text
 text_is_last text = rw (append-nil text, append-nil (unless_blank text)) refl
+
+-- ---- a line of which a front is kept
+
+ends_kept : (n : ℕ) (rest : List ℕ) → ends_line (take (suc (suc n)) rest) ≡ ends_line rest
+ends_kept n [] = refl
+ends_kept n (byte ∷ []) = refl
+ends_kept n (byte ∷ next ∷ rest) = refl
+
+-- a record begins at the line exactly where one begins at what is kept
+pub begins_kept : (line : List ℕ) → begins_record (kept_of line) ≡ begins_record line
+unfolding has_head
+begins_kept line =
+    let front : take 15 (take 1048577 line) ≡ take 15 line = take-take 15 1048577 line (lit≤ tt) in
+    let back : drop 15 (take 1048577 line) ≡ take 1048562 (drop 15 line) = drop-take 15 1048562 line in
+    rw (front, back, ends_kept 1048560 (drop 15 line)) refl
+
+-- what is held of a text with what is kept of a line is held of it with the line
+pub held_kept : (line whole held : List ℕ) → IsHeld (whole ++ kept_of line) held → IsHeld (whole ++ line) held
+held_kept line whole held is = at (cases_lt 1048577 (length line)) is
+  where
+    at : (1048577 < length line) ⊎ (length line ≤ 1048577) → IsHeld (whole ++ kept_of line) held → IsHeld (whole ++ line) held
+    at (inr short) is = subst (λ (xs : List ℕ). IsHeld (whole ++ xs) held) (take_all 1048577 line short) is
+    at (inl long) (inl same) =
+        let kept = length-take-le 1048577 line (omega arith) in
+        let most = ap length same ∙ length-append whole (take 1048577 line) in
+        inr (omega (arith, kept, most), omega (arith, long, length-append whole line))
+    at (inl long) (inr (much, more)) = inr (much, omega (arith, long, length-append whole line))
 
 -- ---- what is held of a text
 

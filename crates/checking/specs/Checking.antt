@@ -3,7 +3,8 @@ use Rattle.std.specs.Prelude.{ℕ, ◌≡◌, ◌==◌, Bool, List, ◌++◌, co
 use Rattle.litmus.specs.LitmusTests.{LitmusTest}
 use Rattle.engine_support.specs.declared.fault.Refusal.{Refusal}
 use Rattle.engine_support.specs.Tests.{ByTest}
-use Rattle.checking.specs.RecordTexts.{whole_lines, texts_in}
+use Rattle.engine_support.specs.WholeLines.{whole_lines}
+use Rattle.checking.specs.RecordTexts.{texts_in}
 use Rattle.checking.specs.Judgements.{Judged, AreJudged}
 use Rattle.checking.specs.Reports.{reports_from}
 use Rattle.checking.specs.Outcomes.{IsTable, is_refused}

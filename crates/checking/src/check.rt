@@ -15,10 +15,10 @@ ghost use Rattle.checking.specs.inner.Tallies.{HasRoom};
 use crate::judging::judge;
 use crate::reading::{begins_record, hold, is_left_out};
 use crate::reports::report;
-use crate::table::table;
+use crate::table::end_with_table;
 use crate::tally::Tally;
 use engine_support::fault::Fault;
-use engine_support::input::read_line;
+use engine_support::line_input::read_line;
 use engine_support::litmus_text::read_test;
 use engine_support::output::end_with;
 use litmus::Test;
@@ -145,9 +145,8 @@ fn check_all<const B: usize, const M: usize, R: BufRead, W: Write>(
     let opening = test.opening(alloc)?;
     let mut machine = MachineState::<B, M>::open(alloc, &opening)?;
     let tally = judge_all(alloc, test, &mut machine, records, writer)?;
-    let text = table(alloc, test, &tally)?;
-    let good = tally.refused == 0;
-    end_with(Ok((text, good)), writer)
+    tally.outcomes.has_lines(test);
+    end_with_table(test, &tally, writer)
 }
 
 /// Reads a litmus text to its end, and then records of its runs, one after the other. Each is judged once it
@@ -158,8 +157,9 @@ fn check_all<const B: usize, const M: usize, R: BufRead, W: Write>(
 /// record was refused: docs/formats.md has the lines.
 ///
 /// The litmus text is refused as `run` refuses it, before a record is read and with nothing written. The number
-/// of records has no limit, and the longest one determines the memory that is taken. After a failed read or
-/// write, or where memory runs out, what was written before stays written.
+/// of records has no limit. Of a text and of a line no more is held than the largest record has and one byte, which is
+/// enough to refuse it as too large. After a failed read or write, or where memory runs out, what was written before
+/// stays written.
 pub fn check_engine<const B: usize, const M: usize, F: Read, R: BufRead, W: Write>(
     alloc: Global,
     file: &mut F,

@@ -1,23 +1,31 @@
 //! The table after the last line.
 
-ghost use Rattle.std.specs.Prelude.{◌≡◌, ◌++◌, ℕ, List, IfOk};
-ghost use Rattle.std.specs.String.{string_bytes};
-ghost use Rattle.engine_support.specs.Outcomes.{unfinished_line};
-ghost use Rattle.engine_support.specs.Counting.{AreLines, counted};
-ghost use Rattle.checking.specs.Outcomes.{refused_line};
+ghost use Rattle.std.specs.Prelude.{◌≡◌, ◌==◌, IfErr, IfOk, OnOk};
+ghost use Rattle.std.specs.Io.KnownBytes.{Appends};
+ghost use Rattle.engine_support.specs.declared.fault.Fault.TheVariants.{WriteFailed};
+ghost use Rattle.checking.specs.inner.Tallies.{table_text};
 
 use crate::tally::Tally;
+use engine_support::fault::Fault;
 use litmus::Test;
-use std::alloc::{AllocError, Global};
+use std::io::{self, Write};
 
-/// The lines of all outcomes, and how many runs did not finish and how many texts were refused.
-pub fn table(alloc: Global, test: &Test, tally: &Tally) -> Result<String, AllocError>
-    ensures { IfOk result (λ text. (lines : List ℕ) × AreLines test.now (counted tally.now.outcomes) lines
-        × (string_bytes text ≡ lines ++ unfinished_line tally.now.unfinished ++ refused_line tally.now.refused)) }
+/// Writes the lines of all outcomes, and how many runs did not finish and how many texts were refused.
+fn write_table<W: Write>(writer: &mut W, test: &Test, tally: &Tally) -> io::Result<()>
+    ensures { OnOk result (Appends (W.contents writer.old) (W.contents writer.new) (table_text test.now tally.now)) }
 {
-    let mut text = String::new(alloc);
-    tally.outcomes.push_lines(&mut text, test)?;
-    writeln!(text, "unfinished {}", tally.unfinished)?;
-    writeln!(text, "refused {}", tally.refused)?;
-    Ok(text)
+    tally.outcomes.write_lines(writer, test)?;
+    writeln!(writer, "unfinished {}", tally.unfinished)?;
+    writeln!(writer, "refused {}", tally.refused)?;
+    writer.flush()
+}
+
+/// Ends the command: writes the table of what was judged, line by line, and answers whether no text was refused.
+pub fn end_with_table<W: Write>(test: &Test, tally: &Tally, writer: &mut W) -> Result<bool, Fault>
+    ensures written { IfOk result (λ good. (good ≡ (tally.now.refused == 0))
+        × Appends (W.contents writer.old) (W.contents writer.new) (table_text test.now tally.now)) }
+    ensures err { IfErr result (λ fault. fault ≡ WriteFailed) }
+{
+    write_table(writer, test, tally).map_err(|_| Fault::WriteFailed)?;
+    Ok(tally.refused == 0)
 }

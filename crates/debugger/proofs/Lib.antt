@@ -2,5 +2,6 @@ pub mod SessionLaws
 pub mod SnapshotLaws
 pub mod DebuggerLaws
 pub mod DebugLaws
+pub mod FirstLines
 pub mod TranscriptLaws
 pub mod OneTranscript

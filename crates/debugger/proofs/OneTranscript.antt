@@ -12,10 +12,9 @@ use Rattle.debugger.specs.declared.debug.command.Command.{Command}
 use Rattle.debugger.specs.declared.debug.command.Command.TheVariants as command
 use Rattle.debugger.specs.declared.debugger.Source.{Source}
 use Rattle.debugger.specs.declared.debugger.Source.TheVariants.{Schedule, User}
-use Rattle.texts.specs.Cutting.{tokens}
 use Rattle.debugger.specs.Sessions.{Past}
 use Rattle.debugger.specs.DebuggerStates.{DebuggerState, TakesEvent, GoesBackBy, at_start}
-use Rattle.debugger.specs.Commands.{command_in}
+use Rattle.debugger.specs.Commands.{said_in}
 use Rattle.recorder.specs.Outcomes.{outcome_line}
 use Rattle.debugger.specs.Debugging.{Breaks, Does, DoesAll, DoesCommand, DoesNext, Toggled, is_point, stop_before}
 use Rattle.debugger.specs.Transcripts.{DoesLine, IsTranscript, Transcript, quits}
@@ -99,14 +98,14 @@ module _ (B M : ℕ) where
   one_line : (line : List ℕ) (old x y : DebuggerState) (points p q : List (ℕ × ℕ)) (s t : List ℕ)
       → DoesLine B M line old x points p s → DoesLine B M line old y points q t → AreAlike s t x y p q
   one_line line old x y points p q s t a b =
-      by_option (command_in (tokens line)) (AreAlike s t x y p q) a b
+      by_option (said_in line) (AreAlike s t x y p q) a b
       (λ e f. (e.0 ∙ sym f.0, e.1 ∙ sym f.1, e.2 ∙ sym f.2)) (λ said. one_answers said old x y points p q s t)
 
   one_transcript : (ls : List (List ℕ)) (old : DebuggerState) (points : List (ℕ × ℕ)) (s t : List ℕ)
       → Transcript B M ls old points s → Transcript B M ls old points t → s ≡ t
   one_transcript [] old points s t a b = a ∙ sym b
   one_transcript (line ∷ ls) old points s t a b =
-      by_bool (quits (command_in (tokens line))) (s ≡ t) a b (λ e f. e ∙ sym f)
+      by_bool (quits (said_in line)) (s ≡ t) a b (λ e f. e ∙ sym f)
       (λ e f. let here = one_line line old e.1 f.1 points e.2 f.2 e.0 f.0 e.4 f.4 in
       let moved = subst (λ (left : List (ℕ × ℕ)). Transcript B M ls e.1 left f.3) (sym here.2)
       (subst (λ (w : DebuggerState). Transcript B M ls w f.2 f.3) (sym here.1) f.6) in

@@ -1,27 +1,20 @@
 -- A user's lines, read one by one.
 use Rattle.std.proofs.Common.{◌≡◌, ℕ, ◌+◌, ◌<◌, Bool, true, false, List, [], ◌∷◌, ◌++◌, length, take, drop, Option}
 use Rattle.std.proofs.Common.{Some, None, Result, Ok, Err, refl, sym, ap, subst, ◌∙◌, ◌⊎◌, inl, inr, arith}
-use Rattle.std.specs.Prelude.{position, IfSome, IfOk, IfErr, OnOk, MatchBool}
+use Rattle.std.specs.Prelude.{IfSome, IfOk, IfErr, OnOk, MatchBool}
 use Rattle.std.specs.Result.{result_and}
 use Rattle.std.specs.String.{string_bytes}
-use Rattle.std.specs.List.{position_or_len}
 use Rattle.std.specs.declared.string.String.{String}
 use Rattle.std.specs.Global.{Global}
-use Rattle.std.specs.Str.Lines.{lines, strip_carriage_return}
-use Rattle.std.specs.Io.BufRead.{take_through, drop_through, DropsThrough}
+use Rattle.std.specs.Str.Lines.{lines}
 use Rattle.std.specs.Io.KnownBytes.{Appends}
-use Rattle.std.proofs.lemmas.Bool.{cases_Bool, lt-ltb}
-use Rattle.std.proofs.lemmas.List.{append-nil, append_assoc, take_all, drop_all, take-take, length-take-le}
-use Rattle.texts.proofs.PieceLaws.{position_is, position_past, lines_found, lines_whole}
-use Rattle.texts.specs.Cutting.{tokens}
-use Rattle.litmus_reader.specs.Marks.{is_line_feed}
+use Rattle.std.proofs.lemmas.List.{append-nil, append_assoc}
 use Rattle.litmus.specs.LitmusTests.{LitmusTest}
 use Rattle.step_machine.specs.declared.events.Event.{Event}
 use Rattle.recorder.specs.Versions.{events_said}
 use Rattle.debugger.specs.DebuggerStates.{DebuggerState, at_start}
-use Rattle.debugger.specs.Commands.{command_in}
+use Rattle.debugger.specs.Commands.{said_in}
 use Rattle.debugger.specs.declared.debug.command.Command.{Command}
-use Rattle.debugger.specs.declared.debug.command.Command.TheVariants.{Quit}
 use Rattle.engine_support.specs.declared.fault.Fault.{Fault}
 use Rattle.engine_support.specs.declared.fault.Fault.TheVariants.{ReadFailed, WriteFailed, NoMemory, Refused}
 use Rattle.debugger.specs.Transcripts.{DoesLine, DoesSaid, EndsInteractive, IsDebugAnswer, IsDebugFront}
@@ -33,70 +26,8 @@ use Rattle.debugger.specs.inner.Failures.{IsFailure, IsReadFailure, IsAtStart}
 use Rattle.engine_support.specs.Engines.{AnswersBoth, Output}
 use Rattle.engine_support.specs.Histories.{AnswersEvents, ByEvents}
 use Rattle.engine_support.specs.Histories.BySchedule.{both}
-use Rattle.engine_support.proofs.Written.{appends_more, appends_nothing, no_byte, stopped}
+use Rattle.engine_support.proofs.Written.{appends_more, appends_nothing, stopped}
 use Rattle.engine_support.proofs.ScheduleLaws.{by_schedule_as, weaker_both}
-
--- ---- the first line of an input, which ends through its first LF
-
-abbrev line_len : List ℕ → ℕ
-line_len bytes = position_or_len is_line_feed bytes
-
-through_is : (bytes : List ℕ) → (take_through 10 bytes ≡ take (line_len bytes + 1) bytes)
-    × (drop_through 10 bytes ≡ drop (line_len bytes + 1) bytes) × (line_len (take_through 10 bytes) ≡ line_len bytes)
-through_is [] = (refl, refl, refl)
-through_is (byte ∷ bytes) = grind (arith, cases_Bool, through_is bytes)
-
-position_at : (bytes : List ℕ) (i : ℕ) → line_len bytes ≡ i → i < length bytes → position is_line_feed bytes ≡ Some i
-position_at bytes i is within = rw is (rw (lt-ltb i (length bytes) within) refl)
-
--- the first line depends on its own bytes alone
-pub first_line_of : (bytes line : List ℕ) (none : List (List ℕ)) → lines (take_through 10 bytes) ≡ line ∷ none
-    → lines bytes ≡ line ∷ lines (drop_through 10 bytes)
-first_line_of [] line none is = absurd cc
-first_line_of (byte ∷ bytes) line none is = at (position is_line_feed (byte ∷ bytes)) refl
-  where
-    at : (o : Option ℕ) → position is_line_feed (byte ∷ bytes) ≡ o → lines (byte ∷ bytes) ≡ line ∷ lines (drop_through 10 (byte ∷ bytes))
-    at (Some i) found =
-        let all = byte ∷ bytes in
-        let place = position_is is_line_feed all i found in
-        let within : i < length all = rw (← place.1) place.0 in
-        let through = through_is all in
-        let front : take_through 10 all ≡ take (i + 1) all = through.0 ∙ ap (λ (k : ℕ). take (k + 1) all) place.1 in
-        let back : drop_through 10 all ≡ drop (i + 1) all = through.1 ∙ ap (λ (k : ℕ). drop (k + 1) all) place.1 in
-        let long : length (take_through 10 all) ≡ i + 1 = ap length front ∙ length-take-le (i + 1) all (omega arith) in
-        let again : position is_line_feed (take_through 10 all) ≡ Some i = position_at (take_through 10 all) i (through.2 ∙ place.1) (omega arith) in
-        let same : take i (take_through 10 all) ≡ take i all = ap (take i) front ∙ take-take i (i + 1) all (omega arith) in
-        let reads_line : line ≡ strip_carriage_return (take i all) =
-        let first_line = lines_found (take_through 10 all) i again in
-        let e : line ≡ strip_carriage_return (take i (take_through 10 all)) = cc in
-        e ∙ ap strip_carriage_return same in
-        lines_found all i found ∙ ap (λ (l : List ℕ). l ∷ lines (drop (i + 1) all)) (sym reads_line) ∙ ap (λ (rest : List ℕ). line ∷ lines rest) (sym back)
-    at None none_found =
-        let all = byte ∷ bytes in
-        let past = position_past is_line_feed all none_found in
-        let through = through_is all in
-        let front : take_through 10 all ≡ all = through.0 ∙ take_all (line_len all + 1) all (omega arith) in
-        let back : drop_through 10 all ≡ [] = through.1 ∙ drop_all (line_len all + 1) all (omega arith) in
-        let whole : lines all ≡ all ∷ [] = lines_whole all none_found (omega arith) in
-        let reads_line : line ≡ all = let e = ap lines (sym front) ∙ is in cc in
-        whole ∙ ap (λ (l : List ℕ). l ∷ []) (sym reads_line) ∙ ap (λ (rest : List ℕ). line ∷ lines rest) (sym back)
-
--- what was read through the first LF is nothing, so the input has ended
-pub asks_end : (old new : Option (List ℕ)) (read text : List ℕ) → IfSome old (λ bytes. read ≡ take_through 10 bytes) → text ≡ read → text ≡ []
-    → AsksNext old new (Some Quit)
-asks_end None new read text is whole none = inl (tt, refl)
-asks_end (Some bytes) new read text is whole none = inl (ap lines (no_byte bytes (sym is ∙ sym whole ∙ none)), refl)
-
--- or it is the next line
-pub asks_line : (old new : Option (List ℕ)) (read text line : List ℕ) (others : List (List ℕ)) (said : Option Command)
-    → IfSome old (λ bytes. read ≡ take_through 10 bytes) → DropsThrough old new 10 → text ≡ read → lines text ≡ line ∷ others → said ≡ command_in (tokens line)
-    → AsksNext old new said
-asks_line None new read text line others said is drops whole says asks = inr (line, asks, tt)
-asks_line (Some bytes) new read text line others said is drops whole says asks = inr (
-  line,
-  asks,
-  rw drops (first_line_of bytes line others (ap lines (sym is ∙ sym whole) ∙ says)),
-)
 
 -- ---- what a writer holds, where that is known
 
@@ -167,7 +98,7 @@ module _ {B M : ℕ} {input left old new : Option (List ℕ)} {start now : Debug
       → Printed old new (Prints B M input start [])
   talked_enough next said (inl (none, end)) quit = ends [] none refl
   talked_enough next said (inr (line, asks, is)) quit =
-      let here = at left next is in ends (line ∷ here.0) here.1 (on_true (quits (command_in (tokens line))) _ _ (ap quits (sym asks) ∙ quit) refl)
+      let here = at left next is in ends (line ∷ here.0) here.1 (on_true (quits (said_in line)) _ _ (ap quits (sym asks) ∙ quit) refl)
     where
       at : (left next : Option (List ℕ)) → IsNextLine left next line → (others : List (List ℕ)) × IfSome left (λ rest. lines rest ≡ line ∷ others)
       at None next is = ([], tt)
@@ -176,10 +107,10 @@ module _ {B M : ℕ} {input left old new : Option (List ℕ)} {start now : Debug
 
   module _ (next : Option (List ℕ)) (said : Option Command) (asks : AsksNext left next said) (goes : quits said ≡ false) where
     -- a line asked for it
-    asked : (line : List ℕ) × (said ≡ command_in (tokens line)) × IsNextLine left next line
+    asked : (line : List ℕ) × (said ≡ said_in line) × IsNextLine left next line
     asked = at asks
       where
-        at : AsksNext left next said → (line : List ℕ) × (said ≡ command_in (tokens line)) × IsNextLine left next line
+        at : AsksNext left next said → (line : List ℕ) × (said ≡ said_in line) × IsNextLine left next line
         at (inl (none, end)) = absurd (let quit : quits said ≡ true = ap quits end in cc)
         at (inr by_line) = by_line
 
@@ -191,7 +122,7 @@ module _ {B M : ℕ} {input left old new : Option (List ℕ)} {start now : Debug
         let answers_line : DoesLine B M asked.0 now then points others text =
         subst (λ (o : Option Command). DoesSaid B M o now then points others text) asked.1 answers in
         t.leads (asked.0 ∷ more) (text ++ later)
-        (on_false (quits (command_in (tokens asked.0))) _ _ (ap quits (sym asked.1) ∙ goes) (text, then, others, later, answers_line, refl, talks))
+        (on_false (quits (said_in asked.0)) _ _ (ap quits (sym asked.1) ∙ goes) (text, then, others, later, answers_line, refl, talks))
 
     -- it is answered, whether the writer takes what it prints or not
     pub talked_some : (then : DebuggerState) (others : List (ℕ × ℕ)) (text : List ℕ) → DoesSaid B M said now then points others text

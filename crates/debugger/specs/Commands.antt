@@ -1,6 +1,7 @@
 -- The debugger's commands: which line asks for what.
 use Rattle.std.specs.Prelude.{ℕ, if◌then◌else◌, List, [], ◌∷◌, Option, None, Some, option_map, option_and_then, codes}
 use Rattle.std.specs.Str.{bytes_eq}
+use Rattle.texts.specs.Cutting.{tokens}
 use Rattle.texts.specs.Numbers.{number_of, word_of}
 use Rattle.step_machine.specs.declared.events.Event.TheVariants.{Act, Land}
 use Rattle.debugger.specs.declared.debug.command.Command.{Command}
@@ -36,3 +37,7 @@ command_in (name ∷ []) = command_alone name
 command_in (name ∷ number ∷ []) = command_with_one name number
 command_in (name ∷ first ∷ second ∷ []) = command_with_two name first second
 command_in others = None
+
+-- what a line asks for, without its end, if that is anything
+abbrev pub said_in : (line : List ℕ) → Option Command
+said_in line = command_in (tokens line)

@@ -1,18 +1,19 @@
 -- The command `debug`: what a user's lines print in turn.
-use Rattle.std.specs.Prelude.{ℕ, ◌≡◌, Bool, true, false, List, [], ◌∷◌, ◌++◌, Option, None, Some, MatchOption, MatchBool, Result}
+use Rattle.std.specs.Prelude.{ℕ, ◌≡◌, if◌then◌else◌, Bool, true, false, List, [], ◌∷◌, ◌++◌, Option, None, Some, IfSome, MatchOption, MatchBool, Result}
+use Rattle.std.specs.List.{concat, list_any}
 use Rattle.std.specs.Str.Lines.{lines}
 use Rattle.step_machine.specs.declared.events.Event.{Event}
 use Rattle.litmus.specs.LitmusTests.{LitmusTest}
 use Rattle.debugger.specs.declared.debug.command.Command.{Command}
 use Rattle.debugger.specs.declared.debug.command.Command.TheVariants as command
 use Rattle.engine_support.specs.declared.fault.Refusal.{Refusal}
-use Rattle.texts.specs.Cutting.{tokens}
 use Rattle.engine_support.specs.Histories.{ByEvents}
 use Rattle.debugger.specs.DebuggerStates.{DebuggerState, at_start}
-use Rattle.debugger.specs.Commands.{command_in}
+use Rattle.debugger.specs.Commands.{said_in}
 use Rattle.debugger.specs.DebugText.{unknown_line}
 use Rattle.debugger.specs.Debugging.{DoesCommand}
 use Rattle.engine_support.specs.Engines.{Output}
+use Rattle.engine_support.specs.WholeLines.{whole_lines}
 pub use Rattle.engine_support.specs.Interactive.{EndsInteractive, OnRefused, OnStopped, OnUnwritten}
 
 -- whether a line ends the transcript
@@ -28,12 +29,12 @@ DoesSaid B M said old new points others text =
 
 -- the same of what a line asks for
 abbrev pub DoesLine : (B M : ℕ) → (line : List ℕ) → (old new : DebuggerState) (points others : List (ℕ × ℕ)) (text : List ℕ) → Type 0
-DoesLine B M line old new points others text = DoesSaid B M (command_in (tokens line)) old new points others text
+DoesLine B M line old new points others text = DoesSaid B M (said_in line) old new points others text
 
 -- these lines print this, up to the one that ends the transcript
 abbrev pub Transcript : (B M : ℕ) → List (List ℕ) → DebuggerState → (points : List (ℕ × ℕ)) → (out : List ℕ) → Type 0
 Transcript B M [] old points out = out ≡ []
-Transcript B M (line ∷ others) old points out = MatchBool (quits (command_in (tokens line))) (out ≡ [])
+Transcript B M (line ∷ others) old points out = MatchBool (quits (said_in line)) (out ≡ [])
     ((text : List ℕ) × (new : DebuggerState) × (left : List (ℕ × ℕ)) × (later : List ℕ)
     × DoesLine B M line old new points left text × (out ≡ text ++ later) × Transcript B M others new left later)
 
@@ -53,6 +54,27 @@ abbrev pub PrintsSome : (B M : ℕ) → (input : Option (List ℕ)) → Debugger
 PrintsSome B M None debugger points out = (done : List (List ℕ)) × (line : List ℕ) × Transcript B M (done ++ line ∷ []) debugger points out
 PrintsSome B M (Some bytes) debugger points out = (done : List (List ℕ)) × (line : List ℕ) × (rest : List (List ℕ))
     × (lines bytes ≡ done ++ line ∷ rest) × Transcript B M (done ++ line ∷ []) debugger points out
+
+-- ---- what is left of the input
+
+-- a line with its end ends the transcript
+abbrev pub is_last : (whole : List ℕ) → Bool
+is_last whole = list_any (λ line. quits (said_in line)) (lines whole)
+
+-- what follows the first of these lines that ends the transcript; nothing where none does
+abbrev pub after_last : (whole : List (List ℕ)) → List ℕ
+after_last [] = []
+after_last (line ∷ others) = if is_last line then concat others else after_last others
+
+-- what a transcript leaves unread of an input
+unfoldable pub unread_of : List ℕ → List ℕ
+unread_of bytes = after_last (whole_lines bytes)
+
+-- Of an input whose bytes are known that is left which follows the first line that ends the transcript, or nothing.
+abbrev pub Leaves : (old new : Option (List ℕ)) → Type 0
+Leaves old new = IfSome old (λ bytes. new ≡ Some (unread_of bytes))
+
+-- ---- the command
 
 -- what the user's lines print at a test's opening; there is no other value
 abbrev pub IsTranscript : (B M : ℕ) → (input : Option (List ℕ)) → LitmusTest → List Event → (answer : Output) → Type 0

@@ -1,13 +1,13 @@
 //! The command `debug`: along a schedule's run of a litmus test, at a user's commands.
 
-ghost use Rattle.std.specs.Prelude.{◌≡◌, ◌≤◌, ◌⊎◌, ℕ, List, [], Ok};
+ghost use Rattle.std.specs.Prelude.{◌≡◌, ◌≤◌, ◌⊎◌, ℕ, List, [], Ok, OnOk};
 ghost use Rattle.std.specs.Io.KnownBytes.{Appends};
 ghost use Rattle.recorder.specs.Versions.{said_of};
 ghost use Rattle.engine_support.specs.Engines.{AnswersBoth};
 ghost use Rattle.engine_support.specs.Tests.{HasNoTest};
 ghost use Rattle.engine_support.specs.Faults.{AnswersAs};
 ghost use Rattle.engine_support.specs.Histories.{AnswersEvents, ByEvents};
-ghost use Rattle.debugger.specs.Transcripts.{EndsInteractive, IsDebugAnswer, IsDebugFront, IsDebugSome, OnRefused, OnStopped, OnUnwritten};
+ghost use Rattle.debugger.specs.Transcripts.{EndsInteractive, IsDebugAnswer, IsDebugFront, IsDebugSome, Leaves, OnRefused, OnStopped, OnUnwritten};
 ghost use Rattle.engine_support.specs.inner.Making.{FindsUpToReads};
 ghost use Rattle.debugger.specs.inner.Failures.{IsAtStart};
 ghost use Rattle.litmus.specs.declared.litmus_test.TheConstants.{MAX_LOCATIONS};
@@ -72,8 +72,8 @@ fn open_debugger<const B: usize, const M: usize, F: Read, S: Read>(
 ///
 /// The first two texts are refused as `run` refuses them, before the first command
 /// is read and with nothing written. After a refused litmus text the schedule is not read. Commands are
-/// never refused, and their number and length have no limit. After a failed read or write, or where
-/// memory runs out, what was answered before stays written.
+/// never refused, and their number and length have no limit. After the line that quits nothing is read. After a
+/// failed read or write, or where memory runs out, what was answered before stays written.
 pub fn debug_engine<const B: usize, const M: usize, F: Read, S: Read, C: BufRead, W: Write>(
     alloc: Global,
     file: &mut F,
@@ -89,6 +89,7 @@ pub fn debug_engine<const B: usize, const M: usize, F: Read, S: Read, C: BufRead
         (S.remaining schedule.old)) result W.contents writer.old writer.new }
     ensures unread { HasNoTest (F.remaining file.old) → schedule.new ≡ schedule.old }
     ensures unasked { OnRefused result (commands.new ≡ commands.old) }
+    ensures rest { OnOk result (Leaves (C.remaining commands.old) (C.remaining commands.new)) }
 
     // where a read failed or memory ran out, what the first lines print was written, or nothing
     ensures left { OnStopped result ((out : List ℕ) × Appends (W.contents writer.old) (W.contents writer.new) out

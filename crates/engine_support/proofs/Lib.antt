@@ -15,3 +15,4 @@ pub mod Rows
 pub mod OutcomeLines
 pub mod OutcomeLaws
 pub mod OutcomeTables
+pub mod LineReading

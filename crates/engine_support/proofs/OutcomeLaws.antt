@@ -1,7 +1,7 @@
 -- The rows of a table are the lines of what is counted.
 use Rattle.std.proofs.Common.{◌≡◌, ℕ, zero, suc, ◌<◌, Bool, true, false, cond, List, [], ◌∷◌, ◌++◌, length, map}
-use Rattle.std.proofs.Common.{get_or, All, Option, Some, option_map, Result, Ok, Err, refl, sym, ap, ◌∙◌, subst, arith}
-use Rattle.std.specs.Prelude.{is_some, Contains, OnOk}
+use Rattle.std.proofs.Common.{get_or, All, Option, Some, option_map, refl, sym, ap, ◌∙◌, subst, arith}
+use Rattle.std.specs.Prelude.{is_some, Contains}
 use Rattle.std.specs.List.{flat_map, AllByRecursion}
 use Rattle.std.specs.List.Sorted.{IsStrictlySortedBy}
 use Rattle.std.specs.declared.cmp.Ordering.TheVariants.{Less}
@@ -89,11 +89,3 @@ are_lines test rows sorted found = record {
   );
   text_is = rows-are test rows rows found;
 }
-
--- these were written
-pub lines_pushed : {E : Type 0} (result : Result (Unit {0}) E) (test : LitmusTest) (rows : Rows) (old new lines : List ℕ)
-    → IsStrictlySortedBy order (keys_of rows) → AreFound rows → lines ≡ flat_map (row_line test) rows → OnOk result (new ≡ old ++ lines)
-    → OnOk result ((lines : List ℕ) × AreLines test (counted_of rows) lines × (new ≡ old ++ lines))
-lines_pushed (Ok done) test rows old new lines sorted found is written =
-    (lines, subst (AreLines test (counted_of rows)) (sym is) (are_lines test rows sorted found), written)
-lines_pushed (Err e) test rows old new lines sorted found is written = tt

@@ -19,3 +19,12 @@ pub pairs_written : {A B : Type 0} (f : A × B → List ℕ) (out all : List ℕ
     → (ks ≡ []) ⊎ (vs ≡ []) → out ++ flat_map f (zip ks vs) ≡ all → out ≡ all
 pairs_written {A} {B} f out all ks vs ends so_far =
     sym (append-nil out) ∙ subst (λ (pairs : List (A × B)). out ++ flat_map f pairs ≡ all) (zip_ended ks vs ends) so_far
+
+-- one more of some rows is written
+pub line_written : {A : Type 0} (f : A → List ℕ) (out all : List ℕ) (left : List A) (entry : A) (rest : List A) → left ≡ entry ∷ rest
+    → out ++ flat_map f left ≡ all → (out ++ f entry) ++ flat_map f rest ≡ all
+line_written {A} f out all left entry rest is so_far = grind (arith, append_assoc)
+
+-- no row is left
+pub lines_written : {A : Type 0} (f : A → List ℕ) (out all : List ℕ) (left : List A) → left ≡ [] → out ++ flat_map f left ≡ all → out ≡ all
+lines_written {A} f out all left none so_far = sym (append-nil out) ∙ subst (λ (rows : List A). out ++ flat_map f rows ≡ all) none so_far

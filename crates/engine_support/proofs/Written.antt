@@ -1,6 +1,6 @@
 -- What was written, and how a part of an engine ends that writes as it reads.
 use Rattle.std.proofs.Common.{arith, ◌≡◌, ℕ, ◌==◌, List, [], ◌∷◌, ◌++◌, Result, Ok, Err, refl, sym, subst, append_assoc, inl, inr}
-use Rattle.std.specs.Prelude.{IfErr, IfOk, Option}
+use Rattle.std.specs.Prelude.{IfErr, IfOk, OnOk, Option}
 use Rattle.std.specs.Io.BufRead.{take_through}
 use Rattle.std.specs.String.{string_bytes}
 use Rattle.std.specs.declared.string.String.{String}
@@ -21,6 +21,12 @@ appends_nothing known = grind (arith, append-nil)
 
 pub appends_more : (old mid new : Option (List ℕ)) (xs ys : List ℕ) → Appends old mid xs → Appends mid new ys → Appends old new (xs ++ ys)
 appends_more old mid new xs ys a b = grind (arith, append_assoc)
+
+-- the last part of what is written
+pub ends_written : {E : Type 0} (result : Result (Unit {0}) E) (old mid new : Option (List ℕ)) (xs ys : List ℕ) → Appends old mid xs
+    → OnOk result (Appends mid new ys) → OnOk result (Appends old new (xs ++ ys))
+ends_written (Ok done) old mid new xs ys front end = appends_more old mid new xs ys front end
+ends_written (Err e) old mid new xs ys front end = tt
 
 -- ---- what a reader gives through the next LF
 
@@ -62,6 +68,23 @@ module _ {V W : Type 0} (made : String Global × V) (result : Result V Fault) (c
       at (Err ReadFailed) is = absurd is
       at (Err NoMemory) is = absurd is
       at (Err (Refused r)) is = tt
+
+-- ---- a write failed
+
+module _ {V : Type 0} (result : Result V Fault) where
+  pub write_fails : IfErr result (λ fault. fault ≡ WriteFailed) → IfErr result IsFailure
+  write_fails fails = at result fails
+    where
+      at : (r : Result V Fault) → IfErr r (λ fault. fault ≡ WriteFailed) → IfErr r IsFailure
+      at (Ok v) is = tt
+      at (Err fault) is = rw is tt
+
+  pub write_stops : (P : Type 0) → IfErr result (λ fault. fault ≡ WriteFailed) → OnStopped result P
+  write_stops P fails = at result fails
+    where
+      at : (r : Result V Fault) → IfErr r (λ fault. fault ≡ WriteFailed) → OnStopped r P
+      at (Ok v) is = tt
+      at (Err fault) is = rw is tt
 
 -- ---- what is handed on
 

@@ -1,5 +1,5 @@
 -- What is read of a reader whose bytes are known.
-use Rattle.std.specs.Prelude.{ℕ, ◌≡◌, ◌+◌, ◌<◌, ◌≤◌, List, length, Option, Result, Ok, Err}
+use Rattle.std.specs.Prelude.{ℕ, ◌≡◌, ◌+◌, ◌<◌, ◌≤◌, List, length, take, Option, Result, Ok, Err}
 use Rattle.std.specs.Io.KnownBytes.{Consumes}
 use Rattle.std.specs.Global.{Vec}
 use Rattle.engine_support.specs.declared.fault.Fault.{Fault}
@@ -19,3 +19,7 @@ IsInput bytes (Err WriteFailed) = ⊥
 -- after the limit.
 abbrev pub TakesFew : (before after : Option (List ℕ)) → Type 0
 TakesFew before after = (bytes : List ℕ) × Consumes before after bytes × (length bytes ≤ INPUT_BYTES + CHUNK_BYTES)
+
+-- What is kept of a line: all of it, or of one that is longer than an input may be, one byte more than such an input has.
+abbrev pub kept_of : (line : List ℕ) → List ℕ
+kept_of line = take (INPUT_BYTES + 1) line

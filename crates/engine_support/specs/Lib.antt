@@ -1,5 +1,6 @@
 pub mod Faults
 pub mod Input
+pub mod WholeLines
 pub mod LineFaults
 pub mod StateText
 pub mod Engines

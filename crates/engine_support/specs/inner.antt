@@ -4,3 +4,4 @@ pub mod Inputs
 pub mod Making
 pub mod Failures
 pub mod Rows
+pub mod LineParts

@@ -1,19 +1,17 @@
-//! Inputs: whole texts, with their limit, and lines one by one.
+//! Inputs that are whole texts, with their limit.
 
-ghost use Rattle.std.specs.Prelude.{◌≡◌, ◌≤◌, IfErr, IfOk, IfSome, OnOk, length};
+ghost use Rattle.std.specs.Prelude.{◌≤◌, IfOk, length};
 ghost use Rattle.std.specs.String.{string_bytes};
-ghost use Rattle.std.specs.Io.BufRead.{take_through, DropsThrough};
 ghost use Rattle.std.specs.Io.KnownBytes.{IsAtEnd};
 ghost use Rattle.engine_support.specs.Engines.{OfInput};
 ghost use Rattle.engine_support.specs.Input.{IsInput, TakesFew};
-ghost use Rattle.engine_support.specs.inner.Failures.{IsReadFailure};
 ghost use Rattle.engine_support.specs.inner.Inputs.{IsReadAsText};
 ghost use Rattle.engine_support.specs.inner.Making.{FindsByUpToReads};
 ghost use Rattle.engine_support.specs.declared.input.TheConstants.{INPUT_BYTES};
 
 use crate::fault::{Fault, NOT_TEXT, Position, TOO_LARGE};
 use std::alloc::Global;
-use std::io::{BufRead, ErrorKind, Read};
+use std::io::{ErrorKind, Read};
 
 /// The most bytes of an input.
 pub const INPUT_BYTES: usize = 1_048_576;
@@ -55,20 +53,5 @@ pub fn read_text<R: Read>(alloc: Global, reader: &mut R) -> Result<String, Fault
     match String::from_utf8(input) {
         Ok(text) => Ok(text),
         Err(_) => Err(Fault::refused(NOT_TEXT, Position::Nowhere)),
-    }
-}
-
-/// The next line with its end, in the place of what the vector holds; nothing where no byte is left. A line has
-/// no limit but memory.
-pub fn read_line<R: BufRead>(reader: &mut R, line: &mut Vec<u8>) -> Result<(), Fault>
-    ensures bytes { OnOk result (IfSome (R.remaining reader.old) (λ bytes. line.new.items ≡ take_through 10 bytes)) }
-    ensures rest { OnOk result (DropsThrough (R.remaining reader.old) (R.remaining reader.new) 10) }
-    ensures err { IfErr result IsReadFailure }
-{
-    line.clear();
-    match reader.read_until(b'\n', line) {
-        Ok(_) => Ok(()),
-        Err(error) if error.kind() == ErrorKind::OutOfMemory => Err(Fault::NoMemory),
-        Err(_) => Err(Fault::ReadFailed),
     }
 }

@@ -10,6 +10,7 @@
 pub mod command;
 pub mod fault;
 pub mod input;
+pub mod line_input;
 pub mod litmus_text;
 pub mod outcomes;
 pub mod output;

@@ -1,18 +1,19 @@
-//! The outcomes of a test's runs, and the rows of their table.
+//! The outcomes of a test's runs, and the lines of their table.
 
-ghost use Rattle.std.specs.Prelude.{◌≡◌, ◌⊎◌, ◌++◌, ◌+◌, ◌<◌, ℕ, List, Option, None, false, length, zip, IfOk, IfSome, IsTrue, OnErr, OnOk};
+ghost use Rattle.std.specs.Prelude.{◌≡◌, ◌⊎◌, ◌+◌, ◌<◌, ℕ, List, Option, None, false, length, zip, IfSome, IsTrue, OnErr, OnOk};
 ghost use Rattle.std.specs.List.{flat_map};
 ghost use Rattle.std.specs.String.{string_bytes};
-ghost use Rattle.std.specs.BTreeMap.{IsOrdered};
+ghost use Rattle.std.specs.Io.KnownBytes.{Appends};
 ghost use Rattle.litmus.specs.LitmusTests.{IsThere, left_sides};
 ghost use Rattle.engine_support.specs.Outcomes.{line_of, value_text};
 ghost use Rattle.engine_support.specs.Counting.{AreLines, counted, counted_both, counted_by, counted_of, Counts, rows_in};
-ghost use Rattle.engine_support.specs.inner.Rows.{AreFound, order, row_line};
+ghost use Rattle.engine_support.specs.inner.Rows.{lines_in};
 
-use crate::places::push_place;
+use crate::places::write_place;
 use litmus::{Place, Test};
 use std::alloc::{AllocError, Global};
 use std::collections::BTreeMap;
+use std::io::{self, Write};
 
 /// What is kept of the runs with one outcome.
 #[derive(Drop)]
@@ -48,50 +49,35 @@ fn count_row(
     Ok(())
 }
 
-fn push_value(out: &mut String, test: &Test, place: Place, value: u32) -> Result<(), AllocError>
+fn write_value<W: Write>(writer: &mut W, test: &Test, place: Place, value: u32) -> io::Result<()>
     requires { IsThere (length test.now.opening.harts) (length test.now.names) place }
-    ensures { OnOk result (string_bytes out.new ≡ string_bytes out.old ++ value_text test.now.names (place, value)) }
+    ensures { OnOk result (Appends (W.contents writer.old) (W.contents writer.new) (value_text test.now.names (place, value))) }
 {
-    out.push_str(" ")?;
-    push_place(out, test, place)?;
-    write!(out, "={value}")
+    writer.write_all(b" ")?;
+    write_place(writer, test, place)?;
+    write!(writer, "={value}")
 }
 
-/// Appends the left sides with these values.
-fn push_values(out: &mut String, test: &Test, values: &[u32]) -> Result<(), AllocError>
-    ensures { OnOk result (string_bytes out.new ≡ string_bytes out.old
-        ++ flat_map (value_text test.now.names) (zip (left_sides test.now.condition) values.now)) }
+/// Writes the left sides with these values.
+fn write_values<W: Write>(writer: &mut W, test: &Test, values: &[u32]) -> io::Result<()>
+    ensures { OnOk result (Appends (W.contents writer.old) (W.contents writer.new)
+        (flat_map (value_text test.now.names) (zip (left_sides test.now.condition) values.now))) }
 {
     for (place, value) in test.lefts().iter().zip(values) {
-        push_value(out, test, *place, *value)?;
+        write_value(writer, test, *place, *value)?;
     }
     Ok(())
 }
 
-fn push_row(out: &mut String, test: &Test, outcome: &[u32], row: &Row) -> Result<(), AllocError>
-    ensures { OnOk result (string_bytes out.new ≡ string_bytes out.old ++ line_of test.now outcome.now row.now.count (string_bytes row.now.end)) }
+fn write_row<W: Write>(writer: &mut W, test: &Test, outcome: &[u32], row: &Row) -> io::Result<()>
+    ensures { OnOk result (Appends (W.contents writer.old) (W.contents writer.new)
+        (line_of test.now outcome.now row.now.count (string_bytes row.now.end))) }
 {
-    write!(out, "{}", row.count)?;
-    push_values(out, test, outcome)?;
-    out.push_str(" ;")?;
-    out.push_str(&row.end)?;
-    out.push_str("\n")
-}
-
-fn rows_text(
-    alloc: Global,
-    test: &Test,
-    rows: &BTreeMap<Vec<u32>, Row>,
-) -> Result<String, AllocError>
-    ensures lines { IfOk result (λ text. string_bytes text ≡ flat_map (row_line test.now) rows.now.entries) }
-    ensures ordered { OnOk result (IsOrdered order rows.now) }
-    ensures found { OnOk result (AreFound rows.now.entries) }
-{
-    let mut text = String::new(alloc);
-    for (outcome, row) in rows.iter() {
-        push_row(&mut text, test, outcome, row)?;
-    }
-    Ok(text)
+    write!(writer, "{}", row.count)?;
+    write_values(writer, test, outcome)?;
+    writer.write_all(b" ;")?;
+    writer.write_all(row.end.as_bytes())?;
+    writer.write_all(b"\n")
 }
 
 impl Outcomes {
@@ -151,14 +137,22 @@ impl Outcomes {
         Ok(())
     }
 
-    /// Appends a line for each outcome, ascending by the values: how many runs gave it, the values of the
-    /// condition's left sides, and what its row ends with. Where memory runs out, the text stays as it was.
-    pub fn push_lines(&self, out: &mut String, test: &Test) -> Result<(), AllocError>
-        ensures pushed { OnOk result ((lines : List ℕ) × AreLines test.now (counted self.now) lines × (string_bytes out.new ≡ string_bytes out.old ++ lines)) }
-        ensures kept { OnErr result (string_bytes out.new ≡ string_bytes out.old) }
+    /// Writes a line for each outcome, ascending by the values: how many runs gave it, the values of the condition's
+    /// left sides, and what its row ends with. The lines are made as they are written, which takes no memory: a
+    /// location's name may be long, and stands in each of them.
+    pub fn write_lines<W: Write>(&self, writer: &mut W, test: &Test) -> io::Result<()>
+        ensures { OnOk result (Appends (W.contents writer.old) (W.contents writer.new) (lines_in test.now self.now)) }
     {
-        // made apart, so that the text grows in one step or not at all
-        let lines = rows_text(*out.allocator(), test, &self.rows)?;
-        out.push_str(&lines)
+        for (outcome, row) in self.rows.iter() {
+            write_row(writer, test, outcome, row)?;
+        }
+        Ok(())
+    }
+
+    /// What is written is a line for each outcome of which something is counted. It does nothing.
+    pub fn has_lines(&self, test: &Test)
+        ensures { AreLines test.now (counted self.now) (lines_in test.now self.now) }
+    {
+        let _rows = self.rows.iter();
     }
 }

@@ -1,20 +1,19 @@
 //! The command `try`: runs of a litmus test from schedules that a generator draws, and their outcomes.
 
-ghost use Rattle.std.specs.Prelude.{◌≡◌, ◌≤◌, ◌*◌, IfOk};
+ghost use Rattle.std.specs.Prelude.{◌≤◌, ◌*◌, IfOk};
 ghost use Rattle.engine_support.specs.Engines.{EndsBy};
 ghost use Rattle.tries.specs.Outcomes.{IsTried, IsTryAnswer};
-ghost use Rattle.engine_support.specs.inner.Making.{FindsByUpToReads, text_and_value};
-ghost use Rattle.tries.specs.inner.Tallies.{good_by};
+ghost use Rattle.engine_support.specs.inner.Making.{FindsByUpToReads};
+ghost use Rattle.tries.specs.inner.Tallies.{text_and_good};
 ghost use Rattle.recorder.specs.Drawing.{left_after};
 ghost use Rattle.litmus.specs.declared.litmus_test.TheConstants.{MAX_LOCATIONS};
 
 use crate::progress::Progress;
-use crate::trials::outcomes::tally_text;
+use crate::trials::outcomes::end_with_tally;
 use crate::trials::spreading::tally_in_rounds;
 use crate::trials::tally::Tally;
 use engine_support::fault::Fault;
 use engine_support::litmus_text::read_test;
-use engine_support::output::end_with;
 use jumping::Jump;
 pub use jumping::Runs;
 use litmus::Test;
@@ -29,33 +28,22 @@ mod tally;
 mod walking;
 mod walks;
 
-/// Whether the runs of a tally show what the test asks.
-fn is_good(test: &Test, tally: &Tally) -> bool
-    ensures { result ≡ good_by test.now.quantifier tally.now.some_hold tally.now.some_fail }
-{
-    if test.by_exists() {
-        tally.some_hold
-    } else {
-        !tally.some_fail
-    }
-}
-
-/// The text of a test's runs, and whether they show what it asks.
-fn answer<const B: usize, const M: usize, G: Jump + Sync + Drop, T: Threads + Sync, P: Progress>(
+/// The tally of a test's runs.
+fn drawn<const B: usize, const M: usize, G: Jump + Sync + Drop, T: Threads + Sync, P: Progress>(
     rt: &T,
     alloc: Global,
     test: &Test,
     generator: &G,
     runs: Runs,
     progress: &mut P,
-) -> Result<(String, bool), AllocError>
+) -> Result<Tally, AllocError>
     requires some_capacity { 1 ≤ B }
     requires capacity { B ≤ 64 }
     requires words { MAX_LOCATIONS ≤ M }
     requires size { M ≤ 65536 }
     ensures { IfOk result
-        (λ answered. IsTried B M (left_after (runs.skip * runs.length) (G.Rng.stream generator.now)) runs.number
-        runs.length test.now (text_and_value answered)) }
+        (λ tally. IsTried B M (left_after (runs.skip * runs.length) (G.Rng.stream generator.now)) runs.number
+        runs.length test.now (text_and_good (test.now, tally))) }
 {
     let start = generator.ahead(runs.skip, runs.length)?;
     let Runs {
@@ -69,12 +57,11 @@ fn answer<const B: usize, const M: usize, G: Jump + Sync + Drop, T: Threads + Sy
     );
     progress.end();
     let tally = tallied?;
-    let text = tally_text(alloc, test, &tally)?;
-    Ok((text, is_good(test, &tally)))
+    tally.outcomes.has_lines(test);
+    Ok(tally)
 }
 
-/// What is to be written for the input that the reader gives, and whether the runs show what its test
-/// asks.
+/// The test of the input that the reader gives, and the tally of its runs.
 fn made<
     const B: usize,
     const M: usize,
@@ -89,18 +76,18 @@ fn made<
     generator: &G,
     runs: Runs,
     progress: &mut P,
-) -> Result<(String, bool), Fault>
+) -> Result<(Test, Tally), Fault>
     requires some_capacity { 1 ≤ B }
     requires capacity { B ≤ 64 }
     requires words { MAX_LOCATIONS ≤ M }
     requires size { M ≤ 65536 }
     ensures { FindsByUpToReads
         (IsTryAnswer B M (left_after (runs.skip * runs.length) (G.Rng.stream generator.now)) runs.number runs.length)
-        text_and_value (R.remaining file.old) result }
+        text_and_good (R.remaining file.old) result }
 {
     let test = read_test(alloc, file)?;
-    let answered = answer::<B, M, G, T, P>(rt, alloc, &test, generator, runs, progress)?;
-    Ok(answered)
+    let tally = drawn::<B, M, G, T, P>(rt, alloc, &test, generator, runs, progress)?;
+    Ok((test, tally))
 }
 
 /// Reads a litmus text to its end, and runs the test `runs.number` times from its opening with store
@@ -109,8 +96,8 @@ fn made<
 ///
 /// It writes a line for each outcome of the finished runs, ascending by the values: how many runs gave
 /// it, the values of the condition's left sides, and the schedule of the first of these runs; and then
-/// how many runs did not finish. It answers whether the runs show what the test asks: with `exists` a
-/// run that holds, else no run that fails. The answer depends neither on the jobs nor on the progress,
+/// how many runs did not finish. The lines are made one by one as they are written. It answers whether the runs
+/// show what the test asks: with `exists` a run that holds, else no run that fails. The answer depends neither on the jobs nor on the progress,
 /// which learns how far the runs are, and that they ended.
 ///
 /// The input is refused as `run` refuses it, and then nothing was written.
@@ -139,7 +126,7 @@ pub fn try_engine<
         (IsTryAnswer B M (left_after (runs.skip * runs.length) (G.Rng.stream generator.now)) runs.number runs.length)
         result (R.remaining file.old) W.contents writer.old writer.new }
 {
-    end_with(
+    end_with_tally(
         made::<B, M, R, G, T, P>(rt, alloc, file, generator, runs, progress),
         writer,
     )

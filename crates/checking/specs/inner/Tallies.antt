@@ -1,14 +1,17 @@
 -- What is kept of the texts that were judged: how many, how many were unfinished or refused, and a row for each
 -- outcome.
-use Rattle.std.specs.Prelude.{ℕ, ◌≡◌, ◌+◌, if◌then◌else◌, ◌<◌, IfSome, List, length, count_by, Some}
+use Rattle.std.specs.Prelude.{ℕ, ◌≡◌, ◌+◌, if◌then◌else◌, ◌<◌, IfSome, List, ◌++◌, length, count_by, Some}
+use Rattle.litmus.specs.LitmusTests.{LitmusTest}
 use Rattle.engine_support.specs.Counting.{counted, counted_both, seen_of}
+use Rattle.engine_support.specs.Outcomes.{unfinished_line}
+use Rattle.engine_support.specs.inner.Rows.{lines_in}
 use Rattle.checking.specs.declared.tally.Tally.{Tally}
 use Rattle.checking.specs.declared.judging.Judgement.{Judgement}
 use Rattle.checking.specs.declared.judging.Judgement.TheVariants as judgement
 use Rattle.checking.specs.declared.judging.Difference.{Difference as CodeDifference}
 use Rattle.checking.specs.Judgements.{Difference, Judged}
 use Rattle.checking.specs.Judgements.Judged.{finished, unfinished, differing, no_record}
-use Rattle.checking.specs.Outcomes.{first_record, gave, is_unfinished, is_refused, record_end}
+use Rattle.checking.specs.Outcomes.{first_record, gave, is_unfinished, is_refused, record_end, refused_line}
 
 -- what a difference in the code stands for
 abbrev pub difference_of : CodeDifference → Difference
@@ -49,3 +52,7 @@ pub record HasRoom (tally : Tally) : Type 0 where
   pub judged : tally.judged < 18446744073709551615
   pub unfinished_are : tally.unfinished < 18446744073709551615
   pub refused_are : tally.refused < 18446744073709551615
+
+-- the table that is written of a tally
+abbrev pub table_text : LitmusTest → Tally → List ℕ
+table_text test tally = lines_in test tally.outcomes ++ unfinished_line tally.unfinished ++ refused_line tally.refused

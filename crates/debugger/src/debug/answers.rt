@@ -81,7 +81,9 @@ pub fn answer<const B: usize, const M: usize>(
         Command::Go => go(out, debugger, points),
         Command::Give(event) => do_event(out, debugger, event, Source::User),
         Command::Back(events) => {
-            let debugger = debugger.back(events as usize)?;
+            // more than a `usize` holds, where it has fewer bits, are more than there are
+            let events = usize::try_from(events).unwrap_or(usize::MAX);
+            let debugger = debugger.back(events)?;
             Ok(debugger)
         }
         Command::Break(hart, pc) => {

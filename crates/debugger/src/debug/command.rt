@@ -1,8 +1,7 @@
 //! What a line of the debugger's asks for.
 
 ghost use Rattle.std.specs.Prelude.{◌≡◌};
-ghost use Rattle.texts.specs.Cutting.{tokens};
-ghost use Rattle.debugger.specs.Commands.{command_in, command_alone, command_with_one, command_with_two};
+ghost use Rattle.debugger.specs.Commands.{command_alone, command_with_one, command_with_two, said_in};
 
 use step_machine::Event;
 use texts::{first_token, number, word};
@@ -66,9 +65,9 @@ fn command_with_two(name: &[u8], first: &[u8], second: &[u8]) -> Option<Command>
     }
 }
 
-/// What a line asks for; `None` where it asks for nothing.
+/// What a line asks for, without its end; `None` where it asks for nothing.
 pub fn command_of(line: &[u8]) -> Option<Command>
-    ensures { result ≡ command_in (tokens line.now) }
+    ensures { result ≡ said_in line.now }
 {
     let (name, rest) = first_token(line)?;
     let Some((first, rest)) = first_token(rest) else {

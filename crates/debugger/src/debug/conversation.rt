@@ -1,11 +1,12 @@
 //! A user's lines, each answered as soon as it is read.
 
-ghost use Rattle.std.specs.Prelude.{◌≡◌, ◌++◌, ℕ, List, [], IfOk, IfErr, OnOk};
+ghost use Rattle.std.specs.Prelude.{◌≡◌, ◌++◌, ℕ, List, [], IfOk, IfErr, IfSome, OnOk};
 ghost use Rattle.std.specs.String.{string_bytes};
+ghost use Rattle.std.specs.Io.BufRead.{take_through, DropsThrough};
 ghost use Rattle.std.specs.Io.KnownBytes.{Appends};
 ghost use Rattle.debugger.specs.DebuggerStates.{DebuggerState};
-ghost use Rattle.debugger.specs.Transcripts.{DoesSaid, OnStopped, OnUnwritten, Prints, PrintsFront, PrintsSome, quits};
-ghost use Rattle.debugger.specs.inner.Asking.{AsksNext};
+ghost use Rattle.debugger.specs.Transcripts.{DoesSaid, Leaves, OnStopped, OnUnwritten, Prints, PrintsFront, PrintsSome, quits};
+ghost use Rattle.debugger.specs.inner.Asking.{AsksNext, TakesAsking};
 ghost use Rattle.debugger.specs.inner.Failures.{IsFailure, IsReadFailure};
 
 use crate::debug::answers::answer;
@@ -13,19 +14,32 @@ use crate::debug::command::{Command, command_of};
 use crate::debug::lines::push_unknown_line;
 use crate::debugger::Debugger;
 use engine_support::fault::Fault;
-use engine_support::input::read_line;
 use engine_support::output::end_with;
 use std::alloc::{AllocError, Global};
-use std::io::{BufRead, Write};
+use std::io::{BufRead, ErrorKind, Write};
 use texts::first_line;
+
+/// The next line with its end; nothing where no byte is left. A command has no limit but memory.
+fn read_command<C: BufRead>(alloc: Global, commands: &mut C) -> Result<Vec<u8>, Fault>
+    ensures bytes { IfOk result (λ line. IfSome (C.remaining commands.old) (λ bytes. line.items ≡ take_through 10 bytes)) }
+    ensures rest { OnOk result (DropsThrough (C.remaining commands.old) (C.remaining commands.new) 10) }
+    ensures err { IfErr result IsReadFailure }
+{
+    let mut line = Vec::new(alloc);
+    match commands.read_until(b'\n', &mut line) {
+        Ok(_) => Ok(line),
+        Err(error) if error.kind() == ErrorKind::OutOfMemory => Err(Fault::NoMemory),
+        Err(_) => Err(Fault::ReadFailed),
+    }
+}
 
 /// What the next line asks for, if anything. The end of the input quits.
 fn next_said<C: BufRead>(alloc: Global, commands: &mut C) -> Result<Option<Command>, Fault>
     ensures asks { IfOk result (AsksNext (C.remaining commands.old) (C.remaining commands.new)) }
+    ensures takes { IfOk result (TakesAsking (C.remaining commands.old) (C.remaining commands.new)) }
     ensures err { IfErr result IsReadFailure }
 {
-    let mut bytes = Vec::new(alloc);
-    read_line(commands, &mut bytes)?;
+    let bytes = read_command(alloc, commands)?;
     match first_line(&bytes) {
         Some((line, _)) => Ok(command_of(line)),
         None => Ok(Some(Command::Quit)),
@@ -77,7 +91,7 @@ fn reply<const B: usize, const M: usize, W: Write>(
     end_with(Ok((out, ())), writer).and(Ok(debugger))
 }
 
-/// Answers all lines from here on, to the one that quits or to their end.
+/// Answers all lines from here on, to the one that quits or to their end. No line after it is read.
 pub fn converse<const B: usize, const M: usize, C: BufRead, W: Write>(
     alloc: Global,
     debugger: Debugger<B, M>,
@@ -86,6 +100,7 @@ pub fn converse<const B: usize, const M: usize, C: BufRead, W: Write>(
 ) -> Result<(), Fault>
     ensures printed { OnOk result ((out : List ℕ) × Appends (W.contents writer.old) (W.contents writer.new) out
         × Prints B M (C.remaining commands.old) debugger.entry [] out) }
+    ensures rest { OnOk result (Leaves (C.remaining commands.old) (C.remaining commands.new)) }
     ensures err { IfErr result IsFailure }
     ensures left { OnStopped result ((out : List ℕ) × Appends (W.contents writer.old) (W.contents writer.new) out
         × PrintsFront B M (C.remaining commands.old) debugger.entry [] out) }

@@ -1,5 +1,6 @@
 -- The rows of a table of outcomes, in order.
 use Rattle.std.specs.Prelude.{ℕ, ◌≡◌, List, All, Some}
+use Rattle.std.specs.List.{flat_map}
 use Rattle.std.specs.declared.cmp.Ordering.{Ordering}
 use Rattle.std.specs.Ordering.{nat_cmp}
 use Rattle.std.specs.Cmp.Lexicographic.{slice_cmp}
@@ -8,6 +9,7 @@ use Rattle.std.specs.Global.{Vec}
 use Rattle.std.specs.String.{string_bytes}
 use Rattle.litmus.specs.LitmusTests.{LitmusTest}
 use Rattle.engine_support.specs.declared.outcomes.Row.{Row}
+use Rattle.engine_support.specs.declared.outcomes.Outcomes.{Outcomes}
 use Rattle.engine_support.specs.Outcomes.{line_of}
 use Rattle.engine_support.specs.Counting.{is_key}
 
@@ -20,3 +22,7 @@ AreFound rows = All (λ entry. lookup (is_key entry.0.items) rows ≡ Some entry
 
 abbrev pub row_line : LitmusTest → Vec ℕ × Row → List ℕ
 row_line test entry = line_of test entry.0.items entry.1.count (string_bytes entry.1.end)
+
+-- the lines of all rows, in order
+abbrev pub lines_in : LitmusTest → Outcomes → List ℕ
+lines_in test outcomes = flat_map (row_line test) outcomes.rows.entries

@@ -1,9 +1,12 @@
 -- What is kept of some runs: their outcomes, how many did not finish, and which verdicts came.
-use Rattle.std.specs.Prelude.{ℕ, ◌≡◌, ◌+◌, ◌||◌, if◌then◌else◌, Bool, not, List, Some}
+use Rattle.std.specs.Prelude.{ℕ, ◌≡◌, ◌+◌, ◌||◌, if◌then◌else◌, Bool, not, List, ◌++◌, Some}
 use Rattle.std.specs.List.{list_any}
 use Rattle.litmus.specs.declared.verdict.Quantifier.{Quantifier}
 use Rattle.litmus.specs.declared.verdict.Quantifier.TheVariants.{Exists, NotExists, ForAll}
+use Rattle.litmus.specs.LitmusTests.{LitmusTest}
 use Rattle.engine_support.specs.Counting.{counted, counted_both, seen_of}
+use Rattle.engine_support.specs.Outcomes.{unfinished_line}
+use Rattle.engine_support.specs.inner.Rows.{lines_in}
 use Rattle.tries.specs.declared.trials.tally.Tally.{Tally}
 use Rattle.tries.specs.Trials.{Trial, is_finished, is_holds, is_fails, gave}
 use Rattle.tries.specs.Outcomes.{first_schedule, schedule_text, unfinished}
@@ -28,3 +31,11 @@ abbrev pub good_by : Quantifier → (some_hold some_fail : Bool) → Bool
 good_by Exists some_hold some_fail = some_hold
 good_by NotExists some_hold some_fail = not some_fail
 good_by ForAll some_hold some_fail = not some_fail
+
+-- what is written of a tally of a test's runs
+abbrev pub tally_text : LitmusTest → Tally → List ℕ
+tally_text test tally = lines_in test tally.outcomes ++ unfinished_line tally.unfinished
+
+-- and whether the runs show what the test asks
+abbrev pub text_and_good : LitmusTest × Tally → List ℕ × Bool
+text_and_good made = (tally_text made.0 made.1, good_by made.0.quantifier made.1.some_hold made.1.some_fail)

@@ -1,21 +1,44 @@
-//! The text of a tally: the outcomes with their counts and schedules.
+//! What is written of a tally: the outcomes with their counts and schedules.
 
-ghost use Rattle.std.specs.Prelude.{◌≡◌, ◌++◌, ℕ, List, IfOk};
-ghost use Rattle.std.specs.String.{string_bytes};
-ghost use Rattle.engine_support.specs.Outcomes.{unfinished_line};
-ghost use Rattle.engine_support.specs.Counting.{AreLines, counted};
+ghost use Rattle.std.specs.Prelude.{◌≡◌, OnOk};
+ghost use Rattle.std.specs.Io.KnownBytes.{Appends};
+ghost use Rattle.engine_support.specs.inner.Making.{IsEndOf};
+ghost use Rattle.tries.specs.inner.Tallies.{good_by, tally_text, text_and_good};
 
 use crate::trials::tally::Tally;
+use engine_support::fault::Fault;
 use litmus::Test;
-use std::alloc::{AllocError, Global};
+use std::io::{self, Write};
 
-/// The lines of all outcomes, and how many runs did not finish.
-pub fn tally_text(alloc: Global, test: &Test, tally: &Tally) -> Result<String, AllocError>
-    ensures { IfOk result (λ text. (lines : List ℕ) × AreLines test.now (counted tally.now.outcomes) lines
-        × (string_bytes text ≡ lines ++ unfinished_line tally.now.unfinished)) }
+/// Whether the runs of a tally show what the test asks.
+fn is_good(test: &Test, tally: &Tally) -> bool
+    ensures { result ≡ good_by test.now.quantifier tally.now.some_hold tally.now.some_fail }
 {
-    let mut text = String::new(alloc);
-    tally.outcomes.push_lines(&mut text, test)?;
-    writeln!(text, "unfinished {}", tally.unfinished)?;
-    Ok(text)
+    if test.by_exists() {
+        tally.some_hold
+    } else {
+        !tally.some_fail
+    }
+}
+
+/// Writes the lines of all outcomes, and how many runs did not finish.
+fn write_tally<W: Write>(writer: &mut W, test: &Test, tally: &Tally) -> io::Result<()>
+    ensures { OnOk result (Appends (W.contents writer.old) (W.contents writer.new) (tally_text test.now tally.now)) }
+{
+    tally.outcomes.write_lines(writer, test)?;
+    writeln!(writer, "unfinished {}", tally.unfinished)?;
+    writer.flush()
+}
+
+/// Ends a command that made this tally of a test's runs: writes its text, line by line, and answers whether the runs
+/// show what the test asks. Where the command made nothing, nothing is written.
+pub fn end_with_tally<W: Write>(
+    made: Result<(Test, Tally), Fault>,
+    writer: &mut W,
+) -> Result<bool, Fault>
+    ensures { IsEndOf text_and_good made result W.contents writer.old writer.new }
+{
+    let (test, tally) = made?;
+    write_tally(writer, &test, &tally).map_err(|_| Fault::WriteFailed)?;
+    Ok(is_good(&test, &tally))
 }

@@ -1,11 +1,12 @@
-use Rattle.std.proofs.Common.{◌==◌, arith, lit<}
-use Rattle.std.specs.String.{string_bytes}
+use Rattle.std.proofs.Common.{arith, lit<, refl}
 use Rattle.step_machine.specs.History.{at_opening}
 use Rattle.engine_support.proofs.Endings.{is_handed}
 use Rattle.checking.specs.declared.tally.Tally.{Tally}
 use Rattle.checking.proofs.Answering.{all_checked, all_reported, none_reported}
 use Rattle.checking.proofs.Differences.{ok_more}
-use Rattle.engine_support.proofs.Written.{end_fails, end_stopped, hands_failure, hands_stop, hands_unwritten, stopped, unwritten, wrote}
+use Rattle.engine_support.specs.inner.Rows.{lines_in}
+use Rattle.engine_support.proofs.Written.{hands_failure, hands_stop, hands_unwritten, stopped, unwritten, write_fails, write_stops}
+use Rattle.checking.specs.inner.Tallies.{table_text}
 use Rattle.checking.proofs.OutcomeLaws.{tabled}
 use Rattle.checking.proofs.check.check_all.Goals as goal
 
@@ -43,32 +44,23 @@ returns-in_err-tally-clause-unwritten g c =
     hands_unwritten Tally c.from_residual-in_err-tally.result _
     (is_handed c.from_residual-in_err-tally.result _ c.from_residual-in_err-tally.ensures.1) _ _ (λ some. some) c.in_err-tally.ensures.unwritten
 
-pub returns-in_err-text-clause-left : goal.returns-in_err-text-clause-left
-returns-in_err-text-clause-left g c =
-    stopped c.from_residual-in_err-text.result _
-    (all_reported g.row.B g.row.M c.args.test.now c.in_ok-tally.tally _ _ (g.R.Read.remaining c.args.records.now) c.in_ok-tally.ensures.judged)
-
 pub returns-clause-checked : goal.returns-clause-checked
 returns-clause-checked g c =
+    let test = c.args.test.now in
     let tally = c.in_ok-tally.tally in
-    let table = c.in_ok-text.ensures in
-    ok_more c.end_with.result _ _
-    (λ good written. all_checked g.row.B g.row.M c.args.test.now tally (g.W.Write.contents c.args.writer.now) (g.W.Write.contents c.judge_all.new.writer)
-    (g.R.Read.remaining c.args.records.now) c.in_ok-tally.ensures.judged (g.W.Write.contents c.end_with.new.writer) (string_bytes c.in_ok-text.text) good
-    (λ answers is. tabled c.args.test.now answers tally table.0 (string_bytes c.in_ok-text.text) is table.1 table.2) written.0 written.1)
-    (wrote (c.in_ok-text.text, tally.refused == 0) c.end_with.result g.W.Write.contents c.judge_all.new.writer c.end_with.new.writer c.end_with.ensures)
+    ok_more c.end_with_table.result _ _
+    (λ good written. all_checked g.row.B g.row.M test tally (g.W.Write.contents c.args.writer.now) (g.W.Write.contents c.judge_all.new.writer)
+    (g.R.Read.remaining c.args.records.now) c.in_ok-tally.ensures.judged (g.W.Write.contents c.end_with_table.new.writer) (table_text test tally) good
+    (λ answers is. tabled test answers tally (lines_in test tally.outcomes) (table_text test tally) is c.has_lines.ensures refl) written.0 written.1)
+    c.end_with_table.ensures.written
 
 pub returns-clause-err : goal.returns-clause-err
-returns-clause-err g c =
-    end_fails (c.in_ok-text.text, c.in_ok-tally.tally.refused == 0) c.end_with.result g.W.Write.contents
-    c.judge_all.new.writer c.end_with.new.writer c.end_with.ensures
+returns-clause-err g c = write_fails c.end_with_table.result c.end_with_table.ensures.err
 
 pub returns-clause-left : goal.returns-clause-left
-returns-clause-left g c =
-    end_stopped (c.in_ok-text.text, c.in_ok-tally.tally.refused == 0) c.end_with.result g.W.Write.contents
-    c.judge_all.new.writer c.end_with.new.writer c.end_with.ensures _
+returns-clause-left g c = write_stops c.end_with_table.result _ c.end_with_table.ensures.err
 
 pub returns-clause-unwritten : goal.returns-clause-unwritten
 returns-clause-unwritten g c =
     let some = all_reported g.row.B g.row.M c.args.test.now c.in_ok-tally.tally _ _ (g.R.Read.remaining c.args.records.now) c.in_ok-tally.ensures.judged in
-    unwritten c.end_with.result _ (some.0, some.2)
+    unwritten c.end_with_table.result _ (some.0, some.2)

@@ -1,8 +1,10 @@
-use Rattle.std.proofs.Common.{◌≡◌, ℕ, ◌<◌, List, [], ◌∷◌, length, rules, refl, lit<, arith}
+use Rattle.std.proofs.Common.{◌≡◌, ℕ, ◌<◌, List, [], ◌∷◌, length, rules, refl, sym, ap, subst, ◌∙◌, lit<, arith}
+use Rattle.engine_support.specs.Input.{kept_of}
 use Rattle.engine_support.proofs.Endings.{is_handed}
 use Rattle.engine_support.proofs.Written.{hands_read_failure, keeps_written, stopped, unwritten}
-use Rattle.checking.specs.inner.Reporting.{SomeReported}
-use Rattle.checking.proofs.Goings.{going_ended, going_line, going_nothing, going_room, going_so_far}
+use Rattle.checking.specs.inner.Reporting.{SomeReported, TakesLine}
+use Rattle.checking.proofs.Goings.{going_ended, going_line, going_nothing, going_room, going_so_far, next_whole, whole_of}
+use Rattle.engine_support.proofs.LineReading.{kept_nothing}
 use Rattle.checking.proofs.check.judge_all.Goals as goal
 
 no_items : (xs : List ℕ) → length xs ≡ 0 → xs ≡ []
@@ -30,9 +32,16 @@ returns-in_err-read_line-clause-unwritten g c =
 
 pub loop-preserved : goal.loop-preserved
 loop-preserved g c = record {
-  going = going_line c.loop.invariant.going (g.R.Read.remaining c.read_line.new.reader) c.read_line.new.line.items
-      (c.in_ok-read_line.ensures.bytes, c.in_ok-read_line.ensures.rest) (λ none. grind arith)
-      c.take_line.new.text.items c.take_line.new.tally (g.W.Write.contents c.take_line.new.writer) c.in_ok-take_line.ensures.taken;
+  going = let left = g.R.Read.remaining c.loop.records in
+      let kept = c.read_line.new.line.items in
+      let is = next_whole left (g.R.Read.remaining c.read_line.new.reader) kept c.in_ok-read_line.ensures.bytes c.in_ok-read_line.ensures.rest
+      c.in_ok-read_line.ensures.few in
+      going_line c.loop.invariant.going (g.R.Read.remaining c.read_line.new.reader) (whole_of left kept) is.0
+      (λ none. let empty : kept ≡ [] = sym is.1 ∙ ap kept_of none in grind arith)
+      c.take_line.new.text.items c.take_line.new.tally (g.W.Write.contents c.take_line.new.writer)
+      (subst (λ (line : List ℕ). TakesLine g.row.B g.row.M c.args.test.now line c.loop.text.items c.take_line.new.text.items
+      c.loop.tally c.take_line.new.tally (g.W.Write.contents c.loop.writer) (g.W.Write.contents c.take_line.new.writer))
+      (sym is.1) c.in_ok-take_line.ensures.taken);
   stands = c.in_ok-take_line.ensures.stands;
 }
 
@@ -62,9 +71,13 @@ returns-in_err-close-clause-unwritten g c =
 
 pub returns-then-is_empty-clause-judged : goal.returns-then-is_empty-clause-judged
 returns-then-is_empty-clause-judged g c =
-    let len : length c.read_line.new.line.items ≡ 0 = grind arith in
-    going_ended c.loop.invariant.going (g.R.Read.remaining c.read_line.new.reader) c.read_line.new.line.items
-    (c.in_ok-read_line.ensures.bytes, c.in_ok-read_line.ensures.rest) (no_items c.read_line.new.line.items len)
+    let left = g.R.Read.remaining c.loop.records in
+    let kept = c.read_line.new.line.items in
+    let len : length kept ≡ 0 = grind arith in
+    let is = next_whole left (g.R.Read.remaining c.read_line.new.reader) kept c.in_ok-read_line.ensures.bytes c.in_ok-read_line.ensures.rest
+    c.in_ok-read_line.ensures.few in
+    going_ended c.loop.invariant.going (g.R.Read.remaining c.read_line.new.reader) (whole_of left kept) is.0
+    (kept_nothing 1048576 (whole_of left kept) (is.1 ∙ no_items kept len))
     c.close.new.tally (g.W.Write.contents c.close.new.writer) (rw c.deref.ensures.value at c.in_ok-close.ensures.closed)
 
 pub returns-in_err-take_line-clause-left : goal.returns-in_err-take_line-clause-left

@@ -2,30 +2,43 @@ use Rattle.engine_support.proofs.Endings.{is_handed}
 use Rattle.std.proofs.Common.{[], sym, ◌∙◌}
 use Rattle.engine_support.proofs.Written.{hands_failure, hands_read_failure, hands_unwritten, keeps_written, reads_alone, stopped}
 use Rattle.debugger.specs.DebuggerStates.{DebuggerState}
+use Rattle.debugger.proofs.FirstLines.{leaves_here, leaves_itself, leaves_on}
 use Rattle.debugger.proofs.TranscriptLaws.{Printed, talked_enough, talked_nothing, talked_on, talked_so_far, talked_some}
 use Rattle.debugger.specs.Transcripts.{PrintsFront}
 use Rattle.debugger.proofs.debug.conversation.converse.Goals as goal
 
 pub loop-init : goal.loop-init
-loop-init g c =
-    rw c.new-points.ensures.items
-    (talked_nothing g.row.B g.row.M (g.C.Read.remaining c.args.commands.now) (g.W.Write.contents c.args.writer.now)
-    c.args.debugger)
+loop-init g c = record {
+  talked = rw c.new-points.ensures.items
+      (talked_nothing g.row.B g.row.M (g.C.Read.remaining c.args.commands.now) (g.W.Write.contents c.args.writer.now)
+      c.args.debugger);
+  leaves = leaves_itself (g.C.Read.remaining c.args.commands.now);
+}
 
 pub returns-then-does_quit-clause-printed : goal.returns-then-does_quit-clause-printed
 returns-then-does_quit-clause-printed g c =
-    talked_enough c.loop.invariant (g.C.Read.remaining c.next_said.new.commands) c.in_ok-said.said
+    talked_enough c.loop.invariant.talked (g.C.Read.remaining c.next_said.new.commands) c.in_ok-said.said
     c.in_ok-said.ensures.asks (sym c.does_quit.ensures ∙ c.if-does_quit.true)
 
 pub loop-preserved : goal.loop-preserved
 loop-preserved g c =
     let did = c.in_ok-debugger.ensures.answered in
-    talked_on c.loop.invariant (g.C.Read.remaining c.next_said.new.commands) c.in_ok-said.said
-    c.in_ok-said.ensures.asks (sym c.does_quit.ensures ∙ c.if-does_quit.false)
-    (g.W.Write.contents c.reply.new.writer) c.in_ok-debugger.debugger c.reply.new.points.items did.0 did.1 did.2
+    let goes = sym c.does_quit.ensures ∙ c.if-does_quit.false in
+    record {
+      talked = talked_on c.loop.invariant.talked (g.C.Read.remaining c.next_said.new.commands) c.in_ok-said.said
+          c.in_ok-said.ensures.asks goes
+          (g.W.Write.contents c.reply.new.writer) c.in_ok-debugger.debugger c.reply.new.points.items did.0 did.1 did.2;
+      leaves = leaves_on (g.C.Read.remaining c.args.commands.now) (g.C.Read.remaining c.loop.commands) (g.C.Read.remaining c.next_said.new.commands)
+          c.in_ok-said.said c.loop.invariant.leaves c.in_ok-said.ensures.takes goes;
+    }
+
+pub returns-then-does_quit-clause-rest : goal.returns-then-does_quit-clause-rest
+returns-then-does_quit-clause-rest g c =
+    leaves_here (g.C.Read.remaining c.args.commands.now) (g.C.Read.remaining c.loop.commands) (g.C.Read.remaining c.next_said.new.commands)
+    c.in_ok-said.said c.loop.invariant.leaves c.in_ok-said.ensures.takes (sym c.does_quit.ensures ∙ c.if-does_quit.true)
 
 pub returns-in_err-said-clause-left : goal.returns-in_err-said-clause-left
-returns-in_err-said-clause-left g c = stopped c.from_residual.result _ (talked_so_far c.loop.invariant)
+returns-in_err-said-clause-left g c = stopped c.from_residual.result _ (talked_so_far c.loop.invariant.talked)
 
 pub returns-in_err-said-clause-err : goal.returns-in_err-said-clause-err
 returns-in_err-said-clause-err g c =
@@ -48,16 +61,16 @@ returns-in_err-debugger-clause-left g c =
     c.loop.writer c.reply.new.writer
     (λ w. Printed (g.W.Write.contents c.args.writer.now) (g.W.Write.contents w)
     (PrintsFront g.row.B g.row.M (g.C.Read.remaining c.args.commands.now) c.args.debugger []))
-    c.in_err-debugger.ensures.left (talked_so_far c.loop.invariant)
+    c.in_err-debugger.ensures.left (talked_so_far c.loop.invariant.talked)
 
 pub returns-in_err-debugger-clause-unwritten : goal.returns-in_err-debugger-clause-unwritten
 returns-in_err-debugger-clause-unwritten g c =
     hands_unwritten DebuggerState c.from_residual-in_err-debugger.result c.in_err-debugger.field-0.0
     (is_handed c.from_residual-in_err-debugger.result _ c.from_residual-in_err-debugger.ensures.1)
     _ _
-    (λ did. talked_some c.loop.invariant (g.C.Read.remaining c.next_said.new.commands) c.in_ok-said.said c.in_ok-said.ensures.asks
+    (λ did. talked_some c.loop.invariant.talked (g.C.Read.remaining c.next_said.new.commands) c.in_ok-said.said c.in_ok-said.ensures.asks
     (sym c.does_quit.ensures ∙ c.if-does_quit.false) did.0 did.1 did.2 did.3)
     c.in_err-debugger.ensures.unwritten
 
 pub returns-clause-left : goal.returns-clause-left
-returns-clause-left g c = talked_so_far c.loop.invariant
+returns-clause-left g c = talked_so_far c.loop.invariant.talked
