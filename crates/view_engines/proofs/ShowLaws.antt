@@ -1,5 +1,5 @@
 -- What answers a litmus text that is shown.
-use Rattle.std.proofs.Common.{◌≡◌, ℕ, ◌≤◌, List, length, Bool, true, false, Result, Ok, Err, sym, ap₂, ◌∙◌, arith}
+use Rattle.std.proofs.Common.{◌≡◌, ℕ, ◌≤◌, List, length, Bool, true, false, Result, Ok, Err, sym, ap, ap₂, ◌∙◌, arith}
 use Rattle.std.specs.Prelude.{Option, nat_lt, if◌then◌else◌}
 use Rattle.std.specs.Str.{IsUtf8, is_utf8}
 use Rattle.litmus.specs.LitmusTests.{LitmusTest}
@@ -60,7 +60,7 @@ module _ {X : Type 0} (view : X → Output) (form : Form) (text : List ℕ) (few
   pub test_shown : (test : LitmusTest) → IsTestOf text test → (made : Result X Fault)
       → AnswersAs (IsShow form text test) view made → AnswersAs (IsShowAnswer form text) view made
   test_shown test is (Ok x) answers = of_test test (Ok (view x)) (record { few = few; text = is_text; value_is = is }) answers
-  test_shown test is (Err (Refused r)) answers = absurd answers
+  test_shown test is (Err (Refused r)) answers = of_test test (Err r) (record { few = few; text = is_text; value_is = is }) answers
   test_shown test is (Err NoMemory) answers = tt
   test_shown test is (Err ReadFailed) answers = absurd answers
   test_shown test is (Err WriteFailed) answers = absurd answers
@@ -72,9 +72,12 @@ shown_once Table file q (Ok a) (Ok b) (heading, rows, is, read, out) (also, othe
     let headings : heading ≡ also = one_heading file heading also is is_also in
     let listings : rows ≡ others = ok_is LitmusFault rows others (sym read ∙ again) in
     same_output a b (out ∙ ap₂ (λ (h : HeadingOf) (rs : List RowOf). test_lines h rs q) headings listings ∙ sym other)
-shown_once Steps file q (Ok a) (Ok b) is other = same_output a b (is ∙ sym other)
-shown_once form file q (Err r) b is other = absurd is
-shown_once form file q (Ok a) (Err s) is other = absurd other
+shown_once Table file q (Ok a) (Err s) is other = absurd other
+shown_once Table file q (Err r) b is other = absurd is
+shown_once Steps file q (Ok a) (Ok b) is other = same_output a b (is.0 ∙ sym other.0)
+shown_once Steps file q (Ok a) (Err s) is other = absurd (omega (arith, is.1, other.1))
+shown_once Steps file q (Err r) (Ok b) is other = absurd (omega (arith, is.1, other.1))
+shown_once Steps file q (Err r) (Err s) is other = ap (λ (refusal : Refusal). refusal.number) (is.0 ∙ sym other.0)
 
 pub shown_alike : (form : Form) (file : List ℕ) (a b : Result Output Refusal) → IsShowAnswer form file a → IsShowAnswer form file b → AreOneAnswer a b
 shown_alike form file = alike_by_test AreOneAnswer (λ (r s : Refusal) (e : r.number ≡ s.number). e) (IsShow form file) (shown_once form file) file

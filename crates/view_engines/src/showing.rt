@@ -1,7 +1,6 @@
 //! The command `show`: a litmus text in, what its test is out.
 
-ghost use Rattle.std.specs.Prelude.{◌≡◌, ◌≤◌, length, IfOk};
-ghost use Rattle.std.specs.String.{string_bytes};
+ghost use Rattle.std.specs.Prelude.{◌≡◌, ◌≤◌, length};
 ghost use Rattle.std.specs.Str.{IsUtf8};
 ghost use Rattle.litmus_reader.specs.Grammar.{IsTestOf};
 ghost use Rattle.litmus_reader.specs.Headings.{IsHeading, heading_of};
@@ -10,18 +9,17 @@ ghost use Rattle.engine_support.specs.Faults.{AnswersAs};
 ghost use Rattle.engine_support.specs.inner.Making.{FindsByUpToReads, text_and_value};
 ghost use Rattle.engine_support.specs.declared.input.TheConstants.{INPUT_BYTES};
 ghost use Rattle.view_engines.specs.declared.showing.Form.TheVariants.{Table};
-ghost use Rattle.engine_support.specs.OpeningTexts.{steps_text as steps_text_of};
-ghost use Rattle.view_engines.specs.Show.{IsShow, IsShowAnswer};
+ghost use Rattle.view_engines.specs.Show.{IsShow, IsShowAnswer, IsSteps};
 
 use crate::heading::headed_of_text;
 use crate::openings::steps_text;
 use crate::test_lines::test_lines;
-use engine_support::fault::Fault;
-use engine_support::input::read_text;
+use engine_support::fault::{Fault, Position, TOO_LARGE};
+use engine_support::input::{INPUT_BYTES, read_text};
 use engine_support::output::end_with;
 use litmus::Test;
 use litmus_reader::{Heading, LitmusError, read_listing};
-use std::alloc::{AllocError, Global};
+use std::alloc::Global;
 use std::io::{Read, Write};
 
 /// How a test is shown.
@@ -54,12 +52,16 @@ fn table_of(
     Ok((lines, ()))
 }
 
-/// Where a test opens.
-fn steps_of(alloc: Global, test: &Test) -> Result<String, AllocError>
-    ensures { IfOk result (λ text. string_bytes text ≡ steps_text_of test.now.opening) }
+/// Where a test opens. A text that `steps` would refuse as too large is refused so.
+fn steps_of(alloc: Global, test: &Test) -> Result<(String, ()), Fault>
+    ensures { AnswersAs (IsSteps test.now) text_and_value result }
 {
     let opening = test.opening(alloc)?;
-    steps_text(alloc, &opening)
+    let text = steps_text(alloc, &opening)?;
+    if text.len() > INPUT_BYTES {
+        return Err(Fault::refused(TOO_LARGE, Position::Nowhere));
+    }
+    Ok((text, ()))
 }
 
 /// A text's test in this form.
@@ -77,7 +79,7 @@ fn shown(
 {
     match form {
         Form::Table => table_of(alloc, text, test, heading),
-        Form::Steps => Ok((steps_of(alloc, test)?, ())),
+        Form::Steps => steps_of(alloc, test),
     }
 }
 
@@ -100,9 +102,9 @@ fn made<R: Read>(alloc: Global, form: Form, reader: &mut R) -> Result<(String, (
 /// Reads a litmus text to its end, and writes what its test is: as a table, a line for each thing, or its
 /// opening as a steps text. Neither the capacity of store buffers nor the size of memory is part of that.
 ///
-/// An input is refused as too large ([`engine_support::fault::TOO_LARGE`]), else as no text
-/// ([`engine_support::fault::NOT_TEXT`]), else as [`litmus_reader::read`] says, at the line, and then nothing
-/// was written.
+/// An input is refused as too large ([`TOO_LARGE`]), else as no text
+/// ([`engine_support::fault::NOT_TEXT`]), else as [`litmus_reader::read`] says, at the line. A steps text that is
+/// longer than an input may be is refused as too large. Where there is a refusal nothing was written.
 pub fn show_engine<R: Read, W: Write>(
     alloc: Global,
     form: Form,

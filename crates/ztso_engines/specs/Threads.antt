@@ -18,6 +18,7 @@ use Rattle.engine_support.specs.declared.fault.Fault.TheVariants.{NoMemory, Refu
 use Rattle.engine_support.specs.declared.fault.Refusal.{Refusal}
 use Rattle.engine_support.specs.declared.fault.Position.TheVariants.{Nowhere}
 use Rattle.engine_support.specs.Tests.{ByTest}
+use Rattle.engine_support.specs.declared.input.TheConstants.{INPUT_BYTES}
 use Rattle.ztso_engines.specs.Run.{IsJudged}
 
 -- a fault of the threads as a fault of the command
@@ -28,11 +29,12 @@ fault_of_threads (thread.Missing h) = Refused (record { number = 33; place = Now
 fault_of_threads (thread.Mismatch h es) = Refused (record { number = 32; place = Nowhere })
 
 -- a run of the test's opening, one event an entry, over store buffers of B pairs and a memory of M
--- words, by harts and landers that got on for n turns and made no more: its schedule, then its state text
--- and its verdict
+-- words, by harts and landers that got on for n turns and made no more: its schedule, which is short enough to be an
+-- input, then its state text and its verdict
 pub record IsThreadsRun (B M n : ℕ) (test : LitmusTest) (answer : List ℕ × Verdict) : Type 0 where
   pub events : List Event
   pub few : length events ≤ MAX_EVENTS
+  pub short : length (canon events) ≤ INPUT_BYTES
   pub history : History
   pub ran : Run B M test.opening events history
   pub each : events ≡ map event_of history.entries
@@ -42,13 +44,14 @@ pub record IsThreadsRun (B M n : ℕ) (test : LitmusTest) (answer : List ℕ × 
   pub judged : IsJudged M test history (state, answer.1)
   pub written : answer.0 ≡ canon events ++ state
 
--- a run of the test's opening, one event an entry, that is too long to be written
+-- a run of the test's opening, one event an entry, whose schedule would be refused as an input: it has too many events,
+-- or its text too many bytes
 pub record IsTooLong (B M : ℕ) (test : LitmusTest) : Type 0 where
   pub events : List Event
   pub history : History
   pub ran : Run B M test.opening events history
   pub each : events ≡ map event_of history.entries
-  pub many : MAX_EVENTS < length events
+  pub many : (MAX_EVENTS < length events) ⊎ (INPUT_BYTES < length (canon events))
 
 -- the bank has lost a hart, though the threads made a run
 abbrev pub HasLost : ℕ → ℕ → ℕ → LitmusTest → Type 0

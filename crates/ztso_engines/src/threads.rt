@@ -15,6 +15,7 @@ ghost use Rattle.recorder.specs.declared.reading.TheConstants.{MAX_EVENTS};
 
 use crate::run::judged_text;
 use engine_support::fault::{Fault, Position, TOO_LARGE};
+use engine_support::input::INPUT_BYTES;
 use engine_support::litmus_text::read_test;
 use engine_support::output::end_with;
 use hart_threads::{Open, Record, Shared, run_harts};
@@ -38,7 +39,8 @@ fn threads_fault(error: hart_threads::Fault) -> Fault
     }
 }
 
-/// The schedule of a record, and the state text and the verdict of a test after it.
+/// The schedule of a record, and the state text and the verdict of a test after it. A schedule that would be refused as
+/// an input isn't written.
 fn record_text<const B: usize, const M: usize>(
     alloc: Global,
     test: &Test,
@@ -57,6 +59,9 @@ fn record_text<const B: usize, const M: usize>(
     }
     laws_of_runs();
     let mut text = write_schedule(alloc, &made.events)?;
+    if text.len() > INPUT_BYTES {
+        return Err(Fault::refused(TOO_LARGE, Position::Nowhere));
+    }
     let judged = judged_text(alloc, test, made.machine.machine_state())?;
     text.push_str(&judged.0)?;
     Ok((text, judged.1))
@@ -105,10 +110,10 @@ fn made<const B: usize, const M: usize, R: Read, T: Threads + Wait + Sync>(
 /// of what they did, the state text and the verdict on a line, and answers the verdict. In that run each
 /// hart gets on: it has ended or stopped, has made `turns` entries, or came to what may have to wait.
 ///
-/// The input is refused as [`crate::run::run_engine`] refuses it. A run of more than
-/// [`recorder::MAX_EVENTS`] events is refused as too large ([`TOO_LARGE`]), and a fault of the threads
-/// by its number. Where there is a refusal nothing was written. It may wait, for the lock and for the
-/// threads.
+/// The input is refused as [`crate::run::run_engine`] refuses it. A run whose schedule no command could read is
+/// refused as too large ([`TOO_LARGE`]): it has more than [`recorder::MAX_EVENTS`] events, or its text more than
+/// [`INPUT_BYTES`] bytes. A fault of the threads is refused by its number. Where there is a refusal nothing was
+/// written. It may wait, for the lock and for the threads.
 pub fn threads_engine<const B: usize, const M: usize, R: Read, W: Write, T: Threads + Wait + Sync>(
     rt: &T,
     alloc: Global,

@@ -1,4 +1,4 @@
-use Rattle.std.proofs.Common.{sym, ap, subst, ◌∙◌, arith}
+use Rattle.std.proofs.Common.{ℕ, ◌<◌, ◌≤◌, List, length, refl, sym, ap, subst, ◌∙◌, inl, inr, arith}
 use Rattle.std.specs.String.{string_bytes}
 use Rattle.step_machine.specs.History.{History}
 use Rattle.recorder.specs.Schedule.{OfHarts}
@@ -21,6 +21,7 @@ returns-clause-given g c n at_most get_on =
     record {
       events = made.events.items;
       few = omega (arith, made.events.ok.0);
+      short = subst (λ (bytes : List ℕ). length bytes ≤ 1048576) (c.in_ok-text.ensures.canonical ∙ ap canon c.deref.ensures.value) (omega arith);
       history = made.trace;
       ran = c.requires.runs.run;
       each = c.requires.runs.each;
