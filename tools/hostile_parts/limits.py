@@ -1,15 +1,19 @@
 """Inputs at the limits and one past them. The wanted answer stands here, and the reference, except of `threads`, must
 give it too."""
 
+import resource
+from pathlib import Path
+
 from . import ROOT
-from .runs import BAD_COMMAND_LINE, refused
+from .runs import BAD_COMMAND_LINE, brief, refused
 
 INPUT, EVENTS, CODE = 1_048_576, 1_048_576, 4096
 NONE = b"ztso-schedule 1\n"
 SB = str(ROOT / "litmus/store-buffering/sb.litmus")
 SENDER, RECEIVER = (str(ROOT / f"examples/rings/lamport-{role}.asm") for role in ("sender", "receiver"))
 DRAWN = ["--seed", "1", "--runs", "1", "--length", "0"]
-KINDS = ["litmus", "schedules", "records", "shrink", "steps", "asm", "dis", "debug", "channels", "options"]
+KINDS = ["litmus", "schedules", "records", "shrink", "show", "steps", "asm", "dis", "debug", "channels", "options", "in little memory"]
+MIB = 1 << 20
 # slots of a ring at the least
 LEAST = {"lamport": 2, "fastforward": 1, "cached": 2}
 
@@ -107,6 +111,31 @@ def inputs():
     yield ["debug", SB, "schedule"], b"a 4294967295\na 4294967296\nu " + b"9" * 100_000 + b"\nt\n", None
 
 
+def shown():
+    """Tests whose steps text is as large as an input may be, and one byte larger: 5 bytes for each of the harts, and 9
+    for each of 116,472 words."""
+    names, row = "|".join(f"P{hart}" for hart in range(64)), "|".join(["nop"] * 64)
+    for last, wanted in ((56, None), (57, refused(37))):
+        rows = f"{row};\n" * 1819 + "|".join(["nop"] * last + [""] * (64 - last)) + ";\n"
+        yield f"RISCV X\n{{}}\n{names};\n{rows}exists (x=0)\n".encode(), wanted
+
+
+def in_little_memory():
+    """Runs that need no more memory than this many MiB, however long a line or a name is: the command, its litmus text,
+    standard input and the room."""
+    sb = Path(SB).read_bytes()
+    record = b"ztso-schedule 2\na0 store 0 0 1\n"
+    yield ["check", "text"], sb, record + b"\0" * (64 * MIB) + b"\n" + record, 24
+    # two harts count until the third one stores, so there are hundreds of outcomes, each with a line of the name's length
+    waits, stores = ["L: addi x7,x7,1", "lw x8,0(x6)", "beq x8,x0,L"], ["sw x5,0(x6)"]
+    length = 30
+    columns = [waits + [""] * (length - 3), waits + [""] * (length - 3), ["nop"] * (length - 1) + stores]
+    rows = "".join("|".join(cells) + ";\n" for cells in zip(*columns))
+    name = "n" * 100_000
+    text = f"RISCV X\n{{2:x5=1}}\nP0|P1|P2;\n{rows}exists ({name}=0 /\\ 0:x7=0 /\\ 1:x7=0)\n"
+    yield ["try", "text", "--seed", "1", "--runs", "300", "--length", "600"], text.encode(), b"", 24
+
+
 def channels(short):
     """Channels: the number of senders, the size of their rings and of their text."""
     for kind, least in LEAST.items():
@@ -185,6 +214,8 @@ def rows(short):
             yield "records", text, [command, SB, "text"], b"", wanted
     for text, wanted in finished():
         yield "shrink", text, ["shrink", SB, "text"], b"", wanted
+    for text, wanted in shown():
+        yield "show", text, ["show", "--steps", "text"], b"", wanted
     for words, stdin, wanted in inputs():
         yield words[0], b"", words, stdin, wanted
     for words, stdin, wanted in channels(short):
@@ -193,6 +224,16 @@ def rows(short):
         yield "options", b"", words, stdin, wanted
 
 
+def hold_in_memory(runs, words, text, stdin, room):
+    """Holds a run in an address space of this many MiB against the reference."""
+    runs.put({"schedule": NONE, "text": text})
+    limit = (room * MIB, room * MIB)
+    came = runs.run(words, stdin, preexec_fn=lambda: resource.setrlimit(resource.RLIMIT_AS, limit))
+    wanted = runs.reference(words, stdin)
+    runs.hold("in little memory", came == wanted, f"wanted {brief(wanted)}, came {brief(came)}", words, stdin[:200])
+
+
 def part(runs):
     runs.side_by_side(hold, rows(runs.short))
+    runs.side_by_side(hold_in_memory, in_little_memory())
     runs.counts("limits", KINDS)
