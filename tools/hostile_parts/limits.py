@@ -126,14 +126,14 @@ def in_little_memory():
     sb = Path(SB).read_bytes()
     record = b"ztso-schedule 2\na0 store 0 0 1\n"
     yield ["check", "text"], sb, record + b"\0" * (64 * MIB) + b"\n" + record, 24
-    # two harts count until the third one stores, so there are hundreds of outcomes, each with a line of the name's length
+    # two harts count until the third one stores, so there are many outcomes, each with a line of the name's length
     waits, stores = ["L: addi x7,x7,1", "lw x8,0(x6)", "beq x8,x0,L"], ["sw x5,0(x6)"]
     length = 30
     columns = [waits + [""] * (length - 3), waits + [""] * (length - 3), ["nop"] * (length - 1) + stores]
     rows = "".join("|".join(cells) + ";\n" for cells in zip(*columns))
-    name = "n" * 100_000
+    name = "n" * 250_000
     text = f"RISCV X\n{{2:x5=1}}\nP0|P1|P2;\n{rows}exists ({name}=0 /\\ 0:x7=0 /\\ 1:x7=0)\n"
-    yield ["try", "text", "--seed", "1", "--runs", "300", "--length", "600"], text.encode(), b"", 24
+    yield ["try", "text", "--seed", "1", "--runs", "100", "--length", "400"], text.encode(), b"", 24
 
 
 def channels(short):
