@@ -18,6 +18,8 @@ WORDS = ("exists", "~exists", "forall", "locations", "filter")
 NAME = r"(?!not(?![A-Za-z0-9_]))[A-Za-z_][A-Za-z0-9_]*"
 VALUE = f"{NAME}|{assembly.NUMBER}"
 BLANK_LINES = re.compile(r"[ \t\n]*")
+# what an equation of the condition goes on to
+MARK = re.compile(r"[()~/\\]|\Z")
 NEGATION = re.compile(r"~|not(?![A-Za-z0-9_])")
 ITEM_END = re.compile(r"[;}]")
 ITEM = re.compile(rf"""
@@ -268,16 +270,21 @@ class Reader:
             raise self.fault(CONDITION, start)
         self.test.kind = word
         self.test.asked = " ".join(re.findall(r"[^ \t\r\n]+", self.text[start:]))
-        self.expression(start + len(word))
+        unread = next((first_place(at, line) for at, line, _ in self.lines(start)
+                       if line.strip(BLANKS).startswith(("locations", "filter"))), None)
+        self.expression(start + len(word), unread)
 
-    def expression(self, at):
-        """Reads the expression to postfix, with a list of what is still open in place of recursion."""
-        text = re.sub("\r\n", " \n", self.text)
+    def expression(self, at, unread):
+        """Reads the expression to postfix, with a list of what is still open in place of recursion. It goes on to a line
+        that isn't read, if there is one."""
+        text = re.sub("\r\n", " \n", self.text)[:unread]
         wants_operand, opened, postfix = True, [], self.test.condition
         ranks = {"(": 0, "or": 1, "and": 2, "not": 3}
         while True:
             at = BLANK_LINES.match(text, at).end()
             if at == len(text):
+                if unread is not None:
+                    raise self.fault(CONDITION, unread)
                 if wants_operand or "(" in opened:
                     raise self.fault(CONDITION)
                 postfix += reversed(opened)
@@ -308,9 +315,9 @@ class Reader:
                 wants_operand = True
 
     def atom(self, text, at):
-        """Reads one equation and returns the place behind it."""
-        shape = ATOM.match(text, at)
-        if not shape:
+        """Reads one equation, which goes on to the next mark, and returns the place behind it."""
+        shape, mark = ATOM.match(text, at), MARK.search(text, at)
+        if not shape or BLANK_LINES.match(text, shape.end()).end() < mark.start():
             raise self.fault(CONDITION, at)
         if shape["hart"]:
             hart, number = of_digits(shape["hart"]), assembly.REGISTERS.get(shape["register"])

@@ -3,7 +3,7 @@ use Rattle.std.proofs.Common.{◌≡◌, ◌∙◌, ℕ, zero, suc, ◌+◌, ◌
 use Rattle.texts.specs.Pieces.{span, pieces}
 use Rattle.texts.specs.Cutting.{is_byte}
 use Rattle.texts.proofs.PieceLaws.{span-slice_split}
-use Rattle.litmus_reader.specs.Rows.{is_blank_line}
+use Rattle.litmus_reader.specs.Rows.{indent, is_blank_line}
 use Rattle.litmus_reader.specs.Lines.{left_from}
 use Rattle.texts.specs.declared.pieces.Separators.TheVariants.{Byte}
 
@@ -13,7 +13,10 @@ abbrev pub reached : (seen last others : ℕ) → ℕ
 reached seen last zero = last
 reached seen last (suc line) = seen + suc line
 
--- the whole text is left at its first row
+-- the whole text is left at its first row, except that row's indent
 pub row_here : (text line : List ℕ) (below : List (List ℕ)) → pieces (Byte 10) text ≡ line ∷ below
-    → is_blank_line line ≡ false → left_from 0 (line ∷ below) ≡ length text
-row_here text line below cut solid = rw solid (ap (λ (lines : List (List ℕ)). span lines - 1) (sym cut) ∙ rw (span-slice_split (is_byte 10) text) (omega arith))
+    → is_blank_line line ≡ false → left_from 0 (line ∷ below) ≡ length text - indent line
+row_here text line below cut solid =
+    let whole : span (line ∷ below) - 1 ≡ length text =
+    ap (λ (lines : List (List ℕ)). span lines - 1) (sym cut) ∙ rw (span-slice_split (is_byte 10) text) (omega arith) in
+    rw solid (ap (λ (n : ℕ). n - indent line) whole)

@@ -10,7 +10,7 @@ use Rattle.texts.specs.declared.errors.TextError.{TextError}
 use Rattle.texts.specs.declared.errors.TextError.TheVariants.{NoMemory, Refused}
 use Rattle.litmus_reader.specs.declared.faults.LitmusFault.{LitmusFault}
 use Rattle.litmus_reader.specs.declared.refusals.AtLeft.{AtLeft}
-use Rattle.litmus_reader.specs.Rows.{is_blank_line}
+use Rattle.litmus_reader.specs.Rows.{indent, is_blank_line}
 use Rattle.texts.specs.declared.pieces.Separators.TheVariants.{Byte}
 
 abbrev pub with_line : List ℕ → ℕ → ℕ
@@ -51,10 +51,13 @@ left_after_it text (Some at) = length text - at
 abbrev pub left_of : List ℕ → ℕ
 left_of text = left_after_it text (position is_visible text)
 
--- how many bytes these lines have, from the row on that has `row` others above; blank lines are none
+-- How many bytes these lines have, from the first byte on that is no blank of the row that has `row` others above; blank
+-- lines are none.
 abbrev pub left_from : (row : ℕ) → List (List ℕ) → ℕ
 left_from row [] = 0
-left_from row (line ∷ below) = if is_blank_line line then left_from row below else (if row == 0 then span (line ∷ below) - 1 else left_from (row - 1) below)
+left_from row (line ∷ below) =
+    if is_blank_line line then left_from row below
+    else (if row == 0 then span (line ∷ below) - 1 - indent line else left_from (row - 1) below)
 
 unfoldable pub left_at_row : List ℕ → (row : ℕ) → ℕ
 left_at_row text row = left_from row (pieces (Byte 10) text)

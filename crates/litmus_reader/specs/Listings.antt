@@ -14,7 +14,7 @@ use Rattle.litmus_reader.specs.declared.marks.Mark.TheVariants.{Condition}
 use Rattle.litmus_reader.specs.Marks.{before_line}
 use Rattle.litmus_reader.specs.Header.{after_header, after_brace}
 use Rattle.litmus_reader.specs.Init.{after_init}
-use Rattle.litmus_reader.specs.Rows.{row_in, cells_of}
+use Rattle.litmus_reader.specs.Rows.{indent, row_in, cells_of}
 
 -- ---- a row
 
@@ -46,10 +46,6 @@ row_on line (Some row) = (record { line = line; cells = map cell_of (cells_of ro
 -- how many lines end in a text's first bytes
 abbrev pub ends_in : (bytes : ℕ) → List ℕ → ℕ
 ends_in bytes text = count_by (is_byte 10) (take bytes text)
-
--- how many blanks a line begins with
-abbrev pub indent : List ℕ → ℕ
-indent line = length line - length (without_front line)
 
 -- The rows among the lines of a table, whose comments are blanks, where the table begins after this number of line ends and
 -- the text goes on like this. A comment may join lines of the text: a row is on the line of its first byte that is no blank.

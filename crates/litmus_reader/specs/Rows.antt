@@ -1,5 +1,5 @@
 -- The shape of a table's rows.
-use Rattle.std.specs.Prelude.{ℕ, ◌+◌, ◌==◌, Bool, true, ◌&&◌, nat_lt, List, [], ◌∷◌, length, Option, None, Some, Result, Ok, Err, if◌then◌else◌}
+use Rattle.std.specs.Prelude.{ℕ, ◌+◌, ◌-◌, ◌==◌, Bool, true, ◌&&◌, nat_lt, List, [], ◌∷◌, length, Option, None, Some, Result, Ok, Err, if◌then◌else◌}
 use Rattle.std.specs.Str.{bytes_eq}
 use Rattle.std.specs.Fmt.{decimal}
 use Rattle.texts.specs.Results.{◌>>=◌}
@@ -12,6 +12,10 @@ use Rattle.step_machine.specs.declared.opening.TheConstants.{MAX_HARTS}
 
 abbrev pub is_blank_line : List ℕ → Bool
 is_blank_line line = length (without_front line) == 0
+
+-- how many blanks a line begins with
+abbrev pub indent : List ℕ → ℕ
+indent line = length line - length (without_front line)
 
 abbrev pub ended_by : List ℕ → Option (List ℕ) → Option (List ℕ)
 ended_by cells None = None

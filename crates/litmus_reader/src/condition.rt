@@ -196,12 +196,12 @@ fn final_condition_in(
 {
     let (read, unread) = cut_at_line(Mark::Unread, text);
     let Some(Quantified { quantifier, tokens }) = quantifier_in(read) else {
-        return Err(LitmusFault::BadCondition.at(text.len()));
+        return Err(LitmusFault::BadCondition.at(left_of(text)));
     };
     let following = text.len().saturating_sub(read.len());
     let draft = read_tokens(alloc, tokens, harts, locations, following)?;
     if let Some(rest) = unread {
-        return Err(LitmusFault::BadCondition.at(rest.len()));
+        return Err(LitmusFault::BadCondition.at(left_of(rest)));
     }
     let condition = finish(draft)?;
     Ok(FinalCondition {

@@ -10,7 +10,7 @@ ghost use Rattle.litmus_reader.specs.Header.{has_name, is_header, after_header a
 
 use crate::faults::LitmusFault;
 use crate::marks::{Mark, cut_at_line};
-use crate::refusals::Refusal;
+use crate::refusals::{Refusal, left_of};
 use texts::Separators;
 use texts::cutting::{cut_at, without_front};
 
@@ -47,7 +47,7 @@ pub fn after_header(text: &[u8]) -> Result<&[u8], Refusal>
     };
     let (line, rest) = cut_at(text, b'\n');
     if !is_header(line) {
-        return Err(LitmusFault::NoHeader.at(text.len()));
+        return Err(LitmusFault::NoHeader.at(left_of(text)));
     }
     Ok(rest.unwrap_or(b""))
 }

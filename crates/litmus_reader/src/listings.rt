@@ -12,7 +12,7 @@ ghost use Rattle.litmus.specs.LitmusTests.{LitmusTest};
 ghost use Rattle.litmus_reader.specs.Faults.{fault_of, fault_in};
 ghost use Rattle.litmus_reader.specs.Grammar.{IsTestOf};
 ghost use Rattle.litmus_reader.specs.Rows.{cells_of, row_in};
-ghost use Rattle.litmus_reader.specs.Listings.{after_items as items_end, cell_of, ends_in as line_ends, indent};
+ghost use Rattle.litmus_reader.specs.Listings.{after_items as items_end, cell_of, ends_in as line_ends};
 ghost use Rattle.litmus_reader.specs.Listings.{listing_at, listing_in as rows_in, row_on, rows_at, rows_from};
 ghost use Rattle.litmus_reader.specs.Listings.{words_made};
 
@@ -20,7 +20,7 @@ use crate::faults::{LitmusError, LitmusFault};
 use crate::header::{after_brace, after_header};
 use crate::marks::{Mark, cut_at_line};
 use crate::refusals::{Refusal, error_of, lines_in};
-use crate::rows::row_in;
+use crate::rows::{indent, row_in};
 use assembler::{AsmError, Draft, parts};
 use litmus_tokens::cleaned;
 use std::alloc::{AllocError, Global};
@@ -148,13 +148,6 @@ fn add_row(
             Ok(())
         }
     }
-}
-
-/// How many blanks a line begins with.
-fn indent(line: &[u8]) -> usize
-    ensures { result ≡ indent line.now }
-{
-    line.len().saturating_sub(without_front(line).len())
 }
 
 /// The rows of a table that begins after this number of line ends in a text, which goes on like this.

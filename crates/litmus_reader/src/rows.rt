@@ -6,7 +6,7 @@ ghost use Rattle.std.specs.List.{count_by};
 ghost use Rattle.texts.specs.Cutting.{is_byte};
 ghost use Rattle.texts.specs.Results.{GivesUpToMemory};
 ghost use Rattle.litmus_reader.specs.Faults.{fault_in};
-ghost use Rattle.litmus_reader.specs.Rows.{is_blank_line, row_in, cells_of, names_hart, name_harts, harts_in};
+ghost use Rattle.litmus_reader.specs.Rows.{indent, is_blank_line, row_in, cells_of, names_hart, name_harts, harts_in};
 ghost use Rattle.step_machine.specs.declared.opening.TheConstants.{MAX_HARTS};
 
 use crate::faults::LitmusFault;
@@ -21,6 +21,13 @@ pub fn is_blank_line(line: &[u8]) -> bool
     ensures { result ≡ is_blank_line line.now }
 {
     without_front(line).is_empty()
+}
+
+/// How many blanks a line begins with.
+pub fn indent(line: &[u8]) -> usize
+    ensures { result ≡ indent line.now }
+{
+    line.len().saturating_sub(without_front(line).len())
 }
 
 /// The row's cells, which `|` parts, without the `;` that ends the row; `None` where the line has no

@@ -13,8 +13,8 @@ ghost use Rattle.step_machine.specs.declared.opening.TheConstants.{MAX_HARTS};
 
 use crate::faults::LitmusFault;
 use crate::marks::{Mark, cut_at_line};
-use crate::refusals::Refusal;
-use crate::rows::{count_cells, harts_in, is_blank_line, row_in};
+use crate::refusals::{Refusal, left_of};
+use crate::rows::{count_cells, harts_in, indent, is_blank_line, row_in};
 use assembler::{AsmError, Draft};
 use rv_decode::instruction::MAX_CODE;
 use std::alloc::{AllocError, Global};
@@ -23,7 +23,7 @@ use texts::cutting::cut_at;
 use texts::{Separators, first_piece};
 
 /// The harts' columns so far, each a text of one line for a row. Where its functions take `left`, that is how many
-/// bytes of the litmus text are left from the row on: a fault is named with it.
+/// bytes of the litmus text are left from the row's first byte on that is no blank: a fault is named with it.
 #[derive(Drop)]
 pub struct Table {
     columns: Vec<Draft>,
@@ -108,7 +108,8 @@ impl Table {
         let mut rest = rows;
         while let Some(bytes) = rest {
             let (line, after) = first_piece(Separators::Byte(b'\n'), bytes);
-            self.read(line, bytes.len().saturating_add(following))?;
+            let left = bytes.len().saturating_sub(indent(line));
+            self.read(line, left.saturating_add(following))?;
             rest = after;
         }
         Ok(())
@@ -167,7 +168,7 @@ fn earlier(so_far: Option<usize>, row: usize) -> usize
     }
 }
 
-/// How many bytes of the table's text are left at the row, which counts from 0 for the first one.
+/// How many bytes of the table's text are left at the row, from its first byte on that is no blank; rows count from 0.
 /// It serves the line of a fault alone.
 #[tactic(auto, using(crate::proofs::LineLaws::row_here), unfolding(crate::specs::Lines::left_at_row))]
 fn left_at_row(text: &[u8], row: usize) -> usize
@@ -179,7 +180,7 @@ fn left_at_row(text: &[u8], row: usize) -> usize
         let (line, after) = first_piece(Separators::Byte(b'\n'), bytes);
         if !is_blank_line(line) {
             if rows == 0 {
-                return bytes.len();
+                return bytes.len().saturating_sub(indent(line));
             }
             rows -= 1;
         }
@@ -199,7 +200,7 @@ pub fn read_table(alloc: Global, text: &[u8], following: usize) -> Result<Table,
         return Err(LitmusFault::BadTable.at_end());
     };
     let (first, rest) = cut_at(rows, b'\n');
-    let harts = harts_in(alloc, first, rows.len().saturating_add(following))?;
+    let harts = harts_in(alloc, first, left_of(rows).saturating_add(following))?;
     let mut table = Table::new(alloc, harts)?;
     table.read_rows(rest, following)?;
     Ok(table)
