@@ -23,6 +23,7 @@ COMMANDS = {
 }
 TEXTS = {
     "lib/ztso/usage.awk": "scripts/usage.awk",
+    "lib/ztso/words.awk": "scripts/words.awk",
     "share/man/man1/ztso.1": "docs/ztso.1",
     "share/bash-completion/completions/ztso": "scripts/completion.bash",
     ZSH: "scripts/completion.zsh",

@@ -28,7 +28,19 @@ ztso: refused 21 at line 1
 READ_FAILED = """\
 ztso: read failed
   A file can't be opened or read, or standard input can't be read.
+  none isn't there
 """
+# words that ask for no job, and what is wrong with them
+WRONG = ((("run",), "FILE is missing"), (("run", "a", "b", "c"), "`c` is one word too many"), (("no-command",), "`no-command` is no command"),
+         (("find", "a", "--states", "abc"), "`abc` is no number from 1 to 16777216, for --states"),
+         (("find", "a", "--states=0"), "`0` is no number from 1 to 16777216, for --states"),
+         (("find", "a", "--states"), "--states has no value"), (("find", "a", "--seed", "1"), "`--seed` is no option of find"),
+         (("try", "a", "--seed", "18446744073709551616", "--runs", "1", "--length", "1"),
+          "`18446744073709551616` is no number from 0 to 18446744073709551615, for --seed"),
+         (("try", "a", "--seed", "+007", "--runs", "1"), "--length is missing"), (("run", "a", "b", "--buffer", "04"),
+          "`04` is none of 1, 2, 4 and 16, for --buffer"), (("channel", "other", "3", "a"), "`other` is no KIND"),
+         (("channel", "lamport", "-3", "a"), "`-3` is no number from 0 to 4294967295, for RING"),
+         (("chart", "a", "b", "--svg", "--svg"), "--svg is given twice"), (("chart", "a", "b", "--svg=1"), "--svg takes no value"))
 DRAWN = ("--seed", "1", "--runs", "10", "--length", "20")
 
 
@@ -63,7 +75,7 @@ def checkout(top, program):
     """A folder like a checkout, in which nothing is to be built."""
     for name in ("scripts", "tools", "crates/ztso/out"):
         (top / name).mkdir(parents=True)
-    for name in ("ztso", "VERSION", "scripts/at-terminal", "scripts/usage.awk", "tools/explain"):
+    for name in ("ztso", "VERSION", "scripts/at-terminal", "scripts/usage.awk", "scripts/words.awk", "tools/explain"):
         shutil.copy(tree.TOP / name, top / name)
     for name in ("docs", "litmus"):
         (top / name).symlink_to(tree.TOP / name)
@@ -93,7 +105,7 @@ def after_bad_words(count, place, folder):
     names = [row[1].split()[0] for row in rows if row[0] == "command"]
     for words in ((), ("--help",), ("help",), ("no-command",)):
         status, said, shown = at_terminal([place.wrapper, *words], folder)
-        lines = shown.split("\n")
+        lines = shown.replace("  `no-command` is no command\n", "").split("\n")
         count.same(f"{place.name}, {words}", (status, said, lines[0]), (2, "", BAD.strip()))
         listed, end = lines[2:2 + len(names)], lines[2 + len(names):]
         count.same(f"{place.name}, the commands after {words}", [line.split()[0] for line in listed], names)
@@ -101,8 +113,11 @@ def after_bad_words(count, place, folder):
             f"`ztso COMMAND --help`: its words and options; more: {place.manual}",
             f"litmus tests: {place.pages}/litmus", ""])
     more = f"more: {place.manual}; {place.pages}/docs/formats.md\n"
-    for words in (("run",), ("run", "a", "b", "c"), ("help", "run")):
-        count.same(f"{place.name}, {words}", at_terminal([place.wrapper, *words], folder), (2, "", BAD + RUN + more))
+    for words, wrong in ((("run",), "  FILE is missing\n"), (("run", "a", "b", "c"), "  `c` is one word too many\n"), (("help", "run"), "")):
+        count.same(f"{place.name}, {words}", at_terminal([place.wrapper, *words], folder), (2, "", BAD + wrong + RUN + more))
+    for words, wrong in WRONG:
+        _, _, shown = at_terminal([place.wrapper, *words], folder)
+        count.same(f"{place.name}, the word that is wrong of {words}", shown.split("\n")[1], f"  {wrong}")
     for name in names:
         status, said, shown = at_terminal([place.wrapper, name, "--help"], folder, before="stty cols 64 <&2; ")
         taken = [row[1] for row in rows if row[0] == "option" and name in row[2].split()]
@@ -114,6 +129,8 @@ def after_bad_words(count, place, folder):
 
 def after_faults(count, place, folder):
     """The first line of the fault's section, and how to read the rest."""
+    _, _, shown = at_terminal([place.wrapper, "find", "none"], folder)
+    count.same(f"{place.name}, a file that find can't read", shown, "ztso: read failed\n  none isn't there\n")
     trials = (
         (("asm",), "mov x1,x2\n", 2, UNKNOWN, "2"),
         (("run", "bad.litmus", "none"), "", 2, NO_HEADER, "21"),
@@ -152,7 +169,7 @@ def progress(count, place, share):
     words = [place.wrapper, "try", share / SB[0], "--seed", "1", "--runs", "100000", "--length", "1000"]
     done, written = terminal.run(list(map(str, words)), stdout=subprocess.PIPE, timeout=SECONDS)
     shown, gone = terminal.shown(written)
-    count.told("the progress of try", shown == b"" and gone.startswith(b"runs ") and done.stdout, (shown, gone))
+    count.told("the progress of try", shown == b"" and gone and gone[-1].startswith(b"runs ") and done.stdout, (shown, gone))
 
 
 def prompt(count, place, share):

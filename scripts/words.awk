@@ -1,0 +1,148 @@
+# Of the words ARGV[2] and on, by docs/commands.tsv, which is ARGV[1]: with WHAT=wrong what is wrong with the first of them
+# that doesn't belong to a job, with WHAT=files the files that they name, one a line, in the order in which they are read.
+# It prints nothing where it can't tell.
+
+# Whether a decimal number is less than another; both are without leading zeros.
+function is_less(one, other) {
+    return length(one) != length(other) ? length(one) < length(other) : one "" < other ""
+}
+
+function is_number(text, least, most) {
+    if (text !~ /^[+]?[0-9]+$/)
+        return 0
+    sub(/^[+]?0*/, "", text)
+    if (text == "")
+        text = "0"
+    return !is_less(text, least) && !is_less(most, text)
+}
+
+# What is wrong with the value of an option, or nothing. Its bounds stand in what the page says that it does.
+function wrong_value(name, value,    bounds, is_bounded) {
+    if (name == "--buffer")
+        return value ~ /^(1|2|4|16)$/ ? "" : "`" value "` is none of 1, 2, 4 and 16, for --buffer"
+    if (name == "--sender" || name == "--receiver")
+        return ""
+    is_bounded = match(does[name], /[0-9]+ to [0-9]+/)
+    split(is_bounded ? substr(does[name], RSTART, RLENGTH) : "0 to 4294967295", bounds, " to ")
+    return is_number(value, bounds[1], bounds[2]) ? "" : "`" value "` is no number from " bounds[1] " to " bounds[2] ", for " name
+}
+
+# What is wrong with a word in its place.
+function wrong_place(place, value) {
+    if (place == "KIND" && value !~ /^(lamport|fastforward|cached|own)$/)
+        return "`" value "` is no KIND"
+    if (place == "RING" && !is_number(value, "0", "4294967295"))
+        return "`" value "` is no number from 0 to 4294967295, for RING"
+    return ""
+}
+
+# Keeps the first thing that is wrong.
+function say(text) {
+    if (text != "" && wrong == "")
+        wrong = text
+}
+
+# An option with its value, which may be the next word; returns how many words it takes.
+function take_option(at,    name, value, has_value) {
+    name = ARGV[at]
+    has_value = index(name, "=")
+    if (has_value) {
+        value = substr(name, has_value + 1)
+        name = substr(name, 1, has_value - 1)
+    }
+    if (takers[name] !~ " " command " ") {
+        say("`" name "` is no option of " command)
+        return 1
+    }
+    if (name in given)
+        say(name " is given twice")
+    given[name] = value
+    if (!takes[name] || has_value) {
+        say(takes[name] ? wrong_value(name, value) : has_value ? name " takes no value" : "")
+        return 1
+    }
+    if (at + 1 > last) {
+        say(name " has no value")
+        return 1
+    }
+    given[name] = ARGV[at + 1]
+    say(wrong_value(name, ARGV[at + 1]))
+    return 2
+}
+
+function take_words(    at, placed) {
+    for (at = 3; at <= last;)
+        if (ARGV[at] ~ /^--./)
+            at += take_option(at)
+        else {
+            placed++
+            if (placed > places)
+                say("`" ARGV[at] "` is one word too many")
+            else {
+                say(wrong_place(place[placed], ARGV[at]))
+                word[place[placed]] = ARGV[at]
+            }
+            at++
+        }
+    for (at = placed + 1; at <= places; at++)
+        say(place[at] " is missing")
+    for (at = 1; at <= needs; at++)
+        if (!(need[at] in given))
+            say(need[at] " is missing")
+}
+
+function print_files() {
+    if (command == "channel" && word["KIND"] == "own") {
+        print given["--sender"]
+        print given["--receiver"]
+    }
+    if ("SENDER" in word) {
+        print word["SENDER"]
+        print word["RECEIVER"]
+    }
+    if ("FILE" in word)
+        print word["FILE"]
+    if ("SCHEDULE" in word)
+        print word["SCHEDULE"]
+}
+
+BEGIN {
+    FS = "\t"
+    last = ARGC - 1
+    ARGC = 2
+    command = ARGV[2]
+}
+
+$1 == "command" {
+    count = split($2, part, " ")
+    if (part[1] == command && count) {
+        is_known = 1
+        for (i = 2; i <= count; i++)
+            if (part[i] ~ /^--/)
+                need[++needs] = part[i++]
+            else
+                place[++places] = part[i]
+    }
+}
+
+$1 == "option" {
+    count = split($2, part, " ")
+    takers[part[1]] = " " $3 " "
+    takes[part[1]] = count > 1
+    does[part[1]] = $4
+}
+
+END {
+    if (last < 2)
+        exit
+    if (!is_known) {
+        if (ENVIRON["WHAT"] == "wrong")
+            print "`" command "` is no command"
+        exit
+    }
+    take_words()
+    if (ENVIRON["WHAT"] == "files")
+        print_files()
+    else if (wrong != "")
+        print wrong
+}
