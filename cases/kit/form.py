@@ -49,8 +49,8 @@ class Case:
     memory: Optional[int] = None
     each_allocation: Optional[str] = None
     typed: Optional[str] = None
-    # where standard error is a pseudoterminal: the last text that was written there and is wiped at the end
-    wiped: Optional[bytes] = None
+    # where standard error is a pseudoterminal: texts that were written there and are wiped at the end, the last one last
+    wiped: Optional[Tuple[bytes, ...]] = None
     copied: List[str] = field(default_factory=list)
     files: Dict[str, Pieces] = field(default_factory=dict)
     stdin: Stream = field(default_factory=Stream)
@@ -163,7 +163,7 @@ class Reader:
                 raise self.refused(f"{case.name} is run by a shell, whose allocations aren't to be refused")
             if case.typed and (case.stdin.device or case.stdout.device):
                 raise self.refused(f"{case.name} has no text that is typed, or no pipe for the answers")
-            if case.wiped is not None and (case.typed or case.each_allocation is not None or case.needs_shell()):
+            if case.wiped is not None and (case.typed or case.needs_shell()):
                 raise self.refused(f"{case.name} has another way of running than with standard error at a terminal")
         return found
 
@@ -198,7 +198,9 @@ class Reader:
         elif head == "typed" and rest in TYPED:
             case.typed = rest
         elif head == "wiped" and rest:
-            case.wiped = escapes.read_line(rest).removesuffix(b"\n")
+            case.wiped = (case.wiped or ()) + (escapes.read_line(rest).removesuffix(b"\n"),)
+        elif line == "stderr at-a-terminal" and case.wiped is None:
+            case.wiped = ()
         elif head == "copy" and rest:
             case.copied += rest.split(" ")
         elif head == "file" and rest.endswith(":"):
@@ -291,8 +293,10 @@ def given(case):
         yield f"each-allocation {case.each_allocation}".rstrip()
     if case.typed:
         yield f"typed {case.typed}"
-    if case.wiped is not None:
-        yield f"wiped {escapes.shown(case.wiped)}"
+    if case.wiped == ():
+        yield "stderr at-a-terminal"
+    for wiped in case.wiped or ():
+        yield f"wiped {escapes.shown(wiped)}"
     if case.copied:
         yield " ".join(["copy", *case.copied])
     for name, pieces in case.files.items():

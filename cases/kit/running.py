@@ -9,8 +9,8 @@ from pathlib import Path
 from . import terminal, typing_in
 
 SECONDS = 60
-# what stands for any number in a text that is wiped
-NUMBER = b"<number>"
+# what stands for a number in a text that is wiped: any, or one within bounds
+NUMBER = re.compile(rb"<number(?: from ([0-9]+))?(?: to ([0-9]+))?>")
 # status, standard error and standard output where memory ran out
 NO_MEMORY = (4, b"ztso: no memory\n", b"")
 # the most allocations that a case may make
@@ -142,7 +142,8 @@ def run_in(program, case, inside, variables):
             errors = done.stderr
         else:
             done, written = terminal.run(command(program, case), **options)
-            errors = remaining(written, case.wiped)
+            # where an allocation is refused, what was written before may be less
+            errors = terminal.shown(written)[0] if variables else remaining(written, case.wiped)
     finally:
         for opened in (given, taken):
             if opened is not None:
@@ -151,11 +152,27 @@ def run_in(program, case, inside, variables):
 
 
 def remaining(written, wiped):
-    """What a terminal shows of what was written to it, where the last text that is gone is as wanted."""
+    """What a terminal shows of what was written to it, where the texts that are gone are as wanted: the last one is the
+    last of `wiped`, and the others are among those before it, in this order."""
     shown, gone = terminal.shown(written)
-    if not re.fullmatch(re.escape(wiped).replace(re.escape(NUMBER), rb"[0-9]+"), gone):
-        raise Wrong(f"the last text that was wiped at the terminal: {gone}, wanted {wiped}")
+    if not (is_text(wiped[-1], gone[-1]) if wiped and gone else wiped == ()):
+        raise Wrong(f"the last text that was wiped at the terminal: {gone[-1:]}, wanted {wiped[-1:]}")
+    before = iter(gone[:-1])
+    for text in wiped[:-1]:
+        if not any(is_text(text, one) for one in before):
+            raise Wrong(f"no text like {text} was wiped at the terminal before, of {gone}")
     return shown
+
+
+def is_text(wanted, text):
+    """Whether this is the wanted text, in which `<number>` may stand for numbers."""
+    form, bounds, end = b"", [], 0
+    for number in NUMBER.finditer(wanted):
+        form += re.escape(wanted[end:number.start()]) + rb"([0-9]+)"
+        bounds.append((int(number[1] or 0), int(number[2]) if number[2] else float("inf")))
+        end = number.end()
+    found = re.fullmatch(form + re.escape(wanted[end:]), text)
+    return found is not None and all(least <= int(one) <= most for one, (least, most) in zip(found.groups(), bounds))
 
 
 def without_memory(program, case, folder, refuser, first, step):

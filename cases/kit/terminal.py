@@ -27,17 +27,17 @@ class Drain(threading.Thread):
 
 
 def shown(content):
-    """What a terminal shows at the end, and the last text there that was written over or erased, or nothing."""
-    above, line, at, gone = b"", b"", 0, b""
+    """What a terminal shows at the end, and the texts there that were written over or erased, the last one last."""
+    above, line, at, gone = b"", b"", 0, []
     for piece in PIECE.findall(content):
         if piece == LINE_END:
             above, line, at = above + line + b"\n", b"", 0
         elif piece == RETURN:
             at = 0
         elif piece == ERASE:
-            gone, line = line[at:] or gone, line[:at]
+            gone, line = gone + [line[at:]] * bool(line[at:]), line[:at]
         else:
-            gone = line[at:] or gone
+            gone += [line[at:]] * bool(line[at:])
             line = line[:at] + piece + line[at + len(piece):]
             at += len(piece)
     return above + line, gone
