@@ -61,4 +61,10 @@ def pairs_of(text):
 
 def edits_of(crate, folder=TOGETHER):
     """The edits of a crate's folder, by name."""
-    return [Edit(file) for file in sorted((crate / folder).glob("*.edit"))]
+    found = []
+    for file in sorted((crate / folder).glob("*.edit")):
+        try:
+            found.append(Edit(file))
+        except Unfit as why:
+            raise Unfit(f"{crate.name}/{folder}/{file.name}: {why}") from None
+    return found
