@@ -1,9 +1,9 @@
 -- What threads made of the seats that were given, and how far each hart got in the record.
-use Rattle.std.proofs.Common.{◌⊎◌, inl, inr, ◌≡◌, ℕ, ◌+◌, ◌<◌, ◌≤◌, Bool, true, List, ◌++◌, length, get_or, Option, Some, None, sym, ◌∙◌, ap, subst, arith}
+use Rattle.std.proofs.Common.{inl, inr, ◌≡◌, ℕ, ◌+◌, ◌<◌, ◌≤◌, Bool, true, List, ◌++◌, length, get_or, Option, Some, None, sym, ◌∙◌, ap, subst, arith}
 use Rattle.std.specs.Prelude.{map, All, IsSomeAnd, option_map, if◌then◌else◌}
 use Rattle.std.specs.List.{AllZip, Contains, slice_get}
 use Rattle.std.proofs.lemmas.List.{get_or-map, length-map}
-use Rattle.std.proofs.lemmas.List.Elements.{All-map, All-contains}
+use Rattle.std.proofs.lemmas.List.Elements.{All-contains}
 use Rattle.hart.specs.State.{HartState}
 use Rattle.step_machine.specs.declared.events.Entry.{Entry}
 use Rattle.step_machine.specs.History.{HartOpeningValue, OpeningValue, History}
@@ -17,10 +17,8 @@ use Rattle.hart_threads.specs.GettingOn.GetsOn.{over, goes, waits}
 use Rattle.hart_threads.specs.declared.turns.Ending.{Ending}
 use Rattle.hart_threads.specs.declared.turns.Calls.{Calls}
 use Rattle.hart_threads.specs.declared.turns.Ending.TheVariants as ending
-use Rattle.hart_threads.specs.inner.Threads.{Ran, WhereDone, GotOn, IsOver, MayHaveWaited}
-use Rattle.hart_threads.specs.Diaries.{acting_diary}
+use Rattle.hart_threads.specs.inner.Threads.{Ran, WhereDone, GotOn}
 use Rattle.hart_threads.proofs.Coming.{zip_left, zip_right, zip_after, harts_within}
-use Rattle.hart_threads.proofs.Gathering.{Acting, its_acting, role_of, number_of}
 use Rattle.hart_threads.proofs.GettingOn.{same_role}
 
 -- ---- one seat
