@@ -5,7 +5,7 @@ use Rattle.ring_trials.proofs.JudgingLaws.{judged_none, judged_next}
 -- src/judging.rt:71:5
 pub loop-event-init : goal.loop-event-init
 loop-event-init g c = (
-  judged_none g.row.B g.row.M c.args.own.now c.args.machine.now c.restart.new.self c.begin.new.shares c.requires.stands c.restart.ensures
+  judged_none g.row.B g.row.M c.args.own.now c.args.machine.now c.restart.new.self c.begin.new.shares c.requires.stands c.restart.ensures.history
       c.begin.ensures.notes (c.begin.ensures.count ∙ c.requires.count),
   c.begin.ensures.count ∙ c.requires.count,
 )
