@@ -37,10 +37,12 @@ export function showKept() {
   by("kept").replaceChildren(...buttons.length ? [el("span", {}, "kept, with its run: "), ...buttons] : []);
 }
 
-function bringBack(at) {
+async function bringBack(at) {
   const { text, events, place } = state.kept[at];
   forgetRefused();
-  return replace(text, { events, place });
+  await replace(text, { events, place });
+  // the button that had the focus is gone
+  by("machine").focus({ preventScroll: true });
 }
 
 // a test of the list, whose first row is one's own text: the one that is there, or the one that was there last

@@ -12,7 +12,6 @@ from pathlib import Path
 
 from page_parts.trials import same
 from page_parts.trials.limits import gone, started
-from page_parts.trials.served import Served
 
 # any path serves; this one has what a path may have
 BELOW = "a path/ztso+1"
@@ -88,13 +87,7 @@ def part(count, page, program):
     count.told("it says that nothing is proved of it", "nothing is proved of this build" in said and page.run(
         "document.getElementById('unproved').getBoundingClientRect().bottom < innerHeight"), said)
     count.told("and nothing of a page that doesn't begin", not page.text("#slow"))
-    served = Served(program)
-    try:
-        known = {(route, json.dumps(body)): served.ask(route, **body)[1]
-                 for route, body in same.questions(served.shelf()["tests"], same.PART)}
-    finally:
-        served.end()
-    same.compare(count, "the browser's workers", known, page.served.ask)
+    same.compare(count, "the browser's workers", same.served_answers(program, same.PART), page.served.ask)
     offline(count, page)
 
 
@@ -114,9 +107,10 @@ def offline(count, page):
             running = started(page.served)
             page.browser.click("#go")
             page.browser.until("document.getElementById('go').textContent === 'Draw'")
-            count.told("offline: a draw that is stopped ends its worker, and another one begins", running and gone(page.served),
-                       f"{running}, {page.text('#drawn')}{page.text('#trouble')}")
+            count.told("offline: a draw that is stopped ends its worker, and another one begins",
+                       running and gone(page.served), f"{running}, {page.text('#drawn')}{page.text('#trouble')}")
         page.click("#find")
-        count.told("offline: a search", page.strip() == "a0*2 a1*2 l0 l1" and not page.text("#trouble"), page.text("#trouble"))
+        said = page.strip(), page.text("#trouble")
+        count.told("offline: a search", said == ("a0*2 a1*2 l0 l1", ""), said)
     finally:
         page.served.begin()

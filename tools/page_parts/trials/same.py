@@ -8,6 +8,7 @@ import subprocess
 import tempfile
 from pathlib import Path
 
+from bring_parts import REFERENCE
 from page_parts import ROOT, folder
 from page_parts.trials import texts
 from page_parts.trials.served import LOOP, SB, Served
@@ -16,7 +17,8 @@ NODE = Path(__file__).resolve().parent / "answering.mjs"
 # the short part asks each so many-th question of the long lists
 PART = 9
 DAMAGED = 400
-HOSTILE = (texts.EVIL, texts.LONG, texts.MANY, LOOP, "", "\0" * 1000, "RISCV \ud800", "x" * ((1 << 20) + 1), "RISCV a\n(* never closed")
+HOSTILE = (texts.EVIL, texts.LONG, texts.MANY, LOOP, "", "\0" * 1000, "RISCV \ud800", "x" * ((1 << 20) + 1),
+           "RISCV a\n(* never closed")
 CELLS = ("lq x7,0(x8)", "lw x7", "lw x99,0(x8)", "lw x7,4096(x8)", "addi x5,x5,2048", "addi x5,x5,y", "j nowhere",
          "sw x5,0x6", "lw (* a word *) x7,9999(x8)", "fence rw", "beq x5,x6,3", "lui x5,1048576", "amoswap.w x5,x6", "|")
 # a line of answers.js, and a wrong one in its place
@@ -25,30 +27,33 @@ PLANTED = "pc: Number(rest[2])", "pc: Number(rest[2]) + 4"
 
 def part(count, program):
     """The short part under Node.js over the program, where node is there."""
-    if not shutil.which("node"):
-        print("  same: there is no node, so the scripts of the page without a server aren't tried")
+    program = Path(program).resolve() if program else REFERENCE
+    if program == REFERENCE or not shutil.which("node"):
+        print(f"  same: not tried, since {'the reference is too slow' if program == REFERENCE else 'there is no node'}")
         return
-    served = Served(program)
-    known = {(route, json.dumps(body)): served.ask(route, **body)[1] for route, body in questions(served.shelf()["tests"], PART)}
-    try:
-        with Node(program=program or folder.ROOT / "tools/reference/ztso") as node:
-            compare(count, "node", known, node.ask)
-        with Node(program=program or folder.ROOT / "tools/reference/ztso", planted=PLANTED) as node:
-            wrong = differences({key: known[key] for key in list(known)[:30]}, node.ask)
-        count.told("a planted difference is found", wrong)
-    finally:
-        served.end()
+    known = served_answers(program, PART)
+    with Node(program=program) as node:
+        compare(count, "node", known, node.ask)
+    with Node(program=program, planted=PLANTED) as node:
+        wrong = differences({key: known[key] for key in list(known)[:30]}, node.ask)
+    count.told("a planted difference is found", wrong)
 
 
 def whole(count, program, made):
     """All questions under Node.js over the ztso.wasm of a folder that scripts/static-page made."""
-    served = Served(program)
-    try:
-        known = {(route, json.dumps(body)): served.ask(route, **body)[1] for route, body in questions(served.shelf()["tests"], 1)}
-    finally:
-        served.end()
+    known = served_answers(program, 1)
     with Node(made=made) as node:
         compare(count, "node with ztso.wasm", known, node.ask)
+
+
+def served_answers(program, step):
+    """The server's answers, by their questions."""
+    served = Served(program)
+    try:
+        return {(route, json.dumps(body)): served.ask(route, **body)[1]
+                for route, body in questions(served.shelf()["tests"], step)}
+    finally:
+        served.end()
 
 
 class Node:
@@ -125,8 +130,8 @@ def about(text, draw):
     harts = text.split(";\n")[0].count("|") + 1
     tokens = " ".join(f"{draw.choice('aaal')}{draw.randrange(min(harts, 4))}" for _ in range(25))
     run = {"text": text, "buffer": draw.choice((1, 2, 4, 16)), "tokens": tokens}
-    for route, more in (("view", {}), ("chart", {"rows": "all"}), ("chart", {"rows": "memory"}), ("shrink", {}), ("verdict", {}),
-                        ("onward", {"hart": 0}), ("seek", {"place": 3, "breaks": [[0, 4], [1, 8]]})):
+    for route, more in (("view", {}), ("chart", {"rows": "all"}), ("chart", {"rows": "memory"}), ("shrink", {}),
+                        ("verdict", {}), ("onward", {"hart": 0}), ("seek", {"place": 3, "breaks": [[0, 4], [1, 8]]})):
         yield route, run | more
     yield "view", run | {"tokens": ""}
     yield "read", {"text": text, "buffer": 4, "schedule": f"ztso-schedule 1\n{tokens}\n"}

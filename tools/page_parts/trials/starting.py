@@ -27,8 +27,8 @@ def part(count, program):
     count.told("a port that is taken", done.returncode == 1 and "take another one" in done.stderr, done)
     served.end()
     served = Served(program, "https://example.org/ztso/#run=abc")
-    count.told("a whole link, without its address", served.address.endswith("/#run=abc") and "example" not in served.address,
-               served.address)
+    address = served.address
+    count.told("a whole link, without its address", address.endswith("/#run=abc") and "example" not in address, address)
     served.end()
     with tempfile.TemporaryDirectory(prefix="ztso-page-") as folder:
         written(count, Path(folder, "hosted"))
@@ -47,16 +47,19 @@ def written(count, top):
     other.mkdir()
     (other / "mine").write_text("kept")
     for name, done, status, said in (
-            ("static-page --help", write("--help"), 0, "OUT"), ("a folder without a name", write(), 2, "OUT"),
+            ("static-page --help", write("--help"), 0, "OUT"),
+            ("a folder without a name", write(), 2, "OUT"),
             ("a program that isn't there", write("--wasm", top / "none", out), 2, "no such file"),
             ("a folder that has something else", write("--wasm", wasm, other), 2, "name another folder"),
             ("a place that isn't there", write("--wasm", wasm, top / "no/such"), 1, "No such file")):
-        count.told(name, done.returncode == status and said in done.stdout + done.stderr and "Traceback" not in done.stderr, done)
+        words = done.stdout + done.stderr
+        count.told(name, done.returncode == status and said in words and "Traceback" not in words, done)
     for name in ("a folder is written", "and written anew"):
         done = write("--wasm", wasm, out)
         page = (out / "index.html").read_text()
-        good = "nothing is proved of this build" in page and "default-src 'none'" in page and (out / "ztso.wasm").read_bytes() == b"\0asm"
-        count.told(name, done.returncode == 0 and good and not (out / "page.html").exists(), done)
+        good = "nothing is proved of this build" in page and "default-src 'none'" in page
+        files = (out / "ztso.wasm").read_bytes() == b"\0asm" and not (out / "page.html").exists()
+        count.told(name, done.returncode == 0 and good and files, done)
     left = sorted(path.name for path in top.iterdir())
     count.told("nothing is left beside it, and nothing lost", left == ["other", "out", "some.wasm"] and (other / "mine").exists(), left)
 
