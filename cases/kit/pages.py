@@ -11,7 +11,7 @@ import re
 from . import form
 
 PAGES = [form.ROOT / "docs/errors.md"]
-STATUS = {"not": 1, "refused": 2, "bad": 2, "read": 3, "write": 3, "no": 4}
+STATUS = {"all": 1, "cut": 5, "refused": 2, "bad": 2, "read": 3, "write": 3, "no": 4}
 
 
 def blocks(text):

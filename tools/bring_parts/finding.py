@@ -12,19 +12,20 @@ from bring_parts import Refused
 import schedules
 
 STATES = 200_000
-NOT_FOUND = re.compile(r"ztso: not found in ([0-9]+) states\n")
+# what `find` says where it finds nothing, by its exit status
+MISSED = {1: re.compile(r"ztso: all ([0-9]+) states seen, none shows it\n"), 5: re.compile(r"ztso: cut at ([0-9]+) states\n")}
 
 
 @dataclass
 class Sought:
-    """The tokens of a schedule and None, or None and how many states were seen, of those that might be."""
-    tokens: str
-    seen: int
-    most: int
+    """The tokens of a schedule; or how many states were seen, and whether the search was cut there."""
+    tokens: str = None
+    seen: int = None
+    is_cut: bool = False
 
     def told(self):
         """What is said of an outcome that wasn't found."""
-        return f"not shown in {self.seen} states" + ", where the search stopped" * (self.seen == self.most)
+        return f"not shown in {self.seen} states" + ", where the search stopped" * self.is_cut
 
 
 def equation(lefts, values):
@@ -45,8 +46,9 @@ def shortest(program, front, condition, buffer, states):
         words = [program, "find", file, "--buffer", buffer, "--states", states]
         done = subprocess.run(list(map(str, words)), stdin=subprocess.DEVNULL, capture_output=True, text=True, check=False)
     if done.returncode == 0 and not done.stderr:
-        return Sought(schedules.tokens(schedules.read(done.stdout)), None, states)
-    missed = NOT_FOUND.fullmatch(done.stderr)
-    if done.returncode != 1 or done.stdout or not missed:
+        return Sought(schedules.tokens(schedules.read(done.stdout)))
+    said = MISSED.get(done.returncode)
+    missed = said and said.fullmatch(done.stderr)
+    if done.stdout or not missed:
         raise Refused(f"{program} find: {done.stderr.strip() or f'status {done.returncode}'}")
-    return Sought(None, int(missed[1]), states)
+    return Sought(seen=int(missed[1]), is_cut=done.returncode == 5)

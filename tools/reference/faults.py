@@ -32,8 +32,12 @@ def bad_command_line():
     return Fault("ztso: bad command line", 2)
 
 
-def not_found(states):
-    return Fault(f"ztso: not found in {states} states", 1)
+def all_seen(states):
+    return Fault(f"ztso: all {states} states seen, none shows it", 1)
+
+
+def cut(states):
+    return Fault(f"ztso: cut at {states} states", 5)
 
 
 def read_failed():

@@ -9,6 +9,8 @@ class Search:
 
     def __init__(self, test, machine, most):
         self.machine, self.most = machine, most
+        # whether no more states may be seen, or a way would have more events than a schedule may
+        self.is_cut = True
         self.events = [(letter, hart) for letter in "al" for hart in range(len(test.codes))]
         self.before = {machine.opening: None}
 
@@ -18,7 +20,7 @@ class Search:
         front = [self.machine.opening]
         for _ in range(EVENTS):
             if not front:
-                return
+                break
             following = []
             for state in front:
                 for event in self.events:
@@ -30,6 +32,7 @@ class Search:
                         following.append(to)
                         yield to
             front = following
+        self.is_cut = bool(front)
 
     def way_to(self, state):
         """The events by which a state was seen first."""
@@ -41,10 +44,10 @@ class Search:
 
 
 def found(test, machine, most):
-    """The events to the first state that ends with an outcome that is looked for, or None, and how many states were
-    seen: one that makes the condition true, and with `forall` one that makes it false."""
+    """The events to the first state that ends with an outcome that is looked for, one that makes the condition true, and
+    with `forall` one that makes it false; or None, as all states were seen or the search was cut. And the search."""
     search = Search(test, machine, most)
     for state in search.states():
         if is_finished(state) and test.holds(value_of(state)) == (test.kind == "exists"):
-            return search.way_to(state), len(search.before)
-    return None, len(search.before)
+            return search.way_to(state), search
+    return None, search

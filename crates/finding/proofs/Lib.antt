@@ -1,2 +1,4 @@
 -- Lemmas.
+pub mod Needed
+pub mod Parts
 pub mod Ways

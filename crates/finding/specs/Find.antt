@@ -1,19 +1,22 @@
 -- The command `find`: a schedule that shows what a test asks about, where a search met one.
-use Rattle.std.specs.Prelude.{ℕ, ◌≡◌, ◌≤◌, Bool, true, false, List, [], Result, Ok, Err}
+use Rattle.std.specs.Prelude.{ℕ, ◌≡◌, ◌≤◌, ◌<◌, ◌⊎◌, Bool, true, false, List, [], length, map, Result, Ok, Err}
 use Rattle.step_machine.specs.declared.events.Event.{Event}
-use Rattle.step_machine.specs.History.{History}
+use Rattle.step_machine.specs.History.{History, at_opening}
 use Rattle.step_machine.specs.Positions.{Position}
-use Rattle.step_machine.specs.Runs.{Run}
+use Rattle.step_machine.specs.Runs.{Run, event_of}
 use Rattle.litmus.specs.Formulas.{truth}
 use Rattle.litmus.specs.LitmusTests.{LitmusTest}
 use Rattle.litmus.specs.Verdicts.{IsFinished, IsFinishedAt, final_value, value_there}
 use Rattle.litmus.specs.declared.verdict.Quantifier.{Quantifier}
 use Rattle.litmus.specs.declared.verdict.Quantifier.TheVariants.{Exists, NotExists, ForAll}
 use Rattle.recorder.specs.Writing.{canon}
+use Rattle.recorder.specs.declared.reading.TheConstants.{MAX_EVENTS}
+use Rattle.shrink.specs.Shrinking.{without}
 use Rattle.engine_support.specs.declared.fault.Refusal.{Refusal}
 use Rattle.engine_support.specs.Tests.{ByTest}
 use Rattle.finding.specs.declared.finds.Found.{Found}
-use Rattle.finding.specs.declared.finds.Found.TheVariants.{Shown, NotFound}
+use Rattle.finding.specs.declared.finds.Found.TheVariants.{Shown, AllSeen, Cut}
+use Rattle.finding.specs.declared.shortening.TheConstants.{MOST_TRIED}
 
 -- What the condition is in the outcome that is looked for: the one that `exists` and `~exists` ask about makes it
 -- true, and the one that refutes `forall` makes it false.
@@ -38,11 +41,23 @@ pub record Shows (B M : ℕ) (test : LitmusTest) (events : List Event) : Type 0 
   pub ran : Run B M test.opening events history
   pub ends : EndsAsWanted M test history
 
--- The output is the canonical schedule of events that show such an outcome; or there is none, and this number of states
--- was seen, which is within the limit.
+-- these events show such an outcome, one event an entry, and of a list that isn't long no single event can be left out
+pub record IsWitness (B M : ℕ) (test : LitmusTest) (events : List Event) : Type 0 where
+  pub shows : Shows B M test events
+  pub each : events ≡ map event_of shows.history.entries
+  pub needed : length events ≤ MOST_TRIED → (i : ℕ) → i < length events → Shows B M test (without i 1 events) → ⊥
+
+-- what a search saw when it was cut: as many states as it may, or at least as many as a schedule may have events
+abbrev pub IsCut : (limit states : ℕ) → Type 0
+IsCut limit states = (states ≤ limit) × ((states ≡ limit) ⊎ (MAX_EVENTS ≤ states))
+
+-- The output is the canonical schedule of events that show such an outcome. Or there is none, and this number of states
+-- was seen: either fewer than may be seen, or the search was cut. The opening then doesn't end so.
 abbrev pub IsFound : (B M limit : ℕ) → LitmusTest → (out : List ℕ) → Found → Type 0
-IsFound B M limit test out Shown = (events : List Event) × Shows B M test events × (out ≡ canon events)
-IsFound B M limit test out (NotFound states) = (out ≡ []) × (1 ≤ states) × (states ≤ limit)
+IsFound B M limit test out Shown = (events : List Event) × IsWitness B M test events × (out ≡ canon events)
+IsFound B M limit test out (AllSeen states) =
+    (out ≡ []) × (1 ≤ states) × (states < limit) × (EndsAsWanted M test (at_opening test.opening) → ⊥)
+IsFound B M limit test out (Cut states) = (out ≡ []) × IsCut limit states × (EndsAsWanted M test (at_opening test.opening) → ⊥)
 
 -- what answers a test; none is refused
 abbrev pub IsFoundOf : (B M limit : ℕ) → LitmusTest → Result (List ℕ × Found) Refusal → Type 0

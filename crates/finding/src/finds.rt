@@ -1,32 +1,37 @@
 //! The command `find`: a litmus text in, a schedule that shows what it asks about out.
 
-ghost use Rattle.std.specs.Prelude.{◌≡◌, ◌≤◌, ◌↔◌, IsTrue, IfOk, length};
+ghost use Rattle.std.specs.Prelude.{◌≡◌, ◌≤◌, ◌↔◌, if◌then◌else◌, IsTrue, IfOk, length};
 ghost use Rattle.std.specs.String.{string_bytes};
 ghost use Rattle.step_machine.specs.Positions.{position_of};
 ghost use Rattle.step_machine.specs.Standing.{ForEachHistory};
 ghost use Rattle.engine_support.specs.Engines.{EndsBy};
 ghost use Rattle.engine_support.specs.inner.Making.{FindsByUpToReads, text_and_value};
-ghost use Rattle.finding.specs.Find.{EndsAsWanted, IsFindAnswer, IsFound, IsWantedAt, Shows};
+ghost use Rattle.finding.specs.declared.finds.Found.TheVariants.{AllSeen, Cut};
+ghost use Rattle.finding.specs.Find.{EndsAsWanted, IsFindAnswer, IsFound, IsWantedAt};
 ghost use Rattle.litmus.specs.declared.litmus_test.TheConstants.{MAX_LOCATIONS};
 
 use crate::progress::SearchProgress;
 use crate::searching::{Searched, search};
+use crate::shortening::shown_by;
 use engine_support::fault::Fault;
 use engine_support::litmus_text::read_test;
 use engine_support::output::end_with;
 use litmus::{Test, Verdict};
-use recorder::{replay_state, write_schedule};
+use recorder::write_schedule;
 use std::alloc::{AllocError, Global};
 use std::io::{Read, Write};
-use step_machine::{Event, MachineState};
+use step_machine::MachineState;
 
 /// What a search came to.
 #[derive(Clone, Copy, PartialEq, Eq)]
 pub enum Found {
     /// The schedule that was written shows what the test asks about.
     Shown,
-    /// None of the distinct states that were seen, which are this many, ends so.
-    NotFound { states: u32 },
+    /// The search went on from each of this many distinct states, and came to no outcome that is looked for.
+    AllSeen { states: u32 },
+    /// It was cut after this many distinct states, since it may see no more or a way has no more events. None of them ends
+    /// so.
+    Cut { states: u32 },
 }
 
 /// Whether the machine is finished with an outcome that is looked for, whatever led to where it stands.
@@ -46,23 +51,7 @@ pub(crate) fn ends_as_wanted<const B: usize, const M: usize>(
     }
 }
 
-/// Whether the run of these events ends so.
-fn shows<const B: usize, const M: usize>(
-    alloc: Global,
-    test: &Test,
-    events: &[Event],
-) -> Result<bool, AllocError>
-    requires capacity { B ≤ 64 }
-    requires words { MAX_LOCATIONS ≤ M }
-    requires size { M ≤ 65536 }
-    ensures { IfOk result (λ shown. IsTrue shown ↔ Shows B M test.now events.now) }
-{
-    let opening = test.opening(alloc)?;
-    let machine = replay_state::<B, M>(alloc, &opening, events)?;
-    Ok(ends_as_wanted(test, &machine))
-}
-
-/// The schedule that a search hands over, where its run shows what the test asks about.
+/// The schedule of what a search hands over, where that shows what the test asks about, without events that it doesn't need.
 fn answer<const B: usize, const M: usize, P: SearchProgress>(
     alloc: Global,
     test: &Test,
@@ -78,15 +67,30 @@ fn answer<const B: usize, const M: usize, P: SearchProgress>(
 {
     let searched = search::<B, M, P>(alloc, test, states, progress);
     progress.end();
-    let Searched { states, way } = searched?;
-    if let Some(events) = way {
-        // a search that is right hands over nothing else
-        if shows::<B, M>(alloc, test, &events)? {
+    let Searched {
+        states,
+        is_cut,
+        way,
+    } = searched?;
+    if let Some(way) = way {
+        // a search that is right hands over nothing else than what shows it
+        if let Some(events) = shown_by::<B, M>(alloc, test, &way)? {
             let text = write_schedule(alloc, &events)?;
             return Ok((text, Found::Shown));
         }
     }
-    Ok((String::new(alloc), Found::NotFound { states }))
+    Ok((String::new(alloc), found_none(states, is_cut)))
+}
+
+/// What a search of this many states came to that found nothing.
+fn found_none(states: u32, is_cut: bool) -> Found
+    ensures { result ≡ (if is_cut then Cut states else AllSeen states) }
+{
+    if is_cut {
+        Found::Cut { states }
+    } else {
+        Found::AllSeen { states }
+    }
 }
 
 /// What is to be written for the input that the reader gives, and what the search came to.
@@ -112,8 +116,9 @@ fn made<const B: usize, const M: usize, R: Read, P: SearchProgress>(
 /// with store buffers of `B` pairs and `M` words of memory, for one in which a run is finished and the test's
 /// condition true, or with `forall` false. It sees at most `states` distinct states.
 ///
-/// Where it finds one it writes the canonical schedule of events that lead there, as few as do. Else it
-/// writes nothing, and answers how many states it saw: that the outcome is impossible isn't said.
+/// Where it finds one it writes the canonical schedule of events that lead there, as few as do, and none that
+/// can be left out. Else it writes nothing, and answers how many states it saw, and whether these are all or
+/// it was cut: that the outcome is impossible isn't said.
 /// The progress learns how far the search is, and that it ended; the answer doesn't depend on it.
 ///
 /// The input is refused as `run` refuses it, and then nothing was written.

@@ -2,7 +2,7 @@
 //!
 //! It is proved safe and to end. What it finds is checked by whoever gets it.
 
-ghost use Rattle.std.specs.Prelude.{◌≡◌, ◌≤◌, ◌<◌, ◌+◌, IsTrue, IfOk, length};
+ghost use Rattle.std.specs.Prelude.{◌≡◌, ◌≤◌, ◌<◌, ◌+◌, ◌↔◌, IsTrue, IfOk, length};
 ghost use Rattle.recorder.specs.Schedule.{OfHarts};
 ghost use Rattle.step_machine.specs.History.{at_opening};
 ghost use Rattle.step_machine.specs.Standing.{ForEachHistory};
@@ -13,6 +13,7 @@ ghost use Rattle.finding.specs.inner.Arriving.{BeginsAt, GoesOn, IsNewest, IsWit
 use crate::arrivals::Arrival;
 use crate::finds::ends_as_wanted;
 use crate::progress::SearchProgress;
+use hart::Status;
 use litmus::Test;
 use recorder::MAX_EVENTS;
 use states::States;
@@ -27,8 +28,23 @@ const REPORT_STATES: u32 = 1024;
 pub struct Searched {
     /// How many distinct states it saw.
     pub states: u32,
+    /// Whether it may see no more, or ways have no more events.
+    pub is_cut: bool,
     /// The events by which it came to an outcome that is looked for, if it did.
     pub way: Option<Vec<Event>>,
+}
+
+/// What a search came to that saw this many states and may see `limit` of them.
+fn searched_of(states: u32, limit: u32, way: Option<Vec<Event>>) -> Searched
+    ensures states { result.states ≡ states }
+    ensures cut { IsTrue result.is_cut ↔ (limit ≤ states) }
+    ensures way { result.way ≡ way }
+{
+    Searched {
+        states,
+        is_cut: states >= limit,
+        way,
+    }
 }
 
 /// All events of a machine with this number of harts. Of ways that are equally short the search takes the one that
@@ -48,13 +64,27 @@ fn events_of(alloc: Global, harts: u32) -> Result<Vec<Event>, AllocError>
     Ok(events)
 }
 
+/// Reports each hart that is stopped.
+fn report_stops<const B: usize, const M: usize, P: SearchProgress>(
+    machine: &MachineState<B, M>,
+    progress: &mut P,
+) {
+    for hart in 0..machine.harts() {
+        if let Status::Stopped(why) = machine.status(hart) {
+            progress.stopped(hart, why);
+        }
+    }
+}
+
 /// Numbers the machine's state, and answers whether it is new and a finished one with an outcome that is looked for.
-fn meet<const B: usize, const M: usize>(
+/// The progress learns which harts are stopped in a new one, if it wants to.
+fn meet<const B: usize, const M: usize, P: SearchProgress>(
     test: &Test,
     machine: &MachineState<B, M>,
     states: &mut States<B, M>,
     arrivals: &mut Vec<Arrival>,
     arrival: Arrival,
+    progress: &mut P,
 ) -> Result<bool, AllocError>
     requires harts { length machine.now.harts ≡ length test.now.opening.harts }
     requires names { length test.now.names ≤ M }
@@ -68,12 +98,15 @@ fn meet<const B: usize, const M: usize>(
         return Ok(false);
     }
     arrivals.push(arrival)?;
+    if progress.wants_stops() {
+        report_stops(machine, progress);
+    }
     Ok(ends_as_wanted(test, machine))
 }
 
 /// Goes on from a state, whose position has these words, by each event, until there are `limit` states, and answers
 /// whether the newest state ends as wanted. An event that does nothing leads nowhere.
-fn go_on<const B: usize, const M: usize>(
+fn go_on<const B: usize, const M: usize, P: SearchProgress>(
     test: &Test,
     machine: &mut MachineState<B, M>,
     states: &mut States<B, M>,
@@ -82,6 +115,7 @@ fn go_on<const B: usize, const M: usize>(
     from: u32,
     words: &[u32],
     limit: u32,
+    progress: &mut P,
 ) -> Result<bool, AllocError>
     requires harts { length machine.old.harts ≡ length test.now.opening.harts }
     requires names { length test.now.names ≤ M }
@@ -105,7 +139,7 @@ fn go_on<const B: usize, const M: usize>(
         if let Outcome::Did(_) = machine.step(*event)? {
             is_there = false;
             let arrival = Arrival::new(from, *event);
-            if meet(test, machine, states, arrivals, arrival)? {
+            if meet(test, machine, states, arrivals, arrival, progress)? {
                 return Ok(true);
             }
         }
@@ -135,22 +169,26 @@ fn search_from<const B: usize, const M: usize, P: SearchProgress>(
     let mut arrivals = Vec::new(alloc);
     let mut words = Vec::new(alloc);
     let opening = Arrival::new(0, Event::Act(0));
-    if meet(test, machine, states, &mut arrivals, opening)? {
-        return Ok(Searched {
-            states: 1,
-            way: Some(Vec::new(alloc)),
-        });
+    if meet(test, machine, states, &mut arrivals, opening, progress)? {
+        return Ok(searched_of(1, limit, Some(Vec::new(alloc))));
     }
     // states from `level_end` on follow more than `depth` events
     let mut depth = 0;
     let mut level_end = 1;
     for from in 0..limit {
+        if from as usize >= states.len() {
+            return Ok(searched_of(states.len() as u32, limit, None));
+        }
         if from as usize == level_end {
             level_end = states.len();
             depth += 1;
         }
-        if from as usize >= states.len() || depth as usize >= MAX_EVENTS {
-            break;
+        if depth as usize >= MAX_EVENTS {
+            return Ok(Searched {
+                states: states.len() as u32,
+                is_cut: true,
+                way: None,
+            });
         }
         if from % REPORT_STATES == 0 {
             progress.report(states.len() as u32, depth);
@@ -165,18 +203,13 @@ fn search_from<const B: usize, const M: usize, P: SearchProgress>(
             from,
             &words,
             limit,
+            progress,
         )? {
             let way = Arrival::way_to(alloc, &arrivals, states.len() - 1, depth + 1)?;
-            return Ok(Searched {
-                states: states.len() as u32,
-                way: Some(way),
-            });
+            return Ok(searched_of(states.len() as u32, limit, Some(way)));
         }
     }
-    Ok(Searched {
-        states: states.len() as u32,
-        way: None,
-    })
+    Ok(searched_of(states.len() as u32, limit, None))
 }
 
 /// The same with states of its own.

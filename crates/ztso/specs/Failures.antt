@@ -5,7 +5,7 @@ use Rattle.command_line.specs.declared.fault.CommandLineError.TheVariants as com
 use Rattle.finding.specs.declared.finds.Found.{Found}
 use Rattle.finding.specs.declared.finds.Found.TheVariants as found
 use Rattle.ztso.specs.declared.failure.Failure.{Failure}
-use Rattle.ztso.specs.declared.failure.Failure.TheVariants.{BadCommandLine, Engine, NotFound, Program}
+use Rattle.ztso.specs.declared.failure.Failure.TheVariants.{BadCommandLine, Engine, AllSeen, Cut, Program}
 use Rattle.engine_support.specs.declared.fault.Fault.{Fault}
 use Rattle.engine_support.specs.declared.fault.Fault.TheVariants.{NoMemory}
 use Rattle.engine_support.specs.Faults.{status_of as fault_status_of}
@@ -16,7 +16,8 @@ use Rattle.ztso_engines.specs.declared.programs.OwnFault.TheVariants as own
 abbrev pub status_of : Failure → ℕ
 status_of BadCommandLine = 2
 status_of (Engine fault) = fault_status_of fault
-status_of (NotFound states) = 1
+status_of (AllSeen states) = 1
+status_of (Cut states) = 5
 status_of (Program role refusal) = 2
 
 -- the failure where words give no job
@@ -32,7 +33,8 @@ engine_status (Err fault) = Err (Engine fault)
 -- the exit status after a search that found what it looked for, or the failure to find it
 abbrev pub found_status : Result Found Fault → Result ℕ Failure
 found_status (Ok found.Shown) = Ok 0
-found_status (Ok (found.NotFound states)) = Err (NotFound states)
+found_status (Ok (found.AllSeen states)) = Err (AllSeen states)
+found_status (Ok (found.Cut states)) = Err (Cut states)
 found_status (Err fault) = Err (Engine fault)
 
 -- the failure of a command on a user's programs

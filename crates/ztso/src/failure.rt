@@ -22,9 +22,12 @@ pub enum Failure {
     /// The job's engine failed, or there was no memory to read the command line.
     #[error(transparent)]
     Engine(Fault),
-    /// A search saw this many states, and none that it looked for. Its answer says no more.
-    #[error("not found in {states} states")]
-    NotFound { states: u32 },
+    /// A search went on from each of this many states, and none is one that it looked for. Its answer says no more.
+    #[error("all {states} states seen, none shows it")]
+    AllSeen { states: u32 },
+    /// A search was cut after this many states, and none of them is one that it looked for.
+    #[error("cut at {states} states")]
+    Cut { states: u32 },
     /// The assembly of a channel's program is refused.
     #[error("{refusal} of the {role}")]
     Program { role: Role, refusal: Refusal },
@@ -38,8 +41,9 @@ impl Failure {
         match self {
             Failure::BadCommandLine => 2,
             Failure::Engine(fault) => fault.status(),
-            Failure::NotFound { .. } => 1,
+            Failure::AllSeen { .. } => 1,
             Failure::Program { .. } => 2,
+            Failure::Cut { .. } => 5,
         }
     }
 }
@@ -80,7 +84,8 @@ impl Failure {
     {
         match ended {
             Ok(Found::Shown) => Ok(0),
-            Ok(Found::NotFound { states }) => Err(Failure::NotFound { states }),
+            Ok(Found::AllSeen { states }) => Err(Failure::AllSeen { states }),
+            Ok(Found::Cut { states }) => Err(Failure::Cut { states }),
             Err(fault) => Err(Failure::Engine(fault)),
         }
     }

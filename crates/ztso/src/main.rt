@@ -9,14 +9,15 @@
 
 #![tactic(auto)]
 
-ghost use Rattle.std.specs.Prelude.{◌≤◌, IfOk};
-ghost use Rattle.ztso.specs.Commands.{DoesJob};
+ghost use Rattle.std.specs.Prelude.{◌≡◌, ◌≤◌, IfOk};
+ghost use Rattle.ztso.specs.Commands.{DoesJob, LeavesFourth, LeavesSecondOf, LeavesThird, LeavesUser};
 
 mod failure;
 mod lazy_input;
 mod progress_line;
 mod prompt_reader;
 mod search_line;
+mod stop_counts;
 mod work;
 
 use command_line::job::{Command, Job};
@@ -44,6 +45,9 @@ fn main(rt: HostRuntime) -> ExitCode {
         Ok(status) => ExitCode::from(status),
         Err(failure) => {
             let _ = eprintln!(rt; "ztso: {failure}");
+            if let (Failure::AllSeen { .. } | Failure::Cut { .. }, Some(line)) = (failure, search) {
+                line.tell_stops();
+            }
             ExitCode::from(failure.status())
         }
     }
@@ -115,6 +119,11 @@ where
       fourth = I.remaining fourth.old;
       commands = C.remaining commands.old;
     }) W.contents writer.old writer.new }
+    ensures unread { LeavesSecondOf command result (I.remaining first.old) → second.new ≡ second.old }
+    ensures unread_third { LeavesThird command (I.remaining first.old) (I.remaining second.old) → third.new ≡ third.old }
+    ensures unread_fourth { LeavesFourth command (I.remaining first.old) (I.remaining second.old) (I.remaining third.old)
+        → fourth.new ≡ fourth.old }
+    ensures unasked { LeavesUser command result → commands.new ≡ commands.old }
     ensures status { IfOk result (λ status. status ≤ 1) }
 {
     match command {

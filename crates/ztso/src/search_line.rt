@@ -1,9 +1,11 @@
-//! How far `find` is, on a line of a terminal.
+//! How far `find` is, on a line of a terminal, and which harts it saw stopped.
 
-ghost use Rattle.std.specs.Prelude.{◌≡◌, ◌≤◌, None};
+ghost use Rattle.std.specs.Prelude.{◌≡◌, ◌≤◌, None, [], true};
 
 use crate::progress_line::WIPE;
+use crate::stop_counts::StopCounts;
 use finding::SearchProgress;
+use hart::Stop;
 use std::rt::Clock;
 use std::time::Instant;
 
@@ -15,19 +17,27 @@ pub struct SearchLine<'a, R: Clock + Eprint> {
     begun: Option<Instant>,
     /// How many seconds after it the line was written.
     shown: u64,
+    stops: StopCounts,
 }
 
-impl<'a, R: Clock + Eprint> SearchLine<'a, R> {
+impl<'a, R: Clock + Eprint + AllocGlobal> SearchLine<'a, R> {
     /// Before the search.
     pub fn new(rt: &'a R) -> SearchLine<'a, R>
         ensures begun { result.begun ≡ None }
         ensures shown { result.shown ≡ 0 }
+        ensures stops { result.stops.counts.items ≡ [] }
     {
         SearchLine {
             rt,
             begun: None,
             shown: 0,
+            stops: StopCounts::new(rt.alloc()),
         }
+    }
+
+    /// Writes a line for each hart that is stopped in states that the search saw.
+    pub fn tell_stops(&self) {
+        self.stops.tell(self.rt);
     }
 
     /// How many whole seconds the search takes so far; none where the clock can't be read.
@@ -41,7 +51,7 @@ impl<'a, R: Clock + Eprint> SearchLine<'a, R> {
     }
 }
 
-impl<'a, R: Clock + Eprint> SearchProgress for SearchLine<'a, R> {
+impl<'a, R: Clock + Eprint + AllocGlobal> SearchProgress for SearchLine<'a, R> {
     fn report(&mut self, states: u32, depth: u32)
         ensures { self.old.shown ≤ self.new.shown }
     {
@@ -54,6 +64,16 @@ impl<'a, R: Clock + Eprint> SearchProgress for SearchLine<'a, R> {
             let pace = u64::from(states) / seconds;
             let _ = eprint!(self.rt; "{WIPE}{states} states, {pace} a second, depth {depth}");
         }
+    }
+
+    fn wants_stops(&self) -> bool
+        ensures { result ≡ true }
+    {
+        true
+    }
+
+    fn stopped(&mut self, hart: u32, why: Stop) {
+        self.stops.note(hart, why);
     }
 
     fn end(&mut self)

@@ -1,5 +1,5 @@
 -- By which event a search came to a state, and what it hands over.
-use Rattle.std.specs.Prelude.{ℕ, zero, suc, ◌≡◌, ◌≤◌, ◌⊎◌, ◌↔◌, if◌then◌else◌, Bool, false, IsTrue, All}
+use Rattle.std.specs.Prelude.{ℕ, zero, suc, ◌≡◌, ◌<◌, ◌≤◌, ◌⊎◌, ◌↔◌, if◌then◌else◌, Bool, true, false, IsTrue, All}
 use Rattle.std.specs.Prelude.{List, [], ◌∷◌, ◌++◌, length, map, Option, Some, None, IfSome, IsSomeAnd}
 use Rattle.std.specs.List.{Contains, range_with_len, slice_get}
 use Rattle.step_machine.specs.History.{History}
@@ -8,7 +8,7 @@ use Rattle.step_machine.specs.Standing.{ForEachHistory}
 use Rattle.step_machine.specs.inner.Config.{Config}
 use Rattle.states.specs.Numbered.{GetsNextNumber, KeepsNumber}
 use Rattle.litmus.specs.LitmusTests.{LitmusTest}
-use Rattle.finding.specs.Find.{EndsAsWanted, IsWantedAt}
+use Rattle.finding.specs.Find.{EndsAsWanted, IsCut, IsWantedAt}
 use Rattle.step_machine.specs.declared.events.Event.{Event}
 use Rattle.step_machine.specs.declared.events.Event.TheVariants.{Act, Land}
 use Rattle.recorder.specs.Schedule.{OfHarts}
@@ -64,9 +64,10 @@ pub record BeginsAt (M : ℕ) (test : LitmusTest) (searched : Searched) (history
   pub at_once : EndsAsWanted M test history → (searched.states ≡ 1) × IsSomeAnd searched.way (λ events. events.items ≡ [])
   pub only : IfSome searched.way (λ events. events.items ≡ [] → EndsAsWanted M test history)
 
--- A search saw a state and no more than it might, and what it came to can be written as a schedule.
+-- A search saw a state and no more than it might, was cut only for a reason, and what it came to can be written as a schedule.
 pub record IsWithin (limit : ℕ) (searched : Searched) : Type 0 where
   pub some : 1 ≤ searched.states
-  pub limited : searched.states ≤ limit
+  pub all : searched.is_cut ≡ false → searched.states < limit
+  pub cut : searched.is_cut ≡ true → IsCut limit searched.states
   pub harts : IfSome searched.way (λ events. OfHarts events.items)
   pub few : IfSome searched.way (λ events. length events.items ≤ MAX_EVENTS)

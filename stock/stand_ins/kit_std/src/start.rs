@@ -1,6 +1,6 @@
 //! How a program begins, and how it ends where nobody can be told that there is no memory.
 
-use crate::streams::Stream;
+use crate::streams::{IsTerminal, Stream};
 use std::io::Write;
 use std::sync::OnceLock;
 use std::sync::atomic::{AtomicBool, Ordering};
@@ -22,7 +22,12 @@ pub(crate) fn end_without_memory() -> ! {
         std::hint::spin_loop();
     }
     let (status, said) = NO_MEMORY.get().copied().unwrap_or((70, "no memory\n"));
-    let _ = Stream::standard(2).write_all(said.as_bytes());
+    let mut errors = Stream::standard(2);
+    if errors.is_terminal() {
+        // a line that says how far the program is may stand there
+        let _ = errors.write_all(b"\r\x1b[K");
+    }
+    let _ = errors.write_all(said.as_bytes());
     end(status)
 }
 

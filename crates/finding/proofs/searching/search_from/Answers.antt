@@ -14,7 +14,7 @@ returns-then-branch-2-clause-opening g c = λ t stands.
     omega (arith, all, arrived, c.len-then-branch-2.ensures, c.loop-from.invariant.some, c.go_on.ensures.kept) in
     record {
       at_once = λ ends. absurd (let found = first.1 ends in cc);
-      only = λ none.
+      only = rw c.searched_of-then-branch-2.ensures.way (λ none.
           absurd (way_some c.deref-then-branch-2.result.now (c.len-then-branch-2.result - 1) (c.if-from-level_end.depth + 1) within (omega arith)
-          (sym c.in_ok-way.ensures.way ∙ none));
+          (sym c.in_ok-way.ensures.way ∙ none)));
     }
