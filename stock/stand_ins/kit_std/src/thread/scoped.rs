@@ -3,7 +3,7 @@
 use super::{Threads, system};
 use std::io;
 use std::marker::PhantomData;
-use std::sync::{Arc, Condvar, Mutex};
+use std::sync::{Arc, Mutex};
 
 /// What a thread promises of its answer. It is nothing when the program runs.
 pub trait Promise<T> {}
@@ -22,19 +22,19 @@ type Work<'s> = Box<dyn FnMut() + Send + 's>;
 
 /// A thread, and its work, which stays in its place until the thread was joined.
 struct Started<'s> {
-    thread: system::Thread,
+    thread: Arc<Running>,
     work: *mut Work<'s>,
 }
 
+/// A thread, until it was joined.
+#[derive(Default)]
+struct Running(Mutex<Option<system::Thread>>);
+
 /// A thread's answer, for which one may wait.
 pub struct PromisedHandle<T, P> {
-    answer: Arc<Answer<T>>,
+    thread: Arc<Running>,
+    answer: Arc<Mutex<Option<T>>>,
     promise: PhantomData<fn() -> P>,
-}
-
-struct Answer<T> {
-    given: Mutex<Option<T>>,
-    comes: Condvar,
 }
 
 /// What a scope may borrow; contracts alone name it.
@@ -63,42 +63,44 @@ impl<'s, E> Scope<'s, E> {
         _promise: P,
         work: F,
     ) -> io::Result<PromisedHandle<T, P>> {
-        let answer = Arc::new(Answer { given: Mutex::new(None), comes: Condvar::new() });
+        let answer = Arc::new(Mutex::new(None));
         let (place, mut work) = (answer.clone(), Some(work));
         let work: Work<'s> = Box::new(move || {
             if let Some(work) = work.take() {
-                place.give(work());
+                let answer = work();
+                *place.lock().unwrap() = Some(answer);
             }
         });
+        let thread = self.start(work)?;
+        Ok(PromisedHandle { thread, answer, promise: PhantomData })
+    }
+
+    /// Starts a thread that does this work, which the scope keeps.
+    fn start(&self, work: Work<'s>) -> io::Result<Arc<Running>> {
         let work = Box::into_raw(Box::new(work));
-        self.started.lock().unwrap().reserve(1);
+        let thread = Arc::new(Running::default());
+        let mut started = self.started.lock().unwrap();
+        started.reserve(1);
         // SAFETY: the box stays in its place and untouched until `drop` has joined the thread, and it borrows only
         // what lives as long as `'s`, which the scope doesn't outlive.
         match unsafe { system::start(work) } {
-            Ok(thread) => self.started.lock().unwrap().push(Started { thread, work }),
+            Ok(running) => *thread.0.lock().unwrap() = Some(running),
             Err(error) => {
-                // SAFETY: the address is that of the box above, and no thread has it.
+                // SAFETY: the address is that of a box, and no thread has it.
                 drop(unsafe { Box::from_raw(work) });
                 return Err(error);
             }
         }
-        Ok(PromisedHandle { answer, promise: PhantomData })
+        started.push(Started { thread: thread.clone(), work });
+        Ok(thread)
     }
 }
 
-impl<T> Answer<T> {
-    fn give(&self, answer: T) {
-        *self.given.lock().unwrap() = Some(answer);
-        self.comes.notify_one();
-    }
-
-    fn wait(&self) -> T {
-        let mut given = self.given.lock().unwrap();
-        loop {
-            match given.take() {
-                Some(answer) => return answer,
-                None => given = self.comes.wait(given).unwrap(),
-            }
+impl Running {
+    /// Waits until the thread has ended, if nobody has waited for it.
+    fn join(&self) {
+        if let Some(thread) = self.0.lock().unwrap().take() {
+            thread.join();
         }
     }
 }
@@ -106,7 +108,8 @@ impl<T> Answer<T> {
 impl<T, P> PromisedHandle<T, P> {
     /// Waits for the thread's answer.
     pub fn join<R: Threads>(self, _rt: &R) -> T {
-        self.answer.wait()
+        self.thread.join();
+        self.answer.lock().unwrap().take().expect("a thread that was joined has answered")
     }
 }
 
