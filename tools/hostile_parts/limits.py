@@ -12,7 +12,7 @@ NONE = b"ztso-schedule 1\n"
 SB = str(ROOT / "litmus/store-buffering/sb.litmus")
 SENDER, RECEIVER = (str(ROOT / f"examples/rings/lamport-{role}.asm") for role in ("sender", "receiver"))
 DRAWN = ["--seed", "1", "--runs", "1", "--length", "0"]
-KINDS = ["litmus", "schedules", "records", "shrink", "show", "steps", "asm", "dis", "debug", "channels", "options", "in little memory"]
+KINDS = ["litmus", "schedules", "records", "shrink", "show", "steps", "asm", "dis", "debug", "channels", "options", "in little memory", "threads"]
 MIB = 1 << 20
 # slots of a ring at the least
 LEAST = {"lamport": 2, "fastforward": 1, "cached": 2}
@@ -233,7 +233,19 @@ def hold_in_memory(runs, words, text, stdin, room):
     runs.hold("in little memory", came == wanted, f"wanted {brief(wanted)}, came {brief(came)}", words, stdin[:200])
 
 
+def hold_long_run(runs):
+    """Four harts that store in a loop make some 600,000 events, most of them apart from their like: a schedule that is too
+    large to be read, as a rule."""
+    columns = "|".join(["L: sw x5,0(x6)"] * 4), "|".join(["j L"] * 4)
+    words = ["threads", "text"]
+    runs.put({"text": f"RISCV X\n{{}}\nP0|P1|P2|P3;\n{columns[0]};\n{columns[1]};\nexists (x=0)\n".encode()})
+    came = runs.run(words)
+    is_short = len(came[2].partition(b"hart 0 ")[0]) <= INPUT
+    runs.hold("threads", came == refused(37) or is_short and runs.is_answer_of_threads(words, came), brief(came), words)
+
+
 def part(runs):
     runs.side_by_side(hold, rows(runs.short))
     runs.side_by_side(hold_in_memory, in_little_memory())
+    hold_long_run(runs)
     runs.counts("limits", KINDS)
