@@ -58,7 +58,7 @@ def part(count, program):
         (folder / "bad.litmus").write_text("no test\n")
         share = prefix / "share/ztso"
         places = [
-            Place("installed", prefix / "bin/ztso", share, prefix / "bin/ztso-explain", "man ztso"),
+            Place("installed", prefix / "bin/ztso", share, prefix / "bin/ztso-explain", manual_of(prefix)),
             Place("in a checkout", top / "ztso", top, top / "tools/explain", f"man {top}/docs/ztso.1")]
         for place in places:
             in_a_pipe(count, place, folder)
@@ -69,6 +69,11 @@ def part(count, program):
         if is_binary(program):
             progress(count, places[0], share)
             prompt(count, places[0], share)
+
+
+def manual_of(prefix):
+    """The command that is named for the manual page of a prefix whose commands aren't on the PATH."""
+    return f"man {prefix}/share/man/man1/ztso.1" if shutil.which("man") else "man ztso"
 
 
 def checkout(top, program):
@@ -161,6 +166,8 @@ def short_names(count, places, prefix, top):
     _, _, shown = at_terminal(["./ztso", "asm"], top, "mov x1,x2\n")
     count.same("in the checkout itself", shown, f"{UNKNOWN}  tools/explain 2: an example, and what to do\n")
     _, _, shown = at_terminal([places[0].wrapper, "asm"], top, "mov x1,x2\n", f"PATH='{prefix}/bin':$PATH; ")
+    _, _, words = at_terminal([places[0].wrapper, "run"], top, "", f"PATH='{prefix}/bin':$PATH; ")
+    count.told("the manual page on the PATH", f"more: man ztso; {prefix}/share" in words, words)
     count.same("on the PATH", shown, f"{UNKNOWN}  ztso-explain 2: an example, and what to do\n")
 
 
