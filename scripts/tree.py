@@ -36,7 +36,7 @@ FOLDERS = {
     "docs": (".md", ".png", ".svg"),
     "litmus": (".litmus", ".schedule", ".md"),
     "examples": (".litmus", ".schedule", ".steps", ".lists", ".asm", ".words", ".c", ".h", ".S", ".ld", ".log",
-                 ".md"),
+                 ".spike", ".vcd", ".md"),
     "tools/page_parts": (".py", ".html", ".css", ".js", ".svg"),
     "tools/bring_parts": (".py", ".c", ".h"),
     "tools/reference": (".py",),

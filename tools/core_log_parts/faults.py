@@ -1,7 +1,7 @@
 """What is wrong with a run's log, and a record can't say: each fault with the line of the log where it shows."""
 
 from .log import Drained, Retired, Trapped
-from .record import ECALL, FETCH_FAULT
+from .record import ECALL, FETCH_FAULT, has_landings
 
 # the opcodes of BRANCH, JALR and JAL
 JUMPS = (0x63, 0x67, 0x6F)
@@ -9,8 +9,10 @@ JUMPS = (0x63, 0x67, 0x6F)
 
 def faults(run, opening):
     """The faults of a run: their kinds, `drain`, `code` and `cut`, and what is said of them."""
-    yield from drains(run)
+    if has_landings(run):
+        yield from drains(run)
     yield from other_words(run, opening)
+    yield from (("cut", note) for note in run.notes)
     if run.timed_out:
         yield "cut", f"the run was cut after {run.cycles} cycles"
     elif run.cycles is None:

@@ -76,6 +76,9 @@ class Run:
     steps: list = field(default_factory=list)
     cycles: int = None
     timed_out: bool = False
+    # whether the log has landings where there are any, and what its reader has to say of it
+    has_drains: bool = True
+    notes: list = field(default_factory=list)
     state: dict = field(default_factory=dict)  # "0:pc", "0:pending", "0:x5" or "word 4": value
 
 

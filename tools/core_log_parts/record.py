@@ -1,8 +1,7 @@
 """The record of a core's run: its events in one order, each with what the core says came of it."""
 
-from dataclasses import dataclass
-
-from . import placing
+from . import landings, placing
+from .event import Event
 from .log import Drained, LogError, Retired
 
 HEAD = "ztso-schedule 2\n"
@@ -14,29 +13,14 @@ ECALL, MISC_MEM, FENCE_TSO = 0x73, 0x0F, 0x833
 SUFFIXES = {4: "", 2: "2", 1: "1"}
 
 
-@dataclass(frozen=True)
-class Event:
-    """An event, its outcome (a name and what follows the hart), and the step of the log that it is."""
-    letter: str
-    hart: int
-    name: str
-    values: tuple
-    step: object
-
-    def line(self):
-        return " ".join([f"{self.letter}{self.hart}", self.outcome()])
-
-    def outcome(self):
-        return " ".join(map(str, [self.name, self.hart, *self.values]))
-
-
 def access(name, step, lanes, data):
     """The outcome of a load or a store: the bytes of its lanes, as one number."""
     low = (lanes & -lanes).bit_length() - 1
     width = lanes.bit_count()
     if width not in SUFFIXES or lanes >> low != (1 << width) - 1:
         raise LogError(f"line {step.line}: the mask {lanes:x} is of no load and no store")
-    return name + SUFFIXES[width], (step.address + low, data >> 8 * low & (1 << 8 * width) - 1)
+    value = None if data is None else data >> 8 * low & (1 << 8 * width) - 1
+    return name + SUFFIXES[width], (step.address + low, value)
 
 
 def retired(step):
@@ -84,10 +68,19 @@ def times(events, order):
         yield cycle, 0
 
 
-def events(run, opening, order="performed"):
+def has_landings(run):
+    """Whether a log has landings. One with stores and without a drain has none."""
+    return run.has_drains and (any(isinstance(step, Drained) for step in run.steps)
+                               or not any(isinstance(step, Retired) and step.write_lanes and not step.read_lanes
+                                          for step in run.steps))
+
+
+def events(run, opening, order="performed", capacity=4):
     """A run's events. The order is by the cycle in which each took effect; `placed`, which knows of loads only
-    when they retired; or `retired`, as the log has them."""
+    when they retired, and places landings too where the log has none; or `retired`, as the log has them."""
     found = [made for step in run.steps if (made := event(step, opening))]
+    if order == "placed" and not has_landings(run):
+        return landings.placed(found, opening.words, capacity)
     if order == "retired":
         return found
     stamps = list(times(found, order))

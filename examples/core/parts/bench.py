@@ -8,7 +8,9 @@ from . import HERE, Wrong
 
 # in the order in which they name each other
 SOURCES = [f"{name}.sv" for name in
-           ("types", "chance", "decode", "alu", "store_buffer", "hart", "memory", "core_log", "bench")]
+           ("types", "chance", "decode", "alu", "store_buffer", "hart", "memory", "core_log", "rvfi", "bench")]
+# what is built with the harts' RVFI in a trace, and nothing else
+TRACED, TRACING = "traced", ("--trace", "-DRVFI_TRACE")
 PACKAGES = ("verilator", "g++", "make")
 OUT = HERE / "out"
 PLAIN = "plain"
@@ -35,11 +37,12 @@ def edited(sources, edit):
     return sources
 
 
-def built(edit=None):
-    """The bench, built anew where a source has changed since; with the edits of a file where one is given."""
+def built(edit=None, is_traced=False):
+    """The bench, built anew where a source has changed since; with the edits of a file where one is given, and with
+    `+trace` where that is asked for."""
     if shutil.which("verilator") is None:
         raise Wrong("no verilator: --install gets it by apt-get")
-    name = edit.stem if edit else PLAIN
+    name = edit.stem if edit else TRACED if is_traced else PLAIN
     folder = OUT / name
     texts = {source: (HERE / "rtl" / source).read_text() for source in SOURCES}
     if edit:
@@ -56,7 +59,12 @@ def built(edit=None):
     (folder / "rtl").mkdir(parents=True, exist_ok=True)
     for source, text in texts.items():
         (folder / "rtl" / source).write_text(text)
-    words = ["verilator", "--binary", "-O3", "--x-assign", "0", "--x-initial", "0", "--top-module", "bench", "-Mdir",
+    further = []
+    if is_traced:
+        (folder / "trace.vlt").write_text("\n".join(["`verilator_config", *(f'tracing_off --file "*/{source}"' for source in
+                                                    SOURCES if source not in ("rvfi.sv", "bench.sv"))]) + "\n")
+        further = [*TRACING, str(folder / "trace.vlt")]
+    words = ["verilator", *further, "--binary", "-O3", "--x-assign", "0", "--x-initial", "0", "--top-module", "bench", "-Mdir",
              str(folder), "-o", "bench", *(str(folder / "rtl" / source) for source in SOURCES)]
     with open(folder / "build.log", "w") as log:
         status = subprocess.run(words, stdout=log, stderr=log, check=False).returncode
@@ -65,10 +73,10 @@ def built(edit=None):
     return bench
 
 
-def log_of(bench, steps, seed, runs):
-    """The lines of the log of a test's runs, where the file `steps` has the test's opening."""
+def log_of(bench, steps, seed, runs, *further):
+    """The lines of the log of a test's runs, where the file `steps` has the test's opening, by further words or none."""
     try:
-        done = subprocess.run([bench, f"+test={steps}", f"+seed={seed}", f"+runs={runs}"], stdin=subprocess.DEVNULL,
+        done = subprocess.run([bench, f"+test={steps}", f"+seed={seed}", f"+runs={runs}", *further], stdin=subprocess.DEVNULL,
                               capture_output=True, text=True, check=False)
     except OSError as error:
         raise Wrong(f"{bench}: {error.strerror}") from error

@@ -6,7 +6,7 @@ from dataclasses import dataclass, field
 from pathlib import Path
 
 from bring_parts import Refused
-from core_log_parts import faults, log, record
+from core_log_parts import faults, landings, log, record
 from core_log_parts.opening import opening
 from shelf import Entry, Fault
 
@@ -24,6 +24,8 @@ class Asked:
     buffer: int = 4
     registers: bool = False
     keep: Path = None
+    # whether the landings of the log, and the last state, are left aside
+    no_landings: bool = False
 
 
 @dataclass
@@ -38,6 +40,7 @@ class Report:
     outcomes: Counter = field(default_factory=Counter)
     witnessed: set = field(default_factory=set)
     faults: Counter = field(default_factory=Counter)
+    given_up: int = 0
     first: dict = field(default_factory=dict)  # of each kind of fault the first one, in words
 
     def add(self, kind, seed, words):
@@ -57,6 +60,10 @@ def differences(run, state):
 def check_run(report, asked, entry, test, run, events, line):
     """Notes what is wrong with a run, given the line of its judgement."""
     text, path = record.text(events), entry.path
+    if asked.no_landings:
+        if line not in (judge.ACCEPTED, judge.UNFINISHED):
+            report.add("refused", run.seed, lambda: line)
+        return
     for kind, words in {kind: words for kind, words in reversed(list(faults.faults(run, test)))}.items():
         report.add(kind, run.seed, lambda words=words: words)
     if line not in (judge.ACCEPTED, judge.UNFINISHED):
@@ -85,6 +92,16 @@ def checked(asked, path):
         raise Wrong(f"{path}: {getattr(error, 'strerror', None) or error}") from error
 
 
+def events_of(asked, run, test):
+    """The events of a run; without the log's landings where these are left aside."""
+    if asked.no_landings:
+        run.steps, run.has_drains = [step for step in run.steps if not isinstance(step, log.Drained)], False
+    try:
+        return record.events(run, test, asked.order, asked.buffer)
+    except landings.TooLong:
+        return None
+
+
 def report_of(asked, path):
     """The report, where nothing keeps the test from being run."""
     entry, test = Entry(Path(path)), opening(asked.program, path)
@@ -93,8 +110,11 @@ def report_of(asked, path):
         steps.write(test.text)
         steps.flush()
         lines = bench.log_of(asked.bench, steps.name, asked.seed, asked.runs)
-    found = [(run, record.events(run, test, asked.order)) for run in log.runs(lines)]
+    found = [(run, events_of(asked, run, test)) for run in log.runs(lines)]
     ends = [run.line - 1 for run, _ in found[1:]] + [len(lines)]
+    # of a run that the search for landings gave up nothing is said
+    report.given_up = sum(events is None for _, events in found)
+    found = [(run, events or []) for run, events in found]
     if len(found) != asked.runs:
         raise Wrong(f"{asked.bench} wrote the logs of {len(found)} runs, not of {asked.runs}")
     answers = judge.judge(asked.program, entry.path, [record.text(events) for _, events in found], asked.buffer)

@@ -39,7 +39,7 @@ class Sum:
     """What came of some tests."""
 
     def __init__(self):
-        self.tests = self.runs = self.failed = self.events = self.records = self.seen = self.witnessed = 0
+        self.tests = self.runs = self.failed = self.events = self.records = self.seen = self.witnessed = self.given_up = 0
         self.faults, self.first = Counter(), {}
 
     def add(self, report):
@@ -47,6 +47,7 @@ class Sum:
         self.runs += report.runs
         self.failed += report.failed
         self.events += report.events
+        self.given_up += report.given_up
         self.records += len(report.records)
         self.seen += len(report.witnessed & report.outcomes.keys())
         self.witnessed += len(report.witnessed)
@@ -55,7 +56,8 @@ class Sum:
             self.first.setdefault(kind, words)
 
     def line(self):
-        outcomes = f", {self.seen} of {self.witnessed} witnessed outcomes" if self.witnessed else ""
+        outcomes = f", {self.seen} of {self.witnessed} witnessed outcomes" if self.seen else ""
+        outcomes += f", {self.given_up} given up" if self.given_up else ""
         kinds = "".join(f", {kind} {count}" for kind, count in sorted(self.faults.items()))
         return (f"{self.tests} tests, {self.runs} runs of {self.events} events in {self.records} different records"
                 f"{outcomes}{kinds}")

@@ -69,8 +69,8 @@ def allowed(text, status, part, **more):
     return Row("allowed", text, status, part, **{"words": ("-",), **more})
 
 
-def to_record(log, status, part):
-    return Row("core-log-to-record", SB, status, part, stdin=log)
+def to_record(log, status, part, *words):
+    return Row("core-log-to-record", SB, status, part, words, stdin=log)
 
 
 def from_c(text, status, part, **more):
@@ -187,8 +187,17 @@ SOURCES = [
     to_record("run 1" + filled("1", 5000), 2, "is no field of `run`"),
     to_record("run 1\nend " + filled("1", MIB), 2, "is no field of `end`"),
     to_record("run 1\nretire 0 0 " + filled("f", 9000) + " 13 0 0 0 0 0 0 0 0\n", 2, "is no field of `retire`"),
+    to_record("run 1\n" + "retire 1 0 0 532023 0 0 0 0 f 0 1 1\n" * 3000, 2, "more than 2000 acts",
+              "--order", "placed"),
+    to_record(filled("1"), 2, "it is no VCD", "--log", "rvfi"),
+    to_record("$var wire 1 ! clk" + filled(" ") + "\n$enddefinitions $end\n", 2, "the test has 2 harts, and 0",
+              "--log", "rvfi"),
+    to_record(filled(f"$scope module {ESCAPE} $end\n", 90_000), 2, "it is no VCD", "--log", "rvfi"),
+    to_record(filled("core   0: 3 0x"), 2, "--code gives", "--log", "spike"),
+    to_record(f"core   0: exception {ESCAPE}, epc 0x0\n", 2, "--code gives", "--log", "spike"),
+    to_record(f"core   9: 3 0x0 (0x13){ESCAPE}\n", 2, "the log has a hart 9", "--log", "spike"),
     to_record(f"run 1\ndrain 1 0 0 f {ESCAPE}\n", 2, "`?[31m?2J?` is no field of `drain`"),
-    to_record(b"\xff\nrun 1\nend 1\n", 0, "ztso-schedule 2"),
+    to_record(b"\xff\nrun 1\nend 1\n", 1, "hart 0 has no line `retire` and no line `trap`, and 2 words of code"),
     Row("compare-mappings", None, 2, "refused", words=("--compiler", "no-such-compiler")),
     *[row for tool in ("reference/explore", "reference/axioms") for row in (
         Row(tool, SB, 0, f"\n\ntools/{tool} FILE", words=("--help",)), Row(tool, SB, 0, "0:x7=1 1:x7=0"),
