@@ -43,11 +43,12 @@ impl Values {
     {
         match item.target {
             Target::Register { hart, register } => {
-                if hart >= self.registers.len() as u64 {
+                let hart = usize::try_from(hart).unwrap_or(usize::MAX);
+                if hart >= self.registers.len() {
                     return Err(LitmusFault::BadInit.at(item.left));
                 }
                 if register.number != 0 {
-                    self.registers[hart as usize][register.number as usize] = item.value;
+                    self.registers[hart][register.number as usize] = item.value;
                 }
             }
             Target::Word { index } => {

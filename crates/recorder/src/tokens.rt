@@ -109,8 +109,9 @@ pub fn run_of(
     if token.hart >= MAX_HARTS as u64 {
         return Err(ScheduleFault::BadHart.at(place));
     }
-    if token.times == 0 || token.times > room as u64 {
+    let times = usize::try_from(token.times).unwrap_or(usize::MAX);
+    if times == 0 || times > room {
         return Err(ScheduleFault::BadCount.at(place));
     }
-    Ok((token.kind.of_hart(token.hart as u32), token.times as usize))
+    Ok((token.kind.of_hart(token.hart as u32), times))
 }
