@@ -5,6 +5,7 @@ use checking::check_engine;
 use debugger::debug::debug_engine;
 use engine_support::fault::Fault;
 use finding::{SearchProgress, find_engine};
+use hart::Stop;
 use lamport_ring::Lamport;
 use poll_close::BlockPlace;
 use rand_pcg::Pcg32;
@@ -103,6 +104,12 @@ impl Progress for Nobody {
 
 impl SearchProgress for Nobody {
     fn report(&mut self, _states: u32, _depth: u32) {}
+
+    fn wants_stops(&self) -> bool {
+        false
+    }
+
+    fn stopped(&mut self, _hart: u32, _why: Stop) {}
 
     fn end(&mut self) {}
 }
