@@ -14,7 +14,7 @@ from page_parts.questions import BREAKS, EVENTS, HARTS, ONWARD, ROWS, too_long
 
 HEAD = "ztso-schedule 1\n"
 # what `find` says where it has no schedule
-NOT_FOUND = re.compile(r"ztso: (all|cut at|not found in) ([0-9]+) states?(?: seen, none shows it)?")
+NOT_FOUND = re.compile(r"ztso: (all|cut at) ([0-9]+) states(?: seen, none shows it)?")
 # the assembler's own refusals of a cell: its name, its operands, its numbers
 OF_CELLS = (2, 3, 4)
 
@@ -197,8 +197,7 @@ def find(calls, asked):
         unfound = NOT_FOUND.fullmatch(fault.said["line"])
         if not unfound:
             raise
-        # a program that says neither leaves it open
-        return {"states": int(unfound[2]), "cut": {"all": False, "cut at": True}.get(unfound[1])}
+        return {"states": int(unfound[2]), "cut": unfound[1] == "cut at"}
     if counted(tokens_of(out)) > EVENTS:
         raise too_long(counted(tokens_of(out)))
     return {"tokens": tokens_of(out)}

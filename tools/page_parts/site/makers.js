@@ -40,9 +40,9 @@ async function made(route, told) {
 async function found({ states, cut }) {
   if (states === undefined) return ["A schedule of what the condition asks about; the search finds none with fewer events."];
   const stop = stopWords(await stops(known.limits.events)), seen = many(states, "state");
-  const words = cut ? `Cut at ${seen}: there may be more. `
-    : `Not found in ${seen}${cut === false ? `, which are all that the search reaches with a buffer of ${state.buffer}` : ""}. `;
-  return [words, stop && `${stop} `, ...notShown()];
+  return [cut ? `Cut at ${seen}: there may be more. `
+    : `Not found in ${seen}, which are all that the search reaches with a buffer of ${state.buffer}. `,
+  stop && `${stop} `, ...notShown()];
 }
 
 export const find = () => made("find", found);

@@ -9,7 +9,7 @@ import { counted, HEAD } from "./schedules.js";
 // the assembler's own refusals of a cell: its name, its operands, its numbers
 const OF_CELLS = [2, 3, 4];
 // what `find` says where it has no schedule
-const NOT_FOUND = /^ztso: (all|cut at|not found in) ([0-9]+) states?(?: seen, none shows it)?$/;
+const NOT_FOUND = /^ztso: (all|cut at) ([0-9]+) states(?: seen, none shows it)?$/;
 
 // what a command printed on the test that is asked about, and its status
 function printed(ztso, command, asked, options = [], { schedule, typed = "" } = {}) {
@@ -154,7 +154,7 @@ function find(ztso, asked) {
   } catch (fault) {
     const [, how, states] = NOT_FOUND.exec(fault.said?.line ?? "") ?? [];
     if (states === undefined) throw fault;
-    return { states: Number(states), cut: { all: false, "cut at": true }[how] ?? null };
+    return { states: Number(states), cut: how === "cut at" };
   }
 }
 
