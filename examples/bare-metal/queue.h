@@ -1,0 +1,72 @@
+/* A queue of words from one hart to another, for C11 and C++: the block, and the two functions of functions.S.
+ * docs/functions.md has what callers owe and what they get.
+ *
+ *     LAMPORT_QUEUE(requests, 8);                 defines struct requests, a block for 8 slots: at most 7 words wait in it
+ *     struct requests queue;                      all zero: empty
+ *
+ *     QUEUE_TRY_SEND(&queue, word)                on the hart that sends: 1, or 0 where the queue is full
+ *     QUEUE_TRY_RECEIVE(&queue)                   on the hart that receives: ok is 1, or 0 where the queue is empty
+ *
+ * The functions exist for RV32 only. Elsewhere this header has the block and its offsets. */
+#ifndef QUEUE_H
+#define QUEUE_H
+
+#include <stddef.h>
+#include <stdint.h>
+
+#ifdef __cplusplus
+#define QUEUE_ALIGNAS(bytes) alignas(bytes)
+#define QUEUE_ASSERT(holds, text) static_assert(holds, text)
+#else
+#define QUEUE_ALIGNAS(bytes) _Alignas(bytes)
+#define QUEUE_ASSERT(holds, text) _Static_assert(holds, text)
+#endif
+
+/* Defines `struct name`, the block of a queue with this count of slots, which is a constant and at least 2. Only the two
+ * functions write to it once the queue is in use. A semicolon follows. */
+#define LAMPORT_QUEUE(name, count)                                                                                         \
+    struct name {                                                                                                          \
+        QUEUE_ALIGNAS(64) uint32_t head; /* written by the sender's calls */                                               \
+        QUEUE_ALIGNAS(64) uint32_t tail; /* written by the receiver's calls */                                             \
+        QUEUE_ALIGNAS(64) uint32_t slots[count];                                                                           \
+    };                                                                                                                     \
+    QUEUE_ASSERT((count) >= 2, "a queue has at least 2 slots");                                                            \
+    QUEUE_ASSERT(offsetof(struct name, head) == 0, "the functions have the head at 0");                                    \
+    QUEUE_ASSERT(offsetof(struct name, tail) == 64, "the functions have the tail at 64");                                  \
+    QUEUE_ASSERT(offsetof(struct name, slots) == 128, "the functions have the slots at 128");                              \
+    QUEUE_ASSERT(sizeof(((struct name *)0)->slots) == 4 * (count), "a slot has 4 bytes")
+
+/* The bytes of a queue's slots: what both functions take in a2. */
+#define QUEUE_BYTES(queue) ((uint32_t)sizeof((queue)->slots))
+
+#if defined(__riscv) && __riscv_xlen == 32
+
+#ifdef __cplusplus
+extern "C" {
+#endif
+
+/* What a receive returns, in a0 and a1. */
+struct received {
+    uint32_t ok;   /* 1, or 0: the queue is empty */
+    uint32_t word; /* the word where ok is 1 */
+};
+QUEUE_ASSERT(sizeof(struct received) == 8, "a0 and a1");
+
+/* Sends the word and returns 1, or returns 0 and stores nothing: the queue is full. Never waits. What this hart stored
+ * before the call, the receiver's hart reads once it has received the word. */
+uint32_t lamport_try_send(void *block, uint32_t word, uint32_t bytes);
+
+/* Receives the oldest word, or returns ok = 0 and stores nothing: the queue is empty. Never waits. `unused` may be
+ * anything. What this hart stored before the call, the sender's hart reads once its sends have come round to the slot. */
+struct received lamport_try_receive(void *block, uint32_t unused, uint32_t bytes);
+
+#ifdef __cplusplus
+}
+#endif
+
+/* The same, with the bytes taken from the block's type. `queue` points to a struct of LAMPORT_QUEUE. */
+#define QUEUE_TRY_SEND(queue, word) lamport_try_send((queue), (word), QUEUE_BYTES(queue))
+#define QUEUE_TRY_RECEIVE(queue) lamport_try_receive((queue), 0, QUEUE_BYTES(queue))
+
+#endif
+#endif
