@@ -57,7 +57,8 @@ QUEUE_ASSERT(sizeof(struct received) == 8, "a0 and a1");
 uint32_t lamport_try_send(void *block, uint32_t word, uint32_t bytes);
 
 /* Receives the oldest word, or returns ok = 0 and stores nothing: the queue is empty. Never waits. `unused` may be
- * anything. What this hart stored before the call, the sender's hart reads once its sends have come round to the slot. */
+ * anything. What this hart stored before the call, after j words were received, the sender's hart reads once it has sent
+ * j + S words, where S is the count of slots. */
 struct received lamport_try_receive(void *block, uint32_t unused, uint32_t bytes);
 
 #ifdef __cplusplus
