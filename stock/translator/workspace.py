@@ -16,6 +16,7 @@ PROFILES = """
 [profile.release]
 panic = "abort"
 codegen-units = 16
+lto = "off"
 incremental = true
 
 [profile.checked]
