@@ -35,7 +35,9 @@ def part(count, program):
             count.told(f"{name} is the same twice", one == other)
         count.same("sums", call("sha256sum", "--quiet", "-c", "SHA256SUMS", folder=folder / "first"), (0, "", ""))
         refusals(count, folder, packed)
-        if packed == alone:
+        if Path(program) != tree.TOP / "crates/ztso/out/ztso":
+            print("  not tried: which functions the program calls, since it isn't the proved one", flush=True)
+        else:
             there = [name for name in UNCALLED if b"\0%s\0" % name.encode() in alone.read_bytes()]
             count.same("functions that the program calls", there, [])
         archive(count, folder, folder / "first" / made[1], packed, page)

@@ -1,6 +1,7 @@
 """What the wrapper `ztso` adds where standard error is a terminal, in a checkout and where it is installed; and that it
 adds nothing elsewhere."""
 
+import os
 import shutil
 import subprocess
 
@@ -66,6 +67,8 @@ def part(count, program):
             after_faults(count, place, folder)
             nothing_added(count, place, folder, alone)
         short_names(count, places, prefix, top)
+        which(count, places, alone, folder)
+        by_rustc(count, checkout(folder / "by-rustc", alone), folder)
         if is_binary(program):
             progress(count, places[0], share)
             prompt(count, places[0], share)
@@ -80,7 +83,7 @@ def checkout(top, program):
     """A folder like a checkout, in which nothing is to be built."""
     for name in ("scripts", "tools", "crates/ztso/out"):
         (top / name).mkdir(parents=True)
-    for name in ("ztso", "VERSION", "scripts/at-terminal", "scripts/usage.awk", "scripts/words.awk", "tools/explain"):
+    for name in ("ztso", "VERSION", "scripts/program", "scripts/at-terminal", "scripts/usage.awk", "scripts/words.awk", "tools/explain"):
         shutil.copy(tree.TOP / name, top / name)
     for name in ("docs", "litmus"):
         (top / name).symlink_to(tree.TOP / name)
@@ -88,6 +91,34 @@ def checkout(top, program):
     (top / "scripts/build").chmod(0o755)
     (top / "crates/ztso/out/ztso").symlink_to(program)
     return top
+
+
+def which(count, places, program, folder):
+    """What `--which` says of the program that runs."""
+    installed, here = places
+    words = "as it was installed; packages hold the proved program only"
+    count.same("which program is installed", call(installed.wrapper, "--which", folder=folder),
+               (0, f"{installed.wrapper.parent.parent}/lib/ztso/ztso: {words}\n", ""))
+    count.same("which program a checkout runs", call(here.wrapper, "--which", folder=folder),
+               (0, f"{here.pages}/crates/ztso/out/ztso: proved on this machine, and built by the kit\n", ""))
+
+
+def by_rustc(count, top, folder):
+    """A checkout whose proved program isn't current, so that the one by rustc runs, which each call says."""
+    proved, stock = top / "crates/ztso/out/ztso", top / "stock/out/ztso"
+    stock.parent.mkdir(parents=True)
+    proved.rename(stock)
+    (top / "stock/build").write_text("#!/bin/sh\n")
+    (top / "scripts/build").write_text("#!/bin/sh\nexit 1\n")
+    for path in (top / "stock/build", top / "scripts/build", folder / "cargo"):
+        path.touch()
+        path.chmod(0o755)
+    here = {"PATH": f"{folder}:{os.environ['PATH']}"}
+    said = "ztso: this program is built by rustc and not proved on this machine; ./prove does that\n"
+    count.same("a program that isn't proved says so", call(top / "ztso", "asm", folder=folder, text="nop\n", variables=here),
+               (0, "00000013\n", said))
+    count.same("and --which names it", call(top / "ztso", "--which", folder=folder, variables=here),
+               (0, f"{stock}: built by rustc from the sources that ./prove proves; nothing is proved of it\n", said))
 
 
 def at_terminal(words, folder, text="", before=""):
