@@ -6,7 +6,6 @@ from pathlib import Path
 
 HERE = Path(__file__).resolve().parent.parent
 ROOT = HERE.parent.parent
-PROGRAM = ROOT / "crates/ztso/out/ztso"
 sys.path[:0] = [str(ROOT / "tools"), str(ROOT / "cases"), str(ROOT / "tools/reference")]
 
 

@@ -58,7 +58,7 @@ def call(program, words, text):
     try:
         done = subprocess.run([str(program), *map(str, words)], input=text, capture_output=True, text=True, check=False)
     except OSError as error:
-        raise Wrong(f"{program}: {error.strerror}: scripts/build makes the program") from error
+        raise Wrong(f"{program}: {error.strerror}: --program names another one") from error
     if done.stderr and not done.stderr.startswith("ztso: refused "):
         raise Wrong(f"{' '.join(map(str, words))}: {done.stderr.strip()}")
     return done.stdout, done.stderr.strip()
