@@ -11,7 +11,7 @@ lamport_try_send:
     lw x5,0(x10)                              # its own head, maybe of its own pending store
     lw x6,64(x10)                             # the tail
     addi x7,x5,4                              # the head after this word: one slot on,
-    bne x7,x12,.Llamport_try_send_test        # and where that is past the last slot
+    bne x7,x12,.Llamport_try_send_test        # and if that is past the last slot
     addi x7,x0,0                              # the first one
 .Llamport_try_send_test:
     beq x6,x7,.Llamport_try_send_full         # the head would meet the tail

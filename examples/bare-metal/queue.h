@@ -4,8 +4,8 @@
  *     LAMPORT_QUEUE(requests, 8);                 defines struct requests, a block for 8 slots: at most 7 words wait in it
  *     struct requests queue;                      all zero: empty
  *
- *     QUEUE_TRY_SEND(&queue, word)                on the hart that sends: 1, or 0 where the queue is full
- *     QUEUE_TRY_RECEIVE(&queue)                   on the hart that receives: ok is 1, or 0 where the queue is empty
+ *     QUEUE_TRY_SEND(&queue, word)                on the hart that sends: 1, or 0 if it found the queue full
+ *     QUEUE_TRY_RECEIVE(&queue)                   on the hart that receives: ok is 1, or 0 if it found it empty
  *
  * The functions exist for RV32 only. Elsewhere this header has the block and its offsets. */
 #ifndef QUEUE_H
@@ -47,18 +47,18 @@ extern "C" {
 
 /* What a receive returns, in a0 and a1. */
 struct received {
-    uint32_t ok;   /* 1, or 0: the queue is empty */
-    uint32_t word; /* the word where ok is 1 */
+    uint32_t ok;   /* 1, or 0: the queue was found empty */
+    uint32_t word; /* the word if ok is 1 */
 };
 QUEUE_ASSERT(sizeof(struct received) == 8, "a0 and a1");
 
-/* Sends the word and returns 1, or returns 0 and stores nothing: the queue is full. Never waits. What this hart stored
- * before the call, the receiver's hart reads once it has received the word. */
+/* Sends the word and returns 1, or returns 0 and stores nothing: it found the queue full. It has no loop. What this hart
+ * stored before the call, the receiver's hart reads once it has received the word, if nobody else writes there. */
 uint32_t lamport_try_send(void *block, uint32_t word, uint32_t bytes);
 
-/* Receives the oldest word, or returns ok = 0 and stores nothing: the queue is empty. Never waits. `unused` may be
- * anything. What this hart stored before the call, after j words were received, the sender's hart reads once it has sent
- * j + S words, where S is the count of slots. */
+/* Receives the oldest word, or returns ok = 0 and stores nothing: it found the queue empty. It has no loop. `unused` may
+ * be anything. What this hart stored before the call, after j words were received, the sender's hart reads once it has
+ * sent j + S words, if nobody else writes there; S is the count of slots. */
 struct received lamport_try_receive(void *block, uint32_t unused, uint32_t bytes);
 
 #ifdef __cplusplus
