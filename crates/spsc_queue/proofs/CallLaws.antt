@@ -18,7 +18,7 @@ use Rattle.spsc_queue.specs.StoreBuffers.{IsOnlyWriter, AllLeaveByte}
 use Rattle.spsc_queue.specs.Listings.{try_send, try_receive}
 use Rattle.spsc_queue.specs.Calls.{Block, SpscQueue, buffer, is_sender_in_call, is_receiver_in_call, sent_words, received_words, UsesAsSpscQueue}
 use Rattle.spsc_queue.proofs.Invariant.{Invariant, SendingIs}
-use Rattle.spsc_queue.proofs.Runs.{invariant-of, delivered, length-firsts}
+use Rattle.spsc_queue.proofs.Runs.{earlier, invariant-of, delivered, length-firsts}
 use Rattle.spsc_queue.proofs.Publication.{published, returned}
 use Rattle.spsc_queue.proofs.MessagePassing.{handed_over}
 use Rattle.spsc_queue.proofs.Linearization.{empty_landed, full_landed}
@@ -124,7 +124,7 @@ module _ (B M : ℕ) (o : OpeningValue) (q : SpscQueue) (before es : List Entry)
   pub stand : Stand B M o q before es c.shares done
   stand = stands-at B M o q before es c done rest is
 
-  pub inv : Invariant r L o (before ++ done) t
+  pub inv : Invariant r L (earlier r before) o (before ++ done) t
   inv = invariant-of B r o before done rest follows
 
   abbrev s : HartState

@@ -22,7 +22,7 @@ use Rattle.spsc_queue.specs.Calls.{UsesAsSpscQueue}
 use Rattle.spsc_queue.specs.CallEffects.{completed_word}
 use Rattle.spsc_queue.proofs.Invariant.{Invariant}
 use Rattle.spsc_queue.proofs.Landings.{role-cases}
-use Rattle.spsc_queue.proofs.Runs.{invariant-of, protocol-append}
+use Rattle.spsc_queue.proofs.Runs.{earlier, invariant-of, protocol-append}
 use Rattle.spsc_queue.proofs.Courses.{at_00, moved, Course, went}
 use Rattle.spsc_queue.proofs.SendOutline.{IsLevel, IsNear, SenderStands, sender_part}
 use Rattle.spsc_queue.proofs.SendFunction.{sends_at}
@@ -125,7 +125,7 @@ module _ (B M : ℕ) (o : OpeningValue) (q : SpscQueue) (before es : List Entry)
     abbrev L : ℕ → ℕ
     L = slice_index (protocol_after r at_start (done ++ [])).sent
 
-    inv : Invariant r L o (before ++ done) T
+    inv : Invariant r L (earlier r before) o (before ++ done) T
     inv = invariant-of B r o before done [] (subst (FollowsSpscProtocol B r o before) (sym (append-nil done)) follows)
 
     known : hart_of e < length o.harts

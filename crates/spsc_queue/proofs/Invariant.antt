@@ -1,11 +1,12 @@
 -- What holds of the block, of the pending stores to it and of both parties after every run that keeps the protocol.
-use Rattle.std.proofs.Common.{ℕ, zero, suc, ◌+◌, ◌<◌, ◌≤◌, ◌≡◌, ◌≢◌, List, [], ◌∷◌, ◌++◌, arith}
+use Rattle.std.proofs.Common.{ℕ, zero, suc, ◌+◌, ◌<◌, ◌≤◌, ◌≡◌, List, [], ◌∷◌, ◌++◌, arith}
 use Rattle.step_machine.specs.declared.events.Entry.{Entry}
 use Rattle.step_machine.specs.History.{OpeningValue}
-use Rattle.step_machine.specs.Entries.{pending, memory_word}
-use Rattle.spsc_queue.specs.RingBuffers.{RingBuffer, offset, slot, writes_to}
+use Rattle.step_machine.specs.Entries.{memory_word}
+use Rattle.spsc_queue.specs.RingBuffers.{RingBuffer, offset, slot}
 use Rattle.spsc_queue.specs.Protocol.{SenderState, resting, placed, roomy, filled, ReceiverState, idle, asked, waiting, holding, ProtocolState}
-use Rattle.spsc_queue.proofs.Spread.{spread, sent_store, freed_store}
+use Rattle.spsc_queue.proofs.Spread.{sent_store, freed_store}
+use Rattle.spsc_queue.proofs.Rows.{Earlier, Rows}
 
 -- how many of the block's stores have landed: words in their slots, heads, tails
 pub record Landed : Type 0 where
@@ -18,16 +19,16 @@ abbrev pub firsts : (ℕ → ℕ) → ℕ → List ℕ
 firsts L zero = []
 firsts L (suc n) = firsts L n ++ L n ∷ []
 
-pub record Order (r : RingBuffer) (s : ProtocolState) (d : Landed) : Type 0 where
+pub record Order (r : RingBuffer) (stored published consumed : ℕ) (d : Landed) : Type 0 where
   pub heads_slots : d.heads ≤ d.slots
   pub slots_heads : d.slots ≤ d.heads + 1
-  pub slots_stored : d.slots ≤ s.stored
-  pub heads_published : d.heads ≤ s.published
-  pub published_stored : s.published ≤ s.stored
-  pub stored_published : s.stored ≤ s.published + 1
-  pub consumed_heads : s.consumed ≤ d.heads
-  pub landed_consumed : d.tails ≤ s.consumed
-  pub room : s.stored + 1 ≤ d.tails + r.size
+  pub slots_stored : d.slots ≤ stored
+  pub heads_published : d.heads ≤ published
+  pub published_stored : published ≤ stored
+  pub stored_published : stored ≤ published + 1
+  pub consumed_heads : consumed ≤ d.heads
+  pub landed_consumed : d.tails ≤ consumed
+  pub room : stored + 1 ≤ d.tails + r.size
 
 -- the words of the block: its slots hold the words that landed and that no tail in memory has passed
 pub record Words (r : RingBuffer) (L : ℕ → ℕ) (d : Landed) (word : ℕ → ℕ) : Type 0 where
@@ -49,23 +50,21 @@ ReceivingIs r L tails h (asked u) = u ≡ offset r tails
 ReceivingIs r L tails h (waiting u) = (u ≡ offset r tails) × (tails < h)
 ReceivingIs r L tails h (holding u w) = (u ≡ offset r tails) × (tails < h) × (w ≡ L tails)
 
--- the pending stores that go to the block, hart by hart
-pub record Buffers (r : RingBuffer) (L : ℕ → ℕ) (es : List Entry) (s : ProtocolState) (d : Landed) : Type 0 where
+-- the stores to the block: the sender's row and the receiver's, and how far each has come
+pub record Buffers (r : RingBuffer) (L : ℕ → ℕ) (c : Earlier) (es : List Entry) (stored published consumed : ℕ) (d : Landed) : Type 0 where
   pub unsent : ℕ
   pub unread : ℕ
-  pub mine : writes_to r (pending r.sender es) ≡ spread (sent_store r L) (d.slots + d.heads) unsent
-  pub mine_count : unsent + (d.slots + d.heads) ≡ s.stored + s.published
-  pub theirs : writes_to r (pending r.receiver es) ≡ spread (freed_store r) d.tails unread
-  pub theirs_count : unread + d.tails ≡ s.consumed
-  pub others : (h : ℕ) → h ≢ r.sender → h ≢ r.receiver → writes_to r (pending h es) ≡ []
+  pub rows : Rows r c (sent_store r L) (freed_store r) es (d.slots + d.heads) unsent d.tails unread
+  pub mine_count : unsent + (d.slots + d.heads) ≡ stored + published
+  pub theirs_count : unread + d.tails ≡ consumed
 
-pub record Invariant (r : RingBuffer) (L : ℕ → ℕ) (o : OpeningValue) (es : List Entry) (s : ProtocolState) : Type 0 where
+pub record Invariant (r : RingBuffer) (L : ℕ → ℕ) (c : Earlier) (o : OpeningValue) (es : List Entry) (s : ProtocolState) : Type 0 where
   pub landed : Landed
-  pub order : Order r s landed
+  pub order : Order r s.stored s.published s.consumed landed
   pub words : Words r L landed (memory_word o es)
   pub sending : SendingIs r s.stored s.published landed.tails s.sending
   pub receiving : ReceivingIs r L s.consumed landed.heads s.receiving
-  pub buffers : Buffers r L es s landed
+  pub buffers : Buffers r L c es s.stored s.published s.consumed landed
   pub sent : s.sent ≡ firsts L s.stored
   pub received : s.received ≡ firsts L s.consumed
 

@@ -1,23 +1,21 @@
--- Landings, AMOs, and all entries together.
+-- Each landing of a party's store keeps the invariant.
 use Rattle.std.proofs.Common.{ℕ, suc, ◌+◌, ◌%◌, ◌^◌, ◌<◌, ◌≤◌, ◌≡◌, ◌≢◌, ◌==◌, ◌⊎◌, inl, inr, Bool, true, false, if◌then◌else◌}
-use Rattle.std.proofs.Common.{List, [], ◌∷◌, ◌++◌, length, take, refl, sym, ◌∙◌, ap, subst, arith, eq-eqb}
-use Rattle.std.proofs.lemmas.Bool.{cases_eq, eqb-true, eqb-false, ne_eqb}
-use Rattle.std.proofs.lemmas.Bool.Decides.{nat_tests}
+use Rattle.std.proofs.Common.{List, [], ◌∷◌, ◌++◌, length, refl, sym, ◌∙◌, ap, subst, arith}
+use Rattle.std.proofs.lemmas.Bool.{cases_eq, eqb-true, eqb-false}
 use Rattle.memory.specs.declared.writes.Write.{Write}
 use Rattle.memory.specs.Writes.{write, IsWholeWord}
 use Rattle.step_machine.specs.declared.events.Entry.{Entry}
 use Rattle.step_machine.specs.History.{OpeningValue}
-use Rattle.step_machine.specs.Access.{exchange, land, access_of}
-use Rattle.step_machine.specs.Entries.{hart_of, write_of, pending, memory_word, stores, lands}
-use Rattle.spsc_queue.specs.RingBuffers.{RingBuffer, IsRingBuffer, IsWordIn, offset, slot, next, overlaps, writes_to}
-use Rattle.spsc_queue.specs.Protocol.{ProtocolState, sends, receives, passes}
-use Rattle.spsc_queue.specs.Protocol.{role_of}
+use Rattle.step_machine.specs.Access.{land, access_of}
+use Rattle.step_machine.specs.Entries.{hart_of, pending, memory_word, stores, lands}
+use Rattle.spsc_queue.specs.RingBuffers.{RingBuffer, IsRingBuffer, offset, slot}
+use Rattle.spsc_queue.specs.Protocol.{ProtocolState, sends, receives, passes, role_of}
 use Rattle.spsc_queue.proofs.Modulo.{mod_apart}
-use Rattle.spsc_queue.proofs.Spread.{spread, sent_store, freed_store, sent-slot, sent-head, slot_not_head, slot_not_tail, offset_low}
-use Rattle.spsc_queue.proofs.Effects.{memory-off, memory-whole, pending-quiet, pending-first}
+use Rattle.spsc_queue.proofs.Spread.{sent_store, freed_store, sent-slot, sent-head, slot_not_head, slot_not_tail, offset_low}
+use Rattle.spsc_queue.proofs.Rows.{Earlier, Rows, Lands, hit, miss, landing}
 use Rattle.spsc_queue.proofs.Invariant.{Landed, Invariant, sending-more, receiving-more}
 use Rattle.spsc_queue.proofs.Loads.{slot_word, freed-whole}
-use Rattle.spsc_queue.proofs.Steps.{split_on, split_off, some_first, stays, stores-by, lands-by, writes-by}
+use Rattle.spsc_queue.proofs.Steps.{idles}
 
 -- whose entry it is
 pub role-cases : (r : RingBuffer) (h : ℕ) → ((h ≡ r.sender) × (role_of r h ≡ sends))
@@ -39,66 +37,19 @@ role-cases r h = at (h == r.sender) refl (h == r.receiver) refl
       ap (λ x. if x then sends else (if h == r.receiver then receives else passes)) one ∙ ap (λ x. if x then receives else passes) two,
     ))
 
-module _ (r : RingBuffer) (is : IsRingBuffer r) (L : ℕ → ℕ) (small : (j : ℕ) → L j < 2 ^ 32) (o : OpeningValue) (es : List Entry) (s : ProtocolState)
-    (inv : Invariant r L o es s) (e : Entry) (even : (h : ℕ) → lands h es ≤ length (stores h es)) where
+module _ (r : RingBuffer) (is : IsRingBuffer r) (L : ℕ → ℕ) (small : (j : ℕ) → L j < 2 ^ 32) (c : Earlier) (o : OpeningValue) (es : List Entry)
+    (s : ProtocolState) (inv : Invariant r L c o es s) (e : Entry) (even : (h : ℕ) → lands h es ≤ length (stores h es)) where
   abbrev d : Landed
   d = inv.landed
 
   abbrev after : List Entry
   after = es ++ e ∷ []
 
-  -- an AMO off the block
-  pub exchanges : (a old new : ℕ) → access_of e ≡ exchange a old new → overlaps r (write a 4 new) ≡ false → Invariant r L o after s
-  exchanges a old new does off = stays r is L small o es s inv e even s.sending s.receiving
-      (λ b word. memory-off o es e r b (write a 4 new) (writes-by r is L small o es s inv e even (exchange a old new) does) word off)
-      (λ h. ap (writes_to r) (pending-quiet es e h (even h)
-      (stores-by r is L small o es s inv e even (exchange a old new) does h) (lands-by r is L small o es s inv e even (exchange a old new) does h)))
-      inv.sending inv.receiving
-
-  -- the oldest pending store of the entry's hart lands
-  module _ (does : access_of e ≡ land) (w : Write) (rest : List Write) (first : pending (hart_of e) es ≡ w ∷ rest) where
-    left-of : pending (hart_of e) after ≡ rest
-    left-of = pending-first es e (hart_of e) (even (hart_of e)) w rest first
-        (stores-by r is L small o es s inv e even land does (hart_of e))
-        (lands-by r is L small o es s inv e even land does (hart_of e) ∙ ap (λ b. if b then 1 else 0) (eq-eqb (hart_of e) (hart_of e) refl))
-
-    kept-of : (h : ℕ) → hart_of e ≢ h → pending h after ≡ pending h es
-    kept-of h other = pending-quiet es e h (even h) (stores-by r is L small o es s inv e even land does h)
-        (lands-by r is L small o es s inv e even land does h ∙ ap (λ b. if b then 1 else 0) (ne_eqb (hart_of e) h other))
-
-    writes : write_of es e ≡ w ∷ []
-    writes = writes-by r is L small o es s inv e even land does ∙ ap (take 1) first
-
-    off-lands : overlaps r w ≡ false → Invariant r L o after s
-    off-lands off = stays r is L small o es s inv e even s.sending s.receiving
-        (λ a word. memory-off o es e r a w writes word off) (λ h. at h (cases_eq (hart_of e) h)) inv.sending inv.receiving
-      where
-        at : (h : ℕ) → (hart_of e ≡ h) ⊎ (hart_of e ≢ h) → writes_to r (pending h after) ≡ writes_to r (pending h es)
-        at h (inl same) = subst (λ g. writes_to r (pending g after) ≡ writes_to r (pending g es)) same
-            (ap (writes_to r) left-of ∙ sym (ap (writes_to r) first ∙ split_off r w rest off))
-        at h (inr other) = ap (writes_to r) (kept-of h other)
-
-    -- what memory holds then
-    hit : (a : ℕ) → IsWordIn r a → IsWholeWord w → w.addr ≡ a → memory_word o after a ≡ w.value
-    hit a word whole here = memory-whole o es e a w writes word.aligned whole
-        ∙ (let on : (w.addr == a) ≡ true = grind (arith, nat_tests) in ap (λ b. if b then w.value else memory_word o es a) on)
-
-    miss : (a : ℕ) → IsWordIn r a → IsWholeWord w → w.addr ≢ a → memory_word o after a ≡ memory_word o es a
-    miss a word whole there = memory-whole o es e a w writes word.aligned whole
-        ∙ (let off : (w.addr == a) ≡ false = grind (arith, nat_tests) in ap (λ b. if b then w.value else memory_word o es a) off)
-
-    module _ (mine : hart_of e ≡ r.sender) (m : ℕ) (count : inv.buffers.unsent ≡ suc m)
-        (more : writes_to r rest ≡ spread (sent_store r L) (suc (d.slots + d.heads)) m) where
-      theirs-stay : writes_to r (pending r.receiver after) ≡ spread (freed_store r) d.tails inv.buffers.unread
-      theirs-stay = ap (writes_to r) (kept-of r.receiver (λ same. is.parties (sym mine ∙ same))) ∙ inv.buffers.theirs
-
-      others-stay : (h : ℕ) → h ≢ r.sender → h ≢ r.receiver → writes_to r (pending h after) ≡ []
-      others-stay h not_sender not_receiver = ap (writes_to r) (kept-of h (λ same. not_sender (sym same ∙ mine))) ∙ inv.buffers.others h not_sender not_receiver
-
-      mine-left : writes_to r (pending r.sender after) ≡ spread (sent_store r L) (suc (d.slots + d.heads)) m
-      mine-left = subst (λ h. writes_to r (pending h after) ≡ spread (sent_store r L) (suc (d.slots + d.heads)) m) mine (ap (writes_to r) left-of ∙ more)
-
-      slot-lands : d.slots ≡ d.heads → w ≡ write (slot r d.slots) 4 (L d.slots) → Invariant r L o after s
+  -- the oldest store of a row has landed
+  module _ (w : Write) (written : Lands r o es after w) where
+    module _ (m : ℕ) (count : inv.buffers.unsent ≡ suc m)
+        (rows : Rows r c (sent_store r L) (freed_store r) after (suc (d.slots + d.heads)) m d.tails inv.buffers.unread) where
+      slot-lands : d.slots ≡ d.heads → w ≡ write (slot r d.slots) 4 (L d.slots) → Invariant r L c o after s
       slot-lands level is_slot = record {
         landed = record { slots = suc d.slots; heads = d.heads; tails = d.tails };
         order = record {
@@ -113,8 +64,8 @@ module _ (r : RingBuffer) (is : IsRingBuffer r) (L : ℕ → ℕ) (small : (j : 
           room = inv.order.room;
         };
         words = record {
-          head = miss r.head is.head whole (λ e. slot_not_head r is d.slots (sym place ∙ e)) ∙ inv.words.head;
-          tail = miss r.tail is.tail whole (λ e. slot_not_tail r is d.slots (sym place ∙ e)) ∙ inv.words.tail;
+          head = miss r o es after w r.head written is.head whole (λ e. slot_not_head r is d.slots (sym place ∙ e)) ∙ inv.words.head;
+          tail = miss r o es after w r.tail written is.tail whole (λ e. slot_not_tail r is d.slots (sym place ∙ e)) ∙ inv.words.tail;
           slots = slots;
         };
         sending = inv.sending;
@@ -122,11 +73,9 @@ module _ (r : RingBuffer) (is : IsRingBuffer r) (L : ℕ → ℕ) (small : (j : 
         buffers = record {
           unsent = m;
           unread = inv.buffers.unread;
-          mine = mine-left ∙ ap (λ i. spread (sent_store r L) i m) (omega arith);
+          rows = subst (λ i. Rows r c (sent_store r L) (freed_store r) after i m d.tails inv.buffers.unread) (omega arith) rows;
           mine_count = omega (arith, inv.buffers.mine_count, count);
-          theirs = theirs-stay;
           theirs_count = inv.buffers.theirs_count;
-          others = others-stay;
         };
         sent = inv.sent;
         received = inv.received;
@@ -143,14 +92,15 @@ module _ (r : RingBuffer) (is : IsRingBuffer r) (L : ℕ → ℕ) (small : (j : 
 
           slots : (j : ℕ) → d.tails ≤ j → j < suc d.slots → memory_word o after (slot r j) ≡ L j
           slots j from below = elim (cases_eq j d.slots) [
-            | inl same ↦ hit (slot r j) (slot_word r is j) whole (place ∙ ap (slot r) (sym same)) ∙ ap (λ (x : Write). x.value) is_slot ∙ ap L (sym same)
+            | inl same ↦ hit r o es after w (slot r j) written (slot_word r is j) whole (place ∙ ap (slot r) (sym same))
+                ∙ ap (λ (x : Write). x.value) is_slot ∙ ap L (sym same)
             | inr other ↦
                 let apart : j % r.size ≢ d.slots % r.size =
                 mod_apart r.size j d.slots (omega (arith, is.some_slots)) (omega arith) (omega (arith, some, inv.order.room)) in
-                miss (slot r j) (slot_word r is j) whole (λ same. apart (omega (arith, place))) ∙ inv.words.slots j from (omega arith)
+                miss r o es after w (slot r j) written (slot_word r is j) whole (λ same. apart (omega (arith, place))) ∙ inv.words.slots j from (omega arith)
           ]
 
-      head-lands : d.slots ≡ d.heads + 1 → w ≡ write r.head 4 (offset r (d.heads + 1)) → Invariant r L o after s
+      head-lands : d.slots ≡ d.heads + 1 → w ≡ write r.head 4 (offset r (d.heads + 1)) → Invariant r L c o after s
       head-lands odd is_head = record {
         landed = record { slots = d.slots; heads = suc d.heads; tails = d.tails };
         order = record {
@@ -165,20 +115,19 @@ module _ (r : RingBuffer) (is : IsRingBuffer r) (L : ℕ → ℕ) (small : (j : 
           room = inv.order.room;
         };
         words = record {
-          head = hit r.head is.head whole place ∙ ap (λ (x : Write). x.value) is_head ∙ ap (offset r) (omega arith);
-          tail = miss r.tail is.tail whole (λ e. is.apart (sym place ∙ e)) ∙ inv.words.tail;
-          slots = λ j from below. miss (slot r j) (slot_word r is j) whole (λ e. slot_not_head r is j (sym e ∙ place)) ∙ inv.words.slots j from below;
+          head = hit r o es after w r.head written is.head whole place ∙ ap (λ (x : Write). x.value) is_head ∙ ap (offset r) (omega arith);
+          tail = miss r o es after w r.tail written is.tail whole (λ e. is.apart (sym place ∙ e)) ∙ inv.words.tail;
+          slots = λ j from below. miss r o es after w (slot r j) written (slot_word r is j) whole (λ e. slot_not_head r is j (sym e ∙ place))
+              ∙ inv.words.slots j from below;
         };
         sending = inv.sending;
         receiving = receiving-more r L s.consumed d.heads (suc d.heads) s.receiving (omega arith) inv.receiving;
         buffers = record {
           unsent = m;
           unread = inv.buffers.unread;
-          mine = mine-left ∙ ap (λ i. spread (sent_store r L) i m) (omega arith);
+          rows = subst (λ i. Rows r c (sent_store r L) (freed_store r) after i m d.tails inv.buffers.unread) (omega arith) rows;
           mine_count = omega (arith, inv.buffers.mine_count, count);
-          theirs = theirs-stay;
           theirs_count = inv.buffers.theirs_count;
-          others = others-stay;
         };
         sent = inv.sent;
         received = inv.received;
@@ -194,7 +143,7 @@ module _ (r : RingBuffer) (is : IsRingBuffer r) (L : ℕ → ℕ) (small : (j : 
           whole = subst IsWholeWord (sym is_head)
               (record { whole = refl; aligned = is.head.aligned; small = omega (arith, offset_low r is (d.heads + 1), is.small) })
 
-      sent-lands : w ≡ sent_store r L (d.slots + d.heads) → Invariant r L o after s
+      sent-lands : w ≡ sent_store r L (d.slots + d.heads) → Invariant r L c o after s
       sent-lands next = elim (cases_eq d.slots d.heads) [
         | inl level ↦ slot-lands level (next ∙ sent-slot r L (d.slots + d.heads) d.slots (omega (arith, level)))
         | inr other ↦
@@ -202,9 +151,9 @@ module _ (r : RingBuffer) (is : IsRingBuffer r) (L : ℕ → ℕ) (small : (j : 
             head-lands odd (next ∙ sent-head r L (d.slots + d.heads) d.heads (omega (arith, odd)))
       ]
 
-    tail-lands : hart_of e ≡ r.receiver → (m : ℕ) → inv.buffers.unread ≡ suc m → w ≡ freed_store r d.tails
-        → writes_to r rest ≡ spread (freed_store r) (suc d.tails) m → Invariant r L o after s
-    tail-lands mine m count next more = record {
+    tail-lands : (m : ℕ) → inv.buffers.unread ≡ suc m → w ≡ freed_store r d.tails
+        → Rows r c (sent_store r L) (freed_store r) after (d.slots + d.heads) inv.buffers.unsent (suc d.tails) m → Invariant r L c o after s
+    tail-lands m count next rows = record {
       landed = record { slots = d.slots; heads = d.heads; tails = suc d.tails };
       order = record {
         heads_slots = inv.order.heads_slots;
@@ -218,9 +167,9 @@ module _ (r : RingBuffer) (is : IsRingBuffer r) (L : ℕ → ℕ) (small : (j : 
         room = omega (arith, inv.order.room);
       };
       words = record {
-        head = miss r.head is.head whole (λ e. is.apart (sym e ∙ place)) ∙ inv.words.head;
-        tail = hit r.tail is.tail whole place ∙ ap (λ (x : Write). x.value) next ∙ ap (offset r) (omega arith);
-        slots = λ j from below. miss (slot r j) (slot_word r is j) whole (λ e. slot_not_tail r is j (sym e ∙ place))
+        head = miss r o es after w r.head written is.head whole (λ e. is.apart (sym e ∙ place)) ∙ inv.words.head;
+        tail = hit r o es after w r.tail written is.tail whole place ∙ ap (λ (x : Write). x.value) next ∙ ap (offset r) (omega arith);
+        slots = λ j from below. miss r o es after w (slot r j) written (slot_word r is j) whole (λ e. slot_not_tail r is j (sym e ∙ place))
             ∙ inv.words.slots j (omega (arith, from)) below;
       };
       sending = sending-more r s.stored s.published d.tails (suc d.tails) s.sending (omega arith) inv.sending;
@@ -228,12 +177,9 @@ module _ (r : RingBuffer) (is : IsRingBuffer r) (L : ℕ → ℕ) (small : (j : 
       buffers = record {
         unsent = inv.buffers.unsent;
         unread = m;
-        mine = ap (writes_to r) (kept-of r.sender (λ same. is.parties (sym same ∙ mine))) ∙ inv.buffers.mine;
+        rows = rows;
         mine_count = inv.buffers.mine_count;
-        theirs = subst (λ h. writes_to r (pending h after) ≡ spread (freed_store r) (suc d.tails) m) mine (ap (writes_to r) left-of ∙ more);
         theirs_count = omega (arith, inv.buffers.theirs_count, count);
-        others = λ h not_sender not_receiver. ap (writes_to r) (kept-of h (λ same. not_receiver (sym same ∙ mine)))
-            ∙ inv.buffers.others h not_sender not_receiver;
       };
       sent = inv.sent;
       received = inv.received;
@@ -243,31 +189,13 @@ module _ (r : RingBuffer) (is : IsRingBuffer r) (L : ℕ → ℕ) (small : (j : 
         place = ap (λ (x : Write). x.addr) next
 
         whole : IsWholeWord w
-        whole = subst IsWholeWord (sym next) (freed-whole r is L small o es s inv d.tails)
+        whole = subst IsWholeWord (sym next) (freed-whole r is L small c o es s inv d.tails)
 
-    on-lands : overlaps r w ≡ true → Invariant r L o after s
-    on-lands on = at (role-cases r (hart_of e))
-      where
-        at : ((hart_of e ≡ r.sender) × (role_of r (hart_of e) ≡ sends))
-            ⊎ (((hart_of e ≢ r.sender) × (hart_of e ≡ r.receiver) × (role_of r (hart_of e) ≡ receives))
-            ⊎ ((hart_of e ≢ r.sender) × (hart_of e ≢ r.receiver) × (role_of r (hart_of e) ≡ passes))) → Invariant r L o after s
-        at (inl h) =
-            let split = split_on r w rest (sent_store r L) (d.slots + d.heads) inv.buffers.unsent on
-            (ap (writes_to r) (sym first) ∙ ap (λ g. writes_to r (pending g es)) h.0 ∙ inv.buffers.mine) in
-            sent-lands h.0 split.0 split.1 split.3 split.2
-        at (inr (inl h)) =
-            let split = split_on r w rest (freed_store r) d.tails inv.buffers.unread on
-            (ap (writes_to r) (sym first) ∙ ap (λ g. writes_to r (pending g es)) h.1 ∙ inv.buffers.theirs) in
-            tail-lands h.1 split.0 split.1 split.2 split.3
-        at (inr (inr h)) =
-            let none : writes_to r (w ∷ rest) ≡ [] = ap (writes_to r) (sym first) ∙ inv.buffers.others (hart_of e) h.0 h.1 in
-            let some : w ∷ writes_to r rest ≡ [] = sym (ap (λ b. if b then w ∷ writes_to r rest else writes_to r rest) on) ∙ none in cc
-
-    lands-one : (b : Bool) → overlaps r w ≡ b → Invariant r L o after s
-    lands-one true on = on-lands on
-    lands-one false off = off-lands off
-
-  pub landing : access_of e ≡ land → 0 < length (pending (hart_of e) es) → Invariant r L o after s
-  landing does some =
-      let split = some_first (pending (hart_of e) es) some in
-      lands-one does split.0 split.1 split.2 (overlaps r split.0) refl
+  -- the oldest pending store of the entry's hart lands
+  pub lands-store : access_of e ≡ land → 0 < length (pending (hart_of e) es) → Invariant r L c o after s
+  lands-store does some = elim (landing r is o es e even c (sent_store r L) (freed_store r) (d.slots + d.heads) inv.buffers.unsent
+      d.tails inv.buffers.unread inv.buffers.rows does some) [
+        | inl block ↦ idles r is L c o es s inv e even block
+        | inr (inl l) ↦ sent-lands (sent_store r L (d.slots + d.heads)) l.3 l.0 l.1 l.2 refl
+        | inr (inr l) ↦ tail-lands (freed_store r d.tails) l.3 l.0 l.1 refl l.2
+      ]

@@ -2,6 +2,9 @@ pub mod Modulo
 pub mod Words
 pub mod Spread
 pub mod Effects
+pub mod Rows
+pub mod PastRows
+pub mod Performed
 pub mod Invariant
 pub mod Loads
 pub mod Steps

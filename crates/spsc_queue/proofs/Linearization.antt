@@ -15,8 +15,8 @@ use Rattle.spsc_queue.proofs.Modulo.{same_offset, mod_apart}
 use Rattle.spsc_queue.proofs.Spread.{sent_store, freed_store}
 use Rattle.spsc_queue.proofs.Invariant.{Invariant, SendingIs, ReceivingIs}
 use Rattle.spsc_queue.proofs.Loads.{next_offset, sender-tail, receiver-other}
-use Rattle.spsc_queue.proofs.Runs.{invariant-of, protocol-small}
-use Rattle.spsc_queue.proofs.Publication.{length-spread}
+use Rattle.spsc_queue.proofs.Runs.{earlier, invariant-of, protocol-small}
+use Rattle.spsc_queue.proofs.PastRows.{length-spread}
 
 -- what a load read
 loaded : (B : ℕ) (r : RingBuffer) (o : OpeningValue) (before es : List Entry) (e : Entry) (fs : List Entry) (a v : ℕ)
@@ -37,7 +37,7 @@ module _ (B : ℕ) (r : RingBuffer) (o : OpeningValue) (before es : List Entry) 
   small : (j : ℕ) → L j < 2 ^ 32
   small = protocol-small r at_start (es ++ e ∷ fs) t.keeps (λ j. omega arith)
 
-  inv : Invariant r L o (before ++ es) T
+  inv : Invariant r L (earlier r before) o (before ++ es) T
   inv = invariant-of B r o before es (e ∷ fs) t
 
   -- the receiver reads its own tail in the head: each word whose head has landed was received
@@ -47,11 +47,11 @@ module _ (B : ℕ) (r : RingBuffer) (o : OpeningValue) (before es : List Entry) 
       let known : ReceivingIs r L T.consumed inv.landed.heads (asked v) = subst (ReceivingIs r L T.consumed inv.landed.heads) was inv.receiving in
       let found : v ≡ offset r inv.landed.heads =
       loaded B r o before es e fs r.head v t does ∙ ap (λ h. read o (before ++ es) h r.head 4) mine
-      ∙ receiver-other r t.ring L small o (before ++ es) T inv r.head t.ring.head (λ q. t.ring.apart (sym q)) ∙ inv.words.head in
+      ∙ receiver-other r t.ring L small (earlier r before) o (before ++ es) T inv r.head t.ring.head (λ q. t.ring.apart (sym q)) ∙ inv.words.head in
       let same : T.consumed ≡ inv.landed.heads = same_offset r.size T.consumed inv.landed.heads (omega (arith, t.ring.some_slots)) inv.order.consumed_heads
       (omega (arith, inv.order.heads_slots, inv.order.slots_stored, inv.order.room, inv.order.landed_consumed)) (sym known ∙ found) in
       let left : length (writes_to r (pending r.sender (before ++ es))) ≡ inv.buffers.unsent =
-      ap length inv.buffers.mine ∙ length-spread (sent_store r L) (inv.landed.slots + inv.landed.heads) inv.buffers.unsent in
+      ap length inv.buffers.rows.mine ∙ length-spread (sent_store r L) (inv.landed.slots + inv.landed.heads) inv.buffers.unsent in
       omega (arith, same, left, inv.buffers.mine_count, inv.order.slots_stored, inv.order.heads_published)
 
   -- the sender reads the next offset in the tail: all slots except one hold words of which no tail has landed
@@ -61,7 +61,7 @@ module _ (B : ℕ) (r : RingBuffer) (o : OpeningValue) (before es : List Entry) 
       let known : SendingIs r T.stored T.published inv.landed.tails (placed u) = subst (SendingIs r T.stored T.published inv.landed.tails) was inv.sending in
       let found : next r u ≡ offset r inv.landed.tails =
       loaded B r o before es e fs r.tail (next r u) t does ∙ ap (λ h. read o (before ++ es) h r.tail 4) mine
-      ∙ sender-tail r t.ring L small o (before ++ es) T inv in
+      ∙ sender-tail r t.ring L small (earlier r before) o (before ++ es) T inv in
       let one : offset r inv.landed.tails ≡ offset r (T.published + 1) = sym found ∙ next_offset r t.ring u T.published known.1 in
       let near : T.published + 1 ≤ inv.landed.tails + r.size = omega (arith, known.0, inv.order.room) in
       let over : inv.landed.tails < T.published + 1 = omega (arith, inv.order.landed_consumed, inv.order.consumed_heads, inv.order.heads_published) in
@@ -70,5 +70,5 @@ module _ (B : ℕ) (r : RingBuffer) (o : OpeningValue) (before es : List Entry) 
         | inr more ↦ omega (arith, near, more)
       ] in
       let left : length (writes_to r (pending r.receiver (before ++ es))) ≡ inv.buffers.unread =
-      ap length inv.buffers.theirs ∙ length-spread (freed_store r) inv.landed.tails inv.buffers.unread in
+      ap length inv.buffers.rows.theirs ∙ length-spread (freed_store r) inv.landed.tails inv.buffers.unread in
       omega (arith, same, left, known.0, inv.buffers.theirs_count)

@@ -17,6 +17,7 @@ use Rattle.spsc_queue.proofs.Words.{seen}
 use Rattle.spsc_queue.proofs.Spread.{spread, spread-all, sent_store, freed_store, seen-none, seen-tails, seen-heads, sent-not-tail, sent-whole, offset_low}
 use Rattle.spsc_queue.proofs.Spread.{slot_not_tail}
 use Rattle.spsc_queue.proofs.Effects.{reads-word}
+use Rattle.spsc_queue.proofs.Rows.{Earlier}
 use Rattle.spsc_queue.proofs.Invariant.{Landed, SendingIs, ReceivingIs, Invariant}
 
 -- the offset after that of word j
@@ -40,26 +41,26 @@ slot_word r is j = record {
   aligned = omega (arith, is.slots_aligned);
 }
 
-module _ (r : RingBuffer) (is : IsRingBuffer r) (L : ℕ → ℕ) (small : (j : ℕ) → L j < 2 ^ 32) (o : OpeningValue) (es : List Entry) (s : ProtocolState)
-    (inv : Invariant r L o es s) where
+module _ (r : RingBuffer) (is : IsRingBuffer r) (L : ℕ → ℕ) (small : (j : ℕ) → L j < 2 ^ 32) (c : Earlier) (o : OpeningValue) (es : List Entry) (s : ProtocolState)
+    (inv : Invariant r L c o es s) where
   abbrev d : Landed
   d = inv.landed
 
   pub mine-whole : All IsWholeWord (writes_to r (pending r.sender es))
-  mine-whole = subst (All IsWholeWord) (sym inv.buffers.mine)
+  mine-whole = subst (All IsWholeWord) (sym inv.buffers.rows.mine)
       (spread-all IsWholeWord (sent_store r L) (d.slots + d.heads) inv.buffers.unsent (sent-whole r is L small))
 
   pub freed-whole : (p : ℕ) → IsWholeWord (freed_store r p)
   freed-whole p = record { whole = refl; aligned = is.tail.aligned; small = omega (arith, offset_low r is (p + 1), is.small) }
 
   pub theirs-whole : All IsWholeWord (writes_to r (pending r.receiver es))
-  theirs-whole = subst (All IsWholeWord) (sym inv.buffers.theirs)
+  theirs-whole = subst (All IsWholeWord) (sym inv.buffers.rows.theirs)
       (spread-all IsWholeWord (freed_store r) d.tails inv.buffers.unread freed-whole)
 
   -- the sender reads its own head, and the tail that landed last
   pub sender-head : read o es r.sender r.head 4 ≡ offset r s.published
   sender-head = reads-word r o es r.sender r.head is.head mine-whole
-      ∙ ap (seen r.head (memory_word o es r.head)) inv.buffers.mine
+      ∙ ap (seen r.head (memory_word o es r.head)) inv.buffers.rows.mine
       ∙ ap (λ v. seen r.head v (spread (sent_store r L) (d.slots + d.heads) inv.buffers.unsent))
       (inv.words.head ∙ ap (offset r) (omega (arith, inv.order.heads_slots, inv.order.slots_heads)))
       ∙ seen-heads r is L (d.slots + d.heads) inv.buffers.unsent
@@ -67,21 +68,21 @@ module _ (r : RingBuffer) (is : IsRingBuffer r) (L : ℕ → ℕ) (small : (j : 
 
   pub sender-tail : read o es r.sender r.tail 4 ≡ offset r d.tails
   sender-tail = reads-word r o es r.sender r.tail is.tail mine-whole
-      ∙ ap (seen r.tail (memory_word o es r.tail)) inv.buffers.mine
+      ∙ ap (seen r.tail (memory_word o es r.tail)) inv.buffers.rows.mine
       ∙ seen-none r.tail (memory_word o es r.tail) (sent_store r L) (d.slots + d.heads) inv.buffers.unsent (sent-not-tail r is L)
       ∙ inv.words.tail
 
   -- the receiver reads its own tail, and all else as memory has it
   pub receiver-tail : read o es r.receiver r.tail 4 ≡ offset r s.consumed
   receiver-tail = reads-word r o es r.receiver r.tail is.tail theirs-whole
-      ∙ ap (seen r.tail (memory_word o es r.tail)) inv.buffers.theirs
+      ∙ ap (seen r.tail (memory_word o es r.tail)) inv.buffers.rows.theirs
       ∙ ap (λ v. seen r.tail v (spread (freed_store r) d.tails inv.buffers.unread)) inv.words.tail
       ∙ seen-tails r d.tails inv.buffers.unread
       ∙ ap (offset r) (omega (arith, inv.buffers.theirs_count))
 
   pub receiver-other : (a : ℕ) → IsWordIn r a → r.tail ≢ a → read o es r.receiver a 4 ≡ memory_word o es a
   receiver-other a word other = reads-word r o es r.receiver a word theirs-whole
-      ∙ ap (seen a (memory_word o es a)) inv.buffers.theirs
+      ∙ ap (seen a (memory_word o es a)) inv.buffers.rows.theirs
       ∙ seen-none a (memory_word o es a) (freed_store r) d.tails inv.buffers.unread (λ p. other)
 
   -- the sender's loads

@@ -10,7 +10,7 @@ use Rattle.memory.specs.Writes.{write}
 use Rattle.step_machine.specs.declared.events.Entry.{Entry}
 use Rattle.step_machine.specs.History.{OpeningValue, history_of}
 use Rattle.step_machine.specs.Access.{Access, nothing, load, store, exchange, fence, land, access_of}
-use Rattle.step_machine.specs.Entries.{hart_of, pending, read, stores, lands, store_of, land_of, write_of}
+use Rattle.step_machine.specs.Entries.{hart_of, pending, read, stores, lands}
 use Rattle.step_machine.specs.Legal.{AllowedBy, LegalAfter, Legal}
 use Rattle.step_machine.proofs.Appended.{LegalAfter-front, LegalAfter-back, LegalAfter-append}
 use Rattle.step_machine.proofs.Balanced.{balanced}
@@ -20,10 +20,11 @@ use Rattle.spsc_queue.specs.Protocol.{sends, receives, passes}
 use Rattle.spsc_queue.specs.Protocol.{role_of, send_load, send_store, receive_load, receive_store, next_by, protocol_next, protocol_after, IsSenderStore}
 use Rattle.spsc_queue.specs.Protocol.{IsReceiverStore, KeepsProtocolBy, KeepsProtocol}
 use Rattle.spsc_queue.specs.Laws.{IsPrefix, FollowsSpscProtocol, published_words}
+use Rattle.spsc_queue.proofs.Rows.{Earlier, Stays, nothing-stays, load-stays, fence-stays, exchange-stays, off-stays, on_count}
 use Rattle.spsc_queue.proofs.Invariant.{firsts, SendingIs, Invariant}
 use Rattle.spsc_queue.proofs.Loads.{slot_word, sending-load, receiving-load}
-use Rattle.spsc_queue.proofs.Steps.{word_on, quiet, idles, stores-by, lands-by, writes-by, off-store, sends-word, sends-head, frees}
-use Rattle.spsc_queue.proofs.Landings.{role-cases, exchanges, landing}
+use Rattle.spsc_queue.proofs.Steps.{word_on, stays, idles, sends-word, sends-head, frees}
+use Rattle.spsc_queue.proofs.Landings.{role-cases, lands-store}
 
 pub length-firsts : (L : ℕ → ℕ) (n : ℕ) → length (firsts L n) ≡ n
 length-firsts L zero = refl
@@ -169,8 +170,8 @@ word_ahead F sent more v n size is =
     sym (ap (slice_index F) (sym size) ∙ ap (λ xs. slice_index xs (length sent)) (is ∙ append_assoc sent (v ∷ []) more)
     ∙ get_or-append_seam sent v more 0)
 
-module _ (B : ℕ) (r : RingBuffer) (is : IsRingBuffer r) (F : List ℕ) (small : AreSmall F) (o : OpeningValue) (es : List Entry) (s : ProtocolState)
-    (inv : Invariant r (slice_index F) o es s) (e : Entry) (even : (h : ℕ) → lands h es ≤ length (stores h es)) where
+module _ (B : ℕ) (r : RingBuffer) (is : IsRingBuffer r) (F : List ℕ) (small : AreSmall F) (c : Earlier) (o : OpeningValue) (es : List Entry) (s : ProtocolState)
+    (inv : Invariant r (slice_index F) c o es s) (e : Entry) (even : (h : ℕ) → lands h es ≤ length (stores h es)) where
   abbrev L : ℕ → ℕ
   L = slice_index F
 
@@ -179,12 +180,12 @@ module _ (B : ℕ) (r : RingBuffer) (is : IsRingBuffer r) (F : List ℕ) (small 
 
   sender-stores : (w : Write) (p : SenderState) → access_of e ≡ store w → hart_of e ≡ r.sender → s.sending ≡ p → IsSenderStore r p w
       → (more : List ℕ) × (F ≡ (if overlaps r w then send_store w p s else s).sent ++ more)
-      → Invariant r L o after (if overlaps r w then send_store w p s else s)
+      → Invariant r L c o after (if overlaps r w then send_store w p s else s)
   sender-stores w resting does mine at keeps ahead = absurd keeps
   sender-stores w (placed u) does mine at keeps ahead = absurd keeps
   sender-stores w (roomy u) does mine at keeps ahead =
-      subst (λ b. Invariant r L o after (if b then send_store w (roomy u) s else s)) (sym on)
-      (sends-word r is L small o es s inv e even w does mine u at keeps.0 value on)
+      subst (λ b. Invariant r L c o after (if b then send_store w (roomy u) s else s)) (sym on)
+      (sends-word r is L c o es s inv e even w does on mine u at keeps.0 value)
     where
       known : SendingIs r s.stored s.published inv.landed.tails (roomy u)
       known = subst (SendingIs r s.stored s.published inv.landed.tails) at inv.sending
@@ -198,112 +199,93 @@ module _ (B : ℕ) (r : RingBuffer) (is : IsRingBuffer r) (F : List ℕ) (small 
           (ahead.1 ∙ ap (λ b. (if b then send_store w (roomy u) s else s).sent ++ ahead.0) on)
   sender-stores w (filled u) does mine at keeps ahead =
       let on : overlaps r w ≡ true = word_on r w r.head is.head keeps.0 in
-      subst (λ b. Invariant r L o after (if b then send_store w (filled u) s else s)) (sym on)
-      (sends-head r is L small o es s inv e even w does mine u at keeps.0 keeps.1 on)
+      subst (λ b. Invariant r L c o after (if b then send_store w (filled u) s else s)) (sym on)
+      (sends-head r is L c o es s inv e even w does on mine u at keeps.0 keeps.1)
 
   receiver-stores : (w : Write) (p : ReceiverState) → access_of e ≡ store w → hart_of e ≡ r.receiver → s.receiving ≡ p → IsReceiverStore r p w
-      → Invariant r L o after (if overlaps r w then receive_store p s else s)
+      → Invariant r L c o after (if overlaps r w then receive_store p s else s)
   receiver-stores w idle does mine at keeps = absurd keeps
   receiver-stores w (asked u) does mine at keeps = absurd keeps
   receiver-stores w (waiting u) does mine at keeps = absurd keeps
   receiver-stores w (holding u v) does mine at keeps =
       let on : overlaps r w ≡ true = word_on r w r.tail is.tail keeps.0 in
-      subst (λ b. Invariant r L o after (if b then receive_store (holding u v) s else s)) (sym on)
-      (frees r is L small o es s inv e even w does mine u v at keeps.0 keeps.1 on)
+      subst (λ b. Invariant r L c o after (if b then receive_store (holding u v) s else s)) (sym on)
+      (frees r is L c o es s inv e even w does on mine u v at keeps.0 keeps.1)
 
   loads-word : (a width v : ℕ) → access_of e ≡ load a width v → v ≡ read o es (hart_of e) a width → (role : Role) → role_of r (hart_of e) ≡ role
-      → Invariant r L o after (next_by r role s (load a width v))
+      → Invariant r L c o after (next_by r role s (load a width v))
   loads-word a width v does found role whose = at role whose (width == 4) refl
     where
-      none : (h : ℕ) → store_of h e ≡ []
-      none h = stores-by r is L small o es s inv e even (load a width v) does h
-
-      still : (h : ℕ) → land_of h e ≡ 0
-      still h = lands-by r is L small o es s inv e even (load a width v) does h
-
-      writes : write_of es e ≡ []
-      writes = writes-by r is L small o es s inv e even (load a width v) does
+      block : Stays r o es after
+      block = load-stays r is o es e even a width v does
 
       read_by : (h : ℕ) → hart_of e ≡ h → width ≡ 4 → v ≡ read o es h a 4
       read_by h mine whole = found ∙ ap (λ g. read o es g a width) mine ∙ ap (read o es h a) whole
 
-      at : (role : Role) → role_of r (hart_of e) ≡ role → (b : Bool) → (width == 4) ≡ b → Invariant r L o after (next_by r role s (load a width v))
+      at : (role : Role) → role_of r (hart_of e) ≡ role → (b : Bool) → (width == 4) ≡ b → Invariant r L c o after (next_by r role s (load a width v))
       at sends whose true whole =
-          subst (λ b. Invariant r L o after (if b then record s { sending = send_load r a v s.sending } else s)) (sym whole)
-          (quiet r is L small o es s inv e even (send_load r a v s.sending) s.receiving none still writes
-          (sending-load r is L small o es s inv a v s.sending
+          subst (λ b. Invariant r L c o after (if b then record s { sending = send_load r a v s.sending } else s)) (sym whole)
+          (stays r is L c o es s inv e even (send_load r a v s.sending) s.receiving block
+          (sending-load r is L small c o es s inv a v s.sending
           (read_by r.sender (is_sender r (hart_of e) whose) (eqb-true width 4 whole)) inv.sending) inv.receiving)
       at sends whose false part =
-          subst (λ b. Invariant r L o after (if b then record s { sending = send_load r a v s.sending } else s)) (sym part)
-          (idles r is L small o es s inv e even none still writes)
+          subst (λ b. Invariant r L c o after (if b then record s { sending = send_load r a v s.sending } else s)) (sym part)
+          (idles r is L c o es s inv e even block)
       at receives whose true whole =
-          subst (λ b. Invariant r L o after (if b then record s { receiving = receive_load r a v s.receiving } else s)) (sym whole)
-          (quiet r is L small o es s inv e even s.sending (receive_load r a v s.receiving) none still writes
-          inv.sending (receiving-load r is L small o es s inv a v s.receiving
+          subst (λ b. Invariant r L c o after (if b then record s { receiving = receive_load r a v s.receiving } else s)) (sym whole)
+          (stays r is L c o es s inv e even s.sending (receive_load r a v s.receiving) block
+          inv.sending (receiving-load r is L small c o es s inv a v s.receiving
           (read_by r.receiver (is_receiver r (hart_of e) whose) (eqb-true width 4 whole)) inv.receiving))
       at receives whose false part =
-          subst (λ b. Invariant r L o after (if b then record s { receiving = receive_load r a v s.receiving } else s)) (sym part)
-          (idles r is L small o es s inv e even none still writes)
-      at passes whose b w = idles r is L small o es s inv e even none still writes
+          subst (λ b. Invariant r L c o after (if b then record s { receiving = receive_load r a v s.receiving } else s)) (sym part)
+          (idles r is L c o es s inv e even block)
+      at passes whose b w = idles r is L c o es s inv e even block
 
   stores-word : (w : Write) → access_of e ≡ store w → (role : Role) → role_of r (hart_of e) ≡ role → KeepsProtocolBy r role s (store w)
-      → (more : List ℕ) × (F ≡ (next_by r role s (store w)).sent ++ more) → Invariant r L o after (next_by r role s (store w))
+      → (more : List ℕ) × (F ≡ (next_by r role s (store w)).sent ++ more) → Invariant r L c o after (next_by r role s (store w))
   stores-word w does sends whose (inl off) ahead =
-      subst (λ b. Invariant r L o after (if b then send_store w s.sending s else s)) (sym off) (off-store r is L small o es s inv e even w does off)
+      subst (λ b. Invariant r L c o after (if b then send_store w s.sending s else s)) (sym off) (idles r is L c o es s inv e even (off-stays r is o es e even w does off))
   stores-word w does sends whose (inr keeps) ahead = sender-stores w s.sending does (is_sender r (hart_of e) whose) refl keeps ahead
   stores-word w does receives whose (inl off) ahead =
-      subst (λ b. Invariant r L o after (if b then receive_store s.receiving s else s)) (sym off) (off-store r is L small o es s inv e even w does off)
+      subst (λ b. Invariant r L c o after (if b then receive_store s.receiving s else s)) (sym off) (idles r is L c o es s inv e even (off-stays r is o es e even w does off))
   stores-word w does receives whose (inr keeps) ahead = receiver-stores w s.receiving does (is_receiver r (hart_of e) whose) refl keeps
-  stores-word w does passes whose off ahead = off-store r is L small o es s inv e even w does off
+  stores-word w does passes whose off ahead = idles r is L c o es s inv e even (off-stays r is o es e even w does off)
 
-  others : (role : Role) (x : Access) → ((next_by r role s x) ≡ s) → Invariant r L o after s → Invariant r L o after (next_by r role s x)
-  others role x unchanged holds = subst (Invariant r L o after) (sym unchanged) holds
+  -- an access that changes nothing of either party
+  others : (role : Role) (x : Access) → next_by r sends s x ≡ s → next_by r receives s x ≡ s → Invariant r L c o after s
+      → Invariant r L c o after (next_by r role s x)
+  others sends x one two holds = subst (Invariant r L c o after) (sym one) holds
+  others receives x one two holds = subst (Invariant r L c o after) (sym two) holds
+  others passes x one two holds = holds
 
   -- any access, of any role
   acts : (x : Access) → access_of e ≡ x → (role : Role) → role_of r (hart_of e) ≡ role → KeepsProtocolBy r role s x
       → AllowedBy B (pending (hart_of e) es) (read o es (hart_of e)) x
-      → (more : List ℕ) × (F ≡ (next_by r role s x).sent ++ more) → Invariant r L o after (next_by r role s x)
-  acts nothing does role whose keeps allowed ahead = others role nothing (plain role) (idles r is L small o es s inv e even
-      (λ h. stores-by r is L small o es s inv e even nothing does h) (λ h. lands-by r is L small o es s inv e even nothing does h)
-      (writes-by r is L small o es s inv e even nothing does))
-    where
-      plain : (role : Role) → next_by r role s nothing ≡ s
-      plain sends = refl
-      plain receives = refl
-      plain passes = refl
+      → (more : List ℕ) × (F ≡ (next_by r role s x).sent ++ more) → Invariant r L c o after (next_by r role s x)
+  acts nothing does role whose keeps allowed ahead = others role nothing refl refl
+      (idles r is L c o es s inv e even (nothing-stays r is o es e even does))
   acts (load a width v) does role whose keeps allowed ahead = loads-word a width v does allowed role whose
   acts (store w) does role whose keeps allowed ahead = stores-word w does role whose keeps ahead
-  acts (exchange a old new) does role whose keeps allowed ahead = others role (exchange a old new) (plain role)
-      (exchanges r is L small o es s inv e even a old new does (off role keeps))
+  acts (exchange a old new) does role whose keeps allowed ahead = others role (exchange a old new) refl refl
+      (idles r is L c o es s inv e even (exchange-stays r is o es e even a old new does (off role keeps)))
     where
-      plain : (role : Role) → next_by r role s (exchange a old new) ≡ s
-      plain sends = refl
-      plain receives = refl
-      plain passes = refl
-
       off : (role : Role) → KeepsProtocolBy r role s (exchange a old new) → overlaps r (write a 4 new) ≡ false
       off sends k = k
       off receives k = k
       off passes k = k
-  acts (fence full) does role whose keeps allowed ahead = others role (fence full) (plain role) (idles r is L small o es s inv e even
-      (λ h. stores-by r is L small o es s inv e even (fence full) does h) (λ h. lands-by r is L small o es s inv e even (fence full) does h)
-      (writes-by r is L small o es s inv e even (fence full) does))
-    where
-      plain : (role : Role) → next_by r role s (fence full) ≡ s
-      plain sends = refl
-      plain receives = refl
-      plain passes = refl
-  acts land does role whose keeps allowed ahead = others role land (plain role) (landing r is L small o es s inv e even does allowed)
-    where
-      plain : (role : Role) → next_by r role s land ≡ s
-      plain sends = refl
-      plain receives = refl
-      plain passes = refl
+  acts (fence full) does role whose keeps allowed ahead = others role (fence full) refl refl
+      (idles r is L c o es s inv e even (fence-stays r is o es e even full does))
+  acts land does role whose keeps allowed ahead = others role land refl refl
+      (lands-store r is L small c o es s inv e even does allowed)
 
 -- ---- whole runs
 
 -- the invariant of a queue that is empty and at rest
-pub at_rest : (r : RingBuffer) (is : IsRingBuffer r) (L : ℕ → ℕ) (o : OpeningValue) (es : List Entry) → IsEmptyAndQuiescent r o es → Invariant r L o es at_start
+abbrev pub earlier : RingBuffer → List Entry → Earlier
+earlier r es = record { sender = on_count r r.sender es; receiver = on_count r r.receiver es }
+
+pub at_rest : (r : RingBuffer) (is : IsRingBuffer r) (L : ℕ → ℕ) (o : OpeningValue) (es : List Entry) → IsEmptyAndQuiescent r o es
+    → Invariant r L (earlier r es) o es at_start
 at_rest r is L o es quiet = record {
   landed = record { slots = 0; heads = 0; tails = 0 };
   order = record {
@@ -327,11 +309,15 @@ at_rest r is L o es quiet = record {
   buffers = record {
     unsent = 0;
     unread = 0;
-    mine = quiet.pending r.sender;
+    rows = record {
+      mine = quiet.pending r.sender;
+      mine_made = omega arith;
+      theirs = quiet.pending r.receiver;
+      theirs_made = omega arith;
+      others = λ h not_sender not_receiver. quiet.pending h;
+    };
     mine_count = refl;
-    theirs = quiet.pending r.receiver;
     theirs_count = refl;
-    others = λ h not_sender not_receiver. quiet.pending h;
   };
   sent = refl;
   received = refl;
@@ -340,25 +326,25 @@ at_rest r is L o es quiet = record {
     first : offset r 0 ≡ 0
     first = let none : 0 % r.size ≡ 0 = zero-mod r.size in omega arith
 
-holds-after : (B : ℕ) (r : RingBuffer) (is : IsRingBuffer r) (F : List ℕ) (small : AreSmall F) (o : OpeningValue) (before : List Entry) (s : ProtocolState)
+holds-after : (B : ℕ) (r : RingBuffer) (is : IsRingBuffer r) (F : List ℕ) (small : AreSmall F) (c : Earlier) (o : OpeningValue) (before : List Entry) (s : ProtocolState)
     (es : List Entry)
-    → Invariant r (slice_index F) o before s → Legal B (history_of o before) → LegalAfter B o before es → KeepsProtocol r s es
-    → (more : List ℕ) × (F ≡ (protocol_after r s es).sent ++ more) → Invariant r (slice_index F) o (before ++ es) (protocol_after r s es)
-holds-after B r is F small o before s [] inv legal later keeps ahead = subst (λ xs. Invariant r (slice_index F) o xs s) (sym (append-nil before)) inv
-holds-after B r is F small o before s (e ∷ es) inv legal later keeps ahead =
+    → Invariant r (slice_index F) c o before s → Legal B (history_of o before) → LegalAfter B o before es → KeepsProtocol r s es
+    → (more : List ℕ) × (F ≡ (protocol_after r s es).sent ++ more) → Invariant r (slice_index F) c o (before ++ es) (protocol_after r s es)
+holds-after B r is F small c o before s [] inv legal later keeps ahead = subst (λ xs. Invariant r (slice_index F) c o xs s) (sym (append-nil before)) inv
+holds-after B r is F small c o before s (e ∷ es) inv legal later keeps ahead =
     let grown = protocol-grows r (protocol_next r s e) es in
-    let one : Invariant r (slice_index F) o (before ++ e ∷ []) (protocol_next r s e) =
-    acts B r is F small o before s inv e (λ h. balanced B (history_of o before) h legal) (access_of e) refl (role_of r (hart_of e)) refl keeps.0 later.0
+    let one : Invariant r (slice_index F) c o (before ++ e ∷ []) (protocol_next r s e) =
+    acts B r is F small c o before s inv e (λ h. balanced B (history_of o before) h legal) (access_of e) refl (role_of r (hart_of e)) refl keeps.0 later.0
     (grown.0 ++ ahead.0, ahead.1 ∙ ap (λ xs. xs ++ ahead.0) grown.1 ∙ append_assoc (protocol_next r s e).sent grown.0 ahead.0) in
-    subst (λ xs. Invariant r (slice_index F) o xs (protocol_after r (protocol_next r s e) es)) (append_assoc before (e ∷ []) es)
-    (holds-after B r is F small o (before ++ e ∷ []) (protocol_next r s e) es one
+    subst (λ xs. Invariant r (slice_index F) c o xs (protocol_after r (protocol_next r s e) es)) (append_assoc before (e ∷ []) es)
+    (holds-after B r is F small c o (before ++ e ∷ []) (protocol_next r s e) es one
     (LegalAfter-append B o [] before (e ∷ []) legal (later.0, tt)) later.1 keeps.1 ahead)
 
 -- the law of the invariant: of every run that keeps the protocol, and each of its beginnings, by the words of the whole
 pub invariant-of : (B : ℕ) (r : RingBuffer) (o : OpeningValue) (before es fs : List Entry) → FollowsSpscProtocol B r o before (es ++ fs)
-    → Invariant r (slice_index (protocol_after r at_start (es ++ fs)).sent) o (before ++ es) (protocol_after r at_start es)
+    → Invariant r (slice_index (protocol_after r at_start (es ++ fs)).sent) (earlier r before) o (before ++ es) (protocol_after r at_start es)
 invariant-of B r o before es fs t =
-    holds-after B r t.ring F small o before at_start es (at_rest r t.ring (slice_index F) o before t.rest)
+    holds-after B r t.ring F small (earlier r before) o before at_start es (at_rest r t.ring (slice_index F) o before t.rest)
     (LegalAfter-front B o [] before (es ++ fs) t.legal)
     (LegalAfter-front B o before es fs (LegalAfter-back B o [] before (es ++ fs) t.legal))
     (keeps-front r at_start es fs t.keeps) (grown.0, is)
@@ -386,7 +372,7 @@ delivered B r o before es t = (rest.0, whole)
     L : ℕ → ℕ
     L = slice_index (protocol_after r at_start (es ++ [])).sent
 
-    inv : Invariant r L o (before ++ es) s
+    inv : Invariant r L (earlier r before) o (before ++ es) s
     inv = invariant-of B r o before es [] (subst (FollowsSpscProtocol B r o before) (sym (append-nil es)) t)
 
     -- the words whose heads are stored, beyond those received

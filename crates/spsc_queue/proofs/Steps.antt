@@ -1,20 +1,17 @@
--- Each entry that memory and buffers allow, and that keeps the protocol, keeps the invariant.
-use Rattle.std.proofs.Common.{ℕ, zero, suc, ◌+◌, ◌^◌, ◌<◌, ◌≤◌, ◌≡◌, ◌≢◌, ◌==◌, ◌⊎◌, inl, inr, true, false, if◌then◌else◌}
-use Rattle.std.proofs.Common.{List, [], ◌∷◌, ◌++◌, length, take, refl, sym, ◌∙◌, ap, subst, arith, append-nil, eq-eqb}
-use Rattle.std.proofs.lemmas.Bool.{cases_eq, ne_eqb}
+-- Each store of a party keeps the invariant, and so does what leaves the block.
+use Rattle.std.proofs.Common.{ℕ, suc, ◌+◌, ◌≤◌, ◌≡◌, true, List, [], ◌∷◌, ◌++◌, length, sym, ◌∙◌, ap, subst, arith}
 use Rattle.std.proofs.lemmas.Bool.Decides.{nat_tests}
 use Rattle.memory.specs.declared.writes.Write.{Write}
 use Rattle.memory.specs.Writes.{write}
 use Rattle.step_machine.specs.declared.events.Entry.{Entry}
 use Rattle.step_machine.specs.History.{OpeningValue}
-use Rattle.step_machine.specs.Access.{Access, store, access_of}
-use Rattle.step_machine.specs.Entries.{hart_of, stored_by, landed_by, written_by, store_of, land_of, write_of, pending, memory_word, stores, lands}
-use Rattle.spsc_queue.specs.RingBuffers.{RingBuffer, IsRingBuffer, IsWordIn, offset, slot, next, overlaps, writes_to}
-use Rattle.spsc_queue.specs.Protocol.{SenderState, resting, roomy, filled, ReceiverState, idle, holding, ProtocolState}
-use Rattle.spsc_queue.specs.Protocol.{IsWordAt}
-use Rattle.spsc_queue.proofs.Spread.{spread, spread-more, sent_store, freed_store, sent-slot, sent-head}
-use Rattle.spsc_queue.proofs.Effects.{memory-quiet, on-append, on-one, on-none, pending-quiet, pending-more}
-use Rattle.spsc_queue.proofs.Invariant.{Landed, firsts, SendingIs, ReceivingIs, Invariant}
+use Rattle.step_machine.specs.Access.{store, access_of}
+use Rattle.step_machine.specs.Entries.{hart_of, memory_word, stores, lands}
+use Rattle.spsc_queue.specs.RingBuffers.{RingBuffer, IsRingBuffer, IsWordIn, offset, slot, next, overlaps}
+use Rattle.spsc_queue.specs.Protocol.{SenderState, resting, roomy, filled, ReceiverState, idle, holding, ProtocolState, IsWordAt}
+use Rattle.spsc_queue.proofs.Spread.{sent_store, freed_store, sent-slot, sent-head}
+use Rattle.spsc_queue.proofs.Rows.{Earlier, Stays, rows-stay, words-stay, sender-stores, receiver-stores}
+use Rattle.spsc_queue.proofs.Invariant.{Landed, Words, firsts, SendingIs, ReceivingIs, Invariant}
 use Rattle.spsc_queue.proofs.Loads.{next_offset, slot_word}
 
 -- the write of a word, by its parts
@@ -25,125 +22,55 @@ write-is w a v is value = ap (λ x. write x w.width w.value) is.place ∙ ap (λ
 pub word_on : (r : RingBuffer) (w : Write) (a : ℕ) → IsWordIn r a → IsWordAt w a → overlaps r w ≡ true
 word_on r w a word is = grind (arith, nat_tests, word.above, word.below, is.place, is.width)
 
--- where what is on the block is a word of a row, and what comes after it
-pub split_on : (r : RingBuffer) (w : Write) (rest : List Write) (f : ℕ → Write) (i n : ℕ) → overlaps r w ≡ true
-    → writes_to r (w ∷ rest) ≡ spread f i n
-    → (m : ℕ) × (n ≡ suc m) × (w ≡ f i) × (writes_to r rest ≡ spread f (suc i) m)
-split_on r w rest f i n on is = at n refl (sym (ap (λ b. if b then w ∷ writes_to r rest else writes_to r rest) on) ∙ is)
-  where
-    at : (k : ℕ) → n ≡ k → w ∷ writes_to r rest ≡ spread f i k
-        → (m : ℕ) × (n ≡ suc m) × (w ≡ f i) × (writes_to r rest ≡ spread f (suc i) m)
-    at zero e same = cc
-    at (suc m) e same = (m, e, (let one : w ≡ f i = cc in one), (let more : writes_to r rest ≡ spread f (suc i) m = cc in more))
+-- where the words of the block stay
+words-same : (r : RingBuffer) (is : IsRingBuffer r) (L : ℕ → ℕ) (d : Landed) (old new : ℕ → ℕ) → ((a : ℕ) → IsWordIn r a → new a ≡ old a)
+    → Words r L d old → Words r L d new
+words-same r is L d old new same words = record {
+  head = same r.head is.head ∙ words.head;
+  tail = same r.tail is.tail ∙ words.tail;
+  slots = λ j from below. same (slot r j) (slot_word r is j) ∙ words.slots j from below;
+}
 
-pub split_off : (r : RingBuffer) (w : Write) (rest : List Write) → overlaps r w ≡ false → writes_to r (w ∷ rest) ≡ writes_to r rest
-split_off r w rest off = ap (λ b. if b then w ∷ writes_to r rest else writes_to r rest) off
-
-pub some_first : (ws : List Write) → 0 < length ws → (w : Write) × (rest : List Write) × (ws ≡ w ∷ rest)
-some_first [] some = absurd (omega arith)
-some_first (w ∷ ws) some = (w, ws, refl)
-
-module _ (r : RingBuffer) (is : IsRingBuffer r) (L : ℕ → ℕ) (small : (j : ℕ) → L j < 2 ^ 32) (o : OpeningValue) (es : List Entry) (s : ProtocolState)
-    (inv : Invariant r L o es s) (e : Entry) (even : (h : ℕ) → lands h es ≤ length (stores h es)) where
+module _ (r : RingBuffer) (is : IsRingBuffer r) (L : ℕ → ℕ) (c : Earlier) (o : OpeningValue) (es : List Entry) (s : ProtocolState)
+    (inv : Invariant r L c o es s) (e : Entry) (even : (h : ℕ) → lands h es ≤ length (stores h es)) where
   abbrev d : Landed
   d = inv.landed
 
   abbrev after : List Entry
   after = es ++ e ∷ []
 
-  -- the block stays, and so do the pending stores to it: what a party knows may change
-  pub stays : (p : SenderState) (q : ReceiverState) → ((a : ℕ) → IsWordIn r a → memory_word o after a ≡ memory_word o es a)
-      → ((h : ℕ) → writes_to r (pending h after) ≡ writes_to r (pending h es))
+  -- the block stays, and so do the stores to it: what a party knows may change
+  pub stays : (p : SenderState) (q : ReceiverState) → Stays r o es after
       → SendingIs r s.stored s.published d.tails p → ReceivingIs r L s.consumed d.heads q
-      → Invariant r L o after (record s { sending = p; receiving = q })
-  stays p q words pends sending receiving = record {
+      → Invariant r L c o after (record s { sending = p; receiving = q })
+  stays p q block sending receiving = record {
     landed = d;
-    order = record {
-      heads_slots = inv.order.heads_slots;
-      slots_heads = inv.order.slots_heads;
-      slots_stored = inv.order.slots_stored;
-      heads_published = inv.order.heads_published;
-      published_stored = inv.order.published_stored;
-      stored_published = inv.order.stored_published;
-      consumed_heads = inv.order.consumed_heads;
-      landed_consumed = inv.order.landed_consumed;
-      room = inv.order.room;
-    };
-    words = record {
-      head = words r.head is.head ∙ inv.words.head;
-      tail = words r.tail is.tail ∙ inv.words.tail;
-      slots = λ j from below. words (slot r j) (slot_word r is j) ∙ inv.words.slots j from below;
-    };
+    order = inv.order;
+    words = words-same r is L d (memory_word o es) (memory_word o after) block.words inv.words;
     sending = sending;
     receiving = receiving;
     buffers = record {
       unsent = inv.buffers.unsent;
       unread = inv.buffers.unread;
-      mine = pends r.sender ∙ inv.buffers.mine;
+      rows = rows-stay r c (sent_store r L) (freed_store r) o es after (d.slots + d.heads) inv.buffers.unsent d.tails inv.buffers.unread inv.buffers.rows block;
       mine_count = inv.buffers.mine_count;
-      theirs = pends r.receiver ∙ inv.buffers.theirs;
       theirs_count = inv.buffers.theirs_count;
-      others = λ h not_sender not_receiver. pends h ∙ inv.buffers.others h not_sender not_receiver;
     };
     sent = inv.sent;
     received = inv.received;
   }
 
-  -- an entry that neither stores nor lands nor writes
-  pub quiet : (p : SenderState) (q : ReceiverState) → ((h : ℕ) → store_of h e ≡ []) → ((h : ℕ) → land_of h e ≡ 0) → write_of es e ≡ []
-      → SendingIs r s.stored s.published d.tails p → ReceivingIs r L s.consumed d.heads q
-      → Invariant r L o after (record s { sending = p; receiving = q })
-  quiet p q none still writes sending receiving =
-      stays p q (λ a word. memory-quiet o es e a writes)
-      (λ h. ap (writes_to r) (pending-quiet es e h (even h) (none h) (still h))) sending receiving
+  pub idles : Stays r o es after → Invariant r L c o after s
+  idles block = stays s.sending s.receiving block inv.sending inv.receiving
 
-  pub idles : ((h : ℕ) → store_of h e ≡ []) → ((h : ℕ) → land_of h e ≡ 0) → write_of es e ≡ [] → Invariant r L o after s
-  idles none still writes = quiet s.sending s.receiving none still writes inv.sending inv.receiving
-
-  -- what each kind of access does, read off the entry
-  module _ (x : Access) (does : access_of e ≡ x) where
-    pub stores-by : (h : ℕ) → store_of h e ≡ stored_by (hart_of e == h) x
-    stores-by h = ap (stored_by (hart_of e == h)) does
-
-    pub lands-by : (h : ℕ) → land_of h e ≡ landed_by (hart_of e == h) x
-    lands-by h = ap (landed_by (hart_of e == h)) does
-
-    pub writes-by : write_of es e ≡ written_by (take 1 (pending (hart_of e) es)) x
-    writes-by = ap (written_by (take 1 (pending (hart_of e) es))) does
-
-  -- a store, by which hart h gets one more pending store or keeps its own
-  module _ (w : Write) (does : access_of e ≡ store w) where
-    more-of : pending (hart_of e) after ≡ pending (hart_of e) es ++ w ∷ []
-    more-of = pending-more es e (hart_of e) (even (hart_of e)) w
-        (stores-by (store w) does (hart_of e) ∙ ap (λ b. if b then w ∷ [] else []) (eq-eqb (hart_of e) (hart_of e) refl))
-        (lands-by (store w) does (hart_of e))
-
-    same-of : (h : ℕ) → hart_of e ≢ h → pending h after ≡ pending h es
-    same-of h other = pending-quiet es e h (even h)
-        (stores-by (store w) does h ∙ ap (λ b. if b then w ∷ [] else []) (ne_eqb (hart_of e) h other)) (lands-by (store w) does h)
-
-    words-stay : (a : ℕ) → memory_word o after a ≡ memory_word o es a
-    words-stay a = memory-quiet o es e a (writes-by (store w) does)
-
-    pub off-store : overlaps r w ≡ false → Invariant r L o after s
-    off-store off = stays s.sending s.receiving (λ a word. words-stay a) (λ h. at h (cases_eq (hart_of e) h)) inv.sending inv.receiving
-      where
-        at : (h : ℕ) → (hart_of e ≡ h) ⊎ (hart_of e ≢ h) → writes_to r (pending h after) ≡ writes_to r (pending h es)
-        at h (inl same) = subst (λ g. writes_to r (pending g after) ≡ writes_to r (pending g es)) same
-            (ap (writes_to r) more-of ∙ on-append r (pending (hart_of e) es) (w ∷ [])
-            ∙ ap (λ vs. writes_to r (pending (hart_of e) es) ++ vs) (on-none r w off) ∙ append-nil (writes_to r (pending (hart_of e) es)))
-        at h (inr other) = ap (writes_to r) (same-of h other)
-
-    on-store : (f : ℕ → Write) (i n : ℕ) → overlaps r w ≡ true → writes_to r (pending (hart_of e) es) ≡ spread f i n → w ≡ f (i + n)
-        → writes_to r (pending (hart_of e) after) ≡ spread f i (suc n)
-    on-store f i n on before is_next =
-        ap (writes_to r) more-of ∙ on-append r (pending (hart_of e) es) (w ∷ []) ∙ ap (λ vs. writes_to r (pending (hart_of e) es) ++ vs) (on-one r w on)
-        ∙ ap (λ vs. vs ++ w ∷ []) before ∙ ap (λ x. spread f i n ++ x ∷ []) is_next ∙ spread-more f i n
+  module _ (w : Write) (does : access_of e ≡ store w) (on : overlaps r w ≡ true) where
+    words : Words r L d (memory_word o after)
+    words = words-same r is L d (memory_word o es) (memory_word o after) (λ a word. words-stay r is o es e even w does a) inv.words
 
     -- the sender's two stores
     pub sends-word : hart_of e ≡ r.sender → (u : ℕ) → s.sending ≡ roomy u → IsWordAt w (r.slots + u) → w.value ≡ L s.stored
-        → overlaps r w ≡ true → Invariant r L o after (record s { sending = filled u; stored = s.stored + 1; sent = s.sent ++ w.value ∷ [] })
-    sends-word mine u at word value on = record {
+        → Invariant r L c o after (record s { sending = filled u; stored = s.stored + 1; sent = s.sent ++ w.value ∷ [] })
+    sends-word mine u at word value = record {
       landed = d;
       order = record {
         heads_slots = inv.order.heads_slots;
@@ -156,23 +83,16 @@ module _ (r : RingBuffer) (is : IsRingBuffer r) (L : ℕ → ℕ) (small : (j : 
         landed_consumed = inv.order.landed_consumed;
         room = omega (arith, known.2);
       };
-      words = record {
-        head = words-stay r.head ∙ inv.words.head;
-        tail = words-stay r.tail ∙ inv.words.tail;
-        slots = λ j from below. words-stay (slot r j) ∙ inv.words.slots j from below;
-      };
+      words = words;
       sending = (omega (arith, known.0), known.1);
       receiving = inv.receiving;
       buffers = record {
         unsent = suc inv.buffers.unsent;
         unread = inv.buffers.unread;
-        mine = subst (λ h. writes_to r (pending h after) ≡ spread (sent_store r L) (d.slots + d.heads) (suc inv.buffers.unsent)) mine
-            (on-store (sent_store r L) (d.slots + d.heads) inv.buffers.unsent on (ap (λ h. writes_to r (pending h es)) mine ∙ inv.buffers.mine) is_next);
+        rows = sender-stores r is o es e even w does on c (sent_store r L) (freed_store r) (d.slots + d.heads) inv.buffers.unsent d.tails inv.buffers.unread
+            inv.buffers.rows mine is_next;
         mine_count = omega (arith, inv.buffers.mine_count);
-        theirs = ap (writes_to r) (same-of r.receiver (λ same. is.parties (sym mine ∙ same))) ∙ inv.buffers.theirs;
         theirs_count = inv.buffers.theirs_count;
-        others = λ h not_sender not_receiver. ap (writes_to r) (same-of h (λ same. not_sender (sym same ∙ mine)))
-            ∙ inv.buffers.others h not_sender not_receiver;
       };
       sent = ap (λ ws. ws ++ w.value ∷ []) inv.sent ∙ ap (λ v. firsts L s.stored ++ v ∷ []) value ∙ ap (firsts L) one_more;
       received = inv.received;
@@ -190,8 +110,8 @@ module _ (r : RingBuffer) (is : IsRingBuffer r) (L : ℕ → ℕ) (small : (j : 
             ∙ sym (sent-slot r L ((d.slots + d.heads) + inv.buffers.unsent) s.stored (omega (arith, inv.buffers.mine_count, known.0)))
 
     pub sends-head : hart_of e ≡ r.sender → (u : ℕ) → s.sending ≡ filled u → IsWordAt w r.head → w.value ≡ next r u
-        → overlaps r w ≡ true → Invariant r L o after (record s { sending = resting; published = s.published + 1 })
-    sends-head mine u at word value on = record {
+        → Invariant r L c o after (record s { sending = resting; published = s.published + 1 })
+    sends-head mine u at word value = record {
       landed = d;
       order = record {
         heads_slots = inv.order.heads_slots;
@@ -204,23 +124,16 @@ module _ (r : RingBuffer) (is : IsRingBuffer r) (L : ℕ → ℕ) (small : (j : 
         landed_consumed = inv.order.landed_consumed;
         room = inv.order.room;
       };
-      words = record {
-        head = words-stay r.head ∙ inv.words.head;
-        tail = words-stay r.tail ∙ inv.words.tail;
-        slots = λ j from below. words-stay (slot r j) ∙ inv.words.slots j from below;
-      };
+      words = words;
       sending = known.0;
       receiving = inv.receiving;
       buffers = record {
         unsent = suc inv.buffers.unsent;
         unread = inv.buffers.unread;
-        mine = subst (λ h. writes_to r (pending h after) ≡ spread (sent_store r L) (d.slots + d.heads) (suc inv.buffers.unsent)) mine
-            (on-store (sent_store r L) (d.slots + d.heads) inv.buffers.unsent on (ap (λ h. writes_to r (pending h es)) mine ∙ inv.buffers.mine) is_next);
+        rows = sender-stores r is o es e even w does on c (sent_store r L) (freed_store r) (d.slots + d.heads) inv.buffers.unsent d.tails inv.buffers.unread
+            inv.buffers.rows mine is_next;
         mine_count = omega (arith, inv.buffers.mine_count);
-        theirs = ap (writes_to r) (same-of r.receiver (λ same. is.parties (sym mine ∙ same))) ∙ inv.buffers.theirs;
         theirs_count = inv.buffers.theirs_count;
-        others = λ h not_sender not_receiver. ap (writes_to r) (same-of h (λ same. not_sender (sym same ∙ mine)))
-            ∙ inv.buffers.others h not_sender not_receiver;
       };
       sent = inv.sent;
       received = inv.received;
@@ -235,8 +148,8 @@ module _ (r : RingBuffer) (is : IsRingBuffer r) (L : ℕ → ℕ) (small : (j : 
 
     -- the receiver's
     pub frees : hart_of e ≡ r.receiver → (u v : ℕ) → s.receiving ≡ holding u v → IsWordAt w r.tail → w.value ≡ next r u
-        → overlaps r w ≡ true → Invariant r L o after (record s { receiving = idle; consumed = s.consumed + 1; received = s.received ++ v ∷ [] })
-    frees mine u v at word value on = record {
+        → Invariant r L c o after (record s { receiving = idle; consumed = s.consumed + 1; received = s.received ++ v ∷ [] })
+    frees mine u v at word value = record {
       landed = d;
       order = record {
         heads_slots = inv.order.heads_slots;
@@ -249,23 +162,16 @@ module _ (r : RingBuffer) (is : IsRingBuffer r) (L : ℕ → ℕ) (small : (j : 
         landed_consumed = omega (arith, inv.order.landed_consumed);
         room = inv.order.room;
       };
-      words = record {
-        head = words-stay r.head ∙ inv.words.head;
-        tail = words-stay r.tail ∙ inv.words.tail;
-        slots = λ j from below. words-stay (slot r j) ∙ inv.words.slots j from below;
-      };
+      words = words;
       sending = inv.sending;
       receiving = tt;
       buffers = record {
         unsent = inv.buffers.unsent;
         unread = suc inv.buffers.unread;
-        mine = ap (writes_to r) (same-of r.sender (λ same. is.parties (sym same ∙ mine))) ∙ inv.buffers.mine;
+        rows = receiver-stores r is o es e even w does on c (sent_store r L) (freed_store r) (d.slots + d.heads) inv.buffers.unsent d.tails inv.buffers.unread
+            inv.buffers.rows mine is_next;
         mine_count = inv.buffers.mine_count;
-        theirs = subst (λ h. writes_to r (pending h after) ≡ spread (freed_store r) d.tails (suc inv.buffers.unread)) mine
-            (on-store (freed_store r) d.tails inv.buffers.unread on (ap (λ h. writes_to r (pending h es)) mine ∙ inv.buffers.theirs) is_next);
         theirs_count = omega (arith, inv.buffers.theirs_count);
-        others = λ h not_sender not_receiver. ap (writes_to r) (same-of h (λ same. not_receiver (sym same ∙ mine)))
-            ∙ inv.buffers.others h not_sender not_receiver;
       };
       sent = inv.sent;
       received = ap (λ ws. ws ++ v ∷ []) inv.received ∙ ap (λ x. firsts L s.consumed ++ x ∷ []) known.2 ∙ ap (firsts L) one_more;

@@ -1,4 +1,4 @@
-use Rattle.spsc_queue.proofs.Publication.{reached, reached_later}
+use Rattle.spsc_queue.proofs.Performed.{reached, reached_later}
 use Rattle.spsc_queue.proofs.StoreBuffers.{read_seen}
 use Rattle.spsc_queue.proofs.MessagePassing.{handed_over}
 use Rattle.spsc_queue.proofs.laws_of_store_buffers.Goals as goal

@@ -1,0 +1,294 @@
+-- Rows of stores, of any protocol: each party stores to the block in an order that is known, and what an entry does to the
+-- block is to leave it, to make a party's next store pending, or to land a party's oldest.
+use Rattle.std.proofs.Common.{ℕ, zero, suc, ◌+◌, ◌<◌, ◌≤◌, ◌≡◌, ◌≢◌, ◌==◌, ◌⊎◌, inl, inr, Bool, true, false, if◌then◌else◌}
+use Rattle.std.proofs.Common.{List, [], ◌∷◌, ◌++◌, length, take, refl, sym, ◌∙◌, ap, subst, arith, append-nil, length-append, eq-eqb}
+use Rattle.std.proofs.lemmas.Bool.{cases_eq, ne_eqb}
+use Rattle.memory.specs.declared.writes.Write.{Write}
+use Rattle.memory.specs.Writes.{write, IsWholeWord}
+use Rattle.step_machine.specs.declared.events.Entry.{Entry}
+use Rattle.step_machine.specs.History.{OpeningValue}
+use Rattle.step_machine.specs.Access.{Access, nothing, load, store, exchange, fence, land, access_of}
+use Rattle.step_machine.specs.Entries.{hart_of, stored_by, landed_by, written_by, store_of, land_of, write_of, pending, memory_word, stores, lands}
+use Rattle.step_machine.proofs.Appended.{stores-append}
+use Rattle.spsc_queue.specs.RingBuffers.{RingBuffer, IsRingBuffer, IsWordIn, overlaps, writes_to}
+use Rattle.spsc_queue.proofs.Spread.{spread, spread-more}
+use Rattle.spsc_queue.proofs.Effects.{memory-quiet, memory-off, memory-whole, on-append, on-one, on-none, pending-quiet, pending-more, pending-first}
+
+-- where what is on the block is a word of a row, and what comes after it
+pub split_on : (r : RingBuffer) (w : Write) (rest : List Write) (f : ℕ → Write) (i n : ℕ) → overlaps r w ≡ true
+    → writes_to r (w ∷ rest) ≡ spread f i n
+    → (m : ℕ) × (n ≡ suc m) × (w ≡ f i) × (writes_to r rest ≡ spread f (suc i) m)
+split_on r w rest f i n on is = at n refl (sym (ap (λ b. if b then w ∷ writes_to r rest else writes_to r rest) on) ∙ is)
+  where
+    at : (k : ℕ) → n ≡ k → w ∷ writes_to r rest ≡ spread f i k
+        → (m : ℕ) × (n ≡ suc m) × (w ≡ f i) × (writes_to r rest ≡ spread f (suc i) m)
+    at zero e same = cc
+    at (suc m) e same = (m, e, (let one : w ≡ f i = cc in one), (let more : writes_to r rest ≡ spread f (suc i) m = cc in more))
+
+split_off : (r : RingBuffer) (w : Write) (rest : List Write) → overlaps r w ≡ false → writes_to r (w ∷ rest) ≡ writes_to r rest
+split_off r w rest off = ap (λ b. if b then w ∷ writes_to r rest else writes_to r rest) off
+
+some_first : (ws : List Write) → 0 < length ws → (w : Write) × (rest : List Write) × (ws ≡ w ∷ rest)
+some_first [] some = absurd (omega arith)
+some_first (w ∷ ws) some = (w, ws, refl)
+
+-- how many stores to the block the parties had made before a run
+pub record Earlier : Type 0 where
+  pub sender : ℕ
+  pub receiver : ℕ
+
+abbrev pub on_count : RingBuffer → (h : ℕ) → List Entry → ℕ
+on_count r h es = length (writes_to r (stores h es))
+
+-- the sender's row is f and the receiver's g: i and j of their stores have landed, and the next n and m are pending
+pub record Rows (r : RingBuffer) (c : Earlier) (f g : ℕ → Write) (es : List Entry) (i n j m : ℕ) : Type 0 where
+  pub mine : writes_to r (pending r.sender es) ≡ spread f i n
+  pub mine_made : on_count r r.sender es ≡ c.sender + (i + n)
+  pub theirs : writes_to r (pending r.receiver es) ≡ spread g j m
+  pub theirs_made : on_count r r.receiver es ≡ c.receiver + (j + m)
+  pub others : (h : ℕ) → h ≢ r.sender → h ≢ r.receiver → writes_to r (pending h es) ≡ []
+
+-- from es to fs the words of the block stay, and so do the stores to it
+pub record Stays (r : RingBuffer) (o : OpeningValue) (es fs : List Entry) : Type 0 where
+  pub words : (a : ℕ) → IsWordIn r a → memory_word o fs a ≡ memory_word o es a
+  pub pends : (h : ℕ) → writes_to r (pending h fs) ≡ writes_to r (pending h es)
+  pub made : (h : ℕ) → on_count r h fs ≡ on_count r h es
+
+-- w is written to the block
+abbrev pub Lands : RingBuffer → OpeningValue → (es fs : List Entry) → Write → Type 0
+Lands r o es fs w = (a : ℕ) → IsWordIn r a → IsWholeWord w → memory_word o fs a ≡ (if w.addr == a then w.value else memory_word o es a)
+
+pub hit : (r : RingBuffer) (o : OpeningValue) (es fs : List Entry) (w : Write) (a : ℕ) → Lands r o es fs w → IsWordIn r a → IsWholeWord w → w.addr ≡ a
+    → memory_word o fs a ≡ w.value
+hit r o es fs w a is word whole here = is a word whole ∙ ap (λ b. if b then w.value else memory_word o es a) (eq-eqb w.addr a here)
+
+pub miss : (r : RingBuffer) (o : OpeningValue) (es fs : List Entry) (w : Write) (a : ℕ) → Lands r o es fs w → IsWordIn r a → IsWholeWord w → w.addr ≢ a
+    → memory_word o fs a ≡ memory_word o es a
+miss r o es fs w a is word whole there = is a word whole ∙ ap (λ b. if b then w.value else memory_word o es a) (ne_eqb w.addr a there)
+
+pub rows-stay : (r : RingBuffer) (c : Earlier) (f g : ℕ → Write) (o : OpeningValue) (es fs : List Entry) (i n j m : ℕ)
+    → Rows r c f g es i n j m → Stays r o es fs → Rows r c f g fs i n j m
+rows-stay r c f g o es fs i n j m rows stays = record {
+  mine = stays.pends r.sender ∙ rows.mine;
+  mine_made = stays.made r.sender ∙ rows.mine_made;
+  theirs = stays.pends r.receiver ∙ rows.theirs;
+  theirs_made = stays.made r.receiver ∙ rows.theirs_made;
+  others = λ h not_sender not_receiver. stays.pends h ∙ rows.others h not_sender not_receiver;
+}
+
+stored_none : (x : Access) → stored_by false x ≡ []
+stored_none nothing = refl
+stored_none (load a width v) = refl
+stored_none (store w) = refl
+stored_none (exchange a old new) = refl
+stored_none (fence full) = refl
+stored_none land = refl
+
+module _ (r : RingBuffer) (is : IsRingBuffer r) (o : OpeningValue) (es : List Entry) (e : Entry) (even : (h : ℕ) → lands h es ≤ length (stores h es)) where
+  abbrev after : List Entry
+  after = es ++ e ∷ []
+
+  -- how many stores to the block a hart has made then
+  made-of : (h : ℕ) (ws : List Write) → store_of h e ≡ ws → on_count r h after ≡ on_count r h es + length (writes_to r ws)
+  made-of h ws is_stored = ap (λ vs. length (writes_to r vs)) (stores-append h es (e ∷ []) ∙ ap (λ vs. stores h es ++ vs) (append-nil (store_of h e) ∙ is_stored))
+      ∙ ap length (on-append r (stores h es) ws) ∙ length-append (writes_to r (stores h es)) (writes_to r ws)
+
+  made-none : (h : ℕ) → store_of h e ≡ [] → on_count r h after ≡ on_count r h es
+  made-none h none = made-of h [] none ∙ (let same : on_count r h es + 0 ≡ on_count r h es = omega arith in same)
+
+  -- an entry that stores nothing and lands nothing, and writes at most off the block
+  stays-if : ((h : ℕ) → store_of h e ≡ []) → ((h : ℕ) → land_of h e ≡ 0)
+      → ((a : ℕ) → IsWordIn r a → memory_word o after a ≡ memory_word o es a) → Stays r o es after
+  stays-if none still words = record {
+    words = words;
+    pends = λ h. ap (writes_to r) (pending-quiet es e h (even h) (none h) (still h));
+    made = λ h. made-none h (none h);
+  }
+
+  -- what each kind of access does, read off the entry
+  module _ (x : Access) (does : access_of e ≡ x) where
+    stores-by : (h : ℕ) → store_of h e ≡ stored_by (hart_of e == h) x
+    stores-by h = ap (stored_by (hart_of e == h)) does
+
+    lands-by : (h : ℕ) → land_of h e ≡ landed_by (hart_of e == h) x
+    lands-by h = ap (landed_by (hart_of e == h)) does
+
+    writes-by : write_of es e ≡ written_by (take 1 (pending (hart_of e) es)) x
+    writes-by = ap (written_by (take 1 (pending (hart_of e) es))) does
+
+    -- another hart's entry stores nothing of this hart's
+    no-store-of : (h : ℕ) → hart_of e ≢ h → store_of h e ≡ []
+    no-store-of h other = stores-by h ∙ ap (λ b. stored_by b x) (ne_eqb (hart_of e) h other) ∙ stored_none x
+
+  pub nothing-stays : access_of e ≡ nothing → Stays r o es after
+  nothing-stays does = stays-if (stores-by nothing does) (lands-by nothing does) (λ a word. memory-quiet o es e a (writes-by nothing does))
+
+  pub load-stays : (a width v : ℕ) → access_of e ≡ load a width v → Stays r o es after
+  load-stays a width v does =
+      stays-if (stores-by (load a width v) does) (lands-by (load a width v) does) (λ b word. memory-quiet o es e b (writes-by (load a width v) does))
+
+  pub fence-stays : (full : Bool) → access_of e ≡ fence full → Stays r o es after
+  fence-stays full does =
+      stays-if (stores-by (fence full) does) (lands-by (fence full) does) (λ a word. memory-quiet o es e a (writes-by (fence full) does))
+
+  -- an AMO off the block
+  pub exchange-stays : (a old new : ℕ) → access_of e ≡ exchange a old new → overlaps r (write a 4 new) ≡ false → Stays r o es after
+  exchange-stays a old new does off = stays-if (stores-by (exchange a old new) does) (lands-by (exchange a old new) does)
+      (λ b word. memory-off o es e r b (write a 4 new) (writes-by (exchange a old new) does) word off)
+
+  -- a store, by which the entry's hart gets one more pending store and each other keeps its own
+  module _ (w : Write) (does : access_of e ≡ store w) where
+    stored-of : store_of (hart_of e) e ≡ w ∷ []
+    stored-of = stores-by (store w) does (hart_of e) ∙ ap (λ b. if b then w ∷ [] else []) (eq-eqb (hart_of e) (hart_of e) refl)
+
+    more-of : pending (hart_of e) after ≡ pending (hart_of e) es ++ w ∷ []
+    more-of = pending-more es e (hart_of e) (even (hart_of e)) w stored-of (lands-by (store w) does (hart_of e))
+
+    same-of : (h : ℕ) → hart_of e ≢ h → writes_to r (pending h after) ≡ writes_to r (pending h es)
+    same-of h other = ap (writes_to r) (pending-quiet es e h (even h) (no-store-of (store w) does h other) (lands-by (store w) does h))
+
+    pub words-stay : (a : ℕ) → memory_word o after a ≡ memory_word o es a
+    words-stay a = memory-quiet o es e a (writes-by (store w) does)
+
+    pub off-stays : overlaps r w ≡ false → Stays r o es after
+    off-stays off = record { words = λ a word. words-stay a; pends = λ h. at h (cases_eq (hart_of e) h); made = λ h. count h (cases_eq (hart_of e) h) }
+      where
+        at : (h : ℕ) → (hart_of e ≡ h) ⊎ (hart_of e ≢ h) → writes_to r (pending h after) ≡ writes_to r (pending h es)
+        at h (inl same) = subst (λ g. writes_to r (pending g after) ≡ writes_to r (pending g es)) same
+            (ap (writes_to r) more-of ∙ on-append r (pending (hart_of e) es) (w ∷ [])
+            ∙ ap (λ vs. writes_to r (pending (hart_of e) es) ++ vs) (on-none r w off) ∙ append-nil (writes_to r (pending (hart_of e) es)))
+        at h (inr other) = same-of h other
+
+        count : (h : ℕ) → (hart_of e ≡ h) ⊎ (hart_of e ≢ h) → on_count r h after ≡ on_count r h es
+        count h (inl same) = subst (λ g. on_count r g after ≡ on_count r g es) same
+            (made-of (hart_of e) (w ∷ []) stored-of ∙ ap (λ vs. on_count r (hart_of e) es + length vs) (on-none r w off)
+            ∙ (let none : on_count r (hart_of e) es + 0 ≡ on_count r (hart_of e) es = omega arith in none))
+        count h (inr other) = made-none h (no-store-of (store w) does h other)
+
+    module _ (on : overlaps r w ≡ true) where
+      longer : (h : ℕ) → hart_of e ≡ h → (f : ℕ → Write) (i n : ℕ) → writes_to r (pending h es) ≡ spread f i n → w ≡ f (i + n)
+          → writes_to r (pending h after) ≡ spread f i (suc n)
+      longer h mine f i n before is_next = subst (λ g. writes_to r (pending g after) ≡ spread f i (suc n)) mine
+          (ap (writes_to r) more-of ∙ on-append r (pending (hart_of e) es) (w ∷ []) ∙ ap (λ vs. writes_to r (pending (hart_of e) es) ++ vs) (on-one r w on)
+          ∙ ap (λ vs. vs ++ w ∷ []) (ap (λ g. writes_to r (pending g es)) mine ∙ before) ∙ ap (λ x. spread f i n ++ x ∷ []) is_next ∙ spread-more f i n)
+
+      one-more : (h : ℕ) → hart_of e ≡ h → on_count r h after ≡ on_count r h es + 1
+      one-more h mine = subst (λ g. on_count r g after ≡ on_count r g es + 1) mine
+          (made-of (hart_of e) (w ∷ []) stored-of ∙ ap (λ vs. on_count r (hart_of e) es + length vs) (on-one r w on))
+
+      module _ (c : Earlier) (f g : ℕ → Write) (i n j m : ℕ) (rows : Rows r c f g es i n j m) where
+        pub sender-stores : hart_of e ≡ r.sender → w ≡ f (i + n) → Rows r c f g after i (suc n) j m
+        sender-stores mine is_next = record {
+          mine = longer r.sender mine f i n rows.mine is_next;
+          mine_made = (let one = one-more r.sender mine in omega (arith, one, rows.mine_made));
+          theirs = same-of r.receiver other ∙ rows.theirs;
+          theirs_made = made-none r.receiver (no-store-of (store w) does r.receiver other) ∙ rows.theirs_made;
+          others = λ h not_sender not_receiver. same-of h (λ same. not_sender (sym same ∙ mine)) ∙ rows.others h not_sender not_receiver;
+        }
+          where
+            other : hart_of e ≢ r.receiver
+            other = λ same. is.parties (sym mine ∙ same)
+
+        pub receiver-stores : hart_of e ≡ r.receiver → w ≡ g (j + m) → Rows r c f g after i n j (suc m)
+        receiver-stores mine is_next = record {
+          mine = same-of r.sender other ∙ rows.mine;
+          mine_made = made-none r.sender (no-store-of (store w) does r.sender other) ∙ rows.mine_made;
+          theirs = longer r.receiver mine g j m rows.theirs is_next;
+          theirs_made = (let one = one-more r.receiver mine in omega (arith, one, rows.theirs_made));
+          others = λ h not_sender not_receiver. same-of h (λ same. not_receiver (sym same ∙ mine)) ∙ rows.others h not_sender not_receiver;
+        }
+          where
+            other : hart_of e ≢ r.sender
+            other = λ same. is.parties (sym same ∙ mine)
+
+  -- the oldest pending store of the entry's hart lands
+  module _ (c : Earlier) (f g : ℕ → Write) (i n j m : ℕ) (rows : Rows r c f g es i n j m) where
+    -- it is off the block, or the next of the sender's row, or the next of the receiver's
+    abbrev pub Landing : Type 0
+    Landing = Stays r o es after ⊎ (
+        ((k : ℕ) × (n ≡ suc k) × Rows r c f g after (suc i) k j m × Lands r o es after (f i))
+        ⊎ ((k : ℕ) × (m ≡ suc k) × Rows r c f g after i n (suc j) k × Lands r o es after (g j)))
+
+    module _ (does : access_of e ≡ land) (w : Write) (rest : List Write) (first : pending (hart_of e) es ≡ w ∷ rest) where
+      none-stored : (h : ℕ) → store_of h e ≡ []
+      none-stored h = stores-by land does h
+
+      left-of : pending (hart_of e) after ≡ rest
+      left-of = pending-first es e (hart_of e) (even (hart_of e)) w rest first (none-stored (hart_of e))
+          (lands-by land does (hart_of e) ∙ ap (λ b. if b then 1 else 0) (eq-eqb (hart_of e) (hart_of e) refl))
+
+      kept-of : (h : ℕ) → hart_of e ≢ h → writes_to r (pending h after) ≡ writes_to r (pending h es)
+      kept-of h other = ap (writes_to r) (pending-quiet es e h (even h) (none-stored h)
+          (lands-by land does h ∙ ap (λ b. if b then 1 else 0) (ne_eqb (hart_of e) h other)))
+
+      writes : write_of es e ≡ w ∷ []
+      writes = writes-by land does ∙ ap (take 1) first
+
+      written : (x : Write) → w ≡ x → Lands r o es after x
+      written x is_it a word whole = memory-whole o es e a x (writes ∙ ap (λ y. y ∷ []) is_it) word.aligned whole
+
+      off-lands : overlaps r w ≡ false → Stays r o es after
+      off-lands off = record {
+        words = λ a word. memory-off o es e r a w writes word off;
+        pends = λ h. at h (cases_eq (hart_of e) h);
+        made = λ h. made-none h (none-stored h);
+      }
+        where
+          at : (h : ℕ) → (hart_of e ≡ h) ⊎ (hart_of e ≢ h) → writes_to r (pending h after) ≡ writes_to r (pending h es)
+          at h (inl same) = subst (λ g. writes_to r (pending g after) ≡ writes_to r (pending g es)) same
+              (ap (writes_to r) left-of ∙ sym (ap (writes_to r) first ∙ split_off r w rest off))
+          at h (inr other) = kept-of h other
+
+      left : (h : ℕ) → hart_of e ≡ h → (q : ℕ → Write) (p k : ℕ) → writes_to r rest ≡ spread q p k → writes_to r (pending h after) ≡ spread q p k
+      left h mine q p k more = subst (λ g. writes_to r (pending g after) ≡ spread q p k) mine (ap (writes_to r) left-of ∙ more)
+
+      row-of : (h : ℕ) → hart_of e ≡ h → (ws : List Write) → writes_to r (pending h es) ≡ ws → writes_to r (w ∷ rest) ≡ ws
+      row-of h mine ws has = ap (writes_to r) (sym first) ∙ ap (λ g. writes_to r (pending g es)) mine ∙ has
+
+      on-lands : overlaps r w ≡ true → Landing
+      on-lands on = at (cases_eq (hart_of e) r.sender) (cases_eq (hart_of e) r.receiver)
+        where
+          at : (hart_of e ≡ r.sender) ⊎ (hart_of e ≢ r.sender) → (hart_of e ≡ r.receiver) ⊎ (hart_of e ≢ r.receiver) → Landing
+          at (inl mine) c2 =
+              let split = split_on r w rest f i n on (row-of r.sender mine (spread f i n) rows.mine) in
+              let other : hart_of e ≢ r.receiver = λ same. is.parties (sym mine ∙ same) in
+              inr (inl (
+                split.0,
+                split.1,
+                record {
+                  mine = left r.sender mine f (suc i) split.0 split.3;
+                  mine_made = made-none r.sender (none-stored r.sender) ∙ rows.mine_made
+                      ∙ (let same : c.sender + (i + n) ≡ c.sender + (suc i + split.0) = omega (arith, split.1) in same);
+                  theirs = kept-of r.receiver other ∙ rows.theirs;
+                  theirs_made = made-none r.receiver (none-stored r.receiver) ∙ rows.theirs_made;
+                  others = λ h not_sender not_receiver. kept-of h (λ same. not_sender (sym same ∙ mine)) ∙ rows.others h not_sender not_receiver;
+                },
+                written (f i) split.2,
+              ))
+          at (inr other) (inl mine) =
+              let split = split_on r w rest g j m on (row-of r.receiver mine (spread g j m) rows.theirs) in
+              inr (inr (
+                split.0,
+                split.1,
+                record {
+                  mine = kept-of r.sender other ∙ rows.mine;
+                  mine_made = made-none r.sender (none-stored r.sender) ∙ rows.mine_made;
+                  theirs = left r.receiver mine g (suc j) split.0 split.3;
+                  theirs_made = made-none r.receiver (none-stored r.receiver) ∙ rows.theirs_made
+                      ∙ (let same : c.receiver + (j + m) ≡ c.receiver + (suc j + split.0) = omega (arith, split.1) in same);
+                  others = λ h not_sender not_receiver. kept-of h (λ same. not_receiver (sym same ∙ mine)) ∙ rows.others h not_sender not_receiver;
+                },
+                written (g j) split.2,
+              ))
+          at (inr other) (inr another) =
+              let none : writes_to r (w ∷ rest) ≡ [] = row-of (hart_of e) refl [] (rows.others (hart_of e) other another) in
+              let some : w ∷ writes_to r rest ≡ [] = sym (ap (λ b. if b then w ∷ writes_to r rest else writes_to r rest) on) ∙ none in cc
+
+      lands-one : (b : Bool) → overlaps r w ≡ b → Landing
+      lands-one true on = on-lands on
+      lands-one false off = inl (off-lands off)
+
+    pub landing : access_of e ≡ land → 0 < length (pending (hart_of e) es) → Landing
+    landing does some =
+        let split = some_first (pending (hart_of e) es) some in
+        lands-one does split.0 split.1 split.2 (overlaps r split.0) refl
