@@ -41,8 +41,8 @@ slot_word r is j = record {
   aligned = omega (arith, is.slots_aligned);
 }
 
-module _ (r : RingBuffer) (is : IsRingBuffer r) (L : ℕ → ℕ) (small : (j : ℕ) → L j < 2 ^ 32) (c : Earlier) (o : OpeningValue) (es : List Entry) (s : ProtocolState)
-    (inv : Invariant r L c o es s) where
+module _ (r : RingBuffer) (is : IsRingBuffer r) (L : ℕ → ℕ) (small : (j : ℕ) → L j < 2 ^ 32) (c : Earlier) (o : OpeningValue) (es : List Entry)
+    (s : ProtocolState) (inv : Invariant r L c o es s) where
   abbrev d : Landed
   d = inv.landed
 

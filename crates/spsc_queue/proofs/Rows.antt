@@ -90,7 +90,8 @@ module _ (r : RingBuffer) (is : IsRingBuffer r) (o : OpeningValue) (es : List En
 
   -- how many stores to the block a hart has made then
   made-of : (h : ℕ) (ws : List Write) → store_of h e ≡ ws → on_count r h after ≡ on_count r h es + length (writes_to r ws)
-  made-of h ws is_stored = ap (λ vs. length (writes_to r vs)) (stores-append h es (e ∷ []) ∙ ap (λ vs. stores h es ++ vs) (append-nil (store_of h e) ∙ is_stored))
+  made-of h ws is_stored =
+      ap (λ vs. length (writes_to r vs)) (stores-append h es (e ∷ []) ∙ ap (λ vs. stores h es ++ vs) (append-nil (store_of h e) ∙ is_stored))
       ∙ ap length (on-append r (stores h es) ws) ∙ length-append (writes_to r (stores h es)) (writes_to r ws)
 
   made-none : (h : ℕ) → store_of h e ≡ [] → on_count r h after ≡ on_count r h es

@@ -244,10 +244,12 @@ module _ (B : ℕ) (r : RingBuffer) (is : IsRingBuffer r) (F : List ℕ) (small 
   stores-word : (w : Write) → access_of e ≡ store w → (role : Role) → role_of r (hart_of e) ≡ role → KeepsProtocolBy r role s (store w)
       → (more : List ℕ) × (F ≡ (next_by r role s (store w)).sent ++ more) → Invariant r L c o after (next_by r role s (store w))
   stores-word w does sends whose (inl off) ahead =
-      subst (λ b. Invariant r L c o after (if b then send_store w s.sending s else s)) (sym off) (idles r is L c o es s inv e even (off-stays r is o es e even w does off))
+      subst (λ b. Invariant r L c o after (if b then send_store w s.sending s else s)) (sym off)
+      (idles r is L c o es s inv e even (off-stays r is o es e even w does off))
   stores-word w does sends whose (inr keeps) ahead = sender-stores w s.sending does (is_sender r (hart_of e) whose) refl keeps ahead
   stores-word w does receives whose (inl off) ahead =
-      subst (λ b. Invariant r L c o after (if b then receive_store s.receiving s else s)) (sym off) (idles r is L c o es s inv e even (off-stays r is o es e even w does off))
+      subst (λ b. Invariant r L c o after (if b then receive_store s.receiving s else s)) (sym off)
+      (idles r is L c o es s inv e even (off-stays r is o es e even w does off))
   stores-word w does receives whose (inr keeps) ahead = receiver-stores w s.receiving does (is_receiver r (hart_of e) whose) refl keeps
   stores-word w does passes whose off ahead = idles r is L c o es s inv e even (off-stays r is o es e even w does off)
 
@@ -326,8 +328,8 @@ at_rest r is L o es quiet = record {
     first : offset r 0 ≡ 0
     first = let none : 0 % r.size ≡ 0 = zero-mod r.size in omega arith
 
-holds-after : (B : ℕ) (r : RingBuffer) (is : IsRingBuffer r) (F : List ℕ) (small : AreSmall F) (c : Earlier) (o : OpeningValue) (before : List Entry) (s : ProtocolState)
-    (es : List Entry)
+holds-after : (B : ℕ) (r : RingBuffer) (is : IsRingBuffer r) (F : List ℕ) (small : AreSmall F) (c : Earlier) (o : OpeningValue) (before : List Entry)
+    (s : ProtocolState) (es : List Entry)
     → Invariant r (slice_index F) c o before s → Legal B (history_of o before) → LegalAfter B o before es → KeepsProtocol r s es
     → (more : List ℕ) × (F ≡ (protocol_after r s es).sent ++ more) → Invariant r (slice_index F) c o (before ++ es) (protocol_after r s es)
 holds-after B r is F small c o before s [] inv legal later keeps ahead = subst (λ xs. Invariant r (slice_index F) c o xs s) (sym (append-nil before)) inv
