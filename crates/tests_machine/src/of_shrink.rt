@@ -4,6 +4,7 @@ use crate::given::{A0, A1, BOTH_READ_0, L0, L1};
 use litmus::Test;
 use shrink::{ShrinkError, shrink};
 use std::alloc::Global;
+use std::test::Fail;
 use step_machine::Event;
 
 const STORE_BUFFERING: &str = "RISCV SB
@@ -31,8 +32,17 @@ fn store_buffering_needs_six_events(rt: HostRuntime) {
     assert_same!(rt; again.as_slice(), BOTH_READ_0.as_slice());
     let unfinished = shrunk(rt.alloc(), &test, &BOTH_READ_0[..5]);
     assert!(rt; matches!(unfinished, Err(ShrinkError::NotFinished)));
-    let text = ShrinkError::NotFinished
-        .to_string(rt.alloc())
-        .expect(&rt, "a text");
-    assert_same!(rt; text.as_str(), "not finished");
+}
+
+#[test]
+fn errors_have_their_numbers_and_texts(rt: HostRuntime) -> Result<(), Fail> {
+    let rows = [
+        (ShrinkError::NoMemory, 0, "no memory"),
+        (ShrinkError::NotFinished, 40, "not finished"),
+    ];
+    for (error, number, text) in rows {
+        assert_same!(rt; error.number(), number);
+        assert_same!(rt; error.to_string(rt.alloc())?.as_str(), text);
+    }
+    Ok(())
 }

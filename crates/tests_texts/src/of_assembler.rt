@@ -33,6 +33,7 @@ fn faults_have_their_numbers_and_texts(rt: HostRuntime) -> Result<(), Fail> {
         assert_same!(rt; error.to_string(rt.alloc())?.as_str(), text);
     }
     let none = AsmError::NoMemory;
+    assert_same!(rt; none.number(), 0);
     assert_same!(rt; none.to_string(rt.alloc())?.as_str(), "no memory");
     Ok(())
 }
