@@ -3,7 +3,9 @@
 use crate::of_hart_threads::{Thrice, status_of};
 use fastforward::FastForward;
 use hart::{Report, Status};
-use hart_threads::{Open, Record, deliver_threads, deliver_threads_at};
+use hart_threads::{
+    ChannelFault, ChannelFaultAt, Fault, Open, Record, deliver_threads, deliver_threads_at,
+};
 use lamport_cached::LamportCached;
 use lamport_ring::Lamport;
 use poll_close::{
@@ -319,5 +321,27 @@ fn refusals_of_places_have_their_texts(rt: HostRuntime) -> Result<(), Fail> {
     for (refused, text) in rows {
         assert_same!(rt; refused.to_string(rt.alloc())?.as_str(), text);
     }
+    Ok(())
+}
+
+/// A channel at a place has the same faults as one without, and those of its place.
+#[test]
+fn faults_of_channels_on_threads_have_numbers_and_texts(rt: HostRuntime) -> Result<(), Fail> {
+    let rows = [
+        (ChannelFault::Lists(Refused::NoMemory), 0, "no memory"),
+        (ChannelFault::Lists(Refused::NoSenders), 17, "no senders"),
+        (ChannelFault::Threads(Fault::NoMemory), 0, "no memory"),
+        (ChannelFault::Threads(Fault::NoThread), 35, "no thread"),
+    ];
+    for (fault, number, text) in rows {
+        assert_same!(rt; fault.number(), number);
+        assert_same!(rt; fault.to_string(rt.alloc())?.as_str(), text);
+        let at_place = ChannelFaultAt::from(fault);
+        assert_same!(rt; at_place.number(), number);
+        assert_same!(rt; at_place.to_string(rt.alloc())?.as_str(), text);
+    }
+    let uneven = ChannelFaultAt::Place(RefusedAt::UnevenBase);
+    assert_same!(rt; uneven.number(), 41);
+    assert_same!(rt; uneven.to_string(rt.alloc())?.as_str(), "uneven base");
     Ok(())
 }
