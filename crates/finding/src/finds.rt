@@ -116,8 +116,8 @@ fn made<const B: usize, const M: usize, R: Read, P: SearchProgress>(
 /// with store buffers of `B` pairs and `M` words of memory, for one in which a run is finished and the test's
 /// condition true, or with `forall` false. It sees at most `states` distinct states.
 ///
-/// Where it finds one it writes the canonical schedule of events that lead there, as few as do; of at most
-/// 1,024 none can be left out. Else it writes nothing, and answers how many states it saw, and whether these are
+/// Where it finds one it writes the canonical schedule of events that lead there; of at most 1,024 none can be left
+/// out. Else it writes nothing, and answers how many states it saw, and whether these are
 /// all or it was cut: that the outcome is impossible isn't said.
 /// The progress learns how far the search is, and that it ended; the answer doesn't depend on it.
 ///

@@ -114,7 +114,7 @@ def by_rustc(count, top, folder):
         path.touch()
         path.chmod(0o755)
     here = {"PATH": f"{folder}:{os.environ['PATH']}"}
-    said = "ztso: this program is built by rustc and not proved on this machine; ./prove does that\n"
+    said = "ztso: built by rustc, and nothing is proved of it; ./prove builds the proved program\n"
     count.same("a program that isn't proved says so", call(top / "ztso", "asm", folder=folder, text="nop\n", variables=here),
                (0, "00000013\n", said))
     count.same("and --which names it", call(top / "ztso", "--which", folder=folder, variables=here),
