@@ -162,7 +162,7 @@ module _ (B M : ℕ) (o : OpeningValue) (q : SpscQueue) (before es : List Entry)
   sent_published = elim sent [
     | inl l ↦ let same : length t.sent ≡ length A = ap length l.1 in
         omega (arith, same, stored_count, level-counts r t.stored t.published inv.landed.tails t.sending l.0 inv.sending)
-    | inr l ↦ omega (arith, one_more A (slice_index s.registers 11) t.sent l, stored_count, inv.order.stored_published)
+    | inr l ↦ omega (arith, one_more A (slice_index s.registers 11) t.sent l, stored_count, inv.order.mine.stored_published)
   ]
 
   pub received_least : length R ≤ t.consumed

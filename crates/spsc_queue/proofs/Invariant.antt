@@ -6,7 +6,7 @@ use Rattle.step_machine.specs.Entries.{memory_word}
 use Rattle.spsc_queue.specs.RingBuffers.{RingBuffer, offset, slot}
 use Rattle.spsc_queue.specs.Protocol.{SenderState, resting, placed, roomy, filled, ReceiverState, idle, asked, waiting, holding, ProtocolState}
 use Rattle.spsc_queue.proofs.Spread.{sent_store, freed_store}
-use Rattle.spsc_queue.proofs.Rows.{Earlier, Rows}
+use Rattle.spsc_queue.proofs.Rows.{Earlier, Rows, RowOrder}
 
 -- how many of the block's stores have landed: words in their slots, heads, tails
 pub record Landed : Type 0 where
@@ -20,12 +20,7 @@ firsts L zero = []
 firsts L (suc n) = firsts L n ++ L n ∷ []
 
 pub record Order (r : RingBuffer) (stored published consumed : ℕ) (d : Landed) : Type 0 where
-  pub heads_slots : d.heads ≤ d.slots
-  pub slots_heads : d.slots ≤ d.heads + 1
-  pub slots_stored : d.slots ≤ stored
-  pub heads_published : d.heads ≤ published
-  pub published_stored : published ≤ stored
-  pub stored_published : stored ≤ published + 1
+  pub mine : RowOrder stored published d.slots d.heads
   pub consumed_heads : consumed ≤ d.heads
   pub landed_consumed : d.tails ≤ consumed
   pub room : stored + 1 ≤ d.tails + r.size

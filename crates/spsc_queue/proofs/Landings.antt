@@ -12,7 +12,7 @@ use Rattle.spsc_queue.specs.RingBuffers.{RingBuffer, IsRingBuffer, offset, slot}
 use Rattle.spsc_queue.specs.Protocol.{ProtocolState, sends, receives, passes, role_of}
 use Rattle.spsc_queue.proofs.Modulo.{mod_apart}
 use Rattle.spsc_queue.proofs.Spread.{sent_store, freed_store, sent-slot, sent-head, slot_not_head, slot_not_tail, offset_low}
-use Rattle.spsc_queue.proofs.Rows.{Earlier, Rows, Lands, hit, miss, landing}
+use Rattle.spsc_queue.proofs.Rows.{slot-landed, head-landed, Earlier, Rows, Lands, hit, miss, landing}
 use Rattle.spsc_queue.proofs.Invariant.{Landed, Invariant, sending-more, receiving-more}
 use Rattle.spsc_queue.proofs.Loads.{slot_word, freed-whole}
 use Rattle.spsc_queue.proofs.Steps.{idles}
@@ -53,12 +53,7 @@ module _ (r : RingBuffer) (is : IsRingBuffer r) (L : ℕ → ℕ) (small : (j : 
       slot-lands level is_slot = record {
         landed = record { slots = suc d.slots; heads = d.heads; tails = d.tails };
         order = record {
-          heads_slots = omega (arith, inv.order.heads_slots);
-          slots_heads = omega (arith, level);
-          slots_stored = some;
-          heads_published = inv.order.heads_published;
-          published_stored = inv.order.published_stored;
-          stored_published = inv.order.stored_published;
+          mine = slot-landed inv.order.mine level some;
           consumed_heads = inv.order.consumed_heads;
           landed_consumed = inv.order.landed_consumed;
           room = inv.order.room;
@@ -82,7 +77,7 @@ module _ (r : RingBuffer) (is : IsRingBuffer r) (L : ℕ → ℕ) (small : (j : 
       }
         where
           some : d.slots < s.stored
-          some = omega (arith, inv.buffers.mine_count, count, level, inv.order.published_stored)
+          some = omega (arith, inv.buffers.mine_count, count, level, inv.order.mine.published_stored)
 
           place : w.addr ≡ slot r d.slots
           place = ap (λ (x : Write). x.addr) is_slot
@@ -104,12 +99,7 @@ module _ (r : RingBuffer) (is : IsRingBuffer r) (L : ℕ → ℕ) (small : (j : 
       head-lands odd is_head = record {
         landed = record { slots = d.slots; heads = suc d.heads; tails = d.tails };
         order = record {
-          heads_slots = omega (arith, odd);
-          slots_heads = omega (arith, odd);
-          slots_stored = inv.order.slots_stored;
-          heads_published = some;
-          published_stored = inv.order.published_stored;
-          stored_published = inv.order.stored_published;
+          mine = head-landed inv.order.mine odd some;
           consumed_heads = omega (arith, inv.order.consumed_heads);
           landed_consumed = inv.order.landed_consumed;
           room = inv.order.room;
@@ -134,7 +124,7 @@ module _ (r : RingBuffer) (is : IsRingBuffer r) (L : ℕ → ℕ) (small : (j : 
       }
         where
           some : d.heads < s.published
-          some = omega (arith, inv.buffers.mine_count, count, odd, inv.order.stored_published)
+          some = omega (arith, inv.buffers.mine_count, count, odd, inv.order.mine.stored_published)
 
           place : w.addr ≡ r.head
           place = ap (λ (x : Write). x.addr) is_head
@@ -147,7 +137,7 @@ module _ (r : RingBuffer) (is : IsRingBuffer r) (L : ℕ → ℕ) (small : (j : 
       sent-lands next = elim (cases_eq d.slots d.heads) [
         | inl level ↦ slot-lands level (next ∙ sent-slot r L (d.slots + d.heads) d.slots (omega (arith, level)))
         | inr other ↦
-            let odd : d.slots ≡ d.heads + 1 = omega (arith, other, inv.order.heads_slots, inv.order.slots_heads) in
+            let odd : d.slots ≡ d.heads + 1 = omega (arith, other, inv.order.mine.heads_slots, inv.order.mine.slots_heads) in
             head-lands odd (next ∙ sent-head r L (d.slots + d.heads) d.heads (omega (arith, odd)))
       ]
 
@@ -156,12 +146,7 @@ module _ (r : RingBuffer) (is : IsRingBuffer r) (L : ℕ → ℕ) (small : (j : 
     tail-lands m count next rows = record {
       landed = record { slots = d.slots; heads = d.heads; tails = suc d.tails };
       order = record {
-        heads_slots = inv.order.heads_slots;
-        slots_heads = inv.order.slots_heads;
-        slots_stored = inv.order.slots_stored;
-        heads_published = inv.order.heads_published;
-        published_stored = inv.order.published_stored;
-        stored_published = inv.order.stored_published;
+        mine = inv.order.mine;
         consumed_heads = inv.order.consumed_heads;
         landed_consumed = omega (arith, inv.buffers.theirs_count, count);
         room = omega (arith, inv.order.room);

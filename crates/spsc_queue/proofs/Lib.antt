@@ -14,6 +14,13 @@ pub mod Publication
 pub mod StoreBuffers
 pub mod MessagePassing
 pub mod Linearization
+pub mod FastForwardInvariant
+pub mod FastForwardSteps
+pub mod FastForwardLandings
+pub mod FastForwardRuns
+pub mod FastForwardPublication
+pub mod FastForwardLinearization
+pub mod FastForwardExample
 pub mod Lines
 pub mod Registers
 pub mod Courses

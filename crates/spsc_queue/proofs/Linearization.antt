@@ -49,10 +49,10 @@ module _ (B : ℕ) (r : RingBuffer) (o : OpeningValue) (before es : List Entry) 
       loaded B r o before es e fs r.head v t does ∙ ap (λ h. read o (before ++ es) h r.head 4) mine
       ∙ receiver-other r t.ring L small (earlier r before) o (before ++ es) T inv r.head t.ring.head (λ q. t.ring.apart (sym q)) ∙ inv.words.head in
       let same : T.consumed ≡ inv.landed.heads = same_offset r.size T.consumed inv.landed.heads (omega (arith, t.ring.some_slots)) inv.order.consumed_heads
-      (omega (arith, inv.order.heads_slots, inv.order.slots_stored, inv.order.room, inv.order.landed_consumed)) (sym known ∙ found) in
+      (omega (arith, inv.order.mine.heads_slots, inv.order.mine.slots_stored, inv.order.room, inv.order.landed_consumed)) (sym known ∙ found) in
       let left : length (writes_to r (pending r.sender (before ++ es))) ≡ inv.buffers.unsent =
       ap length inv.buffers.rows.mine ∙ length-spread (sent_store r L) (inv.landed.slots + inv.landed.heads) inv.buffers.unsent in
-      omega (arith, same, left, inv.buffers.mine_count, inv.order.slots_stored, inv.order.heads_published)
+      omega (arith, same, left, inv.buffers.mine_count, inv.order.mine.slots_stored, inv.order.mine.heads_published)
 
   -- the sender reads the next offset in the tail: all slots except one hold words of which no tail has landed
   pub full_landed : (u : ℕ) → hart_of e ≡ r.sender → access_of e ≡ load r.tail 4 (next r u) → T.sending ≡ placed u
@@ -64,7 +64,7 @@ module _ (B : ℕ) (r : RingBuffer) (o : OpeningValue) (before es : List Entry) 
       ∙ sender-tail r t.ring L small (earlier r before) o (before ++ es) T inv in
       let one : offset r inv.landed.tails ≡ offset r (T.published + 1) = sym found ∙ next_offset r t.ring u T.published known.1 in
       let near : T.published + 1 ≤ inv.landed.tails + r.size = omega (arith, known.0, inv.order.room) in
-      let over : inv.landed.tails < T.published + 1 = omega (arith, inv.order.landed_consumed, inv.order.consumed_heads, inv.order.heads_published) in
+      let over : inv.landed.tails < T.published + 1 = omega (arith, inv.order.landed_consumed, inv.order.consumed_heads, inv.order.mine.heads_published) in
       let same : T.published + 1 ≡ inv.landed.tails + r.size = elim (cases_lt (T.published + 1) (inv.landed.tails + r.size)) [
         | inl less ↦ absurd (mod_apart r.size inv.landed.tails (T.published + 1) (omega (arith, t.ring.some_slots)) over less (omega (arith, one)))
         | inr more ↦ omega (arith, near, more)

@@ -62,9 +62,9 @@ module _ (r : RingBuffer) (is : IsRingBuffer r) (L : ℕ → ℕ) (small : (j : 
   sender-head = reads-word r o es r.sender r.head is.head mine-whole
       ∙ ap (seen r.head (memory_word o es r.head)) inv.buffers.rows.mine
       ∙ ap (λ v. seen r.head v (spread (sent_store r L) (d.slots + d.heads) inv.buffers.unsent))
-      (inv.words.head ∙ ap (offset r) (omega (arith, inv.order.heads_slots, inv.order.slots_heads)))
+      (inv.words.head ∙ ap (offset r) (omega (arith, inv.order.mine.heads_slots, inv.order.mine.slots_heads)))
       ∙ seen-heads r is L (d.slots + d.heads) inv.buffers.unsent
-      ∙ ap (offset r) (omega (arith, inv.buffers.mine_count, inv.order.published_stored, inv.order.stored_published))
+      ∙ ap (offset r) (omega (arith, inv.buffers.mine_count, inv.order.mine.published_stored, inv.order.mine.stored_published))
 
   pub sender-tail : read o es r.sender r.tail 4 ≡ offset r d.tails
   sender-tail = reads-word r o es r.sender r.tail is.tail mine-whole
@@ -144,7 +144,7 @@ module _ (r : RingBuffer) (is : IsRingBuffer r) (L : ℕ → ℕ) (small : (j : 
             holds.1,
             is_read ∙ ap (λ x. read o es r.receiver x 4) place
                 ∙ receiver-other (slot r s.consumed) (slot_word r is s.consumed) (λ e. slot_not_tail r is s.consumed (sym e))
-                ∙ inv.words.slots s.consumed inv.order.landed_consumed (omega (arith, holds.1, inv.order.heads_slots)),
+                ∙ inv.words.slots s.consumed inv.order.landed_consumed (omega (arith, holds.1, inv.order.mine.heads_slots)),
           )
       by false apart = holds
   looked a v (holding u w) other is_read holds = holds

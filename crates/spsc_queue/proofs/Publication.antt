@@ -54,7 +54,7 @@ module _ (B : ℕ) (r : RingBuffer) (o : OpeningValue) (before es fs : List Entr
       (inv.landed.slots + inv.landed.heads) inv.buffers.unsent inv.landed.tails inv.buffers.unread
       (later.landed.slots + later.landed.heads) later.buffers.unsent later.landed.tails later.buffers.unread
       (sym (append_assoc before es fs)) inv.buffers.rows later.buffers.rows
-      (omega (arith, heard, known, inv.buffers.mine_count, inv.order.stored_published, later.order.heads_slots))
+      (omega (arith, heard, known, inv.buffers.mine_count, inv.order.mine.stored_published, later.order.mine.heads_slots))
 
   -- Reclamation: once the sender sees that a slot is free, all that the receiver's hart stored before it freed that slot
   -- has reached memory

@@ -48,6 +48,65 @@ pub record Rows (r : RingBuffer) (c : Earlier) (f g : ℕ → Write) (es : List 
   pub theirs_made : on_count r r.receiver es ≡ c.receiver + (j + m)
   pub others : (h : ℕ) → h ≢ r.sender → h ≢ r.receiver → writes_to r (pending h es) ≡ []
 
+-- of a party that stores a word into a slot and then its index: how many slots and indices it has stored, and how many of these have landed
+pub record RowOrder (stored published slots heads : ℕ) : Type 0 where
+  pub heads_slots : heads ≤ slots
+  pub slots_heads : slots ≤ heads + 1
+  pub slots_stored : slots ≤ stored
+  pub heads_published : heads ≤ published
+  pub published_stored : published ≤ stored
+  pub stored_published : stored ≤ published + 1
+
+pub row-none : RowOrder 0 0 0 0
+row-none = record {
+  heads_slots = omega arith;
+  slots_heads = omega arith;
+  slots_stored = omega arith;
+  heads_published = omega arith;
+  published_stored = omega arith;
+  stored_published = omega arith;
+}
+
+pub row-stores : {p q m n : ℕ} → RowOrder p q m n → p ≡ q → RowOrder (p + 1) q m n
+row-stores row level = record {
+  heads_slots = row.heads_slots;
+  slots_heads = row.slots_heads;
+  slots_stored = omega (arith, row.slots_stored);
+  heads_published = row.heads_published;
+  published_stored = omega (arith, level);
+  stored_published = omega (arith, level);
+}
+
+pub row-publishes : {p q m n : ℕ} → RowOrder p q m n → p ≡ q + 1 → RowOrder p (q + 1) m n
+row-publishes row odd = record {
+  heads_slots = row.heads_slots;
+  slots_heads = row.slots_heads;
+  slots_stored = row.slots_stored;
+  heads_published = omega (arith, row.heads_published);
+  published_stored = omega (arith, odd);
+  stored_published = omega (arith, odd);
+}
+
+pub slot-landed : {p q m n : ℕ} → RowOrder p q m n → m ≡ n → m < p → RowOrder p q (suc m) n
+slot-landed row level some = record {
+  heads_slots = omega (arith, row.heads_slots);
+  slots_heads = omega (arith, level);
+  slots_stored = some;
+  heads_published = row.heads_published;
+  published_stored = row.published_stored;
+  stored_published = row.stored_published;
+}
+
+pub head-landed : {p q m n : ℕ} → RowOrder p q m n → m ≡ n + 1 → n < q → RowOrder p q m (suc n)
+head-landed row odd some = record {
+  heads_slots = omega (arith, odd);
+  slots_heads = omega (arith, odd);
+  slots_stored = row.slots_stored;
+  heads_published = some;
+  published_stored = row.published_stored;
+  stored_published = row.stored_published;
+}
+
 -- from es to fs the words of the block stay, and so do the stores to it
 pub record Stays (r : RingBuffer) (o : OpeningValue) (es fs : List Entry) : Type 0 where
   pub words : (a : ℕ) → IsWordIn r a → memory_word o fs a ≡ memory_word o es a

@@ -20,7 +20,7 @@ use Rattle.spsc_queue.specs.Protocol.{sends, receives, passes}
 use Rattle.spsc_queue.specs.Protocol.{role_of, send_load, send_store, receive_load, receive_store, next_by, protocol_next, protocol_after, IsSenderStore}
 use Rattle.spsc_queue.specs.Protocol.{IsReceiverStore, KeepsProtocolBy, KeepsProtocol}
 use Rattle.spsc_queue.specs.Laws.{IsPrefix, FollowsSpscProtocol, published_words}
-use Rattle.spsc_queue.proofs.Rows.{Earlier, Stays, nothing-stays, load-stays, fence-stays, exchange-stays, off-stays, on_count}
+use Rattle.spsc_queue.proofs.Rows.{row-none, Earlier, Stays, nothing-stays, load-stays, fence-stays, exchange-stays, off-stays, on_count}
 use Rattle.spsc_queue.proofs.Invariant.{firsts, SendingIs, Invariant}
 use Rattle.spsc_queue.proofs.Loads.{slot_word, sending-load, receiving-load}
 use Rattle.spsc_queue.proofs.Steps.{word_on, stays, idles, sends-word, sends-head, frees}
@@ -106,10 +106,10 @@ protocol-grows r s (e ∷ es) =
 
 -- ---- words have 32 bits
 
-abbrev AreSmall : List ℕ → Type 0
+abbrev pub AreSmall : List ℕ → Type 0
 AreSmall xs = (j : ℕ) → slice_index xs j < 2 ^ 32
 
-small-more : (xs : List ℕ) (v : ℕ) → AreSmall xs → v < 2 ^ 32 → AreSmall (xs ++ v ∷ [])
+pub small-more : (xs : List ℕ) (v : ℕ) → AreSmall xs → v < 2 ^ 32 → AreSmall (xs ++ v ∷ [])
 small-more [] v all one zero = one
 small-more [] v all one (suc j) = all 0
 small-more (x ∷ xs) v all one zero = all 0
@@ -165,7 +165,7 @@ keeps-back r s [] fs keeps = keeps
 keeps-back r s (e ∷ es) fs keeps = keeps-back r (protocol_next r s e) es fs keeps.1
 
 -- the words of F, where the next of them is known
-word_ahead : (F sent more : List ℕ) (v n : ℕ) → length sent ≡ n → F ≡ (sent ++ v ∷ []) ++ more → v ≡ slice_index F n
+pub word_ahead : (F sent more : List ℕ) (v n : ℕ) → length sent ≡ n → F ≡ (sent ++ v ∷ []) ++ more → v ≡ slice_index F n
 word_ahead F sent more v n size is =
     sym (ap (slice_index F) (sym size) ∙ ap (λ xs. slice_index xs (length sent)) (is ∙ append_assoc sent (v ∷ []) more)
     ∙ get_or-append_seam sent v more 0)
@@ -290,17 +290,7 @@ pub at_rest : (r : RingBuffer) (is : IsRingBuffer r) (L : ℕ → ℕ) (o : Open
     → Invariant r L (earlier r es) o es at_start
 at_rest r is L o es quiet = record {
   landed = record { slots = 0; heads = 0; tails = 0 };
-  order = record {
-    heads_slots = omega arith;
-    slots_heads = omega arith;
-    slots_stored = omega arith;
-    heads_published = omega arith;
-    published_stored = omega arith;
-    stored_published = omega arith;
-    consumed_heads = omega arith;
-    landed_consumed = omega arith;
-    room = omega (arith, is.some_slots);
-  };
+  order = record { mine = row-none; consumed_heads = omega arith; landed_consumed = omega arith; room = omega (arith, is.some_slots) };
   words = record {
     head = quiet.head ∙ sym first;
     tail = quiet.tail ∙ sym first;
@@ -385,13 +375,13 @@ delivered B r o before es t = (rest.0, whole)
     rest = firsts-split L s.consumed k
 
     upto : s.consumed + k ≡ s.published
-    upto = omega (arith, inv.order.consumed_heads, inv.order.heads_published)
+    upto = omega (arith, inv.order.consumed_heads, inv.order.mine.heads_published)
 
     all : (more : List ℕ) × (firsts L (s.published + (s.stored - s.published)) ≡ firsts L s.published ++ more)
     all = firsts-split L s.published (s.stored - s.published)
 
     whole_count : s.published + (s.stored - s.published) ≡ s.stored
-    whole_count = omega (arith, inv.order.published_stored)
+    whole_count = omega (arith, inv.order.mine.published_stored)
 
     whole : take s.published s.sent ≡ s.received ++ rest.0
     whole = ap (take s.published) (inv.sent ∙ ap (firsts L) (sym whole_count) ∙ all.1)

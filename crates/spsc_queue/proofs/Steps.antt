@@ -10,7 +10,7 @@ use Rattle.step_machine.specs.Entries.{hart_of, memory_word, stores, lands}
 use Rattle.spsc_queue.specs.RingBuffers.{RingBuffer, IsRingBuffer, IsWordIn, offset, slot, next, overlaps}
 use Rattle.spsc_queue.specs.Protocol.{SenderState, resting, roomy, filled, ReceiverState, idle, holding, ProtocolState, IsWordAt}
 use Rattle.spsc_queue.proofs.Spread.{sent_store, freed_store, sent-slot, sent-head}
-use Rattle.spsc_queue.proofs.Rows.{Earlier, Stays, rows-stay, words-stay, sender-stores, receiver-stores}
+use Rattle.spsc_queue.proofs.Rows.{row-stores, row-publishes, Earlier, Stays, rows-stay, words-stay, sender-stores, receiver-stores}
 use Rattle.spsc_queue.proofs.Invariant.{Landed, Words, firsts, SendingIs, ReceivingIs, Invariant}
 use Rattle.spsc_queue.proofs.Loads.{next_offset, slot_word}
 
@@ -73,12 +73,7 @@ module _ (r : RingBuffer) (is : IsRingBuffer r) (L : ℕ → ℕ) (c : Earlier) 
     sends-word mine u at word value = record {
       landed = d;
       order = record {
-        heads_slots = inv.order.heads_slots;
-        slots_heads = inv.order.slots_heads;
-        slots_stored = omega (arith, inv.order.slots_stored);
-        heads_published = inv.order.heads_published;
-        published_stored = omega (arith, inv.order.published_stored);
-        stored_published = omega (arith, known.0);
+        mine = row-stores inv.order.mine known.0;
         consumed_heads = inv.order.consumed_heads;
         landed_consumed = inv.order.landed_consumed;
         room = omega (arith, known.2);
@@ -114,12 +109,7 @@ module _ (r : RingBuffer) (is : IsRingBuffer r) (L : ℕ → ℕ) (c : Earlier) 
     sends-head mine u at word value = record {
       landed = d;
       order = record {
-        heads_slots = inv.order.heads_slots;
-        slots_heads = inv.order.slots_heads;
-        slots_stored = inv.order.slots_stored;
-        heads_published = omega (arith, inv.order.heads_published);
-        published_stored = omega (arith, known.0);
-        stored_published = omega (arith, known.0);
+        mine = row-publishes inv.order.mine known.0;
         consumed_heads = inv.order.consumed_heads;
         landed_consumed = inv.order.landed_consumed;
         room = inv.order.room;
@@ -152,12 +142,7 @@ module _ (r : RingBuffer) (is : IsRingBuffer r) (L : ℕ → ℕ) (c : Earlier) 
     frees mine u v at word value = record {
       landed = d;
       order = record {
-        heads_slots = inv.order.heads_slots;
-        slots_heads = inv.order.slots_heads;
-        slots_stored = inv.order.slots_stored;
-        heads_published = inv.order.heads_published;
-        published_stored = inv.order.published_stored;
-        stored_published = inv.order.stored_published;
+        mine = inv.order.mine;
         consumed_heads = omega (arith, known.1);
         landed_consumed = omega (arith, inv.order.landed_consumed);
         room = inv.order.room;

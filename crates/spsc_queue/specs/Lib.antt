@@ -2,6 +2,8 @@ pub mod RingBuffers
 pub mod Protocol
 pub mod StoreBuffers
 pub mod Laws
+pub mod FastForward
+pub mod FastForwardExample
 pub mod Listings
 pub mod Calls
 pub mod CallEffects

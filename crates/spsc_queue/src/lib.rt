@@ -9,7 +9,7 @@
 
 #![tactic(auto)]
 
-ghost use Rattle.std.specs.Prelude.{ℕ, ◌≡◌, ◌<◌, ◌≤◌, ◌+◌, ◌-◌, All, List, [], ◌∷◌, ◌++◌, length, Some, map, true, false, slice_index};
+ghost use Rattle.std.specs.Prelude.{ℕ, ◌≡◌, ◌≢◌, ◌<◌, ◌≤◌, ◌+◌, ◌-◌, All, List, [], ◌∷◌, ◌++◌, length, Some, map, true, false, slice_index};
 ghost use Rattle.std.specs.List.{slice_get};
 ghost use Rattle.std.specs.Int.{byte_at};
 ghost use Rattle.memory.specs.declared.writes.Write.{Write};
@@ -32,6 +32,8 @@ ghost use Rattle.spsc_queue.specs.Calls.{CallerObligation, UsesAsSpscQueue};
 ghost use Rattle.spsc_queue.specs.CallEffects.{IsSend, IsReceive, accesses, completed_word, SendEffect, ReceiveEffect, FoundFull, FoundEmpty};
 ghost use Rattle.spsc_queue.specs.Obligations.{obligations_kept};
 ghost use Rattle.spsc_queue.specs.ManyQueues.{UsesManyQueues};
+ghost use Rattle.spsc_queue.specs.FastForward as fastforward;
+ghost use Rattle.spsc_queue.specs.FastForwardExample as fastforward_example;
 ghost use Rattle.spsc_queue.specs.Example as example;
 
 /// The words of `try_send`: a0 is the block, a1 the word, a2 the bytes of the slots.
@@ -106,6 +108,41 @@ pub fn laws_of_protocol()
         → (protocol_after r at_start es).sending ≡ placed u
         → (protocol_after r at_start es).consumed + r.size
         ≡ (protocol_after r at_start es).stored + 1 + length (writes_to r (pending r.receiver (before ++ es))) }
+{}
+
+/// Of every run whose entries keep FastForward's protocol, from where the queue was empty and at rest and each slot held 0.
+/// There a slot that holds 0 is free, so no party reads the other's index, and all slots serve. The words received are a
+/// prefix of the words stored. Once the receiver knows of more words than were stored at some point, all that the sender's
+/// hart had stored there has landed. Once more words are ready than were taken at some point and the queue has slots
+/// besides, all that the receiver's hart had stored there has landed. Where the receiver reads 0 in its slot, each word that
+/// has landed is taken; where the sender reads another word in its slot, each slot holds a word, except for the 0s that
+/// haven't landed. The run of `specs/FastForwardExample.antt` is such a run (`met`), and passes a word (`passes`). It does
+/// nothing.
+pub fn laws_of_fastforward_protocol()
+    ensures fifo { (B : ℕ) (r : RingBuffer) (o : OpeningValue) (before es : List Entry) → fastforward.FollowsFastForwardProtocol B r o before es
+        → IsPrefix (fastforward.protocol_after r fastforward.at_start es).received (fastforward.protocol_after r fastforward.at_start es).sent }
+    ensures publication { (B : ℕ) (r : RingBuffer) (o : OpeningValue) (before es fs : List Entry)
+        → fastforward.FollowsFastForwardProtocol B r o before (es ++ fs)
+        → (fastforward.protocol_after r fastforward.at_start es).stored
+        < fastforward.known_count (fastforward.protocol_after r fastforward.at_start (es ++ fs))
+        → length (stores r.sender (before ++ es)) < lands r.sender (before ++ (es ++ fs)) }
+    ensures reclamation { (B : ℕ) (r : RingBuffer) (o : OpeningValue) (before es fs : List Entry)
+        → fastforward.FollowsFastForwardProtocol B r o before (es ++ fs)
+        → (fastforward.protocol_after r fastforward.at_start es).taken + r.size
+        < fastforward.ready_count (fastforward.protocol_after r fastforward.at_start (es ++ fs))
+        → length (stores r.receiver (before ++ es)) < lands r.receiver (before ++ (es ++ fs)) }
+    ensures linearization_of_empty { (B : ℕ) (r : RingBuffer) (o : OpeningValue) (before es : List Entry) (e : Entry) (fs : List Entry)
+        → fastforward.FollowsFastForwardProtocol B r o before (es ++ e ∷ fs) → (u : ℕ) → hart_of e ≡ r.receiver
+        → access_of e ≡ load (r.slots + u) 4 0 → (fastforward.protocol_after r fastforward.at_start es).receiving ≡ fastforward.asked u
+        → (fastforward.protocol_after r fastforward.at_start es).stored
+        ≤ (fastforward.protocol_after r fastforward.at_start es).taken + length (writes_to r (pending r.sender (before ++ es))) }
+    ensures linearization_of_full { (B : ℕ) (r : RingBuffer) (o : OpeningValue) (before es : List Entry) (e : Entry) (fs : List Entry)
+        → fastforward.FollowsFastForwardProtocol B r o before (es ++ e ∷ fs) → (u v : ℕ) → hart_of e ≡ r.sender
+        → access_of e ≡ load (r.slots + u) 4 v → v ≢ 0 → (fastforward.protocol_after r fastforward.at_start es).sending ≡ placed u
+        → (fastforward.protocol_after r fastforward.at_start es).taken + r.size
+        ≤ (fastforward.protocol_after r fastforward.at_start es).stored + length (writes_to r (pending r.receiver (before ++ es))) }
+    ensures met { fastforward.FollowsFastForwardProtocol 4 fastforward_example.ring fastforward_example.opening [] fastforward_example.entries }
+    ensures passes { (fastforward.protocol_after fastforward_example.ring fastforward.at_start fastforward_example.entries).received ≡ 99 ∷ [] }
 {}
 
 /// Of every run in which one hart's code calls `try_send` and another's `try_receive` for a block, and each entry keeps

@@ -1,0 +1,326 @@
+-- What holds of FastForward's block, of the stores to it and of both parties after every run that keeps its protocol.
+use Rattle.std.proofs.Common.{ℕ, zero, suc, ◌+◌, ◌*◌, ◌/◌, ◌%◌, ◌^◌, ◌<◌, ◌≤◌, ◌≡◌, ◌≢◌, ◌==◌, ◌⊎◌, inl, inr, Bool, true, false, if◌then◌else◌}
+use Rattle.std.proofs.Common.{List, refl, sym, ◌∙◌, ap, subst, arith}
+use Rattle.std.specs.Prelude.{All}
+use Rattle.std.proofs.lemmas.Bool.{cases_eq, cases_lt, eqb-true, eqb-false}
+use Rattle.std.proofs.lemmas.Bool.Decides.{nat_tests}
+use Rattle.memory.specs.declared.writes.Write.{Write}
+use Rattle.memory.specs.Writes.{write, IsWholeWord}
+use Rattle.step_machine.specs.declared.events.Entry.{Entry}
+use Rattle.step_machine.specs.History.{OpeningValue}
+use Rattle.step_machine.specs.Entries.{pending, memory_word, read}
+use Rattle.spsc_queue.specs.RingBuffers.{RingBuffer, IsRingBuffer, offset, slot, writes_to}
+use Rattle.spsc_queue.specs.Protocol.{SenderState, resting, placed, roomy, filled}
+use Rattle.spsc_queue.specs.FastForward.{FastForwardReceiver, idle, asked, holding, cleared, FastForwardState, send_look, send_load, receive_look, receive_load}
+use Rattle.spsc_queue.proofs.Modulo.{mod_apart}
+use Rattle.spsc_queue.proofs.Words.{seen}
+use Rattle.spsc_queue.proofs.Spread.{spread, spread-all, sent_store, sent-slot, sent-head, seen-heads, sent-whole, slot_not_head}
+use Rattle.spsc_queue.proofs.Effects.{reads-word}
+use Rattle.spsc_queue.proofs.Rows.{Earlier, Rows, RowOrder}
+use Rattle.spsc_queue.proofs.Invariant.{firsts}
+use Rattle.spsc_queue.proofs.Loads.{offset_again, slot_word}
+
+-- the receiver's row is the sender's of another ring: its index is the tail, its words are 0
+abbrev pub turned : RingBuffer → RingBuffer
+turned r = record r { head = r.tail; tail = r.head }
+
+pub turned_is : (r : RingBuffer) → IsRingBuffer r → IsRingBuffer (turned r)
+turned_is r is = record {
+  parties = is.parties;
+  some_slots = is.some_slots;
+  head = record { above = is.tail.above; below = is.tail.below; aligned = is.tail.aligned };
+  tail = record { above = is.head.above; below = is.head.below; aligned = is.head.aligned };
+  slots_above = is.slots_above;
+  slots_below = is.slots_below;
+  slots_aligned = is.slots_aligned;
+  apart = λ e. is.apart (sym e);
+  head_apart = is.tail_apart;
+  tail_apart = is.head_apart;
+  small = is.small;
+}
+
+abbrev pub zeros : ℕ → ℕ
+zeros j = 0
+
+abbrev pub cleared_store : RingBuffer → ℕ → Write
+cleared_store r p = sent_store (turned r) zeros p
+
+pub record Landed : Type 0 where
+  pub slots : ℕ
+  pub heads : ℕ
+  pub cleared : ℕ
+  pub tails : ℕ
+
+pub record Order (r : RingBuffer) (stored published taken consumed : ℕ) (d : Landed) : Type 0 where
+  pub mine : RowOrder stored published d.slots d.heads
+  pub theirs : RowOrder taken consumed d.cleared d.tails
+  pub taken_slots : taken ≤ d.slots
+  pub room : stored ≤ d.cleared + r.size
+
+pub record Words (r : RingBuffer) (L : ℕ → ℕ) (d : Landed) (word : ℕ → ℕ) : Type 0 where
+  pub head : word r.head ≡ offset r d.heads
+  pub tail : word r.tail ≡ offset r d.tails
+  pub full : (j : ℕ) → d.cleared ≤ j → j < d.slots → word (slot r j) ≡ L j
+  pub free : (j : ℕ) → d.slots ≤ j → j < d.cleared + r.size → word (slot r j) ≡ 0
+
+abbrev pub SendingIs : RingBuffer → (stored published n : ℕ) → SenderState → Type 0
+SendingIs r stored published n resting = stored ≡ published
+SendingIs r stored published n (placed u) = (stored ≡ published) × (u ≡ offset r published)
+SendingIs r stored published n (roomy u) = (stored ≡ published) × (u ≡ offset r published) × (stored + 1 ≤ n + r.size)
+SendingIs r stored published n (filled u) = (stored ≡ published + 1) × (u ≡ offset r published)
+
+abbrev pub ReceivingIs : RingBuffer → (ℕ → ℕ) → (taken consumed slots : ℕ) → FastForwardReceiver → Type 0
+ReceivingIs r L taken consumed slots idle = taken ≡ consumed
+ReceivingIs r L taken consumed slots (asked u) = (taken ≡ consumed) × (u ≡ offset r consumed)
+ReceivingIs r L taken consumed slots (holding u w) = (taken ≡ consumed) × (u ≡ offset r consumed) × (taken < slots) × (w ≡ L taken)
+ReceivingIs r L taken consumed slots (cleared u) = (taken ≡ consumed + 1) × (u ≡ offset r consumed)
+
+-- the stores to the block: the sender's row and the receiver's, and how far each has come
+pub record Buffers (r : RingBuffer) (L : ℕ → ℕ) (c : Earlier) (es : List Entry) (stored published taken consumed : ℕ) (d : Landed) : Type 0 where
+  pub unsent : ℕ
+  pub unread : ℕ
+  pub rows : Rows r c (sent_store r L) (cleared_store r) es (d.slots + d.heads) unsent (d.cleared + d.tails) unread
+  pub mine_count : unsent + (d.slots + d.heads) ≡ stored + published
+  pub theirs_count : unread + (d.cleared + d.tails) ≡ taken + consumed
+
+pub record Invariant (r : RingBuffer) (L : ℕ → ℕ) (c : Earlier) (o : OpeningValue) (es : List Entry) (s : FastForwardState) : Type 0 where
+  pub landed : Landed
+  pub order : Order r s.stored s.published s.taken s.consumed landed
+  pub words : Words r L landed (memory_word o es)
+  pub nonzero : (j : ℕ) → j < s.stored → L j ≢ 0
+  pub sending : SendingIs r s.stored s.published landed.cleared s.sending
+  pub receiving : ReceivingIs r L s.taken s.consumed landed.slots s.receiving
+  pub buffers : Buffers r L c es s.stored s.published s.taken s.consumed landed
+  pub sent : s.sent ≡ firsts L s.stored
+  pub received : s.received ≡ firsts L s.taken
+
+pub sending-more : (r : RingBuffer) (stored published n m : ℕ) (p : SenderState) → n ≤ m → SendingIs r stored published n p → SendingIs r stored published m p
+sending-more r stored published n m resting le h = h
+sending-more r stored published n m (placed x) le h = h
+sending-more r stored published n m (roomy x) le h = (h.0, h.1, omega (arith, le, h.2))
+sending-more r stored published n m (filled x) le h = h
+
+pub receiving-more : (r : RingBuffer) (L : ℕ → ℕ) (taken consumed g h : ℕ) (p : FastForwardReceiver) → g ≤ h
+    → ReceivingIs r L taken consumed g p → ReceivingIs r L taken consumed h p
+receiving-more r L taken consumed g h idle le is = is
+receiving-more r L taken consumed g h (asked u) le is = is
+receiving-more r L taken consumed g h (holding u w) le is = (is.0, is.1, omega (arith, le, is.2), is.3)
+receiving-more r L taken consumed g h (cleared u) le is = is
+
+-- ---- what a word is after a part of a row
+
+-- none of the part goes there
+none-there : (a v : ℕ) (f : ℕ → Write) (i n : ℕ) → ((p : ℕ) → i ≤ p → p < i + n → (f p).addr ≢ a) → seen a v (spread f i n) ≡ v
+none-there a v f i zero other = refl
+none-there a v f i (suc n) other =
+    let off : ((f i).addr == a) ≡ false = grind (arith, nat_tests, other i) in
+    ap (λ b. seen a (if b then (f i).value else v) (spread f (suc i) n)) off
+    ∙ none-there a v f (suc i) n (λ p from below. other p (omega arith) (omega arith))
+
+-- the q-th goes there, and none after it
+last-there : (a x v : ℕ) (f : ℕ → Write) (i n q : ℕ) → i ≤ q → q < i + n → f q ≡ write a 4 x
+    → ((p : ℕ) → q < p → p < i + n → (f p).addr ≢ a) → seen a v (spread f i n) ≡ x
+last-there a x v f i zero q from below is after = absurd (omega arith)
+last-there a x v f i (suc n) q from below is after = at (cases_eq i q)
+    (λ other. last-there a x (if (f i).addr == a then (f i).value else v) f (suc i) n q (omega arith) (omega arith) is
+    (λ p later under. after p later (omega arith)))
+  where
+    at : (i ≡ q) ⊎ (i ≢ q) → (i ≢ q → seen a (if (f i).addr == a then (f i).value else v) (spread f (suc i) n) ≡ x) → seen a v (spread f i (suc n)) ≡ x
+    at (inr other) more = more other
+    at (inl same) more =
+        let here : f i ≡ write a 4 x = ap f same ∙ is in
+        let on : (a == a) ≡ true = grind (arith, nat_tests) in
+        ap (λ (y : Write). seen a (if y.addr == a then y.value else v) (spread f (suc i) n)) here
+        ∙ ap (λ b. seen a (if b then x else v) (spread f (suc i) n)) on
+        ∙ none-there a x f (suc i) n (λ p from under. after p (omega (arith, same)) (omega arith))
+
+-- the addresses of a row: a slot's only where its number is near
+row_apart : (r : RingBuffer) (is : IsRingBuffer r) (L : ℕ → ℕ) (p J : ℕ) → (p % 2 ≡ 0 → (p / 2 < J) × (J < p / 2 + r.size)) → (sent_store r L p).addr ≢ slot r J
+row_apart r is L p J near = at (cases_eq (p % 2) 0)
+  where
+    at : (p % 2 ≡ 0) ⊎ (p % 2 ≢ 0) → (sent_store r L p).addr ≢ slot r J
+    at (inl even) = λ same.
+        let place : (sent_store r L p).addr ≡ slot r (p / 2) = ap (λ (w : Write). w.addr) (sent-slot r L p (p / 2) (omega (arith, even))) in
+        mod_apart r.size (p / 2) J (omega (arith, is.some_slots)) (near even).0 (near even).1 (omega (arith, sym place ∙ same))
+    at (inr odd) = λ same.
+        let place : (sent_store r L p).addr ≡ r.head = ap (λ (w : Write). w.addr) (sent-head r L p (p / 2) (omega (arith, odd))) in
+        slot_not_head r is J (sym same ∙ place)
+
+pub slot_again : (r : RingBuffer) (is : IsRingBuffer r) (j k : ℕ) → k ≡ j + r.size → slot r k ≡ slot r j
+slot_again r is j k at = ap (λ x. r.slots + x) (offset_again r is j k at)
+
+-- ---- what each party reads
+
+module _ (r : RingBuffer) (is : IsRingBuffer r) (L : ℕ → ℕ) (small : (j : ℕ) → L j < 2 ^ 32) (c : Earlier) (o : OpeningValue) (es : List Entry)
+    (s : FastForwardState) (inv : Invariant r L c o es s) where
+  abbrev d : Landed
+  d = inv.landed
+
+  pub mine-whole : All IsWholeWord (writes_to r (pending r.sender es))
+  mine-whole = subst (All IsWholeWord) (sym inv.buffers.rows.mine)
+      (spread-all IsWholeWord (sent_store r L) (d.slots + d.heads) inv.buffers.unsent (sent-whole r is L small))
+
+  pub cleared-whole : (p : ℕ) → IsWholeWord (cleared_store r p)
+  cleared-whole p = sent-whole (turned r) (turned_is r is) zeros (λ j. omega arith) p
+
+  pub theirs-whole : All IsWholeWord (writes_to r (pending r.receiver es))
+  theirs-whole = subst (All IsWholeWord) (sym inv.buffers.rows.theirs)
+      (spread-all IsWholeWord (cleared_store r) (d.cleared + d.tails) inv.buffers.unread cleared-whole)
+
+  sender-head : read o es r.sender r.head 4 ≡ offset r s.published
+  sender-head = reads-word r o es r.sender r.head is.head mine-whole
+      ∙ ap (seen r.head (memory_word o es r.head)) inv.buffers.rows.mine
+      ∙ ap (λ v. seen r.head v (spread (sent_store r L) (d.slots + d.heads) inv.buffers.unsent))
+      (inv.words.head ∙ ap (offset r) (omega (arith, inv.order.mine.heads_slots, inv.order.mine.slots_heads)))
+      ∙ seen-heads r is L (d.slots + d.heads) inv.buffers.unsent
+      ∙ ap (offset r) (omega (arith, inv.buffers.mine_count, inv.order.mine.published_stored, inv.order.mine.stored_published))
+
+  receiver-tail : read o es r.receiver r.tail 4 ≡ offset r s.consumed
+  receiver-tail = reads-word r o es r.receiver r.tail is.tail theirs-whole
+      ∙ ap (seen r.tail (memory_word o es r.tail)) inv.buffers.rows.theirs
+      ∙ ap (λ v. seen r.tail v (spread (cleared_store r) (d.cleared + d.tails) inv.buffers.unread))
+      (inv.words.tail ∙ ap (offset r) (omega (arith, inv.order.theirs.heads_slots, inv.order.theirs.slots_heads)))
+      ∙ seen-heads (turned r) (turned_is r is) zeros (d.cleared + d.tails) inv.buffers.unread
+      ∙ ap (offset r) (omega (arith, inv.buffers.theirs_count, inv.order.theirs.published_stored, inv.order.theirs.stored_published))
+
+  -- the sender finds a word in a slot whose word isn't cleared in memory
+  sender-full : s.stored ≡ s.published → s.stored ≡ d.cleared + r.size → read o es r.sender (slot r s.stored) 4 ≡ L d.cleared
+  sender-full level full =
+      reads-word r o es r.sender (slot r s.stored) (slot_word r is s.stored) mine-whole
+      ∙ ap (seen (slot r s.stored) (memory_word o es (slot r s.stored))) inv.buffers.rows.mine
+      ∙ at (cases_lt d.cleared d.slots)
+    where
+      at : (d.cleared < d.slots) ⊎ (d.slots ≤ d.cleared) → seen (slot r s.stored) (memory_word o es (slot r s.stored))
+          (spread (sent_store r L) (d.slots + d.heads) inv.buffers.unsent) ≡ L d.cleared
+      at (inl landed) =
+          none-there (slot r s.stored) (memory_word o es (slot r s.stored)) (sent_store r L) (d.slots + d.heads) inv.buffers.unsent
+          (λ p from below. row_apart r is L p s.stored (λ even. (
+            omega (arith, below, even, level, inv.buffers.mine_count),
+            omega (arith, from, even, full, landed, inv.order.mine.heads_slots, inv.order.mine.slots_heads),
+          )))
+          ∙ ap (memory_word o es) (slot_again r is d.cleared s.stored full) ∙ inv.words.full d.cleared (omega arith) landed
+      at (inr none) =
+          let same : d.cleared ≡ d.slots = omega (arith, none, inv.order.theirs.slots_stored, inv.order.taken_slots) in
+          last-there (slot r s.stored) (L d.cleared) (memory_word o es (slot r s.stored)) (sent_store r L) (d.slots + d.heads) inv.buffers.unsent
+          (2 * d.cleared) (omega (arith, same, inv.order.mine.heads_slots)) (omega (arith, same, level, full, is.some_slots, inv.buffers.mine_count))
+          (sent-slot r L (2 * d.cleared) d.cleared refl ∙ ap (λ a. write a 4 (L d.cleared)) (sym (slot_again r is d.cleared s.stored full)))
+          (λ p from below. row_apart r is L p s.stored (λ even.
+          (omega (arith, below, even, level, inv.buffers.mine_count), omega (arith, from, even, full))))
+
+  -- and 0 where the slot is free in memory
+  pub sender-free : s.stored ≡ s.published → s.stored < d.cleared + r.size → read o es r.sender (slot r s.stored) 4 ≡ 0
+  sender-free level room =
+      reads-word r o es r.sender (slot r s.stored) (slot_word r is s.stored) mine-whole
+      ∙ ap (seen (slot r s.stored) (memory_word o es (slot r s.stored))) inv.buffers.rows.mine
+      ∙ none-there (slot r s.stored) (memory_word o es (slot r s.stored)) (sent_store r L) (d.slots + d.heads) inv.buffers.unsent
+      (λ p from below. row_apart r is L p s.stored (λ even. (
+        omega (arith, below, even, level, inv.buffers.mine_count),
+        omega (arith, from, even, room, inv.order.theirs.slots_stored, inv.order.taken_slots, inv.order.mine.heads_slots, inv.order.mine.slots_heads),
+      )))
+      ∙ inv.words.free s.stored inv.order.mine.slots_stored room
+
+  -- what the receiver reads in its slot
+  slot-reads : read o es r.receiver (slot r s.taken) 4
+      ≡ seen (slot r s.taken) (memory_word o es (slot r s.taken)) (spread (cleared_store r) (d.cleared + d.tails) inv.buffers.unread)
+  slot-reads = reads-word r o es r.receiver (slot r s.taken) (slot_word r is s.taken) theirs-whole
+      ∙ ap (seen (slot r s.taken) (memory_word o es (slot r s.taken))) inv.buffers.rows.theirs
+
+  slot-near : s.taken ≡ s.consumed → s.taken < d.cleared + r.size → read o es r.receiver (slot r s.taken) 4 ≡ memory_word o es (slot r s.taken)
+  slot-near level near = slot-reads
+      ∙ none-there (slot r s.taken) (memory_word o es (slot r s.taken)) (cleared_store r) (d.cleared + d.tails) inv.buffers.unread
+      (λ p from below. row_apart (turned r) (turned_is r is) zeros p s.taken (λ even. (
+        omega (arith, below, even, level, inv.buffers.theirs_count),
+        omega (arith, from, even, near, inv.order.theirs.heads_slots, inv.order.theirs.slots_heads),
+      )))
+
+  -- it finds the word that landed there
+  pub receiver-word : s.taken ≡ s.consumed → s.taken < d.slots → read o es r.receiver (slot r s.taken) 4 ≡ L s.taken
+  receiver-word level landed = slot-near level (omega (arith, landed, inv.order.mine.slots_stored, inv.order.room))
+      ∙ inv.words.full s.taken inv.order.theirs.slots_stored landed
+
+  -- what the receiver finds in its slot: 0, or the word that landed there
+  receiver-slot : s.taken ≡ s.consumed
+      → (read o es r.receiver (slot r s.taken) 4 ≡ 0) ⊎ ((s.taken < d.slots) × (read o es r.receiver (slot r s.taken) 4 ≡ L s.taken))
+  receiver-slot level = at (cases_lt s.taken (d.cleared + r.size)) (cases_lt s.taken d.slots)
+    where
+      at : (s.taken < d.cleared + r.size) ⊎ (d.cleared + r.size ≤ s.taken) → (s.taken < d.slots) ⊎ (d.slots ≤ s.taken)
+          → (read o es r.receiver (slot r s.taken) 4 ≡ 0) ⊎ ((s.taken < d.slots) × (read o es r.receiver (slot r s.taken) 4 ≡ L s.taken))
+      at (inl near) (inl landed) = inr (landed, receiver-word level landed)
+      at (inl near) (inr none) = inl (slot-near level near ∙ inv.words.free s.taken none near)
+      at (inr far) c =
+          let full : s.taken ≡ d.cleared + r.size = omega (arith, far, inv.order.taken_slots, inv.order.mine.slots_stored, inv.order.room) in
+          inl (slot-reads ∙ last-there (slot r s.taken) 0 (memory_word o es (slot r s.taken)) (cleared_store r) (d.cleared + d.tails) inv.buffers.unread
+          (2 * d.cleared) (omega (arith, inv.order.theirs.heads_slots)) (omega (arith, level, full, is.some_slots, inv.buffers.theirs_count))
+          (sent-slot (turned r) zeros (2 * d.cleared) d.cleared refl ∙ ap (λ a. write a 4 0) (sym (slot_again r is d.cleared s.taken full)))
+          (λ p from below. row_apart (turned r) (turned_is r is) zeros p s.taken (λ even.
+          (omega (arith, below, even, level, inv.buffers.theirs_count), omega (arith, from, even, full)))))
+
+  -- ---- loads
+
+  send-looked : (a v : ℕ) (p : SenderState) → v ≡ read o es r.sender a 4 → SendingIs r s.stored s.published d.cleared p
+      → SendingIs r s.stored s.published d.cleared (send_look r a v p)
+  send-looked a v resting is_read holds = holds
+  send-looked a v (placed u) is_read holds = by (a == r.slots + u) refl (v == 0) refl
+    where
+      by : (b : Bool) → (a == r.slots + u) ≡ b → (c : Bool) → (v == 0) ≡ c
+          → SendingIs r s.stored s.published d.cleared (if b then (if c then roomy u else placed u) else placed u)
+      by true here true zero_read =
+          let place : a ≡ slot r s.stored = eqb-true a (r.slots + u) here ∙ ap (λ x. r.slots + x) (holds.1 ∙ ap (offset r) (sym holds.0)) in
+          let none : read o es r.sender (slot r s.stored) 4 ≡ 0 = ap (λ x. read o es r.sender x 4) (sym place) ∙ sym is_read ∙ eqb-true v 0 zero_read in
+          let other : s.stored ≢ d.cleared + r.size =
+          λ full. inv.nonzero d.cleared (omega (arith, full, is.some_slots)) (sym (sender-full holds.0 full) ∙ none) in
+          (holds.0, holds.1, omega (arith, other, inv.order.room))
+      by true here false some = holds
+      by false there c is_c = holds
+  send-looked a v (roomy u) is_read holds = holds
+  send-looked a v (filled u) is_read holds = holds
+
+  send-head : (a v : ℕ) (p : SenderState) → s.stored ≡ s.published → v ≡ read o es r.sender a 4 → SendingIs r s.stored s.published d.cleared (send_look r a v p)
+      → SendingIs r s.stored s.published d.cleared (if a == r.head then placed v else send_look r a v p)
+  send-head a v p level is_read holds = by (a == r.head) refl
+    where
+      by : (b : Bool) → (a == r.head) ≡ b → SendingIs r s.stored s.published d.cleared (if b then placed v else send_look r a v p)
+      by true same = (level, is_read ∙ ap (λ x. read o es r.sender x 4) (eqb-true a r.head same) ∙ sender-head)
+      by false apart = holds
+
+  pub sending-load : (a v : ℕ) (p : SenderState) → v ≡ read o es r.sender a 4 → SendingIs r s.stored s.published d.cleared p
+      → SendingIs r s.stored s.published d.cleared (send_load r a v p)
+  sending-load a v resting is_read holds = send-head a v resting holds is_read (send-looked a v resting is_read holds)
+  sending-load a v (placed u) is_read holds = send-head a v (placed u) holds.0 is_read (send-looked a v (placed u) is_read holds)
+  sending-load a v (roomy u) is_read holds = send-head a v (roomy u) holds.0 is_read (send-looked a v (roomy u) is_read holds)
+  sending-load a v (filled u) is_read holds = holds
+
+  take-looked : (a v : ℕ) (p : FastForwardReceiver) → v ≡ read o es r.receiver a 4 → ReceivingIs r L s.taken s.consumed d.slots p
+      → ReceivingIs r L s.taken s.consumed d.slots (receive_look r a v p)
+  take-looked a v idle is_read holds = holds
+  take-looked a v (asked u) is_read holds = by (a == r.slots + u) refl (v == 0) refl
+    where
+      by : (b : Bool) → (a == r.slots + u) ≡ b → (c : Bool) → (v == 0) ≡ c
+          → ReceivingIs r L s.taken s.consumed d.slots (if b then (if c then asked u else holding u v) else asked u)
+      by true here true zero_read = holds
+      by true here false some =
+          let place : a ≡ slot r s.taken = eqb-true a (r.slots + u) here ∙ ap (λ x. r.slots + x) (holds.1 ∙ ap (offset r) (sym holds.0)) in
+          let found : v ≡ read o es r.receiver (slot r s.taken) 4 = is_read ∙ ap (λ x. read o es r.receiver x 4) place in
+          elim (receiver-slot holds.0) [
+            | inl none ↦ absurd (eqb-false v 0 some (found ∙ none))
+            | inr word ↦ (holds.0, holds.1, word.0, found ∙ word.1)
+          ]
+      by false there c is_c = holds
+  take-looked a v (holding u w) is_read holds = holds
+  take-looked a v (cleared u) is_read holds = holds
+
+  take-tail : (a v : ℕ) (p : FastForwardReceiver) → s.taken ≡ s.consumed → v ≡ read o es r.receiver a 4
+      → ReceivingIs r L s.taken s.consumed d.slots (receive_look r a v p)
+      → ReceivingIs r L s.taken s.consumed d.slots (if a == r.tail then asked v else receive_look r a v p)
+  take-tail a v p level is_read holds = by (a == r.tail) refl
+    where
+      by : (b : Bool) → (a == r.tail) ≡ b → ReceivingIs r L s.taken s.consumed d.slots (if b then asked v else receive_look r a v p)
+      by true same = (level, is_read ∙ ap (λ x. read o es r.receiver x 4) (eqb-true a r.tail same) ∙ receiver-tail)
+      by false apart = holds
+
+  pub receiving-load : (a v : ℕ) (p : FastForwardReceiver) → v ≡ read o es r.receiver a 4 → ReceivingIs r L s.taken s.consumed d.slots p
+      → ReceivingIs r L s.taken s.consumed d.slots (receive_load r a v p)
+  receiving-load a v idle is_read holds = take-tail a v idle holds is_read (take-looked a v idle is_read holds)
+  receiving-load a v (asked u) is_read holds = take-tail a v (asked u) holds.0 is_read (take-looked a v (asked u) is_read holds)
+  receiving-load a v (holding u w) is_read holds = take-tail a v (holding u w) holds.0 is_read (take-looked a v (holding u w) is_read holds)
+  receiving-load a v (cleared u) is_read holds = holds

@@ -1,0 +1,190 @@
+-- Each store of FastForward's parties keeps the invariant, and so does what leaves the block.
+use Rattle.std.proofs.Common.{ℕ, suc, ◌+◌, ◌≤◌, ◌≡◌, ◌≢◌, inl, inr, true, List, [], ◌∷◌, ◌++◌, length, sym, ◌∙◌, ap, subst, arith}
+use Rattle.std.proofs.lemmas.Bool.{cases_eq}
+use Rattle.memory.specs.declared.writes.Write.{Write}
+use Rattle.step_machine.specs.declared.events.Entry.{Entry}
+use Rattle.step_machine.specs.History.{OpeningValue}
+use Rattle.step_machine.specs.Access.{store, access_of}
+use Rattle.step_machine.specs.Entries.{hart_of, memory_word, stores, lands}
+use Rattle.spsc_queue.specs.RingBuffers.{RingBuffer, IsRingBuffer, IsWordIn, offset, slot, next, overlaps}
+use Rattle.spsc_queue.specs.Protocol.{SenderState, resting, roomy, filled, IsWordAt}
+use Rattle.spsc_queue.specs.FastForward.{FastForwardReceiver, idle, holding, cleared, FastForwardState}
+use Rattle.spsc_queue.proofs.Spread.{sent_store, sent-slot, sent-head}
+use Rattle.spsc_queue.proofs.Rows.{row-stores, row-publishes, Earlier, Stays, rows-stay, words-stay, sender-stores, receiver-stores}
+use Rattle.spsc_queue.proofs.Invariant.{firsts}
+use Rattle.spsc_queue.proofs.Loads.{next_offset, slot_word}
+use Rattle.spsc_queue.proofs.Steps.{write-is}
+use Rattle.spsc_queue.proofs.FastForwardInvariant.{Landed, Words, SendingIs, ReceivingIs, Invariant, turned, zeros, cleared_store}
+
+-- where the words of the block stay
+words-same : (r : RingBuffer) (is : IsRingBuffer r) (L : ℕ → ℕ) (d : Landed) (old new : ℕ → ℕ) → ((a : ℕ) → IsWordIn r a → new a ≡ old a)
+    → Words r L d old → Words r L d new
+words-same r is L d old new same words = record {
+  head = same r.head is.head ∙ words.head;
+  tail = same r.tail is.tail ∙ words.tail;
+  full = λ j from below. same (slot r j) (slot_word r is j) ∙ words.full j from below;
+  free = λ j from below. same (slot r j) (slot_word r is j) ∙ words.free j from below;
+}
+
+module _ (r : RingBuffer) (is : IsRingBuffer r) (L : ℕ → ℕ) (c : Earlier) (o : OpeningValue) (es : List Entry) (s : FastForwardState)
+    (inv : Invariant r L c o es s) (e : Entry) (even : (h : ℕ) → lands h es ≤ length (stores h es)) where
+  abbrev d : Landed
+  d = inv.landed
+
+  abbrev after : List Entry
+  after = es ++ e ∷ []
+
+  -- the block stays, and so do the stores to it: what a party knows may change
+  pub stays : (p : SenderState) (q : FastForwardReceiver) → Stays r o es after
+      → SendingIs r s.stored s.published d.cleared p → ReceivingIs r L s.taken s.consumed d.slots q
+      → Invariant r L c o after (record s { sending = p; receiving = q })
+  stays p q block sending receiving = record {
+    landed = d;
+    order = inv.order;
+    words = words-same r is L d (memory_word o es) (memory_word o after) block.words inv.words;
+    nonzero = inv.nonzero;
+    sending = sending;
+    receiving = receiving;
+    buffers = record {
+      unsent = inv.buffers.unsent;
+      unread = inv.buffers.unread;
+      rows = rows-stay r c (sent_store r L) (cleared_store r) o es after (d.slots + d.heads) inv.buffers.unsent (d.cleared + d.tails) inv.buffers.unread
+          inv.buffers.rows block;
+      mine_count = inv.buffers.mine_count;
+      theirs_count = inv.buffers.theirs_count;
+    };
+    sent = inv.sent;
+    received = inv.received;
+  }
+
+  pub idles : Stays r o es after → Invariant r L c o after s
+  idles block = stays s.sending s.receiving block inv.sending inv.receiving
+
+  module _ (w : Write) (does : access_of e ≡ store w) (on : overlaps r w ≡ true) where
+    words : Words r L d (memory_word o after)
+    words = words-same r is L d (memory_word o es) (memory_word o after) (λ a word. words-stay r is o es e even w does a) inv.words
+
+    -- the sender's two stores
+    pub sends-word : hart_of e ≡ r.sender → (u : ℕ) → s.sending ≡ roomy u → IsWordAt w (r.slots + u) → w.value ≡ L s.stored → w.value ≢ 0
+        → Invariant r L c o after (record s { sending = filled u; stored = s.stored + 1; sent = s.sent ++ w.value ∷ [] })
+    sends-word mine u at word value some = record {
+      landed = d;
+      order = record { mine = row-stores inv.order.mine known.0; theirs = inv.order.theirs; taken_slots = inv.order.taken_slots; room = known.2 };
+      words = words;
+      nonzero = λ j below. elim (cases_eq j s.stored) [
+        | inl same ↦ λ none. some (value ∙ ap L (sym same) ∙ none)
+        | inr other ↦ inv.nonzero j (omega arith)
+      ];
+      sending = (omega (arith, known.0), known.1);
+      receiving = inv.receiving;
+      buffers = record {
+        unsent = suc inv.buffers.unsent;
+        unread = inv.buffers.unread;
+        rows = sender-stores r is o es e even w does on c (sent_store r L) (cleared_store r) (d.slots + d.heads) inv.buffers.unsent
+            (d.cleared + d.tails) inv.buffers.unread inv.buffers.rows mine is_next;
+        mine_count = omega (arith, inv.buffers.mine_count);
+        theirs_count = inv.buffers.theirs_count;
+      };
+      sent = ap (λ ws. ws ++ w.value ∷ []) inv.sent ∙ ap (λ v. firsts L s.stored ++ v ∷ []) value ∙ ap (firsts L) one_more;
+      received = inv.received;
+    }
+      where
+        known : SendingIs r s.stored s.published d.cleared (roomy u)
+        known = subst (SendingIs r s.stored s.published d.cleared) at inv.sending
+
+        one_more : suc s.stored ≡ s.stored + 1
+        one_more = omega arith
+
+        is_next : w ≡ sent_store r L ((d.slots + d.heads) + inv.buffers.unsent)
+        is_next = write-is w (slot r s.stored) (L s.stored)
+            (record { place = word.place ∙ ap (λ x. r.slots + x) (known.1 ∙ ap (offset r) (sym known.0)); width = word.width }) value
+            ∙ sym (sent-slot r L ((d.slots + d.heads) + inv.buffers.unsent) s.stored (omega (arith, inv.buffers.mine_count, known.0)))
+
+    pub sends-head : hart_of e ≡ r.sender → (u : ℕ) → s.sending ≡ filled u → IsWordAt w r.head → w.value ≡ next r u
+        → Invariant r L c o after (record s { sending = resting; published = s.published + 1 })
+    sends-head mine u at word value = record {
+      landed = d;
+      order = record { mine = row-publishes inv.order.mine known.0; theirs = inv.order.theirs; taken_slots = inv.order.taken_slots; room = inv.order.room };
+      words = words;
+      nonzero = inv.nonzero;
+      sending = known.0;
+      receiving = inv.receiving;
+      buffers = record {
+        unsent = suc inv.buffers.unsent;
+        unread = inv.buffers.unread;
+        rows = sender-stores r is o es e even w does on c (sent_store r L) (cleared_store r) (d.slots + d.heads) inv.buffers.unsent
+            (d.cleared + d.tails) inv.buffers.unread inv.buffers.rows mine is_next;
+        mine_count = omega (arith, inv.buffers.mine_count);
+        theirs_count = inv.buffers.theirs_count;
+      };
+      sent = inv.sent;
+      received = inv.received;
+    }
+      where
+        known : SendingIs r s.stored s.published d.cleared (filled u)
+        known = subst (SendingIs r s.stored s.published d.cleared) at inv.sending
+
+        is_next : w ≡ sent_store r L ((d.slots + d.heads) + inv.buffers.unsent)
+        is_next = write-is w r.head (offset r (s.published + 1)) word (value ∙ next_offset r is u s.published known.1)
+            ∙ sym (sent-head r L ((d.slots + d.heads) + inv.buffers.unsent) s.published (omega (arith, inv.buffers.mine_count, known.0)))
+
+    -- the receiver's two
+    pub takes-word : hart_of e ≡ r.receiver → (u v : ℕ) → s.receiving ≡ holding u v → IsWordAt w (r.slots + u) → w.value ≡ 0
+        → Invariant r L c o after (record s { receiving = cleared u; taken = s.taken + 1; received = s.received ++ v ∷ [] })
+    takes-word mine u v at word value = record {
+      landed = d;
+      order = record { mine = inv.order.mine; theirs = row-stores inv.order.theirs known.0; taken_slots = omega (arith, known.2); room = inv.order.room };
+      words = words;
+      nonzero = inv.nonzero;
+      sending = inv.sending;
+      receiving = (omega (arith, known.0), known.1);
+      buffers = record {
+        unsent = inv.buffers.unsent;
+        unread = suc inv.buffers.unread;
+        rows = receiver-stores r is o es e even w does on c (sent_store r L) (cleared_store r) (d.slots + d.heads) inv.buffers.unsent
+            (d.cleared + d.tails) inv.buffers.unread inv.buffers.rows mine is_next;
+        mine_count = inv.buffers.mine_count;
+        theirs_count = omega (arith, inv.buffers.theirs_count);
+      };
+      sent = inv.sent;
+      received = ap (λ ws. ws ++ v ∷ []) inv.received ∙ ap (λ x. firsts L s.taken ++ x ∷ []) known.3 ∙ ap (firsts L) one_more;
+    }
+      where
+        known : ReceivingIs r L s.taken s.consumed d.slots (holding u v)
+        known = subst (ReceivingIs r L s.taken s.consumed d.slots) at inv.receiving
+
+        one_more : suc s.taken ≡ s.taken + 1
+        one_more = omega arith
+
+        is_next : w ≡ cleared_store r ((d.cleared + d.tails) + inv.buffers.unread)
+        is_next = write-is w (slot r s.taken) 0
+            (record { place = word.place ∙ ap (λ x. r.slots + x) (known.1 ∙ ap (offset r) (sym known.0)); width = word.width }) value
+            ∙ sym (sent-slot (turned r) zeros ((d.cleared + d.tails) + inv.buffers.unread) s.taken (omega (arith, inv.buffers.theirs_count, known.0)))
+
+    pub frees : hart_of e ≡ r.receiver → (u : ℕ) → s.receiving ≡ cleared u → IsWordAt w r.tail → w.value ≡ next r u
+        → Invariant r L c o after (record s { receiving = idle; consumed = s.consumed + 1 })
+    frees mine u at word value = record {
+      landed = d;
+      order = record { mine = inv.order.mine; theirs = row-publishes inv.order.theirs known.0; taken_slots = inv.order.taken_slots; room = inv.order.room };
+      words = words;
+      nonzero = inv.nonzero;
+      sending = inv.sending;
+      receiving = known.0;
+      buffers = record {
+        unsent = inv.buffers.unsent;
+        unread = suc inv.buffers.unread;
+        rows = receiver-stores r is o es e even w does on c (sent_store r L) (cleared_store r) (d.slots + d.heads) inv.buffers.unsent
+            (d.cleared + d.tails) inv.buffers.unread inv.buffers.rows mine is_next;
+        mine_count = inv.buffers.mine_count;
+        theirs_count = omega (arith, inv.buffers.theirs_count);
+      };
+      sent = inv.sent;
+      received = inv.received;
+    }
+      where
+        known : ReceivingIs r L s.taken s.consumed d.slots (cleared u)
+        known = subst (ReceivingIs r L s.taken s.consumed d.slots) at inv.receiving
+
+        is_next : w ≡ cleared_store r ((d.cleared + d.tails) + inv.buffers.unread)
+        is_next = write-is w r.tail (offset r (s.consumed + 1)) word (value ∙ next_offset r is u s.consumed known.1)
+            ∙ sym (sent-head (turned r) zeros ((d.cleared + d.tails) + inv.buffers.unread) s.consumed (omega (arith, inv.buffers.theirs_count, known.0)))

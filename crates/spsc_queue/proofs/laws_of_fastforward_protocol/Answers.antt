@@ -1,0 +1,23 @@
+use Rattle.spsc_queue.proofs.FastForwardRuns.{delivered}
+use Rattle.spsc_queue.proofs.FastForwardPublication.{published, returned}
+use Rattle.spsc_queue.proofs.FastForwardLinearization.{empty_landed, full_landed}
+use Rattle.spsc_queue.proofs.FastForwardExample.{met}
+use Rattle.spsc_queue.proofs.laws_of_fastforward_protocol.Goals as goal
+
+pub returns-clause-fifo : goal.returns-clause-fifo
+returns-clause-fifo c = λ B r o before es follows. delivered B r o before es follows
+
+pub returns-clause-publication : goal.returns-clause-publication
+returns-clause-publication c = λ B r o before es fs follows more. published B r o before es fs follows more
+
+pub returns-clause-reclamation : goal.returns-clause-reclamation
+returns-clause-reclamation c = λ B r o before es fs follows more. returned B r o before es fs follows more
+
+pub returns-clause-linearization_of_empty : goal.returns-clause-linearization_of_empty
+returns-clause-linearization_of_empty c = λ B r o before es e fs follows u mine does was. empty_landed B r o before es e fs follows u mine does was
+
+pub returns-clause-linearization_of_full : goal.returns-clause-linearization_of_full
+returns-clause-linearization_of_full c = λ B r o before es e fs follows u v mine does some was. full_landed B r o before es e fs follows u v mine does some was
+
+pub returns-clause-met : goal.returns-clause-met
+returns-clause-met c = met
