@@ -99,10 +99,9 @@ def without_bodies(text):
     return [text[first:last] for first, last in zip(places[::2], places[1::2])]
 
 
-def statements(text):
-    """What a source states: its text without bodies and comments, and with single blanks."""
-    bare = (NO_CODE.sub(lambda it: " " if it[0].startswith("/") else it[0], piece) for piece in without_bodies(text))
-    return [" ".join(piece.split()) for piece in bare]
+def bare(text):
+    """The text with blanks in place of comments, as long as before."""
+    return NO_CODE.sub(lambda found: re.sub(r"[^\n]", " ", found[0]) if found[0].startswith("/") else found[0], text)
 
 
 def changed(before, after):

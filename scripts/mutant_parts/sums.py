@@ -1,8 +1,9 @@
 """The checksum of all that the checks of a crate's mutants read.
 
-Of the crate itself these are its sources as they are and its line of crates.txt, of the crates below what they state:
-their specs/, and of their src/ the text without the functions' bodies. A body below is no part of a check here, which
-cites its contract, and neither are the lemmas of proofs/ below: they are proved, so no lemma makes a wrong body right.
+Of the crate itself these are its sources as they are and its line of crates.txt, of the crates below what its sources cite
+of their specs/ and of the text of their src/ outside of functions' bodies (`cited`). A body below is no part of a check
+here, which cites its contract, and neither are the lemmas of proofs/ below: they are proved, so no lemma makes a wrong
+body right.
 """
 
 import hashlib
@@ -11,7 +12,7 @@ import subprocess
 
 from crates import SOURCES, TOP
 
-from . import functions
+from .cited import cited, stated
 
 DIGITS = 16
 
@@ -38,24 +39,12 @@ def files(folder, suffix=""):
     return [(path.relative_to(folder).as_posix(), path) for path in sorted(folder.rglob(f"*{suffix}")) if path.is_file()]
 
 
-def stated(crate):
-    """What a crate states, as texts."""
-    yield crate.name
-    for name, path in files(crate / "specs"):
-        yield from (name, path.read_bytes())
-    for name, path in files(crate / "src", ".rt"):
-        yield from (name, *functions.statements(path.read_text()))
-
-
 def read_by(name, crates, logic, top=TOP):
     """The sum of all that the checks of a crate read, but its mutants."""
-    own = top / "crates" / name
+    own = [(f"{part}/{at}", path.read_text()) for part in SOURCES for at, path in files(top / "crates" / name / part)]
     parts = [logic, *(line for line in (top / "crates.txt").read_text().splitlines() if line.partition(":")[0].split()[:1] == [name])]
-    for part in SOURCES:
-        parts += [text for at, path in files(own / part) for text in (f"{part}/{at}", path.read_bytes())]
-    for low in sorted(crates.below(name)):
-        parts += stated(top / "crates" / low)
-    return digest(parts)
+    below = [item for low in sorted(crates.below(name)) for item in stated(top / "crates" / low, files)]
+    return digest([*parts, *(text for file in own for text in file), *cited((text for _, text in own), below)])
 
 
 def of_edits(edits):

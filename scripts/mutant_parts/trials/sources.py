@@ -6,7 +6,7 @@ from pathlib import Path
 
 from crates import Crates
 
-from mutant_parts import functions, passes, sums, table
+from mutant_parts import cited, functions, passes, sums, table
 from mutant_parts.edits import Unfit, edits_of
 
 LOW = '''//! Rows, as "fn text() {" has none.
@@ -67,17 +67,29 @@ class House(unittest.TestCase):
 
 
 class Functions(unittest.TestCase):
+    def items(self, text):
+        return list(cited.items("lib.rt", text))
+
     def test_where_they_stand(self):
         found = [(one.name, one.owner, one.first, one.last) for one in functions.functions(LOW)]
         self.assertEqual(found, [("next", "", 6, 13), ("last", "impl<'a> Rows<'a>", 16, 18)])
 
     def test_statements_have_no_bodies_and_no_comments(self):
         other = LOW.replace("number + 1", "1 + number").replace("/// The next row", "/// One row further")
-        self.assertEqual(functions.statements(LOW), functions.statements(other))
-        self.assertNotEqual(functions.statements(LOW), functions.statements(LOW.replace("number < 10", "number < 11")))
+        self.assertEqual(self.items(LOW), self.items(other))
+        self.assertNotEqual(self.items(LOW), self.items(LOW.replace("number < 10", "number < 11")))
 
     def test_what_a_constant_computes_is_a_statement(self):
-        self.assertNotEqual(functions.statements(LOW), functions.statements(LOW.replace("    4\n", "    8\n")))
+        self.assertNotEqual(self.items(LOW), self.items(LOW.replace("    4\n", "    8\n")))
+
+    def test_what_cites_a_statement(self):
+        found = [sorted(item.names) for item in self.items(LOW + "\nimpl Drop for Rows<'_> {\n    fn drop(&mut self) {}\n}\n\nstruct Row;\n")]
+        self.assertEqual(found, [["next"], ["last"], [], ["Row", "width"]])
+
+    def test_a_statement_has_its_imports(self):
+        following, last, *_ = (item.text for item in self.items(LOW))
+        self.assertIn("Rattle.low.specs.Rows.row", following)
+        self.assertNotIn("Rattle", last)
 
 
 class Passes(House):
@@ -131,6 +143,17 @@ class Sums(House):
 
     def test_a_definition_below_counts(self):
         self.assertTrue(self.changed("low/specs/Rows.antt", "row n = n", "row n = 1"))
+
+    def test_what_is_not_cited_does_not_count(self):
+        self.assertFalse(self.changed("low/src/lib.rt", "fn last(&self) -> u32", "fn last(&self) -> u64"))
+        before = self.of()
+        self.write("low/specs/Columns.antt", "column n = n\n")
+        self.assertEqual(self.of(), before)
+
+    def test_what_is_cited_in_between_counts(self):
+        self.write("low/specs/Columns.antt", "column n = n\n")
+        self.write("low/specs/Rows.antt", "use Rattle.low.specs.Columns.{column}\nrow n = column n\n")
+        self.assertTrue(self.changed("low/specs/Columns.antt", "column n = n", "column n = 1"))
 
     def test_a_proof_below_does_not_count(self):
         self.assertFalse(self.changed("low/proofs/next/Answers.antt", "refl", "omega"))
