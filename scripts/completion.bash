@@ -1,4 +1,4 @@
-# Completes the words of ztso in bash: source scripts/completion.bash. Made by tools/commands.
+# Completes the words of ztso in bash: source scripts/completion.bash. Made by scripts/make-commands.
 _ztso() {
     local word=${COMP_WORDS[COMP_CWORD]} last=${COMP_WORDS[COMP_CWORD - 1]} command=${COMP_WORDS[1]}
     local at position=0 options='' words='' inputs=()

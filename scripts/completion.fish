@@ -1,4 +1,4 @@
-# Completes the words of ztso in fish. Made by tools/commands.
+# Completes the words of ztso in fish. Made by scripts/make-commands.
 complete -c ztso -f
 complete -c ztso -n __fish_use_subcommand -a run -d 'the last state and the verdict'
 complete -c ztso -n __fish_use_subcommand -a replay -d 'what happened'

@@ -1,5 +1,5 @@
 #compdef ztso
-# Completes the words of ztso in zsh, as the file _ztso of a folder of fpath. Made by tools/commands.
+# Completes the words of ztso in zsh, as the file _ztso of a folder of fpath. Made by scripts/make-commands.
 _ztso() {
     if ((CURRENT == 2)); then
         local -a commands=(

@@ -1,4 +1,4 @@
-"""What scripts/install and tools/package put below a prefix: each file's place there with what it is made of.
+"""What scripts/install and scripts/make-package put below a prefix: each file's place there with what it is made of.
 
 Below share/ztso the folders have the names that they have in the repository, so that the links of the pages and the
 commands that they show hold there too.
@@ -41,7 +41,7 @@ FOLDERS = {
     "tools/bring_parts": (".py", ".c", ".h"),
     "tools/reference": (".py",),
 }
-LEFT_OUT = ("out", "trials", "__pycache__")
+LEFT_OUT = ("out", "__pycache__")
 # where the page by a link is put
 PAGE = f"{SHARE}/page"
 

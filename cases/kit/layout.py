@@ -7,7 +7,7 @@ from pathlib import Path
 from .links import ROOT
 
 WIDEST = 160
-ADVICE = {".antt": "tools/fold breaks it", ".rt": "break its clause, its imports or its text"}
+ADVICE = {".antt": "scripts/fold-lines breaks it", ".rt": "break its clause, its imports or its text"}
 # An attribute of the prover: `rt fmt` writes each on one line.
 ATTRIBUTE = "#[tactic("
 

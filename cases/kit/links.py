@@ -4,7 +4,7 @@ import re
 from pathlib import Path
 
 ROOT = Path(__file__).resolve().parent.parent.parent
-FOLDERS = ("docs", "examples", "litmus", "crates", "tools", "scripts", "bench", "cases")
+FOLDERS = ("docs", "examples", "litmus", "crates", "tools", "tests", "scripts", "bench", "cases")
 PARTS = ("src", "specs", "proofs", "must-fail", "mutants")
 LINK = re.compile(r"\[[^\]\n]*\]\((?P<target>[^)\s]+)\)")
 PATH = re.compile(r"(?<![\w./:<*~-])(?:[\w.+-]+/)+[\w.+-]*[\w+]")

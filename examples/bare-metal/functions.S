@@ -1,5 +1,5 @@
 # The functions of docs/functions.md for GNU as, for code of harts with Ztso that keeps what that page asks.
-# tools/ring-assembly makes this file.
+# scripts/make-ring-assembly makes this file.
     .attribute arch, "rv32i2p1_ztso1p0"
     .option norvc
 

@@ -1,5 +1,5 @@
 # The programs of docs/channels.md for GNU as. Each is the whole program of a hart with Ztso.
-# tools/ring-assembly makes this file.
+# scripts/make-ring-assembly makes this file.
     .attribute arch, "rv32i2p1_ztso1p0"
     .option norvc
 

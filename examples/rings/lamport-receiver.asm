@@ -1,4 +1,4 @@
-# The receiver of docs/channels.md's ring lamport. tools/ring-assembly makes this file.
+# The receiver of docs/channels.md's ring lamport. scripts/make-ring-assembly makes this file.
 round: addi x8,x21,0       # from the first block on
        addi x22,x0,0
 visit: lw x5,12(x8)        # a sender that is done is passed over

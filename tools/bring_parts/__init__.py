@@ -38,10 +38,10 @@ def complain(tool, *words, before=()):
 
 class Words(argparse.ArgumentParser):
     """The words of a tool's command line, by the text at the tool's top: that is its help, and the lines that begin
-    with `tools/` its usage."""
+    with `tools/` or `tests/` its usage."""
 
     def __init__(self, text):
-        lines = [line for line in text.splitlines() if line.startswith(("tools/", "ztso try"))]
+        lines = [line for line in text.splitlines() if line.startswith(("tools/", "tests/", "ztso try"))]
         super().__init__(usage="\n       ".join(lines))
         self.text = text
 

@@ -105,3 +105,17 @@ def of_table(text, table, brackets=False):
         raise Refused("the table that `ztso try` prints ends with a line `unfinished N`")
     notes = [f"Hash={found}" for found in re.findall(r"^[ \t]*Hash=(\S+)", text.information, re.MULTILINE)]
     return written(text.name, test.kind, condition_by(names, text.condition), states, notes)
+
+
+def values_in(text):
+    """The registers and words of a state text with a verdict, by their places."""
+    values, hart = {}, None
+    for line in text.splitlines()[:-1]:
+        if line.startswith("hart "):
+            hart = int(line.split()[1])
+        else:
+            place, _, value = line.partition(" = ")
+            key = ("word", int(place[5:])) if place.startswith("word ") else \
+                ("register", hart, int(place[1:]))
+            values[key] = int(value)
+    return values

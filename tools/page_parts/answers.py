@@ -1,5 +1,5 @@
 """The page's questions, each answered by commands of the program. What the program printed is taken apart here, and
-put into words by the page. static/answers.js does the same where there is no server, and tools/page-tests holds both
+put into words by the page. static/answers.js does the same where there is no server, and tests/page-server holds both
 together."""
 
 import itertools

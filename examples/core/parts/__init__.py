@@ -6,7 +6,7 @@ from pathlib import Path
 
 HERE = Path(__file__).resolve().parent.parent
 ROOT = HERE.parent.parent
-sys.path[:0] = [str(ROOT / "tools"), str(ROOT / "cases"), str(ROOT / "tools/reference")]
+sys.path[:0] = [*(str(ROOT / name) for name in ("tools", "tests", "cases", "tools/reference"))]
 
 
 class Wrong(Exception):

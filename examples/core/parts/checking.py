@@ -8,7 +8,7 @@ from pathlib import Path
 from bring_parts import Refused
 from core_log_parts import faults, landings, log, record
 from core_log_parts.opening import opening
-from shelf import Entry, Fault
+from shelf_parts import Entry, Fault
 
 from . import Wrong, bench, explaining, judge, keeping
 

@@ -4,7 +4,7 @@ import re
 import subprocess
 from functools import lru_cache
 
-from shelf import shown
+from shelf_parts import shown
 
 from . import Wrong
 

@@ -6,7 +6,7 @@ from concurrent.futures import ProcessPoolExecutor
 from dataclasses import replace
 from functools import partial
 
-from shelf import SHELF
+from shelf_parts import SHELF
 
 from . import HERE, checking, drawing
 

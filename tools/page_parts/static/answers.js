@@ -1,5 +1,5 @@
 // The page's questions, each answered by commands of the program: what tools/page_parts/answers.py does on a server.
-// What the program printed is taken apart here, and put into words by the page. tools/page-tests holds both together.
+// What the program printed is taken apart here, and put into words by the page. tests/page-server holds both together.
 
 import { Failed, Fault, ofLine, ofStop } from "./faults.js";
 import { limits } from "./known.js";

@@ -1,0 +1,1 @@
+"""What tests/bringing and tests/bringing-with-compilers try."""

@@ -1,0 +1,108 @@
+"""C that a compiler makes something of: the files of forms/ and of examples/c, by gcc and clang."""
+
+import re
+import shutil
+import tempfile
+from pathlib import Path
+
+from bring_parts import ROOT, Refused, c_command, c_source, c_tests, columns, compilers, herd, objects, search, text_of
+from bring_parts.c_command import Way
+from bring_parts.mappings import joined
+from bring_trials import counting, hostile
+
+import programs
+
+FORMS = Path(__file__).resolve().parent / "forms"
+COMPILERS = ("gcc", "clang")
+# options of from-c, its status, and a part of what it prints
+OPTIONS = [(["--flag=-O0"], 0, "-fno-ipa-icf -O0"), (["--flag=-no-such-flag"], 2, "fails"),
+           (["--compiler", "clang -Wall"], 0, "clang version"), (["--compiler", "true"], 2, "nm fails"),
+           (["--compiler", "false"], 2, "said nothing"), (["--fences", "full"], 0, "--fences full"),
+           (["--lines"], 0, "# 2: int P0(void) { return x")]
+# where a form has states without end
+STATES = 3000
+
+
+def answer(path, way):
+    """The outcomes of what a way makes of a file, or the first line of what it is refused for."""
+    try:
+        text = c_command.made(path, way)
+    except Refused as refused:
+        return None, "refused: " + str(refused).split("\n")[0]
+    found = search.outcomes(text, 4, STATES)
+    return text, (" ".join(map(joined, sorted(found.schedules))) + " and more" * found.cut).strip()
+
+
+def sources():
+    return sorted([*(ROOT / "examples/c").glob("*.c"), *(ROOT / "examples/c").glob("*.c.litmus")])
+
+
+def part(count):
+    """The forms have the answers of their table, and what is taken comes through from-herd unchanged."""
+    rows = [line.split("\t") for line in (FORMS / "answers.tsv").read_text().splitlines()[1:]]
+    asked = {(name, compiler): wanted for name, compiler, wanted in rows}
+    files = sorted(FORMS.glob("*.c*"))
+    every = {(path.name, compiler) for path in files for compiler in COMPILERS}
+    count.told("answers.tsv has each form", set(asked) == every, "")
+    jobs = [(path, compiler) for path in files + sources() for compiler in COMPILERS]
+    taken = 0
+    for path, compiler in jobs:
+        text, came = answer(path, Way(compiler))
+        taken += text is not None
+        wanted, name = asked.get((path.name, compiler)), f"{path.name} by {compiler}"
+        count.told(name, wanted in (None, came) and (wanted or text), f"{came}, and {wanted} is wanted")
+        if text:
+            count.told(f"{name}: from-herd leaves it", herd.rewritten(text) == (text, {}), "it was rewritten")
+    print(f"  {taken} of {len(jobs)} compilations of {len(jobs) // 2} files taken")
+
+
+def raw_words(program):
+    """The words of a program's code by their addresses, as objdump prints them."""
+    listing = compilers.output([compilers.binutil("objdump"), "-d", program])
+    return {int(at, 16): word for at, word in re.findall(r"^ *([0-9a-f]+):\t([0-9a-f]{8}) ", listing, re.MULTILINE)}
+
+
+def assembled(path, compiler):
+    """For each instruction of a file's program that is no jump: its statement, the word that this assembles to, and the
+    compiler's word."""
+    source, compiler = c_source.read(text_of(path), path.name), compilers.Compiler(compiler)
+    with tempfile.TemporaryDirectory() as folder:
+        program = c_tests.compiled(source, c_tests.results_of(source), compiler, [], [path.parent], folder)
+        functions, raw = objects.functions_of(program), raw_words(program)
+    for instruction in (each for code in functions.values() for each in code):
+        if instruction.name not in (*columns.JUMPS, "jalr"):
+            statement = columns.statement(instruction)
+            yield statement, f"{programs.read(statement + chr(10))[0]:08x}", raw[instruction.at]
+
+
+def words(count):
+    """Each statement that is no jump assembles to the compiler's word, wherever a file is taken."""
+    rows = []
+    for path in sorted(FORMS.glob("*.c*")) + sources():
+        for compiler in COMPILERS:
+            if answer(path, Way(compiler))[0]:
+                rows += [(path.name, *row) for row in assembled(path, compiler)]
+    other = [row for row in rows if row[2] != row[3]]
+    count.told("statements assemble to the compiler's words", rows and not other, str(other[:3]))
+    print(f"  {len(rows) - len(other)} of {len(rows)} statements that are no jumps assemble to the compiler's words")
+
+
+def unusual(count):
+    """Names, flags and compilers that are unusual."""
+    c = "int x;\nint P0(void) { return x; }\n// exists (0:a0=0)\n"
+    with tempfile.TemporaryDirectory() as folder:
+        for name in ("a {b} c.c", "$(d) 'e' \"f\".c", "-o.c", "a\\b%s.c", "(*.c"):
+            path = counting.write(folder, name, c)
+            for compiler in COMPILERS:
+                status, printed, error = counting.run("from-c", "--compiler", compiler, "--lines", "--", path)
+                is_good = status == 0 and "2: int P0(void) { return x" in printed
+                count.told(f"a file {name!r} by {compiler}", is_good, printed + error)
+        path = counting.write(folder, "c.c", c)
+        for options, status, told in OPTIONS:
+            came, printed, error = counting.run("from-c", path, *options)
+            count.told(f"from-c {options}", came == status and told in printed + error, f"{came} {printed}{error}")
+        commands = Path(folder, "commands")
+        commands.mkdir()
+        Path(commands, "clang").symlink_to(shutil.which("clang"))
+        status, told = hostile.with_path(commands, path, "--compiler", "clang")
+        count.told("no binutils", status == 2 and "apt-get install binutils-riscv64-unknown-elf" in told, told)

@@ -1,0 +1,133 @@
+"""What the page takes at most, hostile texts, and children that are killed or that nobody waits for."""
+
+import http.client
+import json
+import os
+import re
+import signal
+import threading
+import time
+from pathlib import Path
+
+from page_parts.calls import MEMORY
+from page_trials.served import LOOP, SB, Served
+
+RUN = {"text": SB, "buffer": 4}
+LONG = {"text": LOOP, "buffer": 4, "seed": "1", "skip": 0, "runs": 100000, "length": 2000}
+
+
+def part(count, program):
+    served = Served(program)
+    try:
+        texts(count, served)
+        schedules(count, served)
+        children(count, served)
+    finally:
+        ends(count, served)
+
+
+def texts(count, served):
+    rows = " nop | nop ;\n"
+    table = SB.replace(" sw x5,0(x6)", rows * 90000 + " sw x5,0(x6)")[:(1 << 20) - 9] + "\n x | x ;"
+    head = " P0          | P1          ;\n"
+    for name, number, text in (
+            ("1 MiB and a byte", 37, "x" * (1 << 20) + "x"), ("1 MiB of one line", 21, "x" * (1 << 20)),
+            ("half a surrogate pair", 36, "RISCV \ud800"), ("1 MiB of table", 26, table), ("an empty text", 21, ""),
+            ("a text of zeros", 21, "\0" * 1000), ("a wrong cell", 24, SB.replace("lw x7,0(x8) ;", "lq x7,0(x8) ;"))):
+        status, answer = served.ask("test", text=text)
+        found = answer.get("fault", {})
+        count.told(f"{name}: {number}", status == 200 and found.get("number") == number, answer)
+    cell = found["cell"]
+    good = cell["hart"] == 1 and cell["words"] and found["place"] == {"line": 9}
+    count.told("the cell that is wrong is named", good, found)
+    answer = served.ask("test", text=SB.replace("0:x6=x;", f"{'0' * 5000}0:x6=x;"))[1]
+    good = answer.get("harts", [{"pointers": {}}])[0]["pointers"].get("6") == "x" or answer.get("fault", {}).get("number")
+    count.told("a hart's number of 5,000 digits", good, answer)
+    answer = served.ask("test", text=SB.replace(head, head + rows * 2048))[1]
+    count.told("more code than the page shows", answer.get("fault", {}).get("name") == "TooLong", answer)
+
+
+def schedules(count, served):
+    status, answer = served.ask("view", **RUN, tokens="a0*2000")
+    count.told("2,000 events", status == 200 and len(answer.get("outcomes", [])) == 2000)
+    for name, route, more in (("2,001 events", "view", {"tokens": "a0*2000 a1"}),
+                              ("2,001 events to read", "read", {"schedule": "ztso-schedule 1\na0*2001\n"})):
+        answer = served.ask(route, **RUN, **more)[1]
+        count.told(name, answer.get("fault", {}).get("name") == "TooLong", answer)
+    answer = served.ask("read", **RUN, schedule="ztso-schedule 1\na0 b1")[1].get("fault", {})
+    count.told("a wrong token", answer.get("number") == 28 and answer["place"] == {"byte": 19}, answer)
+    answer = served.ask("read", **RUN, schedule="ztso-schedule 2\na0 load 0 0 0\n")[1].get("fault", {})
+    count.told("a record of another run", answer.get("number") == 38 and answer["place"] == {"event": 0}, answer)
+
+
+def started(served):
+    """The children once there is one."""
+    until = time.monotonic() + 20
+    while not (found := served.children()) and time.monotonic() < until:
+        time.sleep(0.01)
+    return found
+
+
+def gone(served):
+    """Whether no child runs any more, and none starts, at most five seconds from now."""
+    until, quiet = time.monotonic() + 5, 0
+    while quiet < 30 and time.monotonic() < until:
+        quiet = 0 if served.children() else quiet + 1
+        time.sleep(0.01)
+    return quiet == 30
+
+
+def is_limited(pid):
+    """Whether a child's memory is limited, which comes right after its start."""
+    for _ in range(100):
+        limits = Path(f"/proc/{pid}/limits").read_text()
+        if re.search(rf"^Max address space +{MEMORY} ", limits, re.MULTILINE):
+            return True
+        time.sleep(0.01)
+    return False
+
+
+def runs_still(pid):
+    """Whether a process runs: one that has ended may wait for whoever asks how."""
+    try:
+        return Path(f"/proc/{pid}/stat").read_text().rpartition(")")[2].split()[0] not in "ZX"
+    except FileNotFoundError:
+        return False
+
+
+def children(count, served):
+    got = []
+    asking = threading.Thread(target=lambda: got.append(served.ask("draw", **LONG)))
+    asking.start()
+    for pid in started(served):
+        os.kill(pid, signal.SIGKILL)
+    asking.join(60)
+    count.told("a killed child is told", bool(got) and got[0][0] == 503 and "signal 9" in got[0][1]["error"], got)
+    count.told("and the next question is answered", served.ask("view", **RUN, tokens="")[0] == 200)
+
+    body = json.dumps(LONG).encode()
+    connection = http.client.HTTPConnection("127.0.0.1", served.port)
+    connection.request("POST", served.own + "draw", body, {
+        "Host": served.host, "Origin": f"http://{served.host}", "Content-Type": "application/json"})
+    running = started(served)
+    count.told("a child's memory is limited", running and is_limited(running[0]), running)
+    connection.close()
+    count.told("a child that nobody waits for ends", running and gone(served), running)
+
+
+def ends(count, served):
+    asking = threading.Thread(target=lambda: quietly(served.ask, "draw", **LONG))
+    asking.start()
+    running = started(served)
+    count.told("a signal ends the server", served.end(signal.SIGTERM) == 0)
+    time.sleep(0.2)
+    count.told("and its children", running and not any(map(runs_still, running)), running)
+    asking.join(10)
+
+
+def quietly(call, *words, **members):
+    """A call whose connection may be cut."""
+    try:
+        call(*words, **members)
+    except (OSError, http.client.HTTPException, ValueError):
+        pass

@@ -1,0 +1,84 @@
+"""Pictures of the page: those of docs/page.md, and those that whoever changes the page should look at."""
+
+from page_parts import ROOT
+from page_trials import pngs, texts
+
+SB = "a0", "a0", "a1", "a1", "l0", "l1"
+
+
+def of_guide(page, folder):
+    """The pictures of docs/page.md, small enough for the repository."""
+    for name, shows in (("page.png", drawn), ("page-dark.png", veiled)):
+        shows(page)
+        page.run("document.activeElement.blur(), scrollTo(0, 0)")
+        (folder / name).write_bytes(pngs.smaller(page.browser.picture()))
+    page.browser.dark(False)
+
+
+def drawn(page):
+    page.open()
+    page.choose("sb")
+    page.event(*SB)
+    page.draw()
+
+
+def veiled(page):
+    page.choose("sb+rfi-pos")
+    page.click("#witnesses button")
+    page.keys("ArrowLeft", "ArrowLeft")
+    page.browser.dark(True)
+
+
+def to_look_at(page, folder):
+    """What is easily broken: small windows, large type, much of something, faults, what opens over the page."""
+    folder.mkdir(parents=True, exist_ok=True)
+    for name, shows in LOOKS.items():
+        page.open()
+        shows(page)
+        (folder / f"{name}.png").write_bytes(page.browser.picture(whole=name in WHOLE))
+        page.browser.size(1280, 800)
+        page.browser.dark(False)
+        page.run("sessionStorage.clear(), document.activeElement.blur()")
+
+
+def many_harts(page):
+    page.over("text", texts.MANY)
+    page.event("a63")
+
+
+def long_names(page):
+    page.over("text", texts.LONG)
+    page.event("a0")
+
+
+def compiled(page):
+    page.over("text", (ROOT / "examples/c/dekker.gcc.litmus").read_text())
+    page.run("document.activeElement.blur()")
+    page.keys("m", "0", "0", "1", "1", "0", "1")
+
+
+def menu(page):
+    page.event(*SB[:4])
+    page.click("#saving summary")
+
+
+def not_shown(page):
+    page.choose("mp")
+    page.draw()
+    page.click("#drawn .source")
+
+
+def sized(width, height, scale=1):
+    def shows(page):
+        page.browser.size(width, height, scale)
+        drawn(page)
+    return shows
+
+
+LOOKS = {"begin": lambda page: page.choose("sb"), "drawn": drawn, "narrow": sized(400, 800), "zoom": sized(640, 400, 2),
+         "dark": lambda page: (drawn(page), page.browser.dark(True)), "veiled": veiled, "harts": many_harts,
+         "long-names": long_names, "not-shown": not_shown, "fault": lambda page: page.over("text", texts.FAULTY), "compiled": compiled,
+         "keys": lambda page: page.press("?"), "menu": menu,
+         "many-outcomes": lambda page: (page.choose("iriw"), page.draw()),
+         "dropping": lambda page: page.run("document.body.classList.add('dropping')")}
+WHOLE = ("narrow", "zoom", "many-outcomes", "not-shown")

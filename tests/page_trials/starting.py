@@ -1,0 +1,136 @@
+"""How tools/page starts: its words, its port, its program."""
+
+import os
+import shutil
+import subprocess
+import tempfile
+import time
+from pathlib import Path
+
+from page_parts import ROOT, TOOLS, programs
+from page_trials.served import SB, Served
+
+NEEDED = ("tools/page", "tools/page_parts", "tools/bring_parts", "tools/from-c", "tools/from-herd", "tools/reference",
+          "examples/mappings", "docs/errors.md", "litmus")
+
+
+def part(count, program):
+    for name, words, status, said in (
+            ("--help", ["--help"], 0, "--port"), ("a port that is none", ["--port", "65536"], 2, "65535"),
+            ("a run that is none", ["a0"], 2, "#run="), ("no program", ["--program", "/no/such"], 1, "no such program"),
+            ("a folder as a program", ["--program", "/tmp"], 1, "no such program")):
+        done = subprocess.run([TOOLS / "page", *words], capture_output=True, text=True, timeout=60, check=False)
+        count.told(name, done.returncode == status and said in done.stdout + done.stderr, done)
+    served = Served(program)
+    words = [TOOLS / "page", "--program", program or programs.REFERENCE, "--port", str(served.port)]
+    done = subprocess.run(words, capture_output=True, text=True, timeout=60, check=False)
+    count.told("a port that is taken", done.returncode == 1 and "take another one" in done.stderr, done)
+    served.end()
+    served = Served(program, "https://example.org/ztso/#run=abc")
+    address = served.address
+    count.told("a whole link, without its address", address.endswith("/#run=abc") and "example" not in address, address)
+    served.end()
+    with tempfile.TemporaryDirectory(prefix="ztso-page-") as folder:
+        written(count, Path(folder, "hosted"))
+        found(count, program, Path(folder, "ztso"))
+        opened(count, program, Path(folder))
+        moved(count, program, Path(folder, "moved"))
+
+
+def written(count, top):
+    """The folder that scripts/static-page writes, of a program that was compiled before."""
+    def write(*words):
+        return subprocess.run([ROOT / "scripts/static-page", *words], capture_output=True, text=True, timeout=60, check=False)
+    top.mkdir()
+    wasm, out, other = top / "some.wasm", top / "out", top / "other"
+    wasm.write_bytes(b"\0asm")
+    other.mkdir()
+    (other / "mine").write_text("kept")
+    for name, done, status, said in (
+            ("static-page --help", write("--help"), 0, "OUT"),
+            ("a folder without a name", write(), 2, "OUT"),
+            ("a program that isn't there", write("--wasm", top / "none", out), 2, "no such file"),
+            ("a folder that has something else", write("--wasm", wasm, other), 2, "name another folder"),
+            ("a place that isn't there", write("--wasm", wasm, top / "no/such"), 1, "No such file")):
+        words = done.stdout + done.stderr
+        count.told(name, done.returncode == status and said in words and "Traceback" not in words, done)
+    for name in ("a folder is written", "and written anew"):
+        done = write("--wasm", wasm, out)
+        page = (out / "index.html").read_text()
+        good = "nothing is proved of this build" in page and "default-src 'none'" in page
+        files = (out / "ztso.wasm").read_bytes() == b"\0asm" and not (out / "page.html").exists()
+        count.told(name, done.returncode == 0 and good and files, done)
+    left = sorted(path.name for path in top.iterdir())
+    count.told("nothing is left beside it, and nothing lost", left == ["other", "out", "some.wasm"] and (other / "mine").exists(), left)
+
+
+def moved(count, program, top):
+    """The page in another folder, with what it needs and nothing else, as an installation has it."""
+    for name in NEEDED:
+        source, target = ROOT / name, top / name
+        target.parent.mkdir(parents=True, exist_ok=True)
+        if source.is_dir():
+            shutil.copytree(source, target, ignore=shutil.ignore_patterns("__pycache__"))
+        else:
+            shutil.copy2(source, target)
+    before = sorted(top.rglob("*"))
+    served = Served(program or programs.REFERENCE, page=top / "tools/page", cwd="/")
+    try:
+        status, answer = served.ask("test", text=SB)
+        herd = served.ask("herd", text=(ROOT / "examples/herd/LB+typed.litmus").read_text())[1]
+        good = status == 200 and answer["title"] == "SB" and "notes" in herd and len(served.shelf()["tests"]) > 50
+        count.told("it runs where it is installed", good, answer)
+    finally:
+        served.end()
+    count.told("and leaves nothing there", sorted(top.rglob("*")) == before)
+    done = subprocess.run([top / "tools/page"], capture_output=True, text=True, timeout=60, check=False)
+    count.told("there is no program there", done.returncode == 1 and "name it by --program" in done.stderr, done)
+
+
+def script(path, text):
+    path.write_text(f"#!/bin/sh\n{text}\n")
+    os.chmod(path, 0o755)
+    return path
+
+
+def found(count, program, stand_in):
+    """A program that has `find` and `chart --memory`: a stand-in, which finds nothing where it has a buffer of one or two,
+    and hands on what else it is asked."""
+    served = Served(script(stand_in, f"""case "$* " in
+        'find --buffer 1 '*) echo 'ztso: all 23 states seen, none shows it' >&2; exit 1 ;;
+        'find --buffer 2 '*) echo 'ztso: cut at 100 states' >&2; exit 5 ;;
+        find*) printf 'ztso-schedule 1\\na0*2 a1*2 l0 l1\\n' ;;
+        chart*\\ --memory\\ *) echo 'rows of memory' ;;
+        *) exec '{program or programs.REFERENCE}' "$@" ;;
+        esac"""))
+    try:
+        can = served.shelf()["can"]
+        count.told("a program's commands are known", can["find"] and can["memory"], can)
+        answer = served.ask("chart", text=SB, buffer=4, tokens="a0", rows="memory")[1]
+        count.told("a picture of some rows", "rows of memory\n" in (answer.get("svg"), answer.get("text")), answer)
+        answer = served.ask("find", text=SB, buffer=4)[1]
+        count.told("the shortest schedule", answer == {"tokens": "a0*2 a1*2 l0 l1"}, answer)
+        answer = served.ask("find", text=SB, buffer=1)[1]
+        count.told("how many states had none", answer == {"states": 23, "cut": False}, answer)
+        answer = served.ask("find", text=SB, buffer=2)[1]
+        count.told("and how many the search was cut at", answer == {"states": 100, "cut": True}, answer)
+    finally:
+        served.end()
+
+
+def opened(count, program, folder):
+    """The browser that --open starts gets an address that leads to the page once."""
+    given = folder / "given"
+    browser = script(folder / "browser", f"echo \"$1\" > '{given}.new'; mv '{given}.new' '{given}'")
+    served = Served(program, "--open", BROWSER=str(browser))
+    try:
+        until = time.monotonic() + 20
+        while not given.exists() and time.monotonic() < until:
+            time.sleep(0.02)
+        path = "/" + given.read_text().strip().split("/", 3)[3]
+        count.told("the address for the browser isn't the page's", served.secret not in path, path)
+        status, _, reply = served.request("GET", path)
+        count.told("it leads to the page", (status, reply.getheader("Location")) == (303, served.own), status)
+        count.told("and no second time", served.request("GET", path)[0] == 404)
+    finally:
+        served.end()

@@ -1,0 +1,130 @@
+"""The shelf of litmus tests below litmus/: each test with its witnesses, and what a program shows of it."""
+
+import os
+import re
+import subprocess
+import sys
+import tempfile
+from pathlib import Path
+
+ROOT = Path(__file__).resolve().parent.parent.parent
+SHELF = ROOT / "litmus"
+REFERENCE = ROOT / "tools/reference/ztso"
+sys.path[:0] = [str(ROOT / folder) for folder in ("tools", "tools/reference", "cases")]
+
+import litmus  # noqa: E402
+import schedules  # noqa: E402
+from bring_parts.logs import values_in  # noqa: E402
+from faults import Fault  # noqa: E402
+from kit import chosen, form  # noqa: E402
+
+RUNS = 100_000
+SEED = 1
+# drawn runs are this many times as long as the longest witness, so that most of them finish
+STRETCH = 4
+# where a test has no witness yet
+LENGTH = 48
+
+
+class Wrong(Exception):
+    """Something isn't as it should be."""
+
+
+class Entry:
+    """A test of the shelf and its witnesses."""
+
+    def __init__(self, path):
+        self.path = path
+        self.name = path.name.removesuffix(".litmus")
+        self.test = litmus.read(path.read_text())
+        self.ran = 0
+
+    def witnesses(self):
+        """The events of each outcome that has a witness."""
+        return {tuple(map(int, path.stem.split("-"))): schedules.read(path.read_text())
+                for path in sorted(self.folder().glob("*.schedule"))}
+
+    def folder(self):
+        """Where the witnesses stand, beside the test."""
+        return self.path.parent / self.name
+
+    def witness_path(self, values):
+        return self.folder() / f"{'-'.join(map(str, values))}.schedule"
+
+    def case_name(self, values):
+        return f"{self.name}.{'-'.join(map(str, values))}"
+
+    def expected_path(self):
+        return self.path.parent / f"{self.name}.expected"
+
+    def length(self):
+        return STRETCH * max(map(len, self.witnesses().values()), default=LENGTH // STRETCH)
+
+
+def output(program, *words):
+    """What the program writes. A verdict that doesn't hold is no fault."""
+    done = subprocess.run([str(program), *map(str, words)], capture_output=True, text=True)
+    if done.returncode not in (0, 1) or done.stderr:
+        raise Wrong(f"{' '.join(map(str, words))}: status {done.returncode}, {done.stderr.strip()}")
+    return done.stdout
+
+
+def drawn(program, entry, seed):
+    """The outcomes that drawn runs give, each with the tokens of the first of them."""
+    length = entry.length()
+    entry.ran += RUNS * length
+    text = output(program, "try", entry.path, "--seed", seed, "--runs", RUNS, "--length", length)
+    found = {}
+    for line in text.splitlines()[:-1]:
+        counted, _, tokens = line.partition(" ;")
+        equations = counted.split()[1:]
+        if [equation.partition("=")[0] for equation in equations] != [left for left, _ in entry.test.lefts]:
+            raise Wrong(f"{entry.name}: the outcome {counted!r} has other left sides")
+        values = tuple(int(equation.partition("=")[2]) for equation in equations)
+        found[values] = schedules.read(f"{schedules.HEAD_LINE}\n{tokens}")
+    return found
+
+
+def outcome(program, entry, events):
+    """The outcome that a schedule gives, or None where it doesn't finish the test."""
+    entry.ran += len(events)
+    with tempfile.NamedTemporaryFile("w", suffix=".schedule") as file:
+        file.write(schedules.written(events))
+        file.flush()
+        return shown(entry, output(program, "run", entry.path, file.name))
+
+
+def shown(entry, text):
+    """The outcome that a state text and its verdict give, or None where the test isn't finished."""
+    if text.endswith("\nUnfinished\n"):
+        return None
+    values = values_in(text)
+    return tuple(values.get(place, 0) for _, place in entry.test.lefts)
+
+
+def table():
+    """The outcomes that the table of the shelf's README names, by test: those with a witness, and those
+    that a source excludes."""
+    row = re.compile(r"\| \[[^]]*\]\([a-z-]*/(.*)\.litmus\) \|[^|]*\|[^|]*\|([^|]*)\|([^|]*)\|")
+    rows = filter(None, map(row.fullmatch, (SHELF / "README.md").read_text().splitlines()))
+    return {row[1]: (outcomes_in(row[2]), outcomes_in(row[3])) for row in rows}
+
+
+def outcomes_in(cell):
+    return {tuple(map(int, values.split("-"))) for values in re.findall(r"`([0-9-]+)`", cell)}
+
+
+def settled(work, entry):
+    """What the work on a test answers, or what went wrong."""
+    try:
+        return work(entry)
+    except (Wrong, Fault, OSError, ValueError, IndexError, form.FormError) as error:
+        return Wrong(f"{entry.name}: {error}")
+
+
+def program_and_tests(words):
+    """The program that the words name first, or the one that ./ztso runs, and the tests that they name, or all."""
+    named = words[0] if words and (os.sep in words[0] or Path(words[0]).is_file()) else None
+    program, words = chosen.program(named), words[named is not None:]
+    entries = [Entry(path) for path in sorted(SHELF.glob("*/*.litmus"))]
+    return program, [entry for entry in entries if not words or entry.name in words]

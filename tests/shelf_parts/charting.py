@@ -1,0 +1,62 @@
+"""Draws the witnesses of the shelf with `ztso chart`, and prints the widths of the pictures.
+
+tests/shelf chart [PROGRAM] [TEST ..]
+
+PROGRAM is the one that ./ztso runs unless it is named; TEST is a name like sb, and all are taken where none
+is named. It fails where a picture isn't the one that tools/reference draws, which stops where two texts of a
+row meet; where its rows are wider than 110 characters for one or two harts, else than 20 and 40 for each
+hart or than 200; or where the columns of the witness's first half stand elsewhere than in the whole, except
+in the tests of which a load takes its bytes from several places.
+"""
+
+import sys
+import tempfile
+from collections import Counter
+from concurrent.futures import ThreadPoolExecutor
+from os import cpu_count
+
+import shelf_parts as shelf
+from shelf_parts import schedules
+
+SEVERAL_SOURCES = {"bytes-of-a-word", "halfword-over-two-stores"}
+
+
+def drawn(program, entry, values):
+    """The width of a witness's picture, and what is wrong with it."""
+    picture, reference = (shelf.output(each, "chart", entry.path, entry.witness_path(values))
+                          for each in (program, shelf.REFERENCE))
+    harts = len(entry.test.codes)
+    width, most = max(map(len, picture.split("\n\n")[1].splitlines())), 110 if harts <= 2 else min(20 + 40 * harts, 200)
+    moves = entry.name not in SEVERAL_SOURCES and heads(picture) != heads(half_drawn(program, entry, values))
+    wrong = (["isn't the reference's"] * (picture != reference) + [f"is wider than {most}"] * (width > most)
+             + ["has other columns than its first half"] * moves)
+    return width, [f"{entry.case_name(values)} {each}" for each in wrong]
+
+
+def heads(picture):
+    return picture.split("\n\n")[1].splitlines()[0]
+
+
+def half_drawn(program, entry, values):
+    """The picture of the first half of a witness's events."""
+    events = entry.witnesses()[values]
+    with tempfile.NamedTemporaryFile("w", suffix=".schedule") as file:
+        file.write(schedules.written(events[:len(events) // 2]))
+        file.flush()
+        return shelf.output(program, "chart", entry.path, file.name)
+
+
+def main(words):
+    program, entries = shelf.program_and_tests(words)
+    rows = [(entry, values) for entry in entries for values in sorted(entry.witnesses())]
+    with ThreadPoolExecutor(cpu_count()) as pool:
+        try:
+            answers = list(pool.map(lambda row: drawn(program, *row), rows))
+        except (shelf.Wrong, shelf.Fault, OSError) as error:
+            print(f"shelf chart: {error}", file=sys.stderr)
+            return 1
+    for width, count in sorted(Counter(width for width, _ in answers).items()):
+        print(f"{count:4} of width {width}")
+    failed = [line for _, wrong in answers for line in wrong]
+    print("\n".join([*failed, f"{len(rows)} witnesses, {len(failed)} failed"]))
+    return 1 if failed or not rows else 0

@@ -1,1 +1,0 @@
-"""What tools/bring-tests and tools/bring-trials try."""

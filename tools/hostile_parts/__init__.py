@@ -1,7 +1,0 @@
-"""The parts of tools/hostile, which stand on the cases' kit and on the reference."""
-
-import sys
-from pathlib import Path
-
-ROOT = Path(__file__).resolve().parent.parent.parent
-sys.path[:0] = [str(ROOT / "cases"), str(ROOT / "tools/reference")]

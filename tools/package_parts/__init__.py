@@ -1,5 +1,0 @@
-"""The parts of tools/package."""
-
-
-class Refused(Exception):
-    """What can't be packed, in words for who asked."""
