@@ -28,7 +28,7 @@ TEXTS = {
     "share/bash-completion/completions/ztso": "scripts/completion.bash",
     ZSH: "scripts/completion.zsh",
     "share/fish/vendor_completions.d/ztso.fish": "scripts/completion.fish",
-    **{f"{SHARE}/{name}": name for name in ("VERSION", "README.md", "CHANGELOG.md", "docs/commands.tsv")},
+    **{f"{SHARE}/{name}": name for name in ("VERSION", "README.md", "CHANGELOG.md", "docs/commands.tsv", "docs/rings.tsv")},
 }
 # the folders of the pages, the shelf, the examples and what the page is made of, with what their files are; programs of
 # the examples need the repository's tools, and stay there

@@ -1,4 +1,4 @@
-# Of docs/commands.tsv: the words and options of the command ASKED, or all commands where it is none. The environment
+# Of docs/rings.tsv and docs/commands.tsv: the words and options of the command ASKED, or all commands where it is none. The environment
 # also has COLUMNS of the terminal, VERSION, MANUAL, the command that shows the manual page, and FRONT, what stands
 # before the names of files.
 
@@ -58,9 +58,16 @@ BEGIN {
     width = columns < 40 ? 79 : columns < 100 ? columns - 1 : 99
 }
 
+FNR == NR {
+    if (!/^#/)
+        rings = rings (rings == "" ? "" : ", ") $1
+    next
+}
+
 $1 == "command" {
     commands++
     form[commands] = $2
+    gsub(/{rings}/, rings, $3)
     reads[commands] = $3
     prints[commands] = $4
     page[commands] = $5

@@ -1,4 +1,4 @@
-# Of the words ARGV[2] and on, by docs/commands.tsv, which is ARGV[1]: with WHAT=wrong what is wrong with the first of them
+# Of the words ARGV[3] and on, by docs/rings.tsv and docs/commands.tsv, the files before them: with WHAT=wrong what is wrong with the first of them
 # that doesn't belong to a job, with WHAT=files the files that they name, one a line, in the order in which they are read.
 # It prints nothing where it can't tell.
 
@@ -29,7 +29,7 @@ function wrong_value(name, value,    bounds, is_bounded) {
 
 # What is wrong with a word in its place.
 function wrong_place(place, value) {
-    if (place == "KIND" && value !~ /^(lamport|fastforward|cached|own)$/)
+    if (place == "KIND" && !(value in kinds))
         return "`" value "` is no KIND"
     if (place == "RING" && !is_number(value, "0", "4294967295"))
         return "`" value "` is no number from 0 to 4294967295, for RING"
@@ -71,7 +71,7 @@ function take_option(at,    name, value, has_value) {
 }
 
 function take_words(    at, placed) {
-    for (at = 3; at <= last;)
+    for (at = 4; at <= last;)
         if (ARGV[at] ~ /^--./)
             at += take_option(at)
         else {
@@ -109,8 +109,15 @@ function print_files() {
 BEGIN {
     FS = "\t"
     last = ARGC - 1
-    ARGC = 2
-    command = ARGV[2]
+    ARGC = 3
+    command = ARGV[3]
+    kinds["own"]
+}
+
+FNR == NR {
+    if (!/^#/)
+        kinds[$1]
+    next
 }
 
 $1 == "command" {
@@ -133,7 +140,7 @@ $1 == "option" {
 }
 
 END {
-    if (last < 2)
+    if (last < 3)
         exit
     if (!is_known) {
         if (ENVIRON["WHAT"] == "wrong")

@@ -2,15 +2,18 @@
 an assembly file, a table of words in a source, or one that a mutant makes of it."""
 
 import re
+import sys
 from pathlib import Path
 
 ROOT = Path(__file__).resolve().parent.parent.parent
-HEADING = {"lamport": "## Lamport's ring", "fastforward": "## FastForward",
-           "cached": "## Lamport's ring with a cached tail"}
-CRATE = {"lamport": "lamport_ring", "fastforward": "fastforward", "cached": "lamport_cached"}
+sys.path.append(str(ROOT / "tools/reference"))
+
+from ring_kinds import RINGS  # noqa: E402
+
+CRATE = {name: ring.crate for name, ring in RINGS.items()}
 ROLES = ("sender", "receiver")
 # the program that a ring shares with another one, by that one's name
-SHARED = {("cached", "receiver"): "lamport_receiver"}
+SHARED = {(name, "receiver"): f"{ring.receiver}_receiver" for name, ring in RINGS.items() if ring.receiver != name}
 # the queue's functions, each with its table in FUNCTION_WORDS
 FUNCTIONS = {"lamport_try_send": "TRY_SEND", "lamport_try_receive": "TRY_RECEIVE"}
 FUNCTION_WORDS = ROOT / "crates/spsc_queue/src/lib.rt"
@@ -40,10 +43,14 @@ def listed(page, heading):
     return [{at: (line, remark.strip()) for at, line, remark in lines} for lines in found if lines]
 
 
+def heading(kind):
+    return f"## {RINGS[kind].heading}"
+
+
 def listing(page, kind, role):
     """A program's listing. A receiver's lines are Lamport's, except where the ring has lines of its own."""
-    sender, *own = listed(page, HEADING[kind])
-    return sender if role == "sender" else listed(page, HEADING["lamport"])[1] | (own[0] if own else {})
+    sender, *own = listed(page, heading(kind))
+    return sender if role == "sender" else listed(page, heading("lamport"))[1] | (own[0] if own else {})
 
 
 def function(page, name):

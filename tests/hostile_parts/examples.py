@@ -3,6 +3,7 @@
 import re
 
 from kit import pages
+from ring_kinds import RINGS
 
 from . import ROOT
 
@@ -193,7 +194,7 @@ def kinds():
     yield ["try", TICKET, "--seed", "7", "--runs", "40", "--length", "60", "--skip", "5", "--jobs", "3"], b"", {}
     for test in (SB, TICKET, "litmus/own-reads/n6.litmus"):
         yield ["try", test, "--seed", "7", "--runs", "40", "--length", "60"], b"", {}
-    for kind in ("lamport", "fastforward", "cached"):
+    for kind in RINGS:
         yield ["channel", kind, "3", "examples/two-senders.schedule"], LISTS, {}
         yield ["channel", kind, "3", "none.schedule", "--finish"], LISTS, none
         yield ["channel", kind, "2", "none.schedule", "--finish", "--buffer", "1"], b"1 2 3\n\n4\n" * 3, none

@@ -4,6 +4,8 @@ give it too."""
 import resource
 from pathlib import Path
 
+from ring_kinds import RINGS
+
 from . import ROOT
 from .runs import BAD_COMMAND_LINE, brief, refused
 
@@ -15,7 +17,6 @@ DRAWN = ["--seed", "1", "--runs", "1", "--length", "0"]
 KINDS = ["litmus", "schedules", "records", "shrink", "show", "steps", "asm", "dis", "debug", "channels", "options", "in little memory", "threads"]
 MIB = 1 << 20
 # slots of a ring at the least
-LEAST = {"lamport": 2, "fastforward": 1, "cached": 2}
 
 
 def litmus(harts=1, cells=(), items="", condition="exists (x=0)"):
@@ -138,7 +139,7 @@ def in_little_memory():
 
 def channels(short):
     """Channels: the number of senders, the size of their rings and of their text."""
-    for kind, least in LEAST.items():
+    for kind, least in ((ring.name, ring.least) for ring in RINGS.values()):
         for senders, wanted in ((1, None), (63, None), (64, refused(18))):
             yield ["channel", kind, "2", "schedule"], b"7\n" * senders, wanted
         for slots, wanted in ((least, None), (least - 1, refused(19)), (2**32 - 1, refused(20)),

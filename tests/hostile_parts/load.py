@@ -7,6 +7,7 @@ from pathlib import Path
 
 import litmus
 from machine import Machine, state_text, verdict
+from ring_kinds import RINGS
 from schedules import read as read_schedule, record_written
 
 from rings_parts import drawn_channels
@@ -17,6 +18,8 @@ from .runs import brief, refused
 HARTS, BUFFER, EVENTS = 64, 16, 1_048_576
 CAPACITY = ["--buffer", str(BUFFER)]
 MINUTE = 60
+# the largest ring that fits 63 times
+LARGEST = 61
 # the largest input that is read
 INPUT = 1_048_576
 KINDS = ["steps", "run", "replay", "move", "channel", "debug"]
@@ -100,7 +103,7 @@ def answers_of(test, drawn):
 
 
 def channel_load(runs, count):
-    """63 senders with lists of many words, through the smallest and the largest rings that fit, with a plan and
+    """63 senders with lists of many words, through the smallest and the largest rings that fit, by turns, with a plan and
     without: the reports are clean by the definition of tests/rings drawn."""
     lists = [[runs.draw.randrange(1, 1 << 32) for _ in range(200)] for _ in range(63)]
     stdin = b"".join(b" ".join(b"%d" % word for word in words) + b"\n" for words in lists)
@@ -110,7 +113,8 @@ def channel_load(runs, count):
         drawn.append(f"{'a' if runs.draw.random() < 0.7 else 'l'}{hart}*{times}")
         left -= times
     runs.put({"load.schedule": b"ztso-schedule 1\n" + " ".join(drawn).encode()})
-    for kind, slots in (("lamport", "2"), ("fastforward", "61"), ("cached", "2")):
+    for number, ring in enumerate(RINGS.values()):
+        kind, slots = ring.name, str((ring.least, LARGEST)[number % 2])
         words = ["channel", kind, slots, "load.schedule", *CAPACITY]
         before = None
         for flags in ([], ["--finish"]):

@@ -5,6 +5,8 @@ import re
 
 import tree
 
+from ring_kinds import RINGS
+
 from . import Typed, call, workplace
 
 BUFFERS = ["1", "16", "2", "4"]
@@ -15,7 +17,7 @@ LINES = [
     ("ztso run --buffer ", BUFFERS),
     ("ztso chart --s", ["--svg"]),
     ("ztso try one.litmus --sk", ["--skip"]),
-    ("ztso channel ", ["cached", "fastforward", "lamport", "own"]),
+    ("ztso channel ", sorted([*RINGS, "own"])),
     ("ztso channel lamport 3 ", "files"),
     ("ztso channel own 3 two --sender ", "files"),
     ("ztso ring ", "files"),

@@ -11,7 +11,7 @@ from page_parts import ROOT, TOOLS, programs
 from page_trials.served import SB, Served
 
 NEEDED = ("tools/page", "tools/page_parts", "tools/bring_parts", "tools/from-c", "tools/from-herd", "tools/reference",
-          "examples/mappings", "docs/errors.md", "litmus")
+          "examples/mappings", "docs/errors.md", "docs/rings.tsv", "litmus")
 
 
 def part(count, program):

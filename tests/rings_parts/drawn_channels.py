@@ -24,8 +24,8 @@ from concurrent.futures import ProcessPoolExecutor
 from pathlib import Path
 
 from kit import chosen
+from ring_kinds import RINGS
 
-LEAST = {"lamport": 2, "fastforward": 1, "cached": 2}
 # runs that one process makes, one after the other
 SHARE = 500
 
@@ -35,7 +35,7 @@ def drawn(draw, kind):
     senders = draw.choice((1, 1, 2, 2, 3, 5, 8))
     lists = [[draw.choice((1, 2, 7, 2**32 - 1)) for _ in range(draw.randrange(6))]
              for _ in range(senders)]
-    ring = draw.choice((LEAST[kind], LEAST[kind] + 1, 4, 9))
+    ring = draw.choice((RINGS[kind].least, RINGS[kind].least + 1, 4, 9))
     tokens, busy = [], [draw.choice((1, 3, 12, 40)) for _ in range(2 * senders + 2)]
     for _ in range(draw.choice((20, 80, 300))):
         k = draw.randrange(2 * senders + 2)
@@ -118,7 +118,7 @@ def is_known(program, kind):
     with tempfile.NamedTemporaryFile("w") as schedule:
         schedule.write("ztso-schedule 1\n")
         schedule.flush()
-        done = subprocess.run([program, "channel", kind, str(LEAST[kind]), schedule.name], input=b"1\n",
+        done = subprocess.run([program, "channel", kind, str(RINGS[kind].least), schedule.name], input=b"1\n",
                               stdout=subprocess.DEVNULL, stderr=subprocess.DEVNULL)
     return done.returncode == 0
 
@@ -129,7 +129,7 @@ def main(words):
     options.add_argument("--seed", type=int, default=1)
     options.add_argument("--count", type=int, default=100_000)
     options.add_argument("--jobs", type=int, default=os.cpu_count())
-    options.add_argument("--kind", nargs="+", choices=LEAST, default=list(LEAST))
+    options.add_argument("--kind", nargs="+", choices=RINGS, default=list(RINGS))
     options.add_argument("program", nargs="?")
     asked = options.parse_args(words)
     program, failed = str(chosen.program(asked.program)), 0

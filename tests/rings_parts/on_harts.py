@@ -18,16 +18,16 @@ import tempfile
 from pathlib import Path
 
 from kit import chosen
+from ring_kinds import RINGS
 
 from . import ROOT
 
 ON_HARTS = ROOT / "examples/bare-metal/on-harts"
-LEAST = {"lamport": 2, "fastforward": 1, "cached": 2}
 
 
 def drawn(draw, kind, most):
     """A ring size and lists."""
-    slots = draw.choice((LEAST[kind], LEAST[kind] + 1, 3, 5, 8, 16))
+    slots = draw.choice((RINGS[kind].least, RINGS[kind].least + 1, 3, 5, 8, 16))
     lists = []
     for _ in range(draw.randrange(1, 8)):
         words = draw.choice((0, 1, draw.randrange(10), draw.randrange(100), draw.randrange(most), most))
@@ -61,7 +61,7 @@ def main(words):
     options = argparse.ArgumentParser(usage=__doc__)
     for name, value in (("--seed", 1), ("--count", 20), ("--most", 4000)):
         options.add_argument(name, type=int, default=value)
-    options.add_argument("--kind", nargs="+", choices=LEAST, default=sorted(LEAST))
+    options.add_argument("--kind", nargs="+", choices=RINGS, default=sorted(RINGS))
     options.add_argument("--program")
     asked, rest = options.parse_known_args(words)
     program = chosen.program(asked.program)

@@ -32,6 +32,7 @@ import rings
 import schedules
 from faults import Fault
 from kit import chosen, parts
+from ring_kinds import RINGS
 
 from . import ROOT
 
@@ -71,7 +72,7 @@ class Trial:
     @staticmethod
     def drawn(draw, name, folder):
         """A ring with changes, whose programs lie in the folder then."""
-        kind, changed = draw.choice(list(channels.LEAST)), draw.choice(parts.ROLES)
+        kind, changed = draw.choice(list(RINGS)), draw.choice(parts.ROLES)
         paths = {role: path_of(kind, role) for role in parts.ROLES}
         lines = paths[changed].read_text().splitlines()[1:]
         paths[changed] = folder / f"{name}.asm"
@@ -208,7 +209,7 @@ def check_refused(program, words, text, fault):
 def check_long(program, kind, runs):
     """Many runs of a ring that has a theorem."""
     programs = [FOLDER / f"{parts.named(kind, role).replace('_', '-')}.asm" for role in parts.ROLES]
-    words = ["ring", *programs, channels.LEAST[kind], "--seed", 1, "--runs", runs, "--length", LENGTH, "--jobs", 4]
+    words = ["ring", *programs, RINGS[kind].least, "--seed", 1, "--runs", runs, "--length", LENGTH, "--jobs", 4]
     status, printed = answer(program, words, LONG_LISTS)
     same("the status", status, 0)
     same("the first line", printed.partition("\n")[0], f"clean {runs} runs")
@@ -233,7 +234,7 @@ def main(words):
         trials += [Trial.drawn(draw, f"drawn-{number}", Path(folder)) for number in range(asked.drawn)]
         work = [(trial.name, lambda trial=trial: check(program, trial)) for trial in trials]
         work += [(f"{kind}, {asked.runs} runs", lambda kind=kind: check_long(program, kind, asked.runs))
-                 for kind in channels.LEAST if asked.runs]
+                 for kind in RINGS if asked.runs]
         for name, run in work:
             try:
                 print(f"{name}: {run()}", flush=True)

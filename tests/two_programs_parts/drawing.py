@@ -6,6 +6,7 @@ import re
 import runpy
 
 from hostile_parts import examples, texts
+from ring_kinds import RINGS
 
 from . import ROOT
 from .asking import Question
@@ -125,7 +126,7 @@ class Draw:
         return self.one_of("0", "4294967296", "4294967295", *(str(self.random.randrange(1, 2**32)) for _ in range(40)))
 
     def channel(self):
-        kind, (lists, harts) = self.one_of("lamport", "fastforward", "cached", "own", "other"), self.lists()
+        kind, (lists, harts) = self.one_of(*RINGS, "own", "other"), self.lists()
         events = " ".join(f"{self.one_of('a', 'a', 'a', 'l')}{self.random.randrange(harts)}*{self.random.randrange(1, 40)}"
                           for _ in range(self.random.randrange(40)))
         words = ["channel", kind, self.one_of("1", "2", "3", "64", "0", "16384"), "schedule"]

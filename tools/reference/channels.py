@@ -9,6 +9,7 @@ import litmus
 from digits import of_digits
 from faults import DIFFERS, at_event, at_line, refused
 from machine import MEMORY, RUNNING, Machine, word_at
+from ring_kinds import RINGS
 from words import lines
 
 PAGE = Path(__file__).resolve().parent.parent.parent / "docs/channels.md"
@@ -16,11 +17,6 @@ LINE, ZERO_WORD, NO_SENDERS, TOO_MANY, TOO_SMALL, NO_ROOM = 34, 16, 17, 18, 19, 
 UNEVEN_BASE, UNEVEN_STRIDE, BLOCKS_MEET = 41, 42, 43
 # a place is where block 0 begins, and how far apart the blocks begin, None if one follows the other
 DENSE = 0, None
-HEADING = {"lamport": "## Lamport's ring", "fastforward": "## FastForward",
-           "cached": "## Lamport's ring with a cached tail"}
-LEAST = {"lamport": 2, "fastforward": 1, "cached": 2}
-# where the sender of a ring of Lamport's reads the tail
-TAIL_READ = {"lamport": 0x18, "cached": 0x1C}
 # a ring whose programs the user gives, and its least size
 OWN, LEAST_OWN = "own", 1
 SENDERS = 63
@@ -39,7 +35,7 @@ def lists(text):
 
 def tables(kind):
     """The page's lines for the sender and those of the ring's own for the receiver, if any, by their places."""
-    section = PAGE.read_text().split(f"{HEADING[kind]}\n")[1].split("\n## ")[0]
+    section = PAGE.read_text().split(f"## {RINGS[kind].heading}\n")[1].split("\n## ")[0]
     tables = [re.findall(r"^\| ([0-9A-F]{2}) \| `([^`]*)`", part, re.MULTILINE) for part in section.split("\n\n")]
     sender, *own = (dict(lines) for lines in tables if lines)
     return sender, own[0] if own else {}
@@ -68,7 +64,7 @@ def opened(kind, slots, words, place=DENSE, programs=None):
         raise refused(NO_SENDERS)
     if len(words) > SENDERS:
         raise refused(TOO_MANY)
-    if slots < LEAST.get(kind, LEAST_OWN):
+    if slots < (RINGS[kind].least if kind in RINGS else LEAST_OWN):
         raise refused(TOO_SMALL)
     if base % 4:
         raise refused(UNEVEN_BASE)
@@ -114,10 +110,11 @@ class Channel:
     def is_ready(self, hart):
         """Whether a sender runs and doesn't wait for the receiver."""
         pc, registers, status, _, _ = self.state[0][hart]
-        if self.kind == "fastforward":
-            waits = pc == 0x10 and word_at(self.state[1], registers[28] + 16) != 0
+        ring, memory = RINGS[self.kind], self.state[1]
+        if ring.room_in == "slot":
+            waits = pc == ring.room_at and word_at(memory, registers[28] + 16) != 0
         else:
-            waits = pc == TAIL_READ[self.kind] and word_at(self.state[1], registers[8] + 8) == registers[6]
+            waits = pc == ring.room_at and word_at(memory, registers[8] + 8) == registers[6]
         return status == RUNNING and not waits
 
     def finish(self):
