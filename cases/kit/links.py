@@ -14,7 +14,7 @@ OPEN = re.compile(r"NAME|WHAT_IT_DOES|OUTCOME|(^|/)out(/|$)")
 
 def pages():
     """Every page: those at the top, in docs/, and each README.md beside what it is about."""
-    found = [*ROOT.glob("*.md"), *ROOT.glob("docs/*.md")]
+    found = [path for folder in ("", "docs/", "crates/", "bench/") for path in ROOT.glob(f"{folder}*.md")]
     for folder in FOLDERS:
         found += [path for path in (ROOT / folder).rglob("README.md") if "out" not in path.parts]
     return sorted(set(found))

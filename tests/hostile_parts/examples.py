@@ -7,8 +7,9 @@ from ring_kinds import RINGS
 
 from . import ROOT
 
-# docs/many-runs.md shows long calls without what they print
-PAGES = [ROOT / "README.md", *(page for page in sorted((ROOT / "docs").glob("*.md")) if page.name != "many-runs.md")]
+PAGES = [ROOT / "README.md", *sorted((ROOT / "docs").glob("*.md"))]
+# what makes a call of a page a long one, of which it doesn't show what is printed
+LONG_CALL = "100000"
 SB = "litmus/store-buffering/sb.litmus"
 WITNESS = "litmus/store-buffering/sb/0-0.schedule"
 TICKET = "litmus/mutual-exclusion/ticket.litmus"
@@ -148,7 +149,7 @@ def sessions():
                 shown = re.fullmatch(r"cat (\S+)", command)
                 made = re.fullmatch(r"echo '([^']*)' > (\S+)", command)
                 written = re.search(r" > (\S+)$", command)
-                needs = "tools/" in command or any(name in command for name in foreign - files.keys())
+                needs = "tools/" in command or LONG_CALL in command or any(name in command for name in foreign - files.keys())
                 if shown and not (ROOT / shown[1]).exists():
                     files[shown[1]] = text_of(answer)
                 elif made:
