@@ -46,3 +46,47 @@ lamport_try_receive:
     addi x10,x0,0
     jalr x0,0(x1)
     .size lamport_try_receive, . - lamport_try_receive
+
+    .section .text.fastforward_try_send, "ax", @progbits
+    .balign 4
+    .globl fastforward_try_send
+    .type fastforward_try_send, @function
+fastforward_try_send:
+    lw x5,0(x10)                              # its own head, maybe of its own pending store
+    add x7,x10,x5
+    lw x6,128(x7)                             # the slot there
+    bne x6,x0,.Lfastforward_try_send_full     # a word is in it still
+    addi x5,x5,4                              # the head after this word: one slot on,
+    bne x5,x12,.Lfastforward_try_send_keep    # and if that is past the last slot
+    addi x5,x0,0                              # the first one
+.Lfastforward_try_send_keep:
+    sw x11,128(x7)                            # the word into its slot,
+    sw x5,0(x10)                              # then the head
+    addi x10,x0,1
+    jalr x0,0(x1)
+.Lfastforward_try_send_full:
+    addi x10,x0,0
+    jalr x0,0(x1)
+    .size fastforward_try_send, . - fastforward_try_send
+
+    .section .text.fastforward_try_receive, "ax", @progbits
+    .balign 4
+    .globl fastforward_try_receive
+    .type fastforward_try_receive, @function
+fastforward_try_receive:
+    lw x5,64(x10)                             # its own tail, maybe of its own pending store
+    add x7,x10,x5
+    lw x11,128(x7)                            # the word of the slot there
+    beq x11,x0,.Lfastforward_try_receive_empty # nothing is there
+    addi x5,x5,4
+    bne x5,x12,.Lfastforward_try_receive_keep
+    addi x5,x0,0
+.Lfastforward_try_receive_keep:
+    sw x0,128(x7)                             # the slot is free,
+    sw x5,64(x10)                             # then the tail
+    addi x10,x0,1
+    jalr x0,0(x1)
+.Lfastforward_try_receive_empty:
+    addi x10,x0,0
+    jalr x0,0(x1)
+    .size fastforward_try_receive, . - fastforward_try_receive

@@ -1,4 +1,4 @@
-/* A queue of words from one hart to another, for C11 and C++: the block, and the two functions of functions.S.
+/* A queue of words from one hart to another, for C11 and C++: the block, and the functions of functions.S.
  * docs/functions.md has what callers owe and what they get.
  *
  *     LAMPORT_QUEUE(requests, 8);                 defines struct requests, a block for 8 slots: at most 7 words wait in it
@@ -6,6 +6,12 @@
  *
  *     QUEUE_TRY_SEND(&queue, word)                on the hart that sends: 1, or 0 if it found the queue full
  *     QUEUE_TRY_RECEIVE(&queue)                   on the hart that receives: ok is 1, or 0 if it found it empty
+ *
+ * For words that are never 0 there is FastForward's queue, in which no hart reads the other's index and all slots serve:
+ *
+ *     FASTFORWARD_QUEUE(answers, 8);              a block for 8 slots: at most 8 words wait in it; 1 slot is enough
+ *     FASTFORWARD_TRY_SEND(&queue, word)          the word isn't 0
+ *     FASTFORWARD_TRY_RECEIVE(&queue)
  *
  * The functions exist for RV32 only. Elsewhere this header has the block and its offsets. */
 #ifndef QUEUE_H
@@ -36,8 +42,22 @@
     QUEUE_ASSERT(offsetof(struct name, slots) == 128, "the functions have the slots at 128");                              \
     QUEUE_ASSERT(sizeof(((struct name *)0)->slots) == 4 * (count), "a slot has 4 bytes")
 
-/* The bytes of a queue's slots: what both functions take in a2. */
+/* The same for FastForward's, with at least 1 slot. A slot that holds 0 is free. */
+#define FASTFORWARD_QUEUE(name, count)                                                                                     \
+    struct name {                                                                                                          \
+        QUEUE_ALIGNAS(64) uint32_t head; /* written by the sender's calls */                                               \
+        QUEUE_ALIGNAS(64) uint32_t tail; /* written by the receiver's calls */                                             \
+        QUEUE_ALIGNAS(64) uint32_t words_or_0[count];                                                                      \
+    };                                                                                                                     \
+    QUEUE_ASSERT((count) >= 1, "a queue has at least 1 slot");                                                             \
+    QUEUE_ASSERT(offsetof(struct name, head) == 0, "the functions have the head at 0");                                    \
+    QUEUE_ASSERT(offsetof(struct name, tail) == 64, "the functions have the tail at 64");                                  \
+    QUEUE_ASSERT(offsetof(struct name, words_or_0) == 128, "the functions have the slots at 128");                         \
+    QUEUE_ASSERT(sizeof(((struct name *)0)->words_or_0) == 4 * (count), "a slot has 4 bytes")
+
+/* The bytes of a queue's slots: what its functions take in a2. */
 #define QUEUE_BYTES(queue) ((uint32_t)sizeof((queue)->slots))
+#define FASTFORWARD_BYTES(queue) ((uint32_t)sizeof((queue)->words_or_0))
 
 #if defined(__riscv) && __riscv_xlen == 32
 
@@ -61,6 +81,11 @@ uint32_t lamport_try_send(void *block, uint32_t word, uint32_t bytes);
  * sent j + S words, if nobody else writes there; S is the count of slots. */
 struct received lamport_try_receive(void *block, uint32_t unused, uint32_t bytes);
 
+/* The same of a block of FASTFORWARD_QUEUE, and of words that aren't 0. What the receiver's hart stored before a call, after
+ * j words were received, the sender's hart reads once it has sent j + S + 1 words. */
+uint32_t fastforward_try_send(void *block, uint32_t word, uint32_t bytes);
+struct received fastforward_try_receive(void *block, uint32_t unused, uint32_t bytes);
+
 #ifdef __cplusplus
 }
 #endif
@@ -68,6 +93,10 @@ struct received lamport_try_receive(void *block, uint32_t unused, uint32_t bytes
 /* The same, with the bytes taken from the block's type. `queue` points to a struct of LAMPORT_QUEUE. */
 #define QUEUE_TRY_SEND(queue, word) lamport_try_send((queue), (word), QUEUE_BYTES(queue))
 #define QUEUE_TRY_RECEIVE(queue) lamport_try_receive((queue), 0, QUEUE_BYTES(queue))
+
+/* `queue` points to a struct of FASTFORWARD_QUEUE. */
+#define FASTFORWARD_TRY_SEND(queue, word) fastforward_try_send((queue), (word), FASTFORWARD_BYTES(queue))
+#define FASTFORWARD_TRY_RECEIVE(queue) fastforward_try_receive((queue), 0, FASTFORWARD_BYTES(queue))
 
 #endif
 #endif

@@ -1,18 +1,18 @@
 -- The accesses of a hart's own entries: at the end of a list, one by one, and that a party that makes none leaves its part
 -- of the protocol.
 use Rattle.std.proofs.Common.{ℕ, ◌+◌, ◌≡◌, ◌≢◌, ◌⊎◌, inl, inr, Bool, true, false, if◌then◌else◌, List, [], ◌∷◌, ◌++◌, length}
-use Rattle.std.proofs.Common.{refl, sym, ◌∙◌, ap, arith, append-nil, append_assoc}
+use Rattle.std.proofs.Common.{refl, sym, ◌∙◌, ap, subst, arith, append-nil, append_assoc}
 use Rattle.step_machine.specs.declared.events.Entry.{Entry}
 use Rattle.step_machine.specs.Access.{Access, nothing, load, store, exchange, fence, land, access_of}
 use Rattle.step_machine.specs.Entries.{hart_of, is_land, is_own, own}
-use Rattle.spsc_queue.specs.RingBuffers.{RingBuffer}
-use Rattle.spsc_queue.specs.Protocol.{ProtocolState, sends, receives, passes, role_of, next_by, protocol_next, protocol_after}
+use Rattle.spsc_queue.specs.RingBuffers.{Kind, RingBuffer}
+use Rattle.spsc_queue.specs.Protocol.{ProtocolState, role_of, next_by, protocol_next, protocol_after}
+use Rattle.spsc_queue.specs.Calls.{SpscQueue, Party, party_hart, buffer}
 use Rattle.spsc_queue.specs.CallEffects.{memory_access, accesses}
-use Rattle.spsc_queue.proofs.SendOutline.{sender_part}
-use Rattle.spsc_queue.proofs.ReceiveOutline.{receiver_part}
-use Rattle.spsc_queue.proofs.Parts.{sends-leave, receives-leave, land-leaves}
-use Rattle.spsc_queue.proofs.Landings.{role-cases}
+use Rattle.spsc_queue.proofs.Outline.{part, role}
+use Rattle.spsc_queue.proofs.Parts.{inner-leaves, other-leaves, land-leaves}
 use Rattle.spsc_queue.proofs.OwnEntries.{land_is, own_is}
+use Rattle.spsc_queue.proofs.Parties.{which, Mine, Others, whose}
 
 module _ (h : ℕ) (e : Entry) where
   -- one entry more, of another hart or a landing, or of its own
@@ -100,65 +100,45 @@ first_access h (e ∷ es) x xs is = at (is_own h e) refl (access_of e) refl (fir
 -- ---- a party that accesses nothing
 
 -- an entry of which the party makes no access leaves its part
-none-sends : (r : RingBuffer) (t : ProtocolState) (x : Access) → memory_access x ≡ [] → sender_part (next_by r sends t x) ≡ sender_part t
-none-sends r t nothing none = refl
-none-sends r t (load a width v) none = cc
-none-sends r t (store w) none = cc
-none-sends r t (exchange a old new) none = cc
-none-sends r t (fence full) none = cc
-none-sends r t land none = cc
+none-made : (K : Kind) (r : RingBuffer) (p : Party) (t : ProtocolState) (x : Access) → memory_access x ≡ [] → part p (next_by K r (role p) t x) ≡ part p t
+none-made K r p t nothing none = ap (part p) (inner-leaves K r (role p) t)
+none-made K r p t (load a width v) none = cc
+none-made K r p t (store w) none = cc
+none-made K r p t (exchange a old new) none = cc
+none-made K r p t (fence full) none = cc
+none-made K r p t land none = cc
 
-none-receives : (r : RingBuffer) (t : ProtocolState) (x : Access) → memory_access x ≡ [] → receiver_part (next_by r receives t x) ≡ receiver_part t
-none-receives r t nothing none = refl
-none-receives r t (load a width v) none = cc
-none-receives r t (store w) none = cc
-none-receives r t (exchange a old new) none = cc
-none-receives r t (fence full) none = cc
-none-receives r t land none = cc
+front_none : (h : ℕ) (e : Entry) (es : List Entry) → accesses h (e ∷ es) ≡ [] → (accesses h (e ∷ []) ≡ []) × (accesses h es ≡ [])
+front_none h e es none = at (is_own h e) (memory_access (access_of e)) none
+  where
+    at : (b : Bool) (ys : List Access) → (if b then ys ++ accesses h es else accesses h es) ≡ [] → ((if b then ys ++ [] else []) ≡ []) × (accesses h es ≡ [])
+    at true [] none = (refl, none)
+    at true (y ∷ ys) none = absurd (cc)
+    at false ys none = (refl, none)
 
-module _ (r : RingBuffer) where
-  pub sender_still : (t : ProtocolState) (e : Entry) → accesses r.sender (e ∷ []) ≡ [] → sender_part (protocol_next r t e) ≡ sender_part t
-  sender_still t e none = at (role-cases r (hart_of e)) (is_land e) refl
+module _ (q : SpscQueue) (p : Party) where
+  abbrev r : RingBuffer
+  r = buffer q
+
+  abbrev K : Kind
+  K = q.block.kind
+
+  pub still : (t : ProtocolState) (e : Entry) → accesses (party_hart q p) (e ∷ []) ≡ [] → part p (protocol_next r t e) ≡ part p t
+  still t e none = at (is_land e) refl (whose q (hart_of e))
     where
-      at : ((hart_of e ≡ r.sender) × (role_of r (hart_of e) ≡ sends))
-          ⊎ (((hart_of e ≢ r.sender) × (hart_of e ≡ r.receiver) × (role_of r (hart_of e) ≡ receives))
-          ⊎ ((hart_of e ≢ r.sender) × (hart_of e ≢ r.receiver) × (role_of r (hart_of e) ≡ passes))) → (l : Bool) → is_land e ≡ l
-          → sender_part (protocol_next r t e) ≡ sender_part t
-      at p true land_e = ap (λ x. sender_part (next_by r (role_of r (hart_of e)) t x)) (land_is (access_of e) land_e)
-          ∙ ap sender_part (land-leaves r (role_of r (hart_of e)) t)
-      at (inl p) false act = ap (λ role. sender_part (next_by r role t (access_of e))) p.1 ∙ none-sends r t (access_of e)
-          (sym (append-nil (memory_access (access_of e))) ∙ sym (own_first r.sender e (access_of e) (own_is r.sender e p.0 act) refl []) ∙ none)
-      at (inr (inl p)) false act = ap (λ role. sender_part (next_by r role t (access_of e))) p.2 ∙ receives-leave r t (access_of e)
-      at (inr (inr p)) false act = ap (λ role. sender_part (next_by r role t (access_of e))) p.2
+      by : (p2 : Party) → hart_of e ≡ party_hart q p2 → is_land e ≡ false → (p2 ≡ p) ⊎ (p2 ≢ p) → part p (next_by K r (role p2) t (access_of e)) ≡ part p t
+      by p2 mine act (inl same) = subst (λ g. part p (next_by K r (role g) t (access_of e)) ≡ part p t) (sym same)
+          (none-made K r p t (access_of e) (sym (append-nil (memory_access (access_of e)))
+          ∙ sym (own_first (party_hart q p) e (access_of e) (own_is (party_hart q p) e (mine ∙ ap (party_hart q) same) act) refl []) ∙ none))
+      by p2 mine act (inr other) = other-leaves K r p p2 other t (access_of e)
 
-  pub receiver_still : (t : ProtocolState) (e : Entry) → accesses r.receiver (e ∷ []) ≡ [] → receiver_part (protocol_next r t e) ≡ receiver_part t
-  receiver_still t e none = at (role-cases r (hart_of e)) (is_land e) refl
-    where
-      at : ((hart_of e ≡ r.sender) × (role_of r (hart_of e) ≡ sends))
-          ⊎ (((hart_of e ≢ r.sender) × (hart_of e ≡ r.receiver) × (role_of r (hart_of e) ≡ receives))
-          ⊎ ((hart_of e ≢ r.sender) × (hart_of e ≢ r.receiver) × (role_of r (hart_of e) ≡ passes))) → (l : Bool) → is_land e ≡ l
-          → receiver_part (protocol_next r t e) ≡ receiver_part t
-      at p true land_e = ap (λ x. receiver_part (next_by r (role_of r (hart_of e)) t x)) (land_is (access_of e) land_e)
-          ∙ ap receiver_part (land-leaves r (role_of r (hart_of e)) t)
-      at (inl p) false act = ap (λ role. receiver_part (next_by r role t (access_of e))) p.1 ∙ sends-leave r t (access_of e)
-      at (inr (inl p)) false act = ap (λ role. receiver_part (next_by r role t (access_of e))) p.2 ∙ none-receives r t (access_of e)
-          (sym (append-nil (memory_access (access_of e))) ∙ sym (own_first r.receiver e (access_of e) (own_is r.receiver e p.1 act) refl []) ∙ none)
-      at (inr (inr p)) false act = ap (λ role. receiver_part (next_by r role t (access_of e))) p.2
+      at : (l : Bool) → is_land e ≡ l → Mine q (hart_of e) ⊎ Others q (hart_of e) → part p (protocol_next r t e) ≡ part p t
+      at true land_e is = ap (λ x. part p (next_by K r (role_of r (hart_of e)) t x)) (land_is (access_of e) land_e)
+          ∙ ap (part p) (land-leaves K r (role_of r (hart_of e)) t)
+      at false act (inl is) = ap (λ g. part p (next_by K r g t (access_of e))) is.role ∙ by is.party is.hart act (which is.party p)
+      at false act (inr is) = ap (λ g. part p (next_by K r g t (access_of e))) is.role
 
-  front_none : (h : ℕ) (e : Entry) (es : List Entry) → accesses h (e ∷ es) ≡ [] → (accesses h (e ∷ []) ≡ []) × (accesses h es ≡ [])
-  front_none h e es none = at (is_own h e) (memory_access (access_of e)) none
-    where
-      at : (b : Bool) (ys : List Access) → (if b then ys ++ accesses h es else accesses h es) ≡ [] → ((if b then ys ++ [] else []) ≡ []) × (accesses h es ≡ [])
-      at true [] none = (refl, none)
-      at true (y ∷ ys) none = absurd (cc)
-      at false ys none = (refl, none)
-
-  pub sender_unmoved : (t : ProtocolState) (es : List Entry) → accesses r.sender es ≡ [] → sender_part (protocol_after r t es) ≡ sender_part t
-  sender_unmoved t [] none = refl
-  sender_unmoved t (e ∷ es) none =
-      let parts = front_none r.sender e es none in sender_unmoved (protocol_next r t e) es parts.1 ∙ sender_still t e parts.0
-
-  pub receiver_unmoved : (t : ProtocolState) (es : List Entry) → accesses r.receiver es ≡ [] → receiver_part (protocol_after r t es) ≡ receiver_part t
-  receiver_unmoved t [] none = refl
-  receiver_unmoved t (e ∷ es) none =
-      let parts = front_none r.receiver e es none in receiver_unmoved (protocol_next r t e) es parts.1 ∙ receiver_still t e parts.0
+  pub unmoved : (t : ProtocolState) (es : List Entry) → accesses (party_hart q p) es ≡ [] → part p (protocol_after r t es) ≡ part p t
+  unmoved t [] none = refl
+  unmoved t (e ∷ es) none =
+      let parts = front_none (party_hart q p) e es none in unmoved (protocol_next r t e) es parts.1 ∙ still t e parts.0

@@ -1,5 +1,5 @@
 -- What calls of the functions deliver, publish and reclaim, and what they find.
-use Rattle.std.proofs.Common.{ℕ, ◌+◌, ◌<◌, ◌≤◌, ◌≡◌, ◌==◌, ◌⊎◌, inl, inr, Bool, true, false, if◌then◌else◌, List, [], ◌∷◌, ◌++◌, length, Some}
+use Rattle.std.proofs.Common.{ℕ, ◌+◌, ◌<◌, ◌≤◌, ◌≡◌, inl, inr, true, false, List, [], ◌∷◌, ◌++◌, length, Some}
 use Rattle.std.proofs.Common.{refl, sym, ◌∙◌, ap, subst, arith, take, drop, append-nil, append_assoc, length-append}
 use Rattle.std.specs.Prelude.{slice_index}
 use Rattle.std.proofs.Math.Seq.{take-length}
@@ -11,87 +11,37 @@ use Rattle.step_machine.specs.Access.{load, access_of}
 use Rattle.step_machine.specs.Entries.{hart_of, stores, lands, pending, read_byte}
 use Rattle.step_machine.specs.Paths.{state_of}
 use Rattle.step_machine.specs.Legal.{Legal}
-use Rattle.spsc_queue.specs.RingBuffers.{RingBuffer, next, writes_to}
-use Rattle.spsc_queue.specs.Protocol.{SenderState, resting, placed, roomy, filled, asked, ProtocolState, at_start, protocol_after, read_tail}
-use Rattle.spsc_queue.specs.Laws.{IsPrefix, FollowsSpscProtocol, published_words}
+use Rattle.spsc_queue.specs.RingBuffers.{Kind, lamport, fastforward, RingBuffer, capacity, writes_to}
+use Rattle.spsc_queue.specs.Protocol.{SenderState, resting, placed, roomy, filled, asked, ProtocolState, at_start, protocol_after, room_at, says_full}
+use Rattle.spsc_queue.specs.Protocol.{word_at, says_empty}
+use Rattle.spsc_queue.specs.Laws.{IsPrefix, FollowsSpscProtocol, available_of, available_count, available_words}
 use Rattle.spsc_queue.specs.StoreBuffers.{IsOnlyWriter, AllLeaveByte}
-use Rattle.spsc_queue.specs.Listings.{try_send, try_receive}
-use Rattle.spsc_queue.specs.Calls.{Block, SpscQueue, buffer, is_sender_in_call, is_receiver_in_call, sent_words, received_words, UsesAsSpscQueue}
-use Rattle.spsc_queue.proofs.Invariant.{Invariant, SendingIs}
-use Rattle.spsc_queue.proofs.Runs.{earlier, invariant-of, delivered, length-firsts}
+use Rattle.spsc_queue.specs.Calls.{SpscQueue, Party, the_sender, the_receiver, party_line, buffer, is_sender_in_call, is_receiver_in_call}
+use Rattle.spsc_queue.specs.Calls.{sent_words, received_words, UsesAsSpscQueue}
+use Rattle.spsc_queue.proofs.Invariants.{IsPlaced, Known}
+use Rattle.spsc_queue.proofs.Runs.{known-of, delivered, length-firsts}
 use Rattle.spsc_queue.proofs.Publication.{published, returned}
 use Rattle.spsc_queue.proofs.MessagePassing.{handed_over}
 use Rattle.spsc_queue.proofs.Linearization.{empty_landed, full_landed}
-use Rattle.spsc_queue.proofs.Courses.{At, at_00, at_04, at_08, at_0C, at_10, at_14, at_18, at_1C, at_20, at_24, at_28, at_2C, at_30, Course}
-use Rattle.spsc_queue.proofs.SendOutline.{IsLevel, SenderStands, sender_part, SenderPart}
-use Rattle.spsc_queue.proofs.SendOutline as sending
-use Rattle.spsc_queue.proofs.ReceiveOutline.{ReceiverStands, receiver_part, ReceiverPart}
-use Rattle.spsc_queue.proofs.ReceiveOutline as receiving
-use Rattle.spsc_queue.proofs.OwnEntries.{state_here, is_here}
-use Rattle.spsc_queue.proofs.Calls.{Stand, stands-at, calls_follow}
+use Rattle.spsc_queue.proofs.Outline.{part, IsLevel, Level, Stands, Told}
+use Rattle.spsc_queue.proofs.Functions.{told_by}
+use Rattle.spsc_queue.proofs.Parties.{is_busy, words}
+use Rattle.spsc_queue.proofs.Calls.{Stand, stands-at, calls_follow, here, was_here}
 
-level-counts : (r : RingBuffer) (stored published t : ℕ) (p : SenderState) → IsLevel p → SendingIs r stored published t p → stored ≡ published
-level-counts r stored published t resting l h = h
-level-counts r stored published t (placed u) l h = h.0
-level-counts r stored published t (roomy u) l h = h.0
-level-counts r stored published t (filled u) l h = absurd l
+level-counts : (r : RingBuffer) (stored published : ℕ) (p : SenderState) → IsLevel p → IsPlaced r stored published p → stored ≡ published
+level-counts r stored published resting l h = h
+level-counts r stored published (placed u) l h = h.0
+level-counts r stored published (roomy u) l h = h.0
+level-counts r stored published (filled u) l h = absurd l
 
-level_read : (r : RingBuffer) (v u : ℕ) → IsLevel (read_tail r v (placed u))
-level_read r v u = at (v == next r u)
-  where
-    at : (c : Bool) → IsLevel (if c then placed u else roomy u)
-    at true = tt
-    at false = tt
+-- where no word is half sent, each that is stored is available; and at most one isn't
+level-available : (k : Kind) (t : ProtocolState) → t.stored ≡ t.published → available_of k t ≡ t.stored
+level-available lamport t same = sym same
+level-available fastforward t same = refl
 
--- what the sender sent is what its calls sent, or besides the word in a1, of a call that is to return 1
-abbrev pub Sent : (ws : List ℕ) → HartState → SenderPart → Type 0
-Sent ws s t = (IsLevel t.sending × (t.sent ≡ ws)) ⊎ (t.sent ≡ ws ++ slice_index s.registers 11 ∷ [])
-
-sent_row : (n : ℕ) (k : Block) (r : RingBuffer) (c : Course) (ws : List ℕ) (line : At) (s : HartState) (t : SenderPart)
-    → sending.Row n k r c ws line s.registers t → Sent ws s t
-sent_row n k r c ws at_00 s t row = inl (row.level, row.sent)
-sent_row n k r c ws at_04 s t row = inl (subst IsLevel (sym row.knows) tt, row.sent)
-sent_row n k r c ws at_08 s t row = inl (subst IsLevel (sym row.knows) (level_read r (slice_index s.registers 6) (slice_index s.registers 5)), row.sent)
-sent_row n k r c ws at_0C s t row = inl (subst IsLevel (sym row.0.knows) (level_read r (slice_index s.registers 6) (slice_index s.registers 5)), row.0.sent)
-sent_row n k r c ws at_10 s t row = inl (subst IsLevel (sym row.0.knows) (level_read r (slice_index s.registers 6) (slice_index s.registers 5)), row.0.sent)
-sent_row n k r c ws at_14 s t row = inl (subst IsLevel (sym row.0.knows) (level_read r (slice_index s.registers 6) (slice_index s.registers 5)), row.0.sent)
-sent_row n k r c ws at_18 s t row = inl (subst IsLevel (sym row.knows) tt, row.sent)
-sent_row n k r c ws at_1C s t row = inl (subst IsLevel (sym row.knows) tt, row.sent)
-sent_row n k r c ws at_20 s t row = inr (row.sent ∙ ap (λ w. ws ++ w ∷ []) (sym row.word))
-sent_row n k r c ws at_24 s t row = inr (row.sent ∙ ap (λ w. ws ++ w ∷ []) (sym row.word))
-sent_row n k r c ws at_28 s t row = inr (row.0.sent ∙ ap (λ w. ws ++ w ∷ []) (sym row.0.word))
-sent_row n k r c ws at_2C s t row = inl (row.level, row.sent)
-sent_row n k r c ws at_30 s t row = inl (row.0.level, row.0.sent)
-
-sent_part : (n : ℕ) (k : Block) (r : RingBuffer) (b : Bool) (ws : List ℕ) (s : HartState) (t : ProtocolState) → SenderStands n k r b ws s t
-    → Sent ws s (sender_part t)
-sent_part n k r false ws s t h = inl h
-sent_part n k r true ws s t h = sent_row n k r h.0 ws h.1.line s (sender_part t) h.1.row
-
--- what the receiver received is what its calls returned, or besides the word that a call is to return
-abbrev pub Received : (ws : List ℕ) → HartState → ReceiverPart → Type 0
-Received ws s t = (t.received ≡ ws) ⊎ (t.received ≡ ws ++ slice_index s.registers 11 ∷ [])
-
-received_row : (n : ℕ) (k : Block) (r : RingBuffer) (c : Course) (ws : List ℕ) (line : At) (s : HartState) (t : ReceiverPart)
-    → receiving.Row n k r c ws line s.registers t → Received ws s t
-received_row n k r c ws at_00 s t row = inl row.received
-received_row n k r c ws at_04 s t row = inl row.received
-received_row n k r c ws at_08 s t row = inl row.received
-received_row n k r c ws at_0C s t row = inl row.received
-received_row n k r c ws at_10 s t row = inl row.0.received
-received_row n k r c ws at_14 s t row = inl row.received
-received_row n k r c ws at_18 s t row = inl row.received
-received_row n k r c ws at_1C s t row = inl row.0.received
-received_row n k r c ws at_20 s t row = inl row.received
-received_row n k r c ws at_24 s t row = inr row.received
-received_row n k r c ws at_28 s t row = inr row.0.received
-received_row n k r c ws at_2C s t row = inl row.received
-received_row n k r c ws at_30 s t row = inl row.0.received
-
-received_part : (n : ℕ) (k : Block) (r : RingBuffer) (b : Bool) (ws : List ℕ) (s : HartState) (t : ProtocolState)
-    → ReceiverStands n k r b ws s t → Received ws s (receiver_part t)
-received_part n k r false ws s t h = inl h
-received_part n k r true ws s t h = received_row n k r h.0 ws h.1.line s (receiver_part t) h.1.row
+most-available : (k : Kind) (t : ProtocolState) → t.stored ≤ t.published + 1 → t.stored ≤ available_of k t + 1
+most-available lamport t most = most
+most-available fastforward t most = omega arith
 
 prefix-joined : (xs ys zs : List ℕ) → IsPrefix xs ys → IsPrefix ys zs → IsPrefix xs zs
 prefix-joined xs ys zs p q = (p.0 ++ q.0, q.1 ∙ ap (λ y. y ++ q.0) p.1 ∙ append_assoc xs p.0 q.0)
@@ -118,131 +68,121 @@ module _ (B M : ℕ) (o : OpeningValue) (q : SpscQueue) (before es : List Entry)
   abbrev R : List ℕ
   R = received_words M o q before done
 
-  pub follows : FollowsSpscProtocol B r o before (done ++ rest)
-  follows = subst (FollowsSpscProtocol B r o before) is (calls_follow B M o q before es c)
-
   pub stand : Stand B M o q before es c.shares done
   stand = stands-at B M o q before es c done rest is
 
-  pub inv : Invariant r L (earlier r before) o (before ++ done) t
-  inv = invariant-of B r o before done rest follows
+  facts : Known q.block.kind r L t
+  facts = known-of B r o before done rest (subst (FollowsSpscProtocol B r o before) is (calls_follow B M o q before es c))
 
-  abbrev s : HartState
-  s = state_here M o q.sender q.send_line try_send c.shares.sends (before ++ done)
+  abbrev pub at : Party → HartState
+  at p = here B M o q before es c.shares p done
 
-  abbrev z : HartState
-  z = state_here M o q.receiver q.receive_line try_receive c.shares.receives (before ++ done)
+  stands : (p : Party) → Stands (party_line q p) p q.block.kind q.block r (is_busy M o q p before done) (words M o q p before done) (at p) (part p t)
+  stands p = stand.stands p (at p) (was_here B M o q before es c.shares p done)
 
-  sender_here : SenderStands q.send_line q.block r (is_sender_in_call M o q before done) A s t
-  sender_here = stand.sender s (is_here M o q.sender q.send_line try_send c.shares.sends (before ++ done))
+  pub told : (p : Party) → Told (words M o q p before done) (at p) (part p t)
+  told p = told_by (party_line q p) p q.block.kind q.block r (is_busy M o q p before done) (words M o q p before done) (at p) (part p t) (stands p)
 
-  receiver_here : ReceiverStands q.receive_line q.block r (is_receiver_in_call M o q before done) R z t
-  receiver_here = stand.receiver z (is_here M o q.receiver q.receive_line try_receive c.shares.receives (before ++ done))
+  pub idle_words : (p : Party) → is_busy M o q p before done ≡ false → Level (part p t) × ((part p t).words ≡ words M o q p before done)
+  idle_words p idle = subst (λ b. Stands (party_line q p) p q.block.kind q.block r b (words M o q p before done) (at p) (part p t)) idle (stands p)
 
-  sent : Sent A s (sender_part t)
-  sent = sent_part q.send_line q.block r (is_sender_in_call M o q before done) A s t sender_here
+  pub stored_count : length t.sent ≡ t.stored
+  stored_count = ap length facts.sent ∙ length-firsts L t.stored
 
-  received : Received R z (receiver_part t)
-  received = received_part q.receive_line q.block r (is_receiver_in_call M o q before done) R z t receiver_here
+  pub taken_count : length t.received ≡ t.taken
+  taken_count = ap length facts.received ∙ length-firsts L t.taken
 
-  stored_count : length t.sent ≡ t.stored
-  stored_count = ap length inv.sent ∙ length-firsts L t.stored
-
-  consumed_count : length t.received ≡ t.consumed
-  consumed_count = ap length inv.received ∙ length-firsts L t.consumed
+  level_counts : IsLevel t.sending → (t.stored ≡ t.published) × (available_count r t ≡ t.stored)
+  level_counts level =
+      let same = level-counts r t.stored t.published t.sending level facts.sending in (same, level-available q.block.kind t same)
 
   -- how many words its calls sent, and how many its calls returned
   pub sent_least : length A ≤ t.stored
-  sent_least = elim sent [
+  sent_least = elim (told the_sender) [
     | inl l ↦ let same : length t.sent ≡ length A = ap length l.1 in omega (arith, same, stored_count)
-    | inr l ↦ omega (arith, one_more A (slice_index s.registers 11) t.sent l, stored_count)
+    | inr l ↦ omega (arith, one_more A (slice_index (at the_sender).registers 11) t.sent l, stored_count)
   ]
 
-  pub sent_published : length A ≤ t.published
-  sent_published = elim sent [
-    | inl l ↦ let same : length t.sent ≡ length A = ap length l.1 in
-        omega (arith, same, stored_count, level-counts r t.stored t.published inv.landed.tails t.sending l.0 inv.sending)
-    | inr l ↦ omega (arith, one_more A (slice_index s.registers 11) t.sent l, stored_count, inv.order.mine.stored_published)
+  pub sent_available : length A ≤ available_count r t
+  sent_available = elim (told the_sender) [
+    | inl l ↦ let same : length t.sent ≡ length A = ap length l.1 in omega (arith, same, stored_count, (level_counts l.0.sending).1)
+    | inr l ↦ omega (
+      arith,
+      one_more A (slice_index (at the_sender).registers 11) t.sent l,
+      stored_count,
+      most-available q.block.kind t facts.stored_published,
+    )
   ]
 
-  pub received_least : length R ≤ t.consumed
-  received_least = elim received [
-    | inl l ↦ let same : length t.received ≡ length R = ap length l in omega (arith, same, consumed_count)
-    | inr l ↦ omega (arith, one_more R (slice_index z.registers 11) t.received l, consumed_count)
+  pub received_least : length R ≤ t.taken
+  received_least = elim (told the_receiver) [
+    | inl l ↦ let same : length t.received ≡ length R = ap length l.1 in omega (arith, same, taken_count)
+    | inr l ↦ omega (arith, one_more R (slice_index (at the_receiver).registers 11) t.received l, taken_count)
   ]
 
-  received_most : t.consumed ≤ length R + 1
-  received_most = elim received [
-    | inl l ↦ let same : length t.received ≡ length R = ap length l in omega (arith, same, consumed_count)
-    | inr l ↦ omega (arith, one_more R (slice_index z.registers 11) t.received l, consumed_count)
+  received_most : t.taken ≤ length R + 1
+  received_most = elim (told the_receiver) [
+    | inl l ↦ let same : length t.received ≡ length R = ap length l.1 in omega (arith, same, taken_count)
+    | inr l ↦ omega (arith, one_more R (slice_index (at the_receiver).registers 11) t.received l, taken_count)
   ]
 
-  pub level_here : is_sender_in_call M o q before done ≡ false → IsLevel t.sending × (t.sent ≡ A)
-  level_here idle = subst (λ b. SenderStands q.send_line q.block r b A s t) idle sender_here
-
-  pub all_here : is_receiver_in_call M o q before done ≡ false → t.received ≡ R
-  all_here idle = subst (λ b. ReceiverStands q.receive_line q.block r b R z t) idle receiver_here
-
-  pub idle_counts : is_sender_in_call M o q before done ≡ false → (t.stored ≡ length A) × (t.published ≡ length A)
-  idle_counts idle =
-      let all = level_here idle in
+  pub idle_sent : is_sender_in_call M o q before done ≡ false → (t.stored ≡ length A) × (available_count r t ≡ length A)
+  idle_sent idle =
+      let all = idle_words the_sender idle in
       let same : length t.sent ≡ length A = ap length all.1 in
-      let level : t.stored ≡ t.published = level-counts r t.stored t.published inv.landed.tails t.sending all.0 inv.sending in
-      (omega (arith, same, stored_count), omega (arith, same, stored_count, level))
+      (omega (arith, same, stored_count), omega (arith, same, stored_count, (level_counts all.0.sending).1))
 
-  pub idle_received : is_receiver_in_call M o q before done ≡ false → t.consumed ≡ length R
-  idle_received idle = let same : length t.received ≡ length R = ap length (all_here idle) in omega (arith, same, consumed_count)
+  pub idle_received : is_receiver_in_call M o q before done ≡ false → t.taken ≡ length R
+  idle_received idle = let same : length t.received ≡ length R = ap length (idle_words the_receiver idle).1 in omega (arith, same, taken_count)
 
-  -- at most as many words lie in the queue as it has slots, less one; and one that a call of the receiver is to return
-  pub capacity_within : length A ≤ length R + q.block.size
-  capacity_within = omega (arith, received_most, sent_least, inv.order.room, inv.order.landed_consumed)
+  -- at most as many words lie in the queue as it holds; and one that a call of the receiver is to return
+  pub always_capacity : length A ≤ length R + capacity r + 1
+  always_capacity = omega (arith, received_most, sent_least, facts.room)
 
-  pub capacity : is_receiver_in_call M o q before done ≡ false → length A < length R + q.block.size
-  capacity idle = omega (arith, idle_received idle, sent_least, inv.order.room, inv.order.landed_consumed)
+  pub idle_capacity : is_receiver_in_call M o q before done ≡ false → length A ≤ length R + capacity r
+  idle_capacity idle = omega (arith, idle_received idle, sent_least, facts.room)
 
 -- ---- first in, first out
 
 module _ (B M : ℕ) (o : OpeningValue) (q : SpscQueue) (before es : List Entry) (c : UsesAsSpscQueue B M o q before es) where
-  got_prefix : IsPrefix (received_words M o q before es) (protocol_after (buffer q) at_start es).received
-  got_prefix = elim (received B M o q before es c es [] (sym (append-nil es))) [
-    | inl l ↦ ([], l ∙ sym (append-nil (received_words M o q before es)))
-    | inr l ↦ (slice_index (z B M o q before es c es [] (sym (append-nil es))).registers 11 ∷ [], l)
+  abbrev T : ProtocolState
+  T = protocol_after (buffer q) at_start es
+
+  whole : es ≡ es ++ []
+  whole = sym (append-nil es)
+
+  got_prefix : IsPrefix (received_words M o q before es) T.received
+  got_prefix = elim (told B M o q before es c es [] whole the_receiver) [
+    | inl l ↦ ([], l.1 ∙ sym (append-nil (received_words M o q before es)))
+    | inr l ↦ (slice_index (at B M o q before es c es [] whole the_receiver).registers 11 ∷ [], l)
   ]
 
-  delivered_prefix : IsPrefix (received_words M o q before es) (published_words (protocol_after (buffer q) at_start es))
-  delivered_prefix = prefix-joined (received_words M o q before es) (protocol_after (buffer q) at_start es).received
-      (published_words (protocol_after (buffer q) at_start es)) got_prefix (delivered B (buffer q) o before es (calls_follow B M o q before es c))
+  delivered_prefix : IsPrefix (received_words M o q before es) (available_words (buffer q) T)
+  delivered_prefix = prefix-joined (received_words M o q before es) T.received (available_words (buffer q) T) got_prefix
+      (delivered B (buffer q) o before es (calls_follow B M o q before es c))
 
   pub fifo : is_sender_in_call M o q before es ≡ false → IsPrefix (received_words M o q before es) (sent_words M o q before es)
   fifo idle =
-      let T : ProtocolState = protocol_after (buffer q) at_start es in
-      let counts = idle_counts B M o q before es c es [] (sym (append-nil es)) idle in
-      let all = level_here B M o q before es c es [] (sym (append-nil es)) idle in
+      let counts = idle_sent B M o q before es c es [] whole idle in
+      let all = idle_words B M o q before es c es [] whole the_sender idle in
       let size : length T.sent ≡ length (sent_words M o q before es) = ap length all.1 in
-      let whole : published_words T ≡ T.sent = ap (λ n. take n T.sent) (counts.1 ∙ sym size) ∙ take-length T.sent in
-      subst (IsPrefix (received_words M o q before es)) (whole ∙ all.1) delivered_prefix
+      let same : available_words (buffer q) T ≡ T.sent = ap (λ n. take n T.sent) (counts.1 ∙ sym size) ∙ take-length T.sent in
+      subst (IsPrefix (received_words M o q before es)) (same ∙ all.1) delivered_prefix
 
   -- the word of a send that is under way may have been received too
   pub fifo_within : (s : HartState) → state_of M (history_of o (before ++ es)) q.sender ≡ Some s
       → IsPrefix (received_words M o q before es) (sent_words M o q before es ++ slice_index s.registers 11 ∷ [])
   fifo_within s at =
-      let T : ProtocolState = protocol_after (buffer q) at_start es in
       let A : List ℕ = sent_words M o q before es in
-      let point = stand B M o q before es c es [] (sym (append-nil es)) in
-      let all : IsPrefix (received_words M o q before es) T.sent = prefix-joined (received_words M o q before es) (published_words T) T.sent delivered_prefix
-      (drop T.published T.sent, sym (take-append-drop T.published T.sent)) in
+      let n : ℕ = available_count (buffer q) T in
+      let all : IsPrefix (received_words M o q before es) T.sent = prefix-joined (received_words M o q before es) (available_words (buffer q) T) T.sent
+      delivered_prefix (drop n T.sent, sym (take-append-drop n T.sent)) in
       prefix-joined (received_words M o q before es) T.sent (A ++ slice_index s.registers 11 ∷ []) all
-      (elim (sent_part q.send_line q.block (buffer q) (is_sender_in_call M o q before es) A s T (point.sender s at)) [
+      (elim (told_by q.send_line the_sender q.block.kind q.block (buffer q) (is_sender_in_call M o q before es) A s (part the_sender T)
+      ((stand B M o q before es c es [] whole).stands the_sender s at)) [
         | inl l ↦ (slice_index s.registers 11 ∷ [], sym (ap (λ ws. ws ++ slice_index s.registers 11 ∷ []) l.1))
         | inr l ↦ ([], sym l ∙ sym (append-nil T.sent))
       ])
-
-  pub always_capacity : length (sent_words M o q before es) ≤ length (received_words M o q before es) + q.block.size
-  always_capacity = capacity_within B M o q before es c es [] (sym (append-nil es))
-
-  pub capacity_at : is_receiver_in_call M o q before es ≡ false
-      → length (sent_words M o q before es) < length (received_words M o q before es) + q.block.size
-  capacity_at idle = capacity B M o q before es c es [] (sym (append-nil es)) idle
 
 -- ---- publication, reclamation and message passing
 
@@ -253,16 +193,18 @@ module _ (B M : ℕ) (o : OpeningValue) (q : SpscQueue) (before es fs : List Ent
   pub publication : is_sender_in_call M o q before es ≡ false
       → length (sent_words M o q before es) < length (received_words M o q before (es ++ fs))
       → length (stores q.sender (before ++ es)) < lands q.sender (before ++ (es ++ fs))
-  publication idle more =
-      let counts = idle_counts B M o q before (es ++ fs) c es fs refl idle in
-      published B (buffer q) o before es fs (calls_follow B M o q before (es ++ fs) c)
-      (omega (arith, counts.1, more, received_least B M o q before (es ++ fs) c (es ++ fs) [] end))
+  publication idle more = published B (buffer q) o before es fs (calls_follow B M o q before (es ++ fs) c)
+      (omega (
+        arith,
+        (idle_sent B M o q before (es ++ fs) c es fs refl idle).1,
+        more,
+        received_least B M o q before (es ++ fs) c (es ++ fs) [] end,
+      ))
 
   pub reclamation : is_receiver_in_call M o q before es ≡ false
-      → length (received_words M o q before es) + q.block.size ≤ length (sent_words M o q before (es ++ fs))
+      → length (received_words M o q before es) + capacity (buffer q) < length (sent_words M o q before (es ++ fs))
       → length (stores q.receiver (before ++ es)) < lands q.receiver (before ++ (es ++ fs))
-  reclamation idle more =
-      returned B (buffer q) o before es fs (calls_follow B M o q before (es ++ fs) c)
+  reclamation idle more = returned B (buffer q) o before es fs (calls_follow B M o q before (es ++ fs) c)
       (omega (arith, idle_received B M o q before (es ++ fs) c es fs refl idle, more, sent_least B M o q before (es ++ fs) c (es ++ fs) [] end))
 
   -- what a hart reads of a byte is what every hart reads of it later, once its stores have landed
@@ -280,43 +222,43 @@ module _ (B M : ℕ) (o : OpeningValue) (q : SpscQueue) (before es fs : List Ent
   message_passing idle more h x only leave = handed q.sender (publication idle more) h x only leave
 
   pub handing_back : is_receiver_in_call M o q before es ≡ false
-      → length (received_words M o q before es) + q.block.size ≤ length (sent_words M o q before (es ++ fs))
+      → length (received_words M o q before es) + capacity (buffer q) < length (sent_words M o q before (es ++ fs))
       → (h x : ℕ) → IsOnlyWriter q.receiver x (before ++ es) → AllLeaveByte x fs
       → read_byte o (before ++ (es ++ fs)) h x ≡ read_byte o (before ++ es) q.receiver x
   handing_back idle more h x only leave = handed q.receiver (reclamation idle more) h x only leave
 
--- ---- what a load of the partner's index finds, at the loading hart's state of the protocol
+-- ---- what a party finds that looks for room, or for a word, at its state of the protocol
 
 module _ (B M : ℕ) (o : OpeningValue) (q : SpscQueue) (before done : List Entry) (e : Entry) (fs : List Entry)
     (c : UsesAsSpscQueue B M o q before (done ++ e ∷ fs)) where
-  abbrev T : ProtocolState
-  T = protocol_after (buffer q) at_start done
+  abbrev now : ProtocolState
+  now = protocol_after (buffer q) at_start done
 
   all : FollowsSpscProtocol B (buffer q) o before (done ++ e ∷ fs)
   all = calls_follow B M o q before (done ++ e ∷ fs) c
 
-  pub finds_empty : (v : ℕ) → hart_of e ≡ q.receiver → access_of e ≡ load (buffer q).head 4 v → T.receiving ≡ asked v
-      → T.received ≡ received_words M o q before done
+  pub finds_empty : (u v : ℕ) → hart_of e ≡ q.receiver → access_of e ≡ load (word_at q.block.kind (buffer q) u) 4 v → says_empty q.block.kind u v ≡ true
+      → now.receiving ≡ asked u → now.received ≡ received_words M o q before done
       → length (sent_words M o q before done) ≤ length (received_words M o q before done) + length (writes_to (buffer q) (pending q.sender (before ++ done)))
-  finds_empty v mine does was same =
-      let count : length T.received ≡ length (received_words M o q before done) = ap length same in
+  finds_empty u v mine does says was same =
+      let count : length now.received ≡ length (received_words M o q before done) = ap length same in
       omega (
         arith,
-        empty_landed B (buffer q) o before done e fs all v mine does was,
+        empty_landed B (buffer q) o before done e fs all u v mine does says was,
         count,
-        consumed_count B M o q before (done ++ e ∷ fs) c done (e ∷ fs) refl,
-        sent_published B M o q before (done ++ e ∷ fs) c done (e ∷ fs) refl,
+        taken_count B M o q before (done ++ e ∷ fs) c done (e ∷ fs) refl,
+        sent_available B M o q before (done ++ e ∷ fs) c done (e ∷ fs) refl,
       )
 
-  pub finds_full : (u : ℕ) → hart_of e ≡ q.sender → access_of e ≡ load (buffer q).tail 4 (next (buffer q) u) → T.sending ≡ placed u
-      → T.sent ≡ sent_words M o q before done
-      → length (received_words M o q before done) + q.block.size
-      ≤ length (sent_words M o q before done) + 1 + length (writes_to (buffer q) (pending q.receiver (before ++ done)))
-  finds_full u mine does was same =
-      let count : length T.sent ≡ length (sent_words M o q before done) = ap length same in
+  pub finds_full : (u v : ℕ) → hart_of e ≡ q.sender → access_of e ≡ load (room_at q.block.kind (buffer q) u) 4 v → says_full q.block.kind (buffer q) u v ≡ true
+      → now.sending ≡ placed u → now.sent ≡ sent_words M o q before done
+      → length (received_words M o q before done) + capacity (buffer q)
+      ≤ length (sent_words M o q before done) + length (writes_to (buffer q) (pending q.receiver (before ++ done)))
+  finds_full u v mine does says was same =
+      let count : length now.sent ≡ length (sent_words M o q before done) = ap length same in
       omega (
         arith,
-        full_landed B (buffer q) o before done e fs all u mine does was,
+        full_landed B (buffer q) o before done e fs all u v mine does says was,
         count,
         stored_count B M o q before (done ++ e ∷ fs) c done (e ∷ fs) refl,
         received_least B M o q before (done ++ e ∷ fs) c done (e ∷ fs) refl,

@@ -7,7 +7,7 @@ use Rattle.hart.specs.State.{HartState}
 use Rattle.hart.specs.Steps.{need_of}
 use Rattle.step_machine.specs.Access.{Access, access_of}
 use Rattle.step_machine.specs.Paths.{entry_of}
-use Rattle.spsc_queue.specs.Calls.{Block, HasArguments, enters, is_in_call_after, completed_at}
+use Rattle.spsc_queue.specs.Calls.{Block, Party, HasArguments, enters, is_in_call_after, completed_at}
 use Rattle.spsc_queue.specs.Listings.{Listed}
 use Rattle.spsc_queue.specs.Calls.{StandsIn}
 use Rattle.spsc_queue.specs.CallEffects.{memory_access, KeepsOtherRegisters, Returns}
@@ -64,49 +64,49 @@ abbrev pub went : Course → Access → Course
 went c x = record { entry = c.entry; count = c.count + 1; did = c.did ++ memory_access x }
 
 -- what holds of the registers x at most m entries after the entry: at first a0 is the block too
-pub record Left (n : ℕ) (k : Block) (c : Course) (m : ℕ) (x : List ℕ) : Type 0 where
-  pub args : HasArguments n k c.entry
+pub record Left (n : ℕ) (p : Party) (k : Block) (c : Course) (m : ℕ) (x : List ℕ) : Type 0 where
+  pub args : HasArguments p n k c.entry
   pub kept : KeepsOtherRegisters c.entry.registers x
   pub count : c.count ≤ m
 
-pub record Frame (n : ℕ) (k : Block) (c : Course) (m : ℕ) (x : List ℕ) : Type 0 where
-  pub left : Left n k c m x
+pub record Frame (n : ℕ) (p : Party) (k : Block) (c : Course) (m : ℕ) (x : List ℕ) : Type 0 where
+  pub left : Left n p k c m x
   pub block : slice_index x 10 ≡ k.base
 
-module _ {n : ℕ} {k : Block} {c : Course} {m : ℕ} {x : List ℕ} where
+module _ {n : ℕ} {p : Party} {k : Block} {c : Course} {m : ℕ} {x : List ℕ} where
   -- one entry more, by which nothing is written, or one of the registers that may change
-  pub left_on : (y : Access) → Left n k c m x → Left n k (went c y) (m + 1) x
+  pub left_on : (y : Access) → Left n p k c m x → Left n p k (went c y) (m + 1) x
   left_on y f = record { args = f.args; kept = f.kept; count = omega (arith, f.count) }
 
-  pub left_set : (y : Access) (i v : ℕ) → ((j : ℕ) → j ≢ 5 → j ≢ 6 → j ≢ 7 → j ≢ 10 → j ≢ 11 → j ≢ i) → Left n k c m x
-      → Left n k (went c y) (m + 1) (slice_set x i v)
+  pub left_set : (y : Access) (i v : ℕ) → ((j : ℕ) → j ≢ 5 → j ≢ 6 → j ≢ 7 → j ≢ 10 → j ≢ 11 → j ≢ i) → Left n p k c m x
+      → Left n p k (went c y) (m + 1) (slice_set x i v)
   left_set y i v free f = record {
     args = f.args;
     kept = λ j a b d e g. set-other x i j v (free j a b d e g) ∙ f.kept j a b d e g;
     count = omega (arith, f.count);
   }
 
-  pub frame_on : (y : Access) → Frame n k c m x → Frame n k (went c y) (m + 1) x
+  pub frame_on : (y : Access) → Frame n p k c m x → Frame n p k (went c y) (m + 1) x
   frame_on y f = record { left = left_on y f.left; block = f.block }
 
-  pub frame_set : (y : Access) (i v : ℕ) → ((j : ℕ) → j ≢ 5 → j ≢ 6 → j ≢ 7 → j ≢ 10 → j ≢ 11 → j ≢ i) → 10 ≢ i → Frame n k c m x
-      → Frame n k (went c y) (m + 1) (slice_set x i v)
+  pub frame_set : (y : Access) (i v : ℕ) → ((j : ℕ) → j ≢ 5 → j ≢ 6 → j ≢ 7 → j ≢ 10 → j ≢ 11 → j ≢ i) → 10 ≢ i → Frame n p k c m x
+      → Frame n p k (went c y) (m + 1) (slice_set x i v)
   frame_set y i v free ten f = record { left = left_set y i v free f.left; block = set-other x i 10 v ten ∙ f.block }
 
-  pub more_left : {l : ℕ} → m ≤ l → Left n k c m x → Left n k c l x
+  pub more_left : {l : ℕ} → m ≤ l → Left n p k c m x → Left n p k c l x
   more_left le f = record { args = f.args; kept = f.kept; count = omega (arith, f.count, le) }
 
-  pub more_frame : {l : ℕ} → m ≤ l → Frame n k c m x → Frame n k c l x
+  pub more_frame : {l : ℕ} → m ≤ l → Frame n p k c m x → Frame n p k c l x
   more_frame le f = record { left = more_left le f.left; block = f.block }
 
-  pub bytes_of : Left n k c m x → slice_index x 12 ≡ 4 * k.size
+  pub bytes_of : Left n p k c m x → slice_index x 12 ≡ 4 * k.size
   bytes_of f = f.kept 12 (λ e. omega arith) (λ e. omega arith) (λ e. omega arith) (λ e. omega arith) (λ e. omega arith) ∙ f.args.bytes
 
-  pub back_of : Left n k c m x → slice_index x 1 ≡ slice_index c.entry.registers 1
+  pub back_of : Left n p k c m x → slice_index x 1 ≡ slice_index c.entry.registers 1
   back_of f = f.kept 1 (λ e. omega arith) (λ e. omega arith) (λ e. omega arith) (λ e. omega arith) (λ e. omega arith)
 
   -- a return
-  pub returned : (z : HartState) → m ≤ 10 → z.pc ≡ slice_index x 1 / 2 * 2 → z.registers ≡ x → Left n k c m x → Returns c.entry z (c.count + 1)
+  pub returned : (z : HartState) → m ≤ 10 → z.pc ≡ slice_index x 1 / 2 * 2 → z.registers ≡ x → Left n p k c m x → Returns c.entry z (c.count + 1)
   returned z le place same f = record {
     back = place ∙ ap (λ y. y / 2 * 2) (back_of f);
     registers = subst (KeepsOtherRegisters c.entry.registers) (sym same) f.kept;

@@ -1,5 +1,5 @@
 -- What holds of FastForward's block, of the stores to it and of both parties after every run that keeps its protocol.
-use Rattle.std.proofs.Common.{ℕ, zero, suc, ◌+◌, ◌*◌, ◌/◌, ◌%◌, ◌^◌, ◌<◌, ◌≤◌, ◌≡◌, ◌≢◌, ◌==◌, ◌⊎◌, inl, inr, Bool, true, false, if◌then◌else◌}
+use Rattle.std.proofs.Common.{ℕ, zero, suc, ◌+◌, ◌*◌, ◌/◌, ◌%◌, ◌^◌, ◌<◌, ◌≤◌, ◌≡◌, ◌≢◌, ◌==◌, ◌⊎◌, inl, inr, not, Bool, true, false, if◌then◌else◌}
 use Rattle.std.proofs.Common.{List, refl, sym, ◌∙◌, ap, subst, arith}
 use Rattle.std.specs.Prelude.{All}
 use Rattle.std.proofs.lemmas.Bool.{cases_eq, cases_lt, eqb-true, eqb-false}
@@ -9,9 +9,9 @@ use Rattle.memory.specs.Writes.{write, IsWholeWord}
 use Rattle.step_machine.specs.declared.events.Entry.{Entry}
 use Rattle.step_machine.specs.History.{OpeningValue}
 use Rattle.step_machine.specs.Entries.{pending, memory_word, read}
-use Rattle.spsc_queue.specs.RingBuffers.{RingBuffer, IsRingBuffer, offset, slot, writes_to}
-use Rattle.spsc_queue.specs.Protocol.{SenderState, resting, placed, roomy, filled}
-use Rattle.spsc_queue.specs.FastForward.{FastForwardReceiver, idle, asked, holding, cleared, FastForwardState, send_look, send_load, receive_look, receive_load}
+use Rattle.spsc_queue.specs.RingBuffers.{fastforward, RingBuffer, IsRingBuffer, offset, slot, writes_to}
+use Rattle.spsc_queue.specs.Protocol.{SenderState, resting, placed, roomy, filled, ReceiverState, idle, asked, waiting, holding, cleared, ProtocolState}
+use Rattle.spsc_queue.specs.Protocol.{send_look, send_load, receive_look, receive_load}
 use Rattle.spsc_queue.proofs.Modulo.{mod_apart}
 use Rattle.spsc_queue.proofs.Words.{seen}
 use Rattle.spsc_queue.proofs.Spread.{spread, spread-all, sent_store, sent-slot, sent-head, seen-heads, sent-whole, slot_not_head}
@@ -69,9 +69,10 @@ SendingIs r stored published n (placed u) = (stored ≡ published) × (u ≡ off
 SendingIs r stored published n (roomy u) = (stored ≡ published) × (u ≡ offset r published) × (stored + 1 ≤ n + r.size)
 SendingIs r stored published n (filled u) = (stored ≡ published + 1) × (u ≡ offset r published)
 
-abbrev pub ReceivingIs : RingBuffer → (ℕ → ℕ) → (taken consumed slots : ℕ) → FastForwardReceiver → Type 0
+abbrev pub ReceivingIs : RingBuffer → (ℕ → ℕ) → (taken consumed slots : ℕ) → ReceiverState → Type 0
 ReceivingIs r L taken consumed slots idle = taken ≡ consumed
 ReceivingIs r L taken consumed slots (asked u) = (taken ≡ consumed) × (u ≡ offset r consumed)
+ReceivingIs r L taken consumed slots (waiting u) = ⊥
 ReceivingIs r L taken consumed slots (holding u w) = (taken ≡ consumed) × (u ≡ offset r consumed) × (taken < slots) × (w ≡ L taken)
 ReceivingIs r L taken consumed slots (cleared u) = (taken ≡ consumed + 1) × (u ≡ offset r consumed)
 
@@ -83,7 +84,7 @@ pub record Buffers (r : RingBuffer) (L : ℕ → ℕ) (c : Earlier) (es : List E
   pub mine_count : unsent + (d.slots + d.heads) ≡ stored + published
   pub theirs_count : unread + (d.cleared + d.tails) ≡ taken + consumed
 
-pub record Invariant (r : RingBuffer) (L : ℕ → ℕ) (c : Earlier) (o : OpeningValue) (es : List Entry) (s : FastForwardState) : Type 0 where
+pub record Invariant (r : RingBuffer) (L : ℕ → ℕ) (c : Earlier) (o : OpeningValue) (es : List Entry) (s : ProtocolState) : Type 0 where
   pub landed : Landed
   pub order : Order r s.stored s.published s.taken s.consumed landed
   pub words : Words r L landed (memory_word o es)
@@ -100,10 +101,11 @@ sending-more r stored published n m (placed x) le h = h
 sending-more r stored published n m (roomy x) le h = (h.0, h.1, omega (arith, le, h.2))
 sending-more r stored published n m (filled x) le h = h
 
-pub receiving-more : (r : RingBuffer) (L : ℕ → ℕ) (taken consumed g h : ℕ) (p : FastForwardReceiver) → g ≤ h
+pub receiving-more : (r : RingBuffer) (L : ℕ → ℕ) (taken consumed g h : ℕ) (p : ReceiverState) → g ≤ h
     → ReceivingIs r L taken consumed g p → ReceivingIs r L taken consumed h p
 receiving-more r L taken consumed g h idle le is = is
 receiving-more r L taken consumed g h (asked u) le is = is
+receiving-more r L taken consumed g h (waiting u) le is = is
 receiving-more r L taken consumed g h (holding u w) le is = (is.0, is.1, omega (arith, le, is.2), is.3)
 receiving-more r L taken consumed g h (cleared u) le is = is
 
@@ -152,7 +154,7 @@ slot_again r is j k at = ap (λ x. r.slots + x) (offset_again r is j k at)
 -- ---- what each party reads
 
 module _ (r : RingBuffer) (is : IsRingBuffer r) (L : ℕ → ℕ) (small : (j : ℕ) → L j < 2 ^ 32) (c : Earlier) (o : OpeningValue) (es : List Entry)
-    (s : FastForwardState) (inv : Invariant r L c o es s) where
+    (s : ProtocolState) (inv : Invariant r L c o es s) where
   abbrev d : Landed
   d = inv.landed
 
@@ -258,12 +260,12 @@ module _ (r : RingBuffer) (is : IsRingBuffer r) (L : ℕ → ℕ) (small : (j : 
   -- ---- loads
 
   send-looked : (a v : ℕ) (p : SenderState) → v ≡ read o es r.sender a 4 → SendingIs r s.stored s.published d.cleared p
-      → SendingIs r s.stored s.published d.cleared (send_look r a v p)
+      → SendingIs r s.stored s.published d.cleared (send_look fastforward r a v p)
   send-looked a v resting is_read holds = holds
   send-looked a v (placed u) is_read holds = by (a == r.slots + u) refl (v == 0) refl
     where
       by : (b : Bool) → (a == r.slots + u) ≡ b → (c : Bool) → (v == 0) ≡ c
-          → SendingIs r s.stored s.published d.cleared (if b then (if c then roomy u else placed u) else placed u)
+          → SendingIs r s.stored s.published d.cleared (if b then (if not c then placed u else roomy u) else placed u)
       by true here true zero_read =
           let place : a ≡ slot r s.stored = eqb-true a (r.slots + u) here ∙ ap (λ x. r.slots + x) (holds.1 ∙ ap (offset r) (sym holds.0)) in
           let none : read o es r.sender (slot r s.stored) 4 ≡ 0 = ap (λ x. read o es r.sender x 4) (sym place) ∙ sym is_read ∙ eqb-true v 0 zero_read in
@@ -275,23 +277,24 @@ module _ (r : RingBuffer) (is : IsRingBuffer r) (L : ℕ → ℕ) (small : (j : 
   send-looked a v (roomy u) is_read holds = holds
   send-looked a v (filled u) is_read holds = holds
 
-  send-head : (a v : ℕ) (p : SenderState) → s.stored ≡ s.published → v ≡ read o es r.sender a 4 → SendingIs r s.stored s.published d.cleared (send_look r a v p)
-      → SendingIs r s.stored s.published d.cleared (if a == r.head then placed v else send_look r a v p)
+  send-head : (a v : ℕ) (p : SenderState) → s.stored ≡ s.published → v ≡ read o es r.sender a 4
+      → SendingIs r s.stored s.published d.cleared (send_look fastforward r a v p)
+      → SendingIs r s.stored s.published d.cleared (if a == r.head then placed v else send_look fastforward r a v p)
   send-head a v p level is_read holds = by (a == r.head) refl
     where
-      by : (b : Bool) → (a == r.head) ≡ b → SendingIs r s.stored s.published d.cleared (if b then placed v else send_look r a v p)
+      by : (b : Bool) → (a == r.head) ≡ b → SendingIs r s.stored s.published d.cleared (if b then placed v else send_look fastforward r a v p)
       by true same = (level, is_read ∙ ap (λ x. read o es r.sender x 4) (eqb-true a r.head same) ∙ sender-head)
       by false apart = holds
 
   pub sending-load : (a v : ℕ) (p : SenderState) → v ≡ read o es r.sender a 4 → SendingIs r s.stored s.published d.cleared p
-      → SendingIs r s.stored s.published d.cleared (send_load r a v p)
+      → SendingIs r s.stored s.published d.cleared (send_load fastforward r a v p)
   sending-load a v resting is_read holds = send-head a v resting holds is_read (send-looked a v resting is_read holds)
   sending-load a v (placed u) is_read holds = send-head a v (placed u) holds.0 is_read (send-looked a v (placed u) is_read holds)
   sending-load a v (roomy u) is_read holds = send-head a v (roomy u) holds.0 is_read (send-looked a v (roomy u) is_read holds)
   sending-load a v (filled u) is_read holds = holds
 
-  take-looked : (a v : ℕ) (p : FastForwardReceiver) → v ≡ read o es r.receiver a 4 → ReceivingIs r L s.taken s.consumed d.slots p
-      → ReceivingIs r L s.taken s.consumed d.slots (receive_look r a v p)
+  take-looked : (a v : ℕ) (p : ReceiverState) → v ≡ read o es r.receiver a 4 → ReceivingIs r L s.taken s.consumed d.slots p
+      → ReceivingIs r L s.taken s.consumed d.slots (receive_look fastforward r a v p)
   take-looked a v idle is_read holds = holds
   take-looked a v (asked u) is_read holds = by (a == r.slots + u) refl (v == 0) refl
     where
@@ -306,21 +309,23 @@ module _ (r : RingBuffer) (is : IsRingBuffer r) (L : ℕ → ℕ) (small : (j : 
             | inr word ↦ (holds.0, holds.1, word.0, found ∙ word.1)
           ]
       by false there c is_c = holds
+  take-looked a v (waiting u) is_read holds = absurd holds
   take-looked a v (holding u w) is_read holds = holds
   take-looked a v (cleared u) is_read holds = holds
 
-  take-tail : (a v : ℕ) (p : FastForwardReceiver) → s.taken ≡ s.consumed → v ≡ read o es r.receiver a 4
-      → ReceivingIs r L s.taken s.consumed d.slots (receive_look r a v p)
-      → ReceivingIs r L s.taken s.consumed d.slots (if a == r.tail then asked v else receive_look r a v p)
+  take-tail : (a v : ℕ) (p : ReceiverState) → s.taken ≡ s.consumed → v ≡ read o es r.receiver a 4
+      → ReceivingIs r L s.taken s.consumed d.slots (receive_look fastforward r a v p)
+      → ReceivingIs r L s.taken s.consumed d.slots (if a == r.tail then asked v else receive_look fastforward r a v p)
   take-tail a v p level is_read holds = by (a == r.tail) refl
     where
-      by : (b : Bool) → (a == r.tail) ≡ b → ReceivingIs r L s.taken s.consumed d.slots (if b then asked v else receive_look r a v p)
+      by : (b : Bool) → (a == r.tail) ≡ b → ReceivingIs r L s.taken s.consumed d.slots (if b then asked v else receive_look fastforward r a v p)
       by true same = (level, is_read ∙ ap (λ x. read o es r.receiver x 4) (eqb-true a r.tail same) ∙ receiver-tail)
       by false apart = holds
 
-  pub receiving-load : (a v : ℕ) (p : FastForwardReceiver) → v ≡ read o es r.receiver a 4 → ReceivingIs r L s.taken s.consumed d.slots p
-      → ReceivingIs r L s.taken s.consumed d.slots (receive_load r a v p)
+  pub receiving-load : (a v : ℕ) (p : ReceiverState) → v ≡ read o es r.receiver a 4 → ReceivingIs r L s.taken s.consumed d.slots p
+      → ReceivingIs r L s.taken s.consumed d.slots (receive_load fastforward r a v p)
   receiving-load a v idle is_read holds = take-tail a v idle holds is_read (take-looked a v idle is_read holds)
   receiving-load a v (asked u) is_read holds = take-tail a v (asked u) holds.0 is_read (take-looked a v (asked u) is_read holds)
+  receiving-load a v (waiting u) is_read holds = absurd holds
   receiving-load a v (holding u w) is_read holds = take-tail a v (holding u w) holds.0 is_read (take-looked a v (holding u w) is_read holds)
   receiving-load a v (cleared u) is_read holds = holds

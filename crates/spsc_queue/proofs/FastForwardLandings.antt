@@ -8,7 +8,7 @@ use Rattle.step_machine.specs.History.{OpeningValue}
 use Rattle.step_machine.specs.Access.{land, access_of}
 use Rattle.step_machine.specs.Entries.{hart_of, pending, memory_word, stores, lands}
 use Rattle.spsc_queue.specs.RingBuffers.{RingBuffer, IsRingBuffer, offset, slot}
-use Rattle.spsc_queue.specs.FastForward.{FastForwardState}
+use Rattle.spsc_queue.specs.Protocol.{ProtocolState}
 use Rattle.spsc_queue.proofs.Modulo.{mod_apart}
 use Rattle.spsc_queue.proofs.Spread.{sent_store, sent-slot, sent-head, slot_not_head, slot_not_tail, offset_low}
 use Rattle.spsc_queue.proofs.Rows.{slot-landed, head-landed, Earlier, Rows, Lands, hit, miss, landing}
@@ -18,7 +18,7 @@ use Rattle.spsc_queue.proofs.FastForwardInvariant.{sending-more, receiving-more,
 use Rattle.spsc_queue.proofs.FastForwardSteps.{idles}
 
 module _ (r : RingBuffer) (is : IsRingBuffer r) (L : ℕ → ℕ) (small : (j : ℕ) → L j < 2 ^ 32) (c : Earlier) (o : OpeningValue) (es : List Entry)
-    (s : FastForwardState) (inv : Invariant r L c o es s) (e : Entry) (even : (h : ℕ) → lands h es ≤ length (stores h es)) where
+    (s : ProtocolState) (inv : Invariant r L c o es s) (e : Entry) (even : (h : ℕ) → lands h es ≤ length (stores h es)) where
   abbrev d : Landed
   d = inv.landed
 

@@ -7,8 +7,7 @@ use Rattle.step_machine.specs.History.{OpeningValue}
 use Rattle.step_machine.specs.Access.{store, access_of}
 use Rattle.step_machine.specs.Entries.{hart_of, memory_word, stores, lands}
 use Rattle.spsc_queue.specs.RingBuffers.{RingBuffer, IsRingBuffer, IsWordIn, offset, slot, next, overlaps}
-use Rattle.spsc_queue.specs.Protocol.{SenderState, resting, roomy, filled, IsWordAt}
-use Rattle.spsc_queue.specs.FastForward.{FastForwardReceiver, idle, holding, cleared, FastForwardState}
+use Rattle.spsc_queue.specs.Protocol.{SenderState, resting, roomy, filled, ReceiverState, idle, holding, cleared, ProtocolState, IsWordAt}
 use Rattle.spsc_queue.proofs.Spread.{sent_store, sent-slot, sent-head}
 use Rattle.spsc_queue.proofs.Rows.{row-stores, row-publishes, Earlier, Stays, rows-stay, words-stay, sender-stores, receiver-stores}
 use Rattle.spsc_queue.proofs.Invariant.{firsts}
@@ -26,7 +25,7 @@ words-same r is L d old new same words = record {
   free = λ j from below. same (slot r j) (slot_word r is j) ∙ words.free j from below;
 }
 
-module _ (r : RingBuffer) (is : IsRingBuffer r) (L : ℕ → ℕ) (c : Earlier) (o : OpeningValue) (es : List Entry) (s : FastForwardState)
+module _ (r : RingBuffer) (is : IsRingBuffer r) (L : ℕ → ℕ) (c : Earlier) (o : OpeningValue) (es : List Entry) (s : ProtocolState)
     (inv : Invariant r L c o es s) (e : Entry) (even : (h : ℕ) → lands h es ≤ length (stores h es)) where
   abbrev d : Landed
   d = inv.landed
@@ -35,7 +34,7 @@ module _ (r : RingBuffer) (is : IsRingBuffer r) (L : ℕ → ℕ) (c : Earlier) 
   after = es ++ e ∷ []
 
   -- the block stays, and so do the stores to it: what a party knows may change
-  pub stays : (p : SenderState) (q : FastForwardReceiver) → Stays r o es after
+  pub stays : (p : SenderState) (q : ReceiverState) → Stays r o es after
       → SendingIs r s.stored s.published d.cleared p → ReceivingIs r L s.taken s.consumed d.slots q
       → Invariant r L c o after (record s { sending = p; receiving = q })
   stays p q block sending receiving = record {

@@ -1,10 +1,10 @@
--- What holds of the block, of the pending stores to it and of both parties after every run that keeps the protocol.
+-- What holds of Lamport's block, of the pending stores to it and of both parties after every run that keeps the protocol.
 use Rattle.std.proofs.Common.{ℕ, zero, suc, ◌+◌, ◌<◌, ◌≤◌, ◌≡◌, List, [], ◌∷◌, ◌++◌, arith}
 use Rattle.step_machine.specs.declared.events.Entry.{Entry}
 use Rattle.step_machine.specs.History.{OpeningValue}
 use Rattle.step_machine.specs.Entries.{memory_word}
 use Rattle.spsc_queue.specs.RingBuffers.{RingBuffer, offset, slot}
-use Rattle.spsc_queue.specs.Protocol.{SenderState, resting, placed, roomy, filled, ReceiverState, idle, asked, waiting, holding, ProtocolState}
+use Rattle.spsc_queue.specs.Protocol.{SenderState, resting, placed, roomy, filled, ReceiverState, idle, asked, waiting, holding, cleared, ProtocolState}
 use Rattle.spsc_queue.proofs.Spread.{sent_store, freed_store}
 use Rattle.spsc_queue.proofs.Rows.{Earlier, Rows, RowOrder}
 
@@ -44,6 +44,7 @@ ReceivingIs r L tails h idle = Unit {0}
 ReceivingIs r L tails h (asked u) = u ≡ offset r tails
 ReceivingIs r L tails h (waiting u) = (u ≡ offset r tails) × (tails < h)
 ReceivingIs r L tails h (holding u w) = (u ≡ offset r tails) × (tails < h) × (w ≡ L tails)
+ReceivingIs r L tails h (cleared u) = ⊥
 
 -- the stores to the block: the sender's row and the receiver's, and how far each has come
 pub record Buffers (r : RingBuffer) (L : ℕ → ℕ) (c : Earlier) (es : List Entry) (stored published consumed : ℕ) (d : Landed) : Type 0 where
@@ -56,6 +57,7 @@ pub record Buffers (r : RingBuffer) (L : ℕ → ℕ) (c : Earlier) (es : List E
 pub record Invariant (r : RingBuffer) (L : ℕ → ℕ) (c : Earlier) (o : OpeningValue) (es : List Entry) (s : ProtocolState) : Type 0 where
   pub landed : Landed
   pub order : Order r s.stored s.published s.consumed landed
+  pub level : s.taken ≡ s.consumed
   pub words : Words r L landed (memory_word o es)
   pub sending : SendingIs r s.stored s.published landed.tails s.sending
   pub receiving : ReceivingIs r L s.consumed landed.heads s.receiving
@@ -74,3 +76,4 @@ receiving-more r L tails h g idle le is = is
 receiving-more r L tails h g (asked u) le is = is
 receiving-more r L tails h g (waiting u) le is = (is.0, omega (arith, le, is.1))
 receiving-more r L tails h g (holding u w) le is = (is.0, omega (arith, le, is.1), is.2)
+receiving-more r L tails h g (cleared u) le is = is

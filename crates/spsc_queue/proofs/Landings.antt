@@ -52,6 +52,7 @@ module _ (r : RingBuffer) (is : IsRingBuffer r) (L : ℕ → ℕ) (small : (j : 
       slot-lands : d.slots ≡ d.heads → w ≡ write (slot r d.slots) 4 (L d.slots) → Invariant r L c o after s
       slot-lands level is_slot = record {
         landed = record { slots = suc d.slots; heads = d.heads; tails = d.tails };
+        level = inv.level;
         order = record {
           mine = slot-landed inv.order.mine level some;
           consumed_heads = inv.order.consumed_heads;
@@ -98,6 +99,7 @@ module _ (r : RingBuffer) (is : IsRingBuffer r) (L : ℕ → ℕ) (small : (j : 
       head-lands : d.slots ≡ d.heads + 1 → w ≡ write r.head 4 (offset r (d.heads + 1)) → Invariant r L c o after s
       head-lands odd is_head = record {
         landed = record { slots = d.slots; heads = suc d.heads; tails = d.tails };
+        level = inv.level;
         order = record {
           mine = head-landed inv.order.mine odd some;
           consumed_heads = omega (arith, inv.order.consumed_heads);
@@ -145,6 +147,7 @@ module _ (r : RingBuffer) (is : IsRingBuffer r) (L : ℕ → ℕ) (small : (j : 
         → Rows r c (sent_store r L) (freed_store r) after (d.slots + d.heads) inv.buffers.unsent (suc d.tails) m → Invariant r L c o after s
     tail-lands m count next rows = record {
       landed = record { slots = d.slots; heads = d.heads; tails = suc d.tails };
+      level = inv.level;
       order = record {
         mine = inv.order.mine;
         consumed_heads = inv.order.consumed_heads;

@@ -1,30 +1,89 @@
 -- A queue that looks empty or full is so, as far as stores have landed.
-use Rattle.std.proofs.Common.{ℕ, ◌+◌, ◌^◌, ◌<◌, ◌≤◌, ◌≡◌, inl, inr, List, [], ◌∷◌, ◌++◌, length, sym, ◌∙◌, ap, subst, arith}
+use Rattle.std.proofs.Common.{ℕ, ◌+◌, ◌^◌, ◌<◌, ◌≤◌, ◌≡◌, ◌≢◌, not, true, false, inl, inr, List, [], ◌∷◌, ◌++◌, length, sym, ◌∙◌, ap, subst, arith, append-nil}
 use Rattle.std.specs.Prelude.{slice_index}
-use Rattle.std.proofs.lemmas.Bool.{cases_lt}
+use Rattle.std.proofs.lemmas.Bool.{cases_lt, eqb-true, eq-eqb}
 use Rattle.step_machine.specs.declared.events.Entry.{Entry}
 use Rattle.step_machine.specs.History.{OpeningValue}
 use Rattle.step_machine.specs.Access.{load, access_of}
 use Rattle.step_machine.specs.Entries.{hart_of, pending, read}
 use Rattle.step_machine.specs.Legal.{AllowedBy}
 use Rattle.step_machine.proofs.Appended.{LegalAfter-back}
-use Rattle.spsc_queue.specs.RingBuffers.{RingBuffer, offset, next, writes_to}
-use Rattle.spsc_queue.specs.Protocol.{placed, asked, ProtocolState, at_start, protocol_after}
-use Rattle.spsc_queue.specs.Laws.{FollowsSpscProtocol}
+use Rattle.spsc_queue.specs.RingBuffers.{Kind, lamport, fastforward, RingBuffer, IsRingBuffer, offset, slot, next, capacity_of, capacity, writes_to}
+use Rattle.spsc_queue.specs.Protocol.{placed, asked, ProtocolState, at_start, protocol_after, room_at, says_full, word_at, says_empty, KeepsProtocol}
+use Rattle.spsc_queue.specs.Laws.{FollowsSpscProtocol, available_of, available_count}
 use Rattle.spsc_queue.proofs.Modulo.{same_offset, mod_apart}
 use Rattle.spsc_queue.proofs.Spread.{sent_store, freed_store}
-use Rattle.spsc_queue.proofs.Invariant.{Invariant, SendingIs, ReceivingIs}
+use Rattle.spsc_queue.proofs.Rows.{Earlier}
+use Rattle.spsc_queue.proofs.Invariant as lamports
 use Rattle.spsc_queue.proofs.Loads.{next_offset, sender-tail, receiver-other}
-use Rattle.spsc_queue.proofs.Runs.{earlier, invariant-of, protocol-small}
+use Rattle.spsc_queue.proofs.FastForwardInvariant as fastforwards
+use Rattle.spsc_queue.proofs.FastForwardInvariant.{cleared_store, receiver-word, sender-free}
+use Rattle.spsc_queue.proofs.Invariants.{Holds, earlier}
+use Rattle.spsc_queue.proofs.Runs.{invariant-of, protocol-small}
 use Rattle.spsc_queue.proofs.PastRows.{length-spread}
 
--- what a load read
-loaded : (B : ℕ) (r : RingBuffer) (o : OpeningValue) (before es : List Entry) (e : Entry) (fs : List Entry) (a v : ℕ)
-    → FollowsSpscProtocol B r o before (es ++ e ∷ fs) → access_of e ≡ load a 4 v → v ≡ read o (before ++ es) (hart_of e) a 4
-loaded B r o before es e fs a v t does =
-    let legal = LegalAfter-back B o [] before (es ++ e ∷ fs) t.legal in
-    let here = (LegalAfter-back B o before es (e ∷ fs) legal).0 in
-    subst (AllowedBy B (pending (hart_of e) (before ++ es)) (read o (before ++ es) (hart_of e))) does here
+module _ (r : RingBuffer) (is : IsRingBuffer r) (L : ℕ → ℕ) (small : (j : ℕ) → L j < 2 ^ 32) (c : Earlier) (o : OpeningValue) (es : List Entry)
+    (T : ProtocolState) where
+  -- the receiver sees no word: each that has landed and may be taken was received
+  empty : (k : Kind) → Holds k r L c o es T → (u v : ℕ) → v ≡ read o es r.receiver (word_at k r u) 4 → says_empty k u v ≡ true → T.receiving ≡ asked u
+      → available_of k T ≤ T.taken + length (writes_to r (pending r.sender es))
+  empty lamport inv u v found says was =
+      let known : u ≡ offset r T.consumed = subst (lamports.ReceivingIs r L T.consumed inv.landed.heads) was inv.receiving in
+      let head : v ≡ offset r inv.landed.heads = found ∙ receiver-other r is L small c o es T inv r.head is.head (λ q. is.apart (sym q)) ∙ inv.words.head in
+      let same : T.consumed ≡ inv.landed.heads = same_offset r.size T.consumed inv.landed.heads (omega (arith, is.some_slots)) inv.order.consumed_heads
+      (omega (arith, inv.order.mine.heads_slots, inv.order.mine.slots_stored, inv.order.room, inv.order.landed_consumed))
+      (sym known ∙ sym (eqb-true v u says) ∙ head) in
+      let left : length (writes_to r (pending r.sender es)) ≡ inv.buffers.unsent =
+      ap length inv.buffers.rows.mine ∙ length-spread (sent_store r L) (inv.landed.slots + inv.landed.heads) inv.buffers.unsent in
+      omega (arith, same, left, inv.level, inv.buffers.mine_count, inv.order.mine.slots_stored, inv.order.mine.heads_published)
+  empty fastforward inv u v found says was =
+      let known = subst (fastforwards.ReceivingIs r L T.taken T.consumed inv.landed.slots) was inv.receiving in
+      let place : r.slots + u ≡ slot r T.taken = ap (λ x. r.slots + x) (known.1 ∙ ap (offset r) (sym known.0)) in
+      let zero_read : 0 ≡ read o es r.receiver (slot r T.taken) 4 = sym (eqb-true v 0 says) ∙ found ∙ ap (λ a. read o es r.receiver a 4) place in
+      let left : length (writes_to r (pending r.sender es)) ≡ inv.buffers.unsent =
+      ap length inv.buffers.rows.mine ∙ length-spread (sent_store r L) (inv.landed.slots + inv.landed.heads) inv.buffers.unsent in
+      let all : inv.landed.slots ≤ T.taken = elim (cases_lt T.taken inv.landed.slots) [
+        | inl less ↦ absurd (inv.nonzero T.taken (omega (arith, less, inv.order.mine.slots_stored))
+            (sym (receiver-word r is L small c o es T inv known.0 less) ∙ sym zero_read))
+        | inr more ↦ more
+      ] in
+      omega (arith, all, left, inv.buffers.mine_count, inv.order.mine.heads_published)
+
+  -- the sender sees no room: as many words as the queue holds are stored and not taken, or taken by stores that haven't landed
+  full : (k : Kind) → Holds k r L c o es T → (u v : ℕ) → v ≡ read o es r.sender (room_at k r u) 4 → says_full k r u v ≡ true → T.sending ≡ placed u
+      → T.taken + capacity_of k r.size ≤ T.stored + length (writes_to r (pending r.receiver es))
+  full lamport inv u v found says was =
+      let known : (T.stored ≡ T.published) × (u ≡ offset r T.published) = subst (lamports.SendingIs r T.stored T.published inv.landed.tails) was inv.sending in
+      let tail : next r u ≡ offset r inv.landed.tails = sym (eqb-true v (next r u) says) ∙ found ∙ sender-tail r is L small c o es T inv in
+      let one : offset r inv.landed.tails ≡ offset r (T.published + 1) = sym tail ∙ next_offset r is u T.published known.1 in
+      let over : inv.landed.tails < T.published + 1 = omega (arith, inv.order.landed_consumed, inv.order.consumed_heads, inv.order.mine.heads_published) in
+      let far : inv.landed.tails + r.size ≤ T.published + 1 = elim (cases_lt (T.published + 1) (inv.landed.tails + r.size)) [
+        | inl less ↦ absurd (mod_apart r.size inv.landed.tails (T.published + 1) (omega (arith, is.some_slots)) over less (omega (arith, one)))
+        | inr more ↦ more
+      ] in
+      let left : length (writes_to r (pending r.receiver es)) ≡ inv.buffers.unread =
+      ap length inv.buffers.rows.theirs ∙ length-spread (freed_store r) inv.landed.tails inv.buffers.unread in
+      omega (arith, far, left, known.0, inv.level, inv.buffers.theirs_count, is.some_slots)
+  full fastforward inv u v found says was =
+      let known = subst (fastforwards.SendingIs r T.stored T.published inv.landed.cleared) was inv.sending in
+      let place : r.slots + u ≡ slot r T.stored = ap (λ x. r.slots + x) (known.1 ∙ ap (offset r) (sym known.0)) in
+      let some : v ≢ 0 = λ none. (let no : false ≡ true = sym (ap not (eq-eqb v 0 none)) ∙ says in cc) in
+      let left : length (writes_to r (pending r.receiver es)) ≡ inv.buffers.unread =
+      ap length inv.buffers.rows.theirs ∙ length-spread (cleared_store r) (inv.landed.cleared + inv.landed.tails) inv.buffers.unread in
+      let all : inv.landed.cleared + r.size ≤ T.stored = elim (cases_lt T.stored (inv.landed.cleared + r.size)) [
+        | inl less ↦ absurd (some (found ∙ ap (λ a. read o es r.sender a 4) place ∙ sender-free r is L small c o es T inv known.0 less))
+        | inr more ↦ more
+      ] in
+      omega (arith, all, left, inv.buffers.theirs_count, inv.order.theirs.heads_published)
+
+  -- and of Lamport's never more
+  never_fuller : (k : Kind) → Holds k r L c o es T → k ≡ lamport
+      → T.stored + length (writes_to r (pending r.receiver es)) ≤ T.taken + capacity_of k r.size
+  never_fuller lamport inv is_lamport =
+      let left : length (writes_to r (pending r.receiver es)) ≡ inv.buffers.unread =
+      ap length inv.buffers.rows.theirs ∙ length-spread (freed_store r) inv.landed.tails inv.buffers.unread in
+      omega (arith, left, inv.level, inv.order.room, inv.buffers.theirs_count, is.some_slots)
+  never_fuller fastforward inv is_lamport = cc
 
 module _ (B : ℕ) (r : RingBuffer) (o : OpeningValue) (before es : List Entry) (e : Entry) (fs : List Entry)
     (t : FollowsSpscProtocol B r o before (es ++ e ∷ fs)) where
@@ -37,38 +96,29 @@ module _ (B : ℕ) (r : RingBuffer) (o : OpeningValue) (before es : List Entry) 
   small : (j : ℕ) → L j < 2 ^ 32
   small = protocol-small r at_start (es ++ e ∷ fs) t.keeps (λ j. omega arith)
 
-  inv : Invariant r L (earlier r before) o (before ++ es) T
+  inv : Holds r.kind r L (earlier r before) o (before ++ es) T
   inv = invariant-of B r o before es (e ∷ fs) t
 
-  -- the receiver reads its own tail in the head: each word whose head has landed was received
-  pub empty_landed : (v : ℕ) → hart_of e ≡ r.receiver → access_of e ≡ load r.head 4 v → T.receiving ≡ asked v
-      → T.published ≤ T.consumed + length (writes_to r (pending r.sender (before ++ es)))
-  empty_landed v mine does was =
-      let known : ReceivingIs r L T.consumed inv.landed.heads (asked v) = subst (ReceivingIs r L T.consumed inv.landed.heads) was inv.receiving in
-      let found : v ≡ offset r inv.landed.heads =
-      loaded B r o before es e fs r.head v t does ∙ ap (λ h. read o (before ++ es) h r.head 4) mine
-      ∙ receiver-other r t.ring L small (earlier r before) o (before ++ es) T inv r.head t.ring.head (λ q. t.ring.apart (sym q)) ∙ inv.words.head in
-      let same : T.consumed ≡ inv.landed.heads = same_offset r.size T.consumed inv.landed.heads (omega (arith, t.ring.some_slots)) inv.order.consumed_heads
-      (omega (arith, inv.order.mine.heads_slots, inv.order.mine.slots_stored, inv.order.room, inv.order.landed_consumed)) (sym known ∙ found) in
-      let left : length (writes_to r (pending r.sender (before ++ es))) ≡ inv.buffers.unsent =
-      ap length inv.buffers.rows.mine ∙ length-spread (sent_store r L) (inv.landed.slots + inv.landed.heads) inv.buffers.unsent in
-      omega (arith, same, left, inv.buffers.mine_count, inv.order.mine.slots_stored, inv.order.mine.heads_published)
+  -- what a load read
+  loaded : (h a v : ℕ) → hart_of e ≡ h → access_of e ≡ load a 4 v → v ≡ read o (before ++ es) h a 4
+  loaded h a v mine does = subst (AllowedBy B (pending (hart_of e) (before ++ es)) (read o (before ++ es) (hart_of e))) does
+      (LegalAfter-back B o before es (e ∷ fs) (LegalAfter-back B o [] before (es ++ e ∷ fs) t.legal)).0
+      ∙ ap (λ g. read o (before ++ es) g a 4) mine
 
-  -- the sender reads the next offset in the tail: all slots except one hold words of which no tail has landed
-  pub full_landed : (u : ℕ) → hart_of e ≡ r.sender → access_of e ≡ load r.tail 4 (next r u) → T.sending ≡ placed u
-      → T.consumed + r.size ≡ T.stored + 1 + length (writes_to r (pending r.receiver (before ++ es)))
-  full_landed u mine does was =
-      let known : SendingIs r T.stored T.published inv.landed.tails (placed u) = subst (SendingIs r T.stored T.published inv.landed.tails) was inv.sending in
-      let found : next r u ≡ offset r inv.landed.tails =
-      loaded B r o before es e fs r.tail (next r u) t does ∙ ap (λ h. read o (before ++ es) h r.tail 4) mine
-      ∙ sender-tail r t.ring L small (earlier r before) o (before ++ es) T inv in
-      let one : offset r inv.landed.tails ≡ offset r (T.published + 1) = sym found ∙ next_offset r t.ring u T.published known.1 in
-      let near : T.published + 1 ≤ inv.landed.tails + r.size = omega (arith, known.0, inv.order.room) in
-      let over : inv.landed.tails < T.published + 1 = omega (arith, inv.order.landed_consumed, inv.order.consumed_heads, inv.order.mine.heads_published) in
-      let same : T.published + 1 ≡ inv.landed.tails + r.size = elim (cases_lt (T.published + 1) (inv.landed.tails + r.size)) [
-        | inl less ↦ absurd (mod_apart r.size inv.landed.tails (T.published + 1) (omega (arith, t.ring.some_slots)) over less (omega (arith, one)))
-        | inr more ↦ omega (arith, near, more)
-      ] in
-      let left : length (writes_to r (pending r.receiver (before ++ es))) ≡ inv.buffers.unread =
-      ap length inv.buffers.rows.theirs ∙ length-spread (freed_store r) inv.landed.tails inv.buffers.unread in
-      omega (arith, same, left, known.0, inv.buffers.theirs_count)
+  pub empty_landed : (u v : ℕ) → hart_of e ≡ r.receiver → access_of e ≡ load (word_at r.kind r u) 4 v → says_empty r.kind u v ≡ true
+      → T.receiving ≡ asked u → available_count r T ≤ T.taken + length (writes_to r (pending r.sender (before ++ es)))
+  empty_landed u v mine does says was = empty r t.ring L small (earlier r before) o (before ++ es) T r.kind inv u v
+      (loaded r.receiver (word_at r.kind r u) v mine does) says was
+
+  pub full_landed : (u v : ℕ) → hart_of e ≡ r.sender → access_of e ≡ load (room_at r.kind r u) 4 v → says_full r.kind r u v ≡ true
+      → T.sending ≡ placed u → T.taken + capacity r ≤ T.stored + length (writes_to r (pending r.receiver (before ++ es)))
+  full_landed u v mine does says was = full r t.ring L small (earlier r before) o (before ++ es) T r.kind inv u v
+      (loaded r.sender (room_at r.kind r u) v mine does) says was
+
+pub room_landed : (B : ℕ) (r : RingBuffer) (o : OpeningValue) (before es : List Entry) → FollowsSpscProtocol B r o before es → r.kind ≡ lamport
+    → (protocol_after r at_start es).stored + length (writes_to r (pending r.receiver (before ++ es))) ≤ (protocol_after r at_start es).taken + capacity r
+room_landed B r o before es t is_lamport =
+    never_fuller r t.ring (slice_index (protocol_after r at_start (es ++ [])).sent)
+    (protocol-small r at_start (es ++ []) (subst (KeepsProtocol r at_start) (sym (append-nil es)) t.keeps) (λ j. omega arith))
+    (earlier r before) o (before ++ es) (protocol_after r at_start es) r.kind
+    (invariant-of B r o before es [] (subst (FollowsSpscProtocol B r o before) (sym (append-nil es)) t)) is_lamport

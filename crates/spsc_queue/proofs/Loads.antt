@@ -1,5 +1,5 @@
 -- What a party knows after a load, whichever word it loads.
-use Rattle.std.proofs.Common.{ℕ, ◌+◌, ◌*◌, ◌%◌, ◌^◌, ◌<◌, ◌≡◌, ◌≢◌, ◌==◌, not, ◌&&◌, Bool, true, false, if◌then◌else◌}
+use Rattle.std.proofs.Common.{ℕ, ◌+◌, ◌*◌, ◌%◌, ◌^◌, ◌<◌, ◌≡◌, ◌≢◌, ◌==◌, Bool, true, false, if◌then◌else◌}
 use Rattle.std.proofs.Common.{List, refl, sym, ◌∙◌, ap, subst, arith}
 use Rattle.std.specs.Prelude.{All}
 use Rattle.std.proofs.lemmas.Bool.{eqb-true, eqb-false}
@@ -8,10 +8,9 @@ use Rattle.memory.specs.Writes.{IsWholeWord}
 use Rattle.step_machine.specs.declared.events.Entry.{Entry}
 use Rattle.step_machine.specs.History.{OpeningValue}
 use Rattle.step_machine.specs.Entries.{pending, memory_word, read}
-use Rattle.spsc_queue.specs.RingBuffers.{RingBuffer, IsRingBuffer, IsWordIn, offset, slot, next, writes_to}
-use Rattle.spsc_queue.specs.Protocol.{SenderState, resting, placed, roomy, filled, ReceiverState, idle, asked, waiting, holding, ProtocolState, read_tail}
-use Rattle.spsc_queue.specs.Protocol.{send_load}
-use Rattle.spsc_queue.specs.Protocol.{look, receive_load}
+use Rattle.spsc_queue.specs.RingBuffers.{lamport, RingBuffer, IsRingBuffer, IsWordIn, offset, slot, next, writes_to}
+use Rattle.spsc_queue.specs.Protocol.{SenderState, resting, placed, roomy, filled, ReceiverState, idle, asked, waiting, holding, cleared, ProtocolState}
+use Rattle.spsc_queue.specs.Protocol.{looks_for_room, send_look, send_load, receive_look, receive_load}
 use Rattle.spsc_queue.proofs.Modulo.{offset_step, offset_wrap}
 use Rattle.spsc_queue.proofs.Words.{seen}
 use Rattle.spsc_queue.proofs.Spread.{spread, spread-all, sent_store, freed_store, seen-none, seen-tails, seen-heads, sent-not-tail, sent-whole, offset_low}
@@ -87,7 +86,7 @@ module _ (r : RingBuffer) (is : IsRingBuffer r) (L : ℕ → ℕ) (small : (j : 
 
   -- the sender's loads
   tail-says : (u v : ℕ) → (s.stored ≡ s.published) → u ≡ offset r s.published → v ≡ offset r d.tails
-      → SendingIs r s.stored s.published d.tails (read_tail r v (placed u))
+      → SendingIs r s.stored s.published d.tails (looks_for_room lamport r u v)
   tail-says u v level at is_tail = by (v == next r u) refl
     where
       by : (b : Bool) → (v == next r u) ≡ b → SendingIs r s.stored s.published d.tails (if b then placed u else roomy u)
@@ -98,33 +97,40 @@ module _ (r : RingBuffer) (is : IsRingBuffer r) (L : ℕ → ℕ) (small : (j : 
           λ full. apart (is_tail ∙ sym (offset_again r is d.tails (s.published + 1) full) ∙ sym (next_offset r is u s.published at)) in
           (level, at, omega (arith, inv.order.room))
 
-  loaded : (a v : ℕ) (p : SenderState) → s.stored ≡ s.published → v ≡ read o es r.sender a 4 → SendingIs r s.stored s.published d.tails p
-      → SendingIs r s.stored s.published d.tails (read_tail r (offset r d.tails) p)
-      → SendingIs r s.stored s.published d.tails (if a == r.head then placed v else (if a == r.tail then read_tail r v p else p))
-  loaded a v p level is_read holds tail = by (a == r.head) refl (a == r.tail) refl
+  send-looked : (a v : ℕ) (p : SenderState) → v ≡ read o es r.sender a 4 → SendingIs r s.stored s.published d.tails p
+      → SendingIs r s.stored s.published d.tails (send_look lamport r a v p)
+  send-looked a v resting is_read holds = holds
+  send-looked a v (placed u) is_read holds = by (a == r.tail) refl
     where
-      by : (b : Bool) → (a == r.head) ≡ b → (c : Bool) → (a == r.tail) ≡ c
-          → SendingIs r s.stored s.published d.tails (if b then placed v else (if c then read_tail r v p else p))
-      by true same c other = (level, is_read ∙ ap (λ x. read o es r.sender x 4) (eqb-true a r.head same) ∙ sender-head)
-      by false apart true same = subst (λ x. SendingIs r s.stored s.published d.tails (read_tail r x p))
-          (sym (is_read ∙ ap (λ x. read o es r.sender x 4) (eqb-true a r.tail same) ∙ sender-tail)) tail
-      by false apart false other = holds
+      by : (b : Bool) → (a == r.tail) ≡ b → SendingIs r s.stored s.published d.tails (if b then looks_for_room lamport r u v else placed u)
+      by true same = tail-says u v holds.0 holds.1 (is_read ∙ ap (λ x. read o es r.sender x 4) (eqb-true a r.tail same) ∙ sender-tail)
+      by false other = holds
+  send-looked a v (roomy u) is_read holds = holds
+  send-looked a v (filled u) is_read holds = holds
+
+  loaded : (a v : ℕ) (p : SenderState) → s.stored ≡ s.published → v ≡ read o es r.sender a 4 → SendingIs r s.stored s.published d.tails p
+      → SendingIs r s.stored s.published d.tails (if a == r.head then placed v else send_look lamport r a v p)
+  loaded a v p level is_read holds = by (a == r.head) refl
+    where
+      by : (b : Bool) → (a == r.head) ≡ b → SendingIs r s.stored s.published d.tails (if b then placed v else send_look lamport r a v p)
+      by true same = (level, is_read ∙ ap (λ x. read o es r.sender x 4) (eqb-true a r.head same) ∙ sender-head)
+      by false apart = send-looked a v p is_read holds
 
   pub sending-load : (a v : ℕ) (p : SenderState) → v ≡ read o es r.sender a 4 → SendingIs r s.stored s.published d.tails p
-      → SendingIs r s.stored s.published d.tails (send_load r a v p)
-  sending-load a v resting is_read holds = loaded a v resting holds is_read holds holds
-  sending-load a v (placed u) is_read holds = loaded a v (placed u) holds.0 is_read holds (tail-says u (offset r d.tails) holds.0 holds.1 refl)
-  sending-load a v (roomy u) is_read holds = loaded a v (roomy u) holds.0 is_read holds holds
+      → SendingIs r s.stored s.published d.tails (send_load lamport r a v p)
+  sending-load a v resting is_read holds = loaded a v resting holds is_read holds
+  sending-load a v (placed u) is_read holds = loaded a v (placed u) holds.0 is_read holds
+  sending-load a v (roomy u) is_read holds = loaded a v (roomy u) holds.0 is_read holds
   sending-load a v (filled u) is_read holds = holds
 
   -- the receiver's
   looked : (a v : ℕ) (p : ReceiverState) → a ≢ r.tail → v ≡ read o es r.receiver a 4 → ReceivingIs r L s.consumed d.heads p
-      → ReceivingIs r L s.consumed d.heads (look r a v p)
+      → ReceivingIs r L s.consumed d.heads (receive_look lamport r a v p)
   looked a v idle other is_read holds = tt
   looked a v (asked u) other is_read holds = by (a == r.head) refl (v == u) refl
     where
       by : (b : Bool) → (a == r.head) ≡ b → (c : Bool) → (v == u) ≡ c
-          → ReceivingIs r L s.consumed d.heads (if b && not c then waiting u else asked u)
+          → ReceivingIs r L s.consumed d.heads (if b then (if c then asked u else waiting u) else asked u)
       by true same false apart =
           let place : a ≡ r.head = eqb-true a r.head same in
           let head : v ≡ offset r d.heads = is_read ∙ ap (λ x. read o es r.receiver x 4) place
@@ -133,8 +139,7 @@ module _ (r : RingBuffer) (is : IsRingBuffer r) (L : ℕ → ℕ) (small : (j : 
           let more : s.consumed ≢ d.heads = λ e. far (head ∙ ap (offset r) (sym e) ∙ sym holds) in
           (holds, omega (arith, more, inv.order.consumed_heads))
       by true same true x = holds
-      by false y true x = holds
-      by false y false x = holds
+      by false y c x = holds
   looked a v (waiting u) other is_read holds = by (a == r.slots + u) refl
     where
       by : (b : Bool) → (a == r.slots + u) ≡ b → ReceivingIs r L s.consumed d.heads (if b then holding u v else waiting u)
@@ -148,11 +153,20 @@ module _ (r : RingBuffer) (is : IsRingBuffer r) (L : ℕ → ℕ) (small : (j : 
           )
       by false apart = holds
   looked a v (holding u w) other is_read holds = holds
+  looked a v (cleared u) other is_read holds = holds
 
-  pub receiving-load : (a v : ℕ) (p : ReceiverState) → v ≡ read o es r.receiver a 4 → ReceivingIs r L s.consumed d.heads p
-      → ReceivingIs r L s.consumed d.heads (receive_load r a v p)
-  receiving-load a v p is_read holds = by (a == r.tail) refl
+  loads-tail : (a v : ℕ) (p : ReceiverState) → v ≡ read o es r.receiver a 4 → ReceivingIs r L s.consumed d.heads p
+      → ReceivingIs r L s.consumed d.heads (if a == r.tail then asked v else receive_look lamport r a v p)
+  loads-tail a v p is_read holds = by (a == r.tail) refl
     where
-      by : (b : Bool) → (a == r.tail) ≡ b → ReceivingIs r L s.consumed d.heads (if b then asked v else look r a v p)
+      by : (b : Bool) → (a == r.tail) ≡ b → ReceivingIs r L s.consumed d.heads (if b then asked v else receive_look lamport r a v p)
       by true same = is_read ∙ ap (λ x. read o es r.receiver x 4) (eqb-true a r.tail same) ∙ receiver-tail
       by false apart = looked a v p (eqb-false a r.tail apart) is_read holds
+
+  pub receiving-load : (a v : ℕ) (p : ReceiverState) → v ≡ read o es r.receiver a 4 → ReceivingIs r L s.consumed d.heads p
+      → ReceivingIs r L s.consumed d.heads (receive_load lamport r a v p)
+  receiving-load a v idle is_read holds = loads-tail a v idle is_read holds
+  receiving-load a v (asked u) is_read holds = loads-tail a v (asked u) is_read holds
+  receiving-load a v (waiting u) is_read holds = loads-tail a v (waiting u) is_read holds
+  receiving-load a v (holding u w) is_read holds = loads-tail a v (holding u w) is_read holds
+  receiving-load a v (cleared u) is_read holds = absurd holds

@@ -8,16 +8,16 @@ use Rattle.step_machine.specs.declared.events.Entry.{Entry}
 use Rattle.step_machine.specs.History.{OpeningValue}
 use Rattle.step_machine.specs.Access.{Access, nothing, load, store, exchange, fence, land, access_of}
 use Rattle.step_machine.specs.Entries.{hart_of, is_land}
-use Rattle.spsc_queue.specs.RingBuffers.{RingBuffer, overlaps}
-use Rattle.spsc_queue.specs.Protocol.{SenderState, resting, placed, roomy, filled, ReceiverState, idle, asked, waiting, holding, ProtocolState, at_start}
-use Rattle.spsc_queue.specs.Protocol.{protocol_after, WritesNothingTo, IsSenderStore, IsReceiverStore}
-use Rattle.spsc_queue.specs.Calls.{Block, SpscQueue, ring_of, buffer, is_sender_in_call, is_receiver_in_call, CallerObligation, UsesAsSpscQueue}
+use Rattle.spsc_queue.specs.RingBuffers.{Kind, lamport, fastforward, RingBuffer, overlaps}
+use Rattle.spsc_queue.specs.Protocol.{SenderState, resting, placed, roomy, filled, ReceiverState, idle, asked, waiting, holding, cleared, ProtocolState}
+use Rattle.spsc_queue.specs.Protocol.{at_start, protocol_after, WritesNothingTo, IsSenderStore, IsTaking, IsReceiverStore}
+use Rattle.spsc_queue.specs.Calls.{Block, SpscQueue, Party, the_sender, the_receiver, party_hart, ring_of, buffer, is_sender_in_call, is_receiver_in_call}
+use Rattle.spsc_queue.specs.Calls.{CallerObligation, UsesAsSpscQueue}
 use Rattle.spsc_queue.specs.ManyQueues.{IsIdle, UsesManyQueues}
-use Rattle.spsc_queue.proofs.SendOutline.{IsNear}
-use Rattle.spsc_queue.proofs.SendOutline as sending
-use Rattle.spsc_queue.proofs.ReceiveOutline as receiving
+use Rattle.spsc_queue.proofs.Outline.{part, IsOffset, IsNear, IsFit, Near, Does}
 use Rattle.spsc_queue.proofs.OwnEntries.{land_is}
-use Rattle.spsc_queue.proofs.Calls.{Stand, stands_on, begins, sender_does, receiver_does}
+use Rattle.spsc_queue.proofs.Parties.{is_busy, which, other_hart}
+use Rattle.spsc_queue.proofs.Calls.{Stand, stands_on, stands_at_start, party_does}
 
 -- a store within another block
 abbrev IsApart : Block → RingBuffer → Type 0
@@ -27,35 +27,32 @@ elsewhere : (k : Block) (r : RingBuffer) (w : Write) → IsApart k r → k.base 
 elsewhere k r w (inl below) from upto = grind (arith, nat_tests)
 elsewhere k r w (inr above) from upto = grind (arith, nat_tests)
 
-sent_off : (k : Block) (a b : ℕ) (r : RingBuffer) (w : Write) (p : SenderState) → IsApart k r → IsNear k p → IsSenderStore (ring_of k a b) p w
-    → overlaps r w ≡ false
-sent_off k a b r w resting apart near does = absurd does
-sent_off k a b r w (placed u) apart near does = absurd does
-sent_off k a b r w (roomy u) apart near does = elsewhere k r w apart (omega (arith, does.0.place)) (omega (arith, does.0.place, does.0.width, near.0))
-sent_off k a b r w (filled u) apart near does = elsewhere k r w apart (omega (arith, does.0.place)) (omega (arith, does.0.place, does.0.width))
+module _ (K : Kind) (k : Block) (a b : ℕ) (r : RingBuffer) (apart : IsApart k r) where
+  sent_off : (w : Write) (p : SenderState) → IsNear k p → IsSenderStore K (ring_of k a b) p w → overlaps r w ≡ false
+  sent_off w resting near does = absurd does
+  sent_off w (placed u) near does = absurd does
+  sent_off w (roomy u) near does = elsewhere k r w apart (omega (arith, does.0.place)) (omega (arith, does.0.place, does.0.width, near.0))
+  sent_off w (filled u) near does = elsewhere k r w apart (omega (arith, does.0.place)) (omega (arith, does.0.place, does.0.width))
 
-freed_off : (k : Block) (a b : ℕ) (r : RingBuffer) (w : Write) (p : ReceiverState) → IsApart k r → IsReceiverStore (ring_of k a b) p w → overlaps r w ≡ false
-freed_off k a b r w idle apart does = absurd does
-freed_off k a b r w (asked u) apart does = absurd does
-freed_off k a b r w (waiting u) apart does = absurd does
-freed_off k a b r w (holding u v) apart does = elsewhere k r w apart (omega (arith, does.0.place)) (omega (arith, does.0.place, does.0.width))
+  taken_off : (K : Kind) (w : Write) (u : ℕ) → IsOffset k u → IsTaking K (ring_of k a b) u w → overlaps r w ≡ false
+  taken_off lamport w u near does = elsewhere k r w apart (omega (arith, does.0.place)) (omega (arith, does.0.place, does.0.width))
+  taken_off fastforward w u near does = elsewhere k r w apart (omega (arith, does.0.place)) (omega (arith, does.0.place, does.0.width, near.0))
 
-send_off : (k : Block) (a b : ℕ) (r : RingBuffer) (t : ProtocolState) (x : Access) → IsApart k r
-    → sending.DoesBy (ring_of k a b) t x × IsNear k t.sending → WritesNothingTo r x
-send_off k a b r t nothing apart does = tt
-send_off k a b r t (load c width v) apart does = tt
-send_off k a b r t (store w) apart does = sent_off k a b r w t.sending apart does.1 does.0
-send_off k a b r t (exchange c old new) apart does = absurd does.0
-send_off k a b r t (fence full) apart does = tt
-send_off k a b r t land apart does = tt
+  freed_off : (w : Write) (p : ReceiverState) → IsFit k p → IsReceiverStore K (ring_of k a b) p w → overlaps r w ≡ false
+  freed_off w idle near does = absurd does
+  freed_off w (asked u) near does = absurd does
+  freed_off w (waiting u) near does = absurd does
+  freed_off w (holding u v) near does = taken_off K w u near does
+  freed_off w (cleared u) near does = elsewhere k r w apart (omega (arith, does.0.place)) (omega (arith, does.0.place, does.0.width))
 
-receive_off : (k : Block) (a b : ℕ) (r : RingBuffer) (t : ProtocolState) (x : Access) → IsApart k r → receiving.DoesBy (ring_of k a b) t x → WritesNothingTo r x
-receive_off k a b r t nothing apart does = tt
-receive_off k a b r t (load c width v) apart does = tt
-receive_off k a b r t (store w) apart does = freed_off k a b r w t.receiving apart does
-receive_off k a b r t (exchange c old new) apart does = absurd does
-receive_off k a b r t (fence full) apart does = tt
-receive_off k a b r t land apart does = tt
+  call_off : (p : Party) (t : ProtocolState) (x : Access) → Does p K (ring_of k a b) t x × Near k (part p t) → WritesNothingTo r x
+  call_off p t nothing does = tt
+  call_off p t (load c width v) does = tt
+  call_off the_sender t (store w) does = sent_off w t.sending does.1.sending does.0
+  call_off the_receiver t (store w) does = freed_off w t.receiving does.1.receiving does.0
+  call_off p t (exchange c old new) does = absurd does.0
+  call_off p t (fence full) does = tt
+  call_off p t land does = tt
 
 module _ (B M : ℕ) (o : OpeningValue) (count : ℕ) (queues : ℕ → SpscQueue) (before es : List Entry) (c : UsesManyQueues B M o count queues before es) where
   abbrev AllStand : List Entry → Type 0
@@ -63,23 +60,26 @@ module _ (B M : ℕ) (o : OpeningValue) (count : ℕ) (queues : ℕ → SpscQueu
 
   -- the entry's hart is in a call for queue j
   abbrev Busy : Entry → List Entry → ℕ → Type 0
-  Busy e done j = ((hart_of e ≡ (queues j).sender) × (is_sender_in_call M o (queues j) before done ≡ true))
-      ⊎ ((hart_of e ≡ (queues j).receiver) × (is_receiver_in_call M o (queues j) before done ≡ true))
+  Busy e done j = (p : Party) × (hart_of e ≡ party_hart (queues j) p) × (is_busy M o (queues j) p before done ≡ true)
 
   busy_or : (e : Entry) (done : List Entry) (j : ℕ) → Busy e done j ⊎ IsIdle M o (queues j) (hart_of e) before done
-  busy_or e done j = at (cases_eq (hart_of e) (queues j).sender) (is_sender_in_call M o (queues j) before done) refl
-      (cases_eq (hart_of e) (queues j).receiver) (is_receiver_in_call M o (queues j) before done) refl
+  busy_or e done j = at (one the_sender) (one the_receiver)
     where
-      at : (hart_of e ≡ (queues j).sender) ⊎ (hart_of e ≢ (queues j).sender) → (p : Bool) → is_sender_in_call M o (queues j) before done ≡ p
-          → (hart_of e ≡ (queues j).receiver) ⊎ (hart_of e ≢ (queues j).receiver) → (q : Bool) → is_receiver_in_call M o (queues j) before done ≡ q
+      one : (p : Party) → Busy e done j ⊎ (hart_of e ≡ party_hart (queues j) p → is_busy M o (queues j) p before done ≡ false)
+      one p = by (cases_eq (hart_of e) (party_hart (queues j) p)) (is_busy M o (queues j) p before done) refl
+        where
+          by : (hart_of e ≡ party_hart (queues j) p) ⊎ (hart_of e ≢ party_hart (queues j) p) → (b : Bool) → is_busy M o (queues j) p before done ≡ b
+              → Busy e done j ⊎ (hart_of e ≡ party_hart (queues j) p → is_busy M o (queues j) p before done ≡ false)
+          by (inl mine) true on = inl (p, mine, on)
+          by (inl mine) false off = inr (λ h. off)
+          by (inr other) b is = inr (λ h. absurd (other h))
+
+      at : Busy e done j ⊎ (hart_of e ≡ (queues j).sender → is_sender_in_call M o (queues j) before done ≡ false)
+          → Busy e done j ⊎ (hart_of e ≡ (queues j).receiver → is_receiver_in_call M o (queues j) before done ≡ false)
           → Busy e done j ⊎ IsIdle M o (queues j) (hart_of e) before done
-      at (inl s) true on r q is = inl (inl (s, on))
-      at (inl s) false off (inl r) true on = inl (inr (r, on))
-      at (inl s) false off (inl r) false none = inr (record { sender = λ h. off; receiver = λ h. none })
-      at (inl s) false off (inr r) q is = inr (record { sender = λ h. off; receiver = λ h. absurd (r h) })
-      at (inr s) p off (inl r) true on = inl (inr (r, on))
-      at (inr s) p off (inl r) false none = inr (record { sender = λ h. absurd (s h); receiver = λ h. none })
-      at (inr s) p off (inr r) q is = inr (record { sender = λ h. absurd (s h); receiver = λ h. absurd (r h) })
+      at (inl busy) r = inl busy
+      at (inr s) (inl busy) = inl busy
+      at (inr s) (inr r) = inr (record { sender = s; receiver = r })
 
   -- it is in one for some queue, or in none
   some_busy : (e : Entry) (done : List Entry) (n : ℕ) → n ≤ count
@@ -103,15 +103,10 @@ module _ (B M : ℕ) (o : OpeningValue) (count : ℕ) (queues : ℕ → SpscQueu
     stays_off i less act free = at (some_busy e done count (omega arith))
       where
         by_call : (j : ℕ) → j < count → j ≢ i → Busy e done j → WritesNothingTo (buffer (queues i)) (access_of e)
-        by_call j there other (inl busy) =
-            send_off (queues j).block (queues j).sender (queues j).receiver (buffer (queues i)) (protocol_after (buffer (queues j)) at_start done) (access_of e)
-            (c.apart j i there less other)
-            (sender_does B M o (queues j) before es (c.shares j there) done e more is (all j there) busy.0 act busy.1)
-        by_call j there other (inr busy) =
-            receive_off (queues j).block (queues j).sender (queues j).receiver (buffer (queues i)) (protocol_after (buffer (queues j)) at_start done)
-            (access_of e)
-            (c.apart j i there less other)
-            (receiver_does B M o (queues j) before es (c.shares j there) done e more is (all j there) busy.0 act busy.1)
+        by_call j there other busy =
+            call_off (queues j).block.kind (queues j).block (queues j).sender (queues j).receiver (buffer (queues i)) (c.apart j i there less other) busy.0
+            (protocol_after (buffer (queues j)) at_start done) (access_of e)
+            (party_does B M o (queues j) before es (c.shares j there) done e more is (all j there) busy.0 busy.1 act busy.2)
 
         at : ((j : ℕ) × (j < count) × Busy e done j) ⊎ ((j : ℕ) → j < count → IsIdle M o (queues j) (hart_of e) before done)
             → WritesNothingTo (buffer (queues i)) (access_of e)
@@ -123,22 +118,20 @@ module _ (B M : ℕ) (o : OpeningValue) (count : ℕ) (queues : ℕ → SpscQueu
 
     owed_at : (i : ℕ) → i < count → CallerObligation M o (queues i) before done e
     owed_at i less = record {
-      sender = λ mine act s at off. (stays_off i less act (not_sending mine off), (c.owed done e more is).senders i less mine act s at off);
-      receiver = λ mine act s at off. (stays_off i less act (not_receiving mine off), (c.owed done e more is).receivers i less mine act s at off);
+      sender = λ mine act s at off. (stays_off i less act (not_busy the_sender mine off), (c.owed done e more is).senders i less mine act s at off);
+      receiver = λ mine act s at off. (stays_off i less act (not_busy the_receiver mine off), (c.owed done e more is).receivers i less mine act s at off);
       others = λ not_a not_b. other_stays not_a not_b (is_land e) refl;
     }
       where
-        not_sending : hart_of e ≡ (queues i).sender → is_sender_in_call M o (queues i) before done ≡ false → Busy e done i → ⊥
-        not_sending mine off (inl busy) = let no : false ≡ true = sym off ∙ busy.1 in cc
-        not_sending mine off (inr busy) = (c.shares i less).parties (sym mine ∙ busy.0)
-
-        not_receiving : hart_of e ≡ (queues i).receiver → is_receiver_in_call M o (queues i) before done ≡ false → Busy e done i → ⊥
-        not_receiving mine off (inl busy) = (c.shares i less).parties (sym busy.0 ∙ mine)
-        not_receiving mine off (inr busy) = let no : false ≡ true = sym off ∙ busy.1 in cc
+        not_busy : (p : Party) → hart_of e ≡ party_hart (queues i) p → is_busy M o (queues i) p before done ≡ false → Busy e done i → ⊥
+        not_busy p mine off busy = elim (which p busy.0) [
+          | inl same ↦ let no : false ≡ true = sym off ∙ subst (λ g. is_busy M o (queues i) g before done ≡ true) (sym same) busy.2 in cc
+          | inr other ↦ other_hart (queues i) (c.shares i less).parties p busy.0 other (sym mine ∙ busy.1)
+        ]
 
         neither : hart_of e ≢ (queues i).sender → hart_of e ≢ (queues i).receiver → Busy e done i → ⊥
-        neither not_a not_b (inl busy) = not_a busy.0
-        neither not_a not_b (inr busy) = not_b busy.0
+        neither not_a not_b (the_sender, mine, on) = not_a mine
+        neither not_a not_b (the_receiver, mine, on) = not_b mine
 
         other_stays : hart_of e ≢ (queues i).sender → hart_of e ≢ (queues i).receiver → (l : Bool) → is_land e ≡ l
             → WritesNothingTo (buffer (queues i)) (access_of e)
@@ -154,7 +147,7 @@ module _ (B M : ℕ) (o : OpeningValue) (count : ℕ) (queues : ℕ → SpscQueu
       (all-from (done ++ e ∷ []) part rest (is ∙ sym (append_assoc done (e ∷ []) (part ++ rest))) (all_on done e (part ++ rest) is all))
 
   all-at : (done rest : List Entry) → es ≡ done ++ rest → AllStand done
-  all-at done rest is = all-from [] done rest is (λ i less. begins B M o (queues i) before es (c.shares i less))
+  all-at done rest is = all-from [] done rest is (λ i less. stands_at_start B M o (queues i) before es (c.shares i less))
 
   -- each of the queues is used rightly
   pub each_is_used : (i : ℕ) → i < count → UsesAsSpscQueue B M o (queues i) before es

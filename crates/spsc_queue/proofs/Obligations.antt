@@ -1,7 +1,7 @@
 -- The computation of what a caller owes is sound.
-use Rattle.std.proofs.Common.{ℕ, ◌≡◌, ◌≢◌, ◌==◌, ◌&&◌, ◌||◌, Bool, true, false, if◌then◌else◌, List, [], ◌∷◌, ◌++◌}
+use Rattle.std.proofs.Common.{ℕ, ◌≡◌, ◌≢◌, ◌==◌, ◌&&◌, ◌||◌, not, Bool, true, false, if◌then◌else◌, List, [], ◌∷◌, ◌++◌}
 use Rattle.std.proofs.Common.{Some, refl, sym, ◌∙◌, ap, subst, arith, append-nil, append_assoc}
-use Rattle.std.proofs.lemmas.Bool.{ne_eqb}
+use Rattle.std.proofs.lemmas.Bool.{ne_eqb, eq-eqb}
 use Rattle.hart.specs.State.{HartState}
 use Rattle.hart.specs.Steps.{advanced}
 use Rattle.step_machine.specs.declared.events.Entry.{Entry}
@@ -9,12 +9,14 @@ use Rattle.step_machine.specs.Access.{Access, nothing, load, store, exchange, fe
 use Rattle.step_machine.specs.History.{OpeningValue, history_of}
 use Rattle.step_machine.specs.Entries.{hart_of}
 use Rattle.step_machine.specs.Paths.{value_of, state_of}
-use Rattle.spsc_queue.specs.RingBuffers.{RingBuffer}
+use Rattle.spsc_queue.specs.RingBuffers.{Kind, lamport, fastforward, RingBuffer}
 use Rattle.spsc_queue.specs.Protocol.{WritesNothingTo}
-use Rattle.spsc_queue.specs.Calls.{Block, SpscQueue, buffer, enters, is_in_call_with, is_in_call_from, HasArguments, PartyOwes, CallerObligation}
-use Rattle.spsc_queue.specs.Obligations.{writes_nothing_to, has_arguments, party_keeps_in, party_keeps, others_keep, obligation_kept, obligations_kept_from}
-use Rattle.spsc_queue.specs.Obligations.{obligations_kept}
+use Rattle.spsc_queue.specs.Calls.{Block, SpscQueue, Party, the_sender, the_receiver, party_hart, party_line, buffer, enters, is_in_call_with}
+use Rattle.spsc_queue.specs.Calls.{is_in_call_from, MayPass, HasArguments, PartyOwes, CallerObligation}
+use Rattle.spsc_queue.specs.Obligations.{writes_nothing_to, may_pass, has_arguments, party_keeps_in, party_keeps, others_keep, obligation_kept}
+use Rattle.spsc_queue.specs.Obligations.{obligations_kept_from, obligations_kept}
 use Rattle.spsc_queue.proofs.OwnEntries.{own_is}
+use Rattle.spsc_queue.proofs.Parties.{is_busy}
 
 pub both : (p q : Bool) → (p && q) ≡ true → (p ≡ true) × (q ≡ true)
 both true true is = (refl, refl)
@@ -29,22 +31,27 @@ nothing_is r (load a width v) is = tt
 nothing_is r (fence full) is = tt
 nothing_is r land is = tt
 
-arguments_are : (n : ℕ) (k : Block) (s : HartState) → has_arguments n k s ≡ true → HasArguments n k s
-arguments_are n k s is = grind (arith, is)
+passes_is : (p : Party) (K : Kind) (w : ℕ) → may_pass p K w ≡ true → MayPass p K w
+passes_is the_sender lamport w is = tt
+passes_is the_sender fastforward w is = λ none. (let no : false ≡ true = sym (ap not (eq-eqb w 0 none)) ∙ is in cc)
+passes_is the_receiver K w is = tt
 
-party_owes : (M : ℕ) (o : OpeningValue) (r : RingBuffer) (h n : ℕ) (k : Block) (before done : List Entry) (e : Entry)
-    → party_keeps M o r h n k (is_in_call_from M o h n k false before done) (before ++ done) e ≡ true → PartyOwes M o r h n k before done e
-party_owes M o r h n k before done e keeps mine act s at idle =
-    let here : party_keeps_in r n k (is_in_call_from M o h n k false before done) (state_of M (history_of o (before ++ done)) h) e ≡ true =
-    subst (λ b. (if b then party_keeps_in r n k (is_in_call_from M o h n k false before done)
-    (state_of M (history_of o (before ++ done)) h) e else true) ≡ true)
+arguments_are : (p : Party) (n : ℕ) (k : Block) (s : HartState) → has_arguments p n k s ≡ true → HasArguments p n k s
+arguments_are p n k s is = grind (arith, is, passes_is)
+
+party_owes : (M : ℕ) (o : OpeningValue) (q : SpscQueue) (p : Party) (before done : List Entry) (e : Entry)
+    → party_keeps M o q p (is_busy M o q p before done) (before ++ done) e ≡ true → PartyOwes M o q p before done e
+party_owes M o q p before done e keeps mine act s at idle =
+    let z : HartState = advanced s (value_of e) in
+    let h : ℕ = party_hart q p in
+    let n : ℕ = party_line q p in
+    let here : party_keeps_in q p (is_busy M o q p before done) (state_of M (history_of o (before ++ done)) h) e ≡ true =
+    subst (λ b. (if b then party_keeps_in q p (is_busy M o q p before done) (state_of M (history_of o (before ++ done)) h) e else true) ≡ true)
     (own_is h e mine act) keeps in
-    let parts = both (writes_nothing_to r (access_of e)) (if enters n k (advanced s (value_of e)) then has_arguments n k (advanced s (value_of e)) else true)
-    (subst (λ b. party_keeps_in r n k b (Some s) e ≡ true) idle
-    (subst (λ z. party_keeps_in r n k (is_in_call_from M o h n k false before done) z e ≡ true) at here)) in (
-      nothing_is r (access_of e) parts.0,
-      λ on. arguments_are n k (advanced s (value_of e))
-          (subst (λ b. (if b then has_arguments n k (advanced s (value_of e)) else true) ≡ true) on parts.1),
+    let parts = both (writes_nothing_to (buffer q) (access_of e)) (if enters n q.block z then has_arguments p n q.block z else true)
+    (subst (λ b. party_keeps_in q p b (Some s) e ≡ true) idle (subst (λ y. party_keeps_in q p (is_busy M o q p before done) y e ≡ true) at here)) in (
+      nothing_is (buffer q) (access_of e) parts.0,
+      λ on. arguments_are p n q.block z (subst (λ b. (if b then has_arguments p n q.block z else true) ≡ true) on parts.1),
     )
 
 others_owe : (q : SpscQueue) (e : Entry) → others_keep q e ≡ true → hart_of e ≢ q.sender → hart_of e ≢ q.receiver → WritesNothingTo (buffer q) (access_of e)
@@ -75,11 +82,10 @@ obligations_decided M o q before es kept done e more is =
     let one = one_of M o q false false before done e more (subst (λ zs. obligations_kept M o q before zs ≡ true) is kept) in
     let c : Bool = is_in_call_from M o q.sender q.send_line q.block false before done in
     let d : Bool = is_in_call_from M o q.receiver q.receive_line q.block false before done in
-    let sender = both (party_keeps M o (buffer q) q.sender q.send_line q.block c (before ++ done) e)
-    (party_keeps M o (buffer q) q.receiver q.receive_line q.block d (before ++ done) e && others_keep q e) one in
-    let receiver = both (party_keeps M o (buffer q) q.receiver q.receive_line q.block d (before ++ done) e) (others_keep q e) sender.1 in
+    let sender = both (party_keeps M o q the_sender c (before ++ done) e) (party_keeps M o q the_receiver d (before ++ done) e && others_keep q e) one in
+    let receiver = both (party_keeps M o q the_receiver d (before ++ done) e) (others_keep q e) sender.1 in
     record {
-      sender = party_owes M o (buffer q) q.sender q.send_line q.block before done e sender.0;
-      receiver = party_owes M o (buffer q) q.receiver q.receive_line q.block before done e receiver.0;
+      sender = party_owes M o q the_sender before done e sender.0;
+      receiver = party_owes M o q the_receiver before done e receiver.0;
       others = others_owe q e receiver.1;
     }

@@ -1,20 +1,21 @@
--- What an access leaves of each party's part of the protocol's state, and which accesses keep the protocol.
-use Rattle.std.proofs.Common.{ℕ, ◌≡◌, ◌≢◌, ◌==◌, inl, inr, Bool, true, false, if◌then◌else◌, List, [], ◌∷◌, ◌++◌, refl, sym, ap, subst}
+-- What an access makes of a party's part of the protocol's state, and which accesses keep the protocol.
+use Rattle.std.proofs.Common.{ℕ, ◌+◌, ◌≡◌, ◌≢◌, ◌==◌, inl, inr, Bool, true, false, if◌then◌else◌, List, [], ◌∷◌, ◌++◌, refl, sym, ◌∙◌, ap, subst}
 use Rattle.std.proofs.Common.{arith}
+use Rattle.std.proofs.lemmas.Bool.{eq-eqb, ne_eqb}
+use Rattle.memory.specs.declared.writes.Write.{Write}
 use Rattle.step_machine.specs.declared.events.Entry.{Entry}
 use Rattle.step_machine.specs.Access.{Access, nothing, load, store, exchange, fence, land, access_of}
 use Rattle.step_machine.specs.Entries.{hart_of}
-use Rattle.spsc_queue.specs.RingBuffers.{RingBuffer, IsRingBuffer, overlaps}
-use Rattle.spsc_queue.specs.Protocol.{SenderState, resting, placed, roomy, filled, ReceiverState, idle, asked, waiting, holding, ProtocolState}
-use Rattle.spsc_queue.specs.Protocol.{Role, sends, receives, passes, role_of, send_load, send_store, receive_load, receive_store, next_by}
-use Rattle.spsc_queue.specs.Protocol.{protocol_next, protocol_after, WritesNothingTo, KeepsProtocolBy, KeepsProtocol}
-use Rattle.spsc_queue.specs.Calls.{Block, IsBlock, ring_of}
+use Rattle.spsc_queue.specs.RingBuffers.{Kind, lamport, fastforward, RingBuffer, IsRingBuffer, overlaps}
+use Rattle.spsc_queue.specs.Protocol.{SenderState, resting, placed, roomy, filled, ReceiverState, idle, asked, waiting, holding, cleared, ProtocolState}
+use Rattle.spsc_queue.specs.Protocol.{Role, sends, receives, passes, role_of, looks_for_room, looks_for_word, send_look, send_load, send_store, receive_look}
+use Rattle.spsc_queue.specs.Protocol.{receive_load, receive_store, says_full, says_empty, next_by, protocol_next, protocol_after, WritesNothingTo}
+use Rattle.spsc_queue.specs.Protocol.{KeepsProtocolBy, KeepsProtocol}
+use Rattle.spsc_queue.specs.Calls.{Block, IsBlock, Party, the_sender, the_receiver, ring_of}
 use Rattle.spsc_queue.proofs.Spread.{offset_low}
-use Rattle.spsc_queue.proofs.Invariant.{SendingIs, ReceivingIs}
-use Rattle.spsc_queue.proofs.SendOutline.{IsLevel, IsNear, sender_part, level-load}
-use Rattle.spsc_queue.proofs.SendOutline as sending
-use Rattle.spsc_queue.proofs.ReceiveOutline.{IsFit, receiver_part}
-use Rattle.spsc_queue.proofs.ReceiveOutline as receiving
+use Rattle.spsc_queue.proofs.Invariants.{IsPlaced, IsAsked, Known}
+use Rattle.spsc_queue.proofs.Outline.{Part, part, role, IsLevel, IsWhole, Level, IsOffset, IsNear, IsFit, Near, index_at, look_at, Knows, Looked}
+use Rattle.spsc_queue.proofs.Outline.{MayStore, Stored, Does}
 
 -- the ring buffer of a block
 pub ring_is : (M : ℕ) (k : Block) (a b : ℕ) → IsBlock M k → a ≢ b → IsRingBuffer (ring_of k a b)
@@ -34,141 +35,280 @@ ring_is M k a b is parties = record {
 
 -- the protocol, at the end of a list
 pub keeps-more : (r : RingBuffer) (s : ProtocolState) (es : List Entry) (e : Entry) → KeepsProtocol r s es
-    → KeepsProtocolBy r (role_of r (hart_of e)) (protocol_after r s es) (access_of e) → KeepsProtocol r s (es ++ e ∷ [])
+    → KeepsProtocolBy r.kind r (role_of r (hart_of e)) (protocol_after r s es) (access_of e) → KeepsProtocol r s (es ++ e ∷ [])
 keeps-more r s [] e keeps one = (one, tt)
 keeps-more r s (d ∷ es) e keeps one = (keeps.0, keeps-more r (protocol_next r s d) es e keeps.1 one)
 
-pub stays-keeps : (r : RingBuffer) (role : Role) (t : ProtocolState) (x : Access) → WritesNothingTo r x → KeepsProtocolBy r role t x
-stays-keeps r sends t nothing off = tt
-stays-keeps r sends t (load a width v) off = tt
-stays-keeps r sends t (store w) off = inl off
-stays-keeps r sends t (exchange a old new) off = off
-stays-keeps r sends t (fence full) off = tt
-stays-keeps r sends t land off = tt
-stays-keeps r receives t nothing off = tt
-stays-keeps r receives t (load a width v) off = tt
-stays-keeps r receives t (store w) off = inl off
-stays-keeps r receives t (exchange a old new) off = off
-stays-keeps r receives t (fence full) off = tt
-stays-keeps r receives t land off = tt
-stays-keeps r passes t x off = off
+module _ (K : Kind) (r : RingBuffer) where
+  pub stays-keeps : (q : Role) (t : ProtocolState) (x : Access) → WritesNothingTo r x → KeepsProtocolBy K r q t x
+  stays-keeps sends t nothing off = tt
+  stays-keeps sends t (load a width v) off = tt
+  stays-keeps sends t (store w) off = inl off
+  stays-keeps sends t (exchange a old new) off = off
+  stays-keeps sends t (fence full) off = tt
+  stays-keeps sends t land off = tt
+  stays-keeps receives t nothing off = tt
+  stays-keeps receives t (load a width v) off = tt
+  stays-keeps receives t (store w) off = inl off
+  stays-keeps receives t (exchange a old new) off = off
+  stays-keeps receives t (fence full) off = tt
+  stays-keeps receives t land off = tt
+  stays-keeps passes t x off = off
 
--- a line of a function keeps the protocol
-pub send-keeps : (r : RingBuffer) (t : ProtocolState) (x : Access) → sending.DoesBy r t x → KeepsProtocolBy r sends t x
-send-keeps r t nothing does = tt
-send-keeps r t (load a width v) does = tt
-send-keeps r t (store w) does = inr does
-send-keeps r t (exchange a old new) does = absurd does
-send-keeps r t (fence full) does = tt
-send-keeps r t land does = tt
+  -- a line of a function keeps the protocol
+  pub does-keeps : (p : Party) (t : ProtocolState) (x : Access) → Does p K r t x → KeepsProtocolBy K r (role p) t x
+  does-keeps p t nothing does = stays-keeps (role p) t nothing tt
+  does-keeps p t (load a width v) does = stays-keeps (role p) t (load a width v) tt
+  does-keeps the_sender t (store w) does = inr does
+  does-keeps the_receiver t (store w) does = inr does
+  does-keeps p t (exchange a old new) does = absurd does
+  does-keeps p t (fence full) does = stays-keeps (role p) t (fence full) tt
+  does-keeps p t land does = stays-keeps (role p) t land tt
 
-pub receive-keeps : (r : RingBuffer) (t : ProtocolState) (x : Access) → receiving.DoesBy r t x → KeepsProtocolBy r receives t x
-receive-keeps r t nothing does = tt
-receive-keeps r t (load a width v) does = tt
-receive-keeps r t (store w) does = inr does
-receive-keeps r t (exchange a old new) does = absurd does
-receive-keeps r t (fence full) does = tt
-receive-keeps r t land does = tt
+  pub land-leaves : (q : Role) (t : ProtocolState) → next_by K r q t land ≡ t
+  land-leaves sends t = refl
+  land-leaves receives t = refl
+  land-leaves passes t = refl
 
--- ---- what an entry leaves of each party's part
+  -- ---- what an access leaves of each party's part
 
-pub sends-leave : (r : RingBuffer) (t : ProtocolState) (x : Access) → receiver_part (next_by r sends t x) ≡ receiver_part t
-sends-leave r t nothing = refl
-sends-leave r t (load a width v) = at (width == 4)
-  where
-    at : (c : Bool) → receiver_part (if c then record t { sending = send_load r a v t.sending } else t) ≡ receiver_part t
-    at true = refl
-    at false = refl
-sends-leave r t (store w) = at (overlaps r w) t.sending
-  where
-    at : (c : Bool) (p : SenderState) → receiver_part (if c then send_store w p t else t) ≡ receiver_part t
-    at true resting = refl
-    at true (placed u) = refl
-    at true (roomy u) = refl
-    at true (filled u) = refl
-    at false p = refl
-sends-leave r t (exchange a old new) = refl
-sends-leave r t (fence full) = refl
-sends-leave r t land = refl
+  sends-leave : (t : ProtocolState) (x : Access) → part the_receiver (next_by K r sends t x) ≡ part the_receiver t
+  sends-leave t nothing = refl
+  sends-leave t (load a width v) = at (width == 4)
+    where
+      at : (c : Bool) → part the_receiver (if c then record t { sending = send_load K r a v t.sending } else t) ≡ part the_receiver t
+      at true = refl
+      at false = refl
+  sends-leave t (store w) = at (overlaps r w) t.sending
+    where
+      at : (c : Bool) (p : SenderState) → part the_receiver (if c then send_store w p t else t) ≡ part the_receiver t
+      at true resting = refl
+      at true (placed u) = refl
+      at true (roomy u) = refl
+      at true (filled u) = refl
+      at false p = refl
+  sends-leave t (exchange a old new) = refl
+  sends-leave t (fence full) = refl
+  sends-leave t land = refl
 
-pub receives-leave : (r : RingBuffer) (t : ProtocolState) (x : Access) → sender_part (next_by r receives t x) ≡ sender_part t
-receives-leave r t nothing = refl
-receives-leave r t (load a width v) = at (width == 4)
-  where
-    at : (c : Bool) → sender_part (if c then record t { receiving = receive_load r a v t.receiving } else t) ≡ sender_part t
-    at true = refl
-    at false = refl
-receives-leave r t (store w) = at (overlaps r w) t.receiving
-  where
-    at : (c : Bool) (p : ReceiverState) → sender_part (if c then receive_store p t else t) ≡ sender_part t
-    at true idle = refl
-    at true (asked u) = refl
-    at true (waiting u) = refl
-    at true (holding u v) = refl
-    at false p = refl
-receives-leave r t (exchange a old new) = refl
-receives-leave r t (fence full) = refl
-receives-leave r t land = refl
+  store-leaves : (k : Kind) (p : ReceiverState) (t : ProtocolState) → part the_sender (receive_store k p t) ≡ part the_sender t
+  store-leaves k idle t = refl
+  store-leaves k (asked u) t = refl
+  store-leaves k (waiting u) t = refl
+  store-leaves lamport (holding u v) t = refl
+  store-leaves fastforward (holding u v) t = refl
+  store-leaves k (cleared u) t = refl
 
--- outside of the function no word becomes half sent
-pub level-next : (r : RingBuffer) (t : ProtocolState) (x : Access) → WritesNothingTo r x → IsLevel t.sending → IsLevel (next_by r sends t x).sending
-level-next r t nothing off level = level
-level-next r t (load a width v) off level = at (width == 4)
-  where
-    at : (c : Bool) → IsLevel (if c then record t { sending = send_load r a v t.sending } else t).sending
-    at true = level-load r a v t.sending level
-    at false = level
-level-next r t (store w) off level = subst (λ c. IsLevel (if c then send_store w t.sending t else t).sending) (sym off) level
-level-next r t (exchange a old new) off level = level
-level-next r t (fence full) off level = level
-level-next r t land off level = level
+  receives-leave : (t : ProtocolState) (x : Access) → part the_sender (next_by K r receives t x) ≡ part the_sender t
+  receives-leave t nothing = refl
+  receives-leave t (load a width v) = at (width == 4)
+    where
+      at : (c : Bool) → part the_sender (if c then record t { receiving = receive_load K r a v t.receiving } else t) ≡ part the_sender t
+      at true = refl
+      at false = refl
+  receives-leave t (store w) = at (overlaps r w)
+    where
+      at : (c : Bool) → part the_sender (if c then receive_store K t.receiving t else t) ≡ part the_sender t
+      at true = store-leaves K t.receiving t
+      at false = refl
+  receives-leave t (exchange a old new) = refl
+  receives-leave t (fence full) = refl
+  receives-leave t land = refl
 
--- what stays off the block sends and frees nothing
-pub off-sends : (r : RingBuffer) (t : ProtocolState) (x : Access) → WritesNothingTo r x → (next_by r sends t x).sent ≡ t.sent
-off-sends r t nothing off = refl
-off-sends r t (load a width v) off = at (width == 4)
-  where
-    at : (c : Bool) → (if c then record t { sending = send_load r a v t.sending } else t).sent ≡ t.sent
-    at true = refl
-    at false = refl
-off-sends r t (store w) off = ap (λ c. (if c then send_store w t.sending t else t).sent) off
-off-sends r t (exchange a old new) off = refl
-off-sends r t (fence full) off = refl
-off-sends r t land off = refl
+  -- an access of the other party
+  pub other-leaves : (p q : Party) → q ≢ p → (t : ProtocolState) (x : Access) → part p (next_by K r (role q) t x) ≡ part p t
+  other-leaves the_sender the_sender other t x = absurd (other refl)
+  other-leaves the_sender the_receiver other t x = receives-leave t x
+  other-leaves the_receiver the_sender other t x = sends-leave t x
+  other-leaves the_receiver the_receiver other t x = absurd (other refl)
 
-pub off-receives : (r : RingBuffer) (t : ProtocolState) (x : Access) → WritesNothingTo r x → (next_by r receives t x).received ≡ t.received
-off-receives r t nothing off = refl
-off-receives r t (load a width v) off = at (width == 4)
-  where
-    at : (c : Bool) → (if c then record t { receiving = receive_load r a v t.receiving } else t).received ≡ t.received
-    at true = refl
-    at false = refl
-off-receives r t (store w) off = ap (λ c. (if c then receive_store t.receiving t else t).received) off
-off-receives r t (exchange a old new) off = refl
-off-receives r t (fence full) off = refl
-off-receives r t land off = refl
+  pub inner-leaves : (q : Role) (t : ProtocolState) → next_by K r q t nothing ≡ t
+  inner-leaves sends t = refl
+  inner-leaves receives t = refl
+  inner-leaves passes t = refl
 
--- offsets that the invariant knows are among the slots
-pub near-of : (M : ℕ) (k : Block) (a b : ℕ) (is : IsRingBuffer (ring_of k a b)) (stored published t : ℕ) (p : SenderState)
-    → SendingIs (ring_of k a b) stored published t p → IsNear k p
-near-of M k a b is stored published t resting h = tt
-near-of M k a b is stored published t (placed u) h = (omega (arith, h.1, offset_low (ring_of k a b) is published), omega (arith, h.1))
-near-of M k a b is stored published t (roomy u) h = (omega (arith, h.1, offset_low (ring_of k a b) is published), omega (arith, h.1))
-near-of M k a b is stored published t (filled u) h = (omega (arith, h.1, offset_low (ring_of k a b) is published), omega (arith, h.1))
+  -- ---- loads
 
-pub fit-of : (M : ℕ) (k : Block) (a b : ℕ) (is : IsRingBuffer (ring_of k a b)) (L : ℕ → ℕ) (tails h : ℕ) (p : ReceiverState)
-    → ReceivingIs (ring_of k a b) L tails h p → IsFit k p
-fit-of M k a b is L tails h idle q = tt
-fit-of M k a b is L tails h (asked u) q = (omega (arith, q, offset_low (ring_of k a b) is tails), omega (arith, q))
-fit-of M k a b is L tails h (waiting u) q = (omega (arith, q.0, offset_low (ring_of k a b) is tails), omega (arith, q.0))
-fit-of M k a b is L tails h (holding u w) q = (omega (arith, q.0, offset_low (ring_of k a b) is tails), omega (arith, q.0))
+  level-send : (a v : ℕ) (p : SenderState) → IsLevel p → IsLevel (send_load K r a v p)
+  level-send a v p level = at p level
+    where
+      chosen : (b : Bool) (p q : SenderState) → IsLevel p → IsLevel q → IsLevel (if b then p else q)
+      chosen true p q one two = one
+      chosen false p q one two = two
 
-pub land-leaves : (r : RingBuffer) (role : Role) (t : ProtocolState) → next_by r role t land ≡ t
-land-leaves r sends t = refl
-land-leaves r receives t = refl
-land-leaves r passes t = refl
+      seen : (u : ℕ) → IsLevel (looks_for_room K r u v)
+      seen u = chosen (says_full K r u v) (placed u) (roomy u) tt tt
 
-pub land-keeps : (r : RingBuffer) (role : Role) (t : ProtocolState) → KeepsProtocolBy r role t land
-land-keeps r sends t = tt
-land-keeps r receives t = tt
-land-keeps r passes t = tt
+      at : (p : SenderState) → IsLevel p → IsLevel (send_load K r a v p)
+      at resting l = chosen (a == r.head) (placed v) resting tt tt
+      at (placed u) l = chosen (a == r.head) (placed v) (send_look K r a v (placed u)) tt
+          (chosen (a == look_at the_sender K r u) (looks_for_room K r u v) (placed u) (seen u) tt)
+      at (roomy u) l = chosen (a == r.head) (placed v) (roomy u) tt tt
+      at (filled u) l = absurd l
+
+  whole-receive : (a v : ℕ) (p : ReceiverState) → IsWhole p → IsWhole (receive_load K r a v p)
+  whole-receive a v p whole = at p whole
+    where
+      chosen : (b : Bool) (p q : ReceiverState) → IsWhole p → IsWhole q → IsWhole (if b then p else q)
+      chosen true p q one two = one
+      chosen false p q one two = two
+
+      seen : (k : Kind) (u : ℕ) → IsWhole (looks_for_word k u v)
+      seen lamport u = chosen (says_empty lamport u v) (asked u) (waiting u) tt tt
+      seen fastforward u = chosen (says_empty fastforward u v) (asked u) (holding u v) tt tt
+
+      at : (p : ReceiverState) → IsWhole p → IsWhole (receive_load K r a v p)
+      at idle l = chosen (a == r.tail) (asked v) idle tt tt
+      at (asked u) l = chosen (a == r.tail) (asked v) (receive_look K r a v (asked u)) tt
+          (chosen (a == look_at the_receiver K r u) (looks_for_word K u v) (asked u) (seen K u) tt)
+      at (waiting u) l = chosen (a == r.tail) (asked v) (receive_look K r a v (waiting u)) tt
+          (chosen (a == r.slots + u) (holding u v) (waiting u) tt tt)
+      at (holding u w) l = chosen (a == r.tail) (asked v) (holding u w) tt tt
+      at (cleared u) l = absurd l
+
+  -- outside of the functions no word becomes half passed, and none is passed
+  pub level-next : (p : Party) (t : ProtocolState) (x : Access) → WritesNothingTo r x → Level (part p t)
+      → Level (part p (next_by K r (role p) t x)) × ((part p (next_by K r (role p) t x)).words ≡ (part p t).words)
+  level-next the_sender t nothing off level = (level, refl)
+  level-next the_sender t (load a width v) off level = at (width == 4)
+    where
+      at : (c : Bool) → Level (part the_sender (if c then record t { sending = send_load K r a v t.sending } else t))
+          × ((part the_sender (if c then record t { sending = send_load K r a v t.sending } else t)).words ≡ t.sent)
+      at true = (record { sending = level-send a v t.sending level.sending; receiving = tt }, refl)
+      at false = (level, refl)
+  level-next the_sender t (store w) off level =
+      subst (λ c. Level (part the_sender (if c then send_store w t.sending t else t))
+      × ((part the_sender (if c then send_store w t.sending t else t)).words ≡ t.sent)) (sym off) (level, refl)
+  level-next the_sender t (exchange a old new) off level = (level, refl)
+  level-next the_sender t (fence full) off level = (level, refl)
+  level-next the_sender t land off level = (level, refl)
+  level-next the_receiver t nothing off level = (level, refl)
+  level-next the_receiver t (load a width v) off level = at (width == 4)
+    where
+      at : (c : Bool) → Level (part the_receiver (if c then record t { receiving = receive_load K r a v t.receiving } else t))
+          × ((part the_receiver (if c then record t { receiving = receive_load K r a v t.receiving } else t)).words ≡ t.received)
+      at true = (record { sending = tt; receiving = whole-receive a v t.receiving level.receiving }, refl)
+      at false = (level, refl)
+  level-next the_receiver t (store w) off level =
+      subst (λ c. Level (part the_receiver (if c then receive_store K t.receiving t else t))
+      × ((part the_receiver (if c then receive_store K t.receiving t else t)).words ≡ t.received)) (sym off) (level, refl)
+  level-next the_receiver t (exchange a old new) off level = (level, refl)
+  level-next the_receiver t (fence full) off level = (level, refl)
+  level-next the_receiver t land off level = (level, refl)
+
+  -- a load of a party's own index
+  pub first-load : (p : Party) (t : ProtocolState) (a v : ℕ) → Level (part p t) → a ≡ index_at p r → Knows p v (part p (next_by K r (role p) t (load a 4 v)))
+  first-load the_sender t a v level here = at t.sending level.sending
+    where
+      at : (q : SenderState) → IsLevel q → send_load K r a v q ≡ placed v
+      at resting l = ap (λ b. if b then placed v else resting) (eq-eqb a r.head here)
+      at (placed u) l = ap (λ b. if b then placed v else send_look K r a v (placed u)) (eq-eqb a r.head here)
+      at (roomy u) l = ap (λ b. if b then placed v else roomy u) (eq-eqb a r.head here)
+      at (filled u) l = absurd l
+  first-load the_receiver t a v level here = at t.receiving level.receiving
+    where
+      at : (q : ReceiverState) → IsWhole q → receive_load K r a v q ≡ asked v
+      at idle l = ap (λ b. if b then asked v else idle) (eq-eqb a r.tail here)
+      at (asked u) l = ap (λ b. if b then asked v else receive_look K r a v (asked u)) (eq-eqb a r.tail here)
+      at (waiting u) l = ap (λ b. if b then asked v else receive_look K r a v (waiting u)) (eq-eqb a r.tail here)
+      at (holding u w) l = ap (λ b. if b then asked v else holding u w) (eq-eqb a r.tail here)
+      at (cleared u) l = absurd l
+
+  -- where it looks for room, or for a word
+  pub look-load : (p : Party) (t : ProtocolState) (a v u : ℕ) → Knows p u (part p t) → a ≢ index_at p r → a ≡ look_at p K r u
+      → Looked p K r u v (part p (next_by K r (role p) t (load a 4 v)))
+  look-load the_sender t a v u knows other here =
+      ap (send_load K r a v) knows ∙ ap (λ b. if b then placed v else send_look K r a v (placed u)) (ne_eqb a r.head other)
+      ∙ ap (λ b. if b then looks_for_room K r u v else placed u) (eq-eqb a (look_at the_sender K r u) here)
+  look-load the_receiver t a v u knows other here =
+      ap (receive_load K r a v) knows ∙ ap (λ b. if b then asked v else receive_look K r a v (asked u)) (ne_eqb a r.tail other)
+      ∙ ap (λ b. if b then looks_for_word K u v else asked u) (eq-eqb a (look_at the_receiver K r u) here)
+
+  -- and of the slot where a word waits
+  pub word-load : (t : ProtocolState) (a v u : ℕ) → t.receiving ≡ waiting u → a ≢ r.tail → a ≡ r.slots + u
+      → MayStore the_receiver u v (part the_receiver (next_by K r receives t (load a 4 v)))
+  word-load t a v u knows other here =
+      ap (receive_load K r a v) knows ∙ ap (λ b. if b then asked v else receive_look K r a v (waiting u)) (ne_eqb a r.tail other)
+      ∙ ap (λ b. if b then holding u v else waiting u) (eq-eqb a (r.slots + u) here)
+
+  pub load-words : (p : Party) (t : ProtocolState) (a v : ℕ) → (part p (next_by K r (role p) t (load a 4 v))).words ≡ (part p t).words
+  load-words the_sender t a v = refl
+  load-words the_receiver t a v = refl
+
+  -- ---- stores to the block
+
+  module _ (w : Write) (on : overlaps r w ≡ true) where
+    -- to the slot: by the sender, and by FastForward's receiver
+    pub slot-sent : (t : ProtocolState) (u : ℕ) → t.sending ≡ roomy u
+        → part the_sender (next_by K r sends t (store w)) ≡ record { sending = filled u; receiving = idle; words = t.sent ++ w.value ∷ [] }
+    slot-sent t u knows = ap (λ c. part the_sender (if c then send_store w t.sending t else t)) on ∙ ap (λ p. part the_sender (send_store w p t)) knows
+
+    pub slot-taken : (t : ProtocolState) (u v : ℕ) → t.receiving ≡ holding u v
+        → part the_receiver (next_by fastforward r receives t (store w)) ≡ record { sending = resting; receiving = cleared u; words = t.received ++ v ∷ [] }
+    slot-taken t u v knows = ap (λ c. part the_receiver (if c then receive_store fastforward t.receiving t else t)) on
+        ∙ ap (λ p. part the_receiver (receive_store fastforward p t)) knows
+
+    -- to the tail, by Lamport's receiver that holds a word
+    pub tail-taken : (t : ProtocolState) (u v : ℕ) → t.receiving ≡ holding u v
+        → part the_receiver (next_by lamport r receives t (store w)) ≡ record { sending = resting; receiving = idle; words = t.received ++ v ∷ [] }
+    tail-taken t u v knows = ap (λ c. part the_receiver (if c then receive_store lamport t.receiving t else t)) on
+        ∙ ap (λ p. part the_receiver (receive_store lamport p t)) knows
+
+    -- to the index after the slot
+    pub index-stored : (p : Party) (t : ProtocolState) (u : ℕ) → Stored p u (part p t)
+        → part p (next_by K r (role p) t (store w)) ≡ record { sending = resting; receiving = idle; words = (part p t).words }
+    index-stored the_sender t u knows = ap (λ c. part the_sender (if c then send_store w t.sending t else t)) on
+        ∙ ap (λ p. part the_sender (send_store w p t)) knows
+    index-stored the_receiver t u knows = ap (λ c. part the_receiver (if c then receive_store K t.receiving t else t)) on
+        ∙ ap (λ p. part the_receiver (receive_store K p t)) knows
+
+-- ---- offsets that the invariant knows are among the slots
+
+module _ (k : Block) (a b : ℕ) (is : IsRingBuffer (ring_of k a b)) where
+  placed-near : (stored published : ℕ) (p : SenderState) → IsPlaced (ring_of k a b) stored published p → IsNear k p
+  placed-near stored published resting h = tt
+  placed-near stored published (placed u) h = (omega (arith, h.1, offset_low (ring_of k a b) is published), omega (arith, h.1))
+  placed-near stored published (roomy u) h = (omega (arith, h.1, offset_low (ring_of k a b) is published), omega (arith, h.1))
+  placed-near stored published (filled u) h = (omega (arith, h.1, offset_low (ring_of k a b) is published), omega (arith, h.1))
+
+  asked-fit : (consumed : ℕ) (p : ReceiverState) → IsAsked (ring_of k a b) consumed p → IsFit k p
+  asked-fit consumed idle h = tt
+  asked-fit consumed (asked u) h = (omega (arith, h, offset_low (ring_of k a b) is consumed), omega (arith, h))
+  asked-fit consumed (waiting u) h = (omega (arith, h, offset_low (ring_of k a b) is consumed), omega (arith, h))
+  asked-fit consumed (holding u w) h = (omega (arith, h, offset_low (ring_of k a b) is consumed), omega (arith, h))
+  asked-fit consumed (cleared u) h = (omega (arith, h, offset_low (ring_of k a b) is consumed), omega (arith, h))
+
+  pub near-of : (p : Party) (K : Kind) (L : ℕ → ℕ) (t : ProtocolState) → Known K (ring_of k a b) L t → Near k (part p t)
+  near-of the_sender K L t known = record { sending = placed-near t.stored t.published t.sending known.sending; receiving = tt }
+  near-of the_receiver K L t known = record { sending = tt; receiving = asked-fit t.consumed t.receiving known.receiving }
+
+-- and so is what a party read
+module _ (k : Block) where
+  pub knows-offset : (p : Party) (u : ℕ) (t : Part) → Knows p u t → Near k t → IsOffset k u
+  knows-offset the_sender u t knows near = subst (IsNear k) knows near.sending
+  knows-offset the_receiver u t knows near = subst (IsFit k) knows near.receiving
+
+  pub looked-offset : (p : Party) (K : Kind) (r : RingBuffer) (u v : ℕ) (t : Part) → Looked p K r u v t → Near k t → IsOffset k u
+  looked-offset the_sender K r u v t knows near = at (says_full K r u v) (subst (IsNear k) knows near.sending)
+    where
+      at : (b : Bool) → IsNear k (if b then placed u else roomy u) → IsOffset k u
+      at true h = h
+      at false h = h
+  looked-offset the_receiver lamport r u v t knows near = at (says_empty lamport u v) (subst (IsFit k) knows near.receiving)
+    where
+      at : (b : Bool) → IsFit k (if b then asked u else waiting u) → IsOffset k u
+      at true h = h
+      at false h = h
+  looked-offset the_receiver fastforward r u v t knows near = at (says_empty fastforward u v) (subst (IsFit k) knows near.receiving)
+    where
+      at : (b : Bool) → IsFit k (if b then asked u else holding u v) → IsOffset k u
+      at true h = h
+      at false h = h
+
+  pub ready-offset : (p : Party) (u w : ℕ) (t : Part) → MayStore p u w t → Near k t → IsOffset k u
+  ready-offset the_sender u w t knows near = subst (IsNear k) knows near.sending
+  ready-offset the_receiver u w t knows near = subst (IsFit k) knows near.receiving
+
+  pub stored-offset : (p : Party) (u : ℕ) (t : Part) → Stored p u t → Near k t → IsOffset k u
+  stored-offset the_sender u t knows near = subst (IsNear k) knows near.sending
+  stored-offset the_receiver u t knows near = subst (IsFit k) knows near.receiving

@@ -6,8 +6,9 @@ use Rattle.std.specs.List.{slice_get}
 use Rattle.std.proofs.lemmas.List.{get_or-set_same, get_or-set_other}
 use Rattle.rv_decode.specs.Meaning.{meaning}
 use Rattle.hart.specs.Effects.{next_pc, address}
-use Rattle.spsc_queue.specs.Listings.{Listed, words_of, lines_of, try_send, try_receive}
-use Rattle.spsc_queue.specs.Calls.{StandsIn}
+use Rattle.spsc_queue.specs.RingBuffers.{Kind, lamport, fastforward}
+use Rattle.spsc_queue.specs.Listings.{Listed, words_of, lines_of}
+use Rattle.spsc_queue.specs.Calls.{Party, the_sender, the_receiver, listing_of, StandsIn}
 use Rattle.spsc_queue.proofs.Lines.{word-plus}
 
 pub set-same : (xs : List ℕ) (i v : ℕ) → i < length xs → slice_index (slice_set xs i v) i ≡ v
@@ -17,13 +18,19 @@ pub set-other : (xs : List ℕ) (i j v : ℕ) → j ≢ i → slice_index (slice
 set-other xs i j v other = get_or-set_other xs i j v 0 other
 
 -- by the decoder's own function, on numerals
-pub send_decoded : map meaning (words_of try_send) ≡ map Some (lines_of try_send)
+pub decoded : (K : Kind) (p : Party) → map meaning (words_of (listing_of K p)) ≡ map Some (lines_of (listing_of K p))
 unfolding meaning
-send_decoded = refl
+decoded lamport the_sender = refl
+decoded lamport the_receiver = refl
+decoded fastforward the_sender = refl
+decoded fastforward the_receiver = refl
 
-pub receive_decoded : map meaning (words_of try_receive) ≡ map Some (lines_of try_receive)
-unfolding meaning
-receive_decoded = refl
+-- all of which have 13 lines
+pub thirteen : (K : Kind) (p : Party) → length (words_of (listing_of K p)) ≡ 13
+thirteen lamport the_sender = refl
+thirteen lamport the_receiver = refl
+thirteen fastforward the_sender = refl
+thirteen fastforward the_receiver = refl
 
 map-joined : {X : Type 0} (f : ℕ → X) (xs ys : List ℕ) → map f (xs ++ ys) ≡ map f xs ++ map f ys
 map-joined f [] ys = refl

@@ -45,6 +45,7 @@ module _ (r : RingBuffer) (is : IsRingBuffer r) (L : ℕ → ℕ) (c : Earlier) 
       → Invariant r L c o after (record s { sending = p; receiving = q })
   stays p q block sending receiving = record {
     landed = d;
+    level = inv.level;
     order = inv.order;
     words = words-same r is L d (memory_word o es) (memory_word o after) block.words inv.words;
     sending = sending;
@@ -72,6 +73,7 @@ module _ (r : RingBuffer) (is : IsRingBuffer r) (L : ℕ → ℕ) (c : Earlier) 
         → Invariant r L c o after (record s { sending = filled u; stored = s.stored + 1; sent = s.sent ++ w.value ∷ [] })
     sends-word mine u at word value = record {
       landed = d;
+      level = inv.level;
       order = record {
         mine = row-stores inv.order.mine known.0;
         consumed_heads = inv.order.consumed_heads;
@@ -108,6 +110,7 @@ module _ (r : RingBuffer) (is : IsRingBuffer r) (L : ℕ → ℕ) (c : Earlier) 
         → Invariant r L c o after (record s { sending = resting; published = s.published + 1 })
     sends-head mine u at word value = record {
       landed = d;
+      level = inv.level;
       order = record {
         mine = row-publishes inv.order.mine known.0;
         consumed_heads = inv.order.consumed_heads;
@@ -138,9 +141,10 @@ module _ (r : RingBuffer) (is : IsRingBuffer r) (L : ℕ → ℕ) (c : Earlier) 
 
     -- the receiver's
     pub frees : hart_of e ≡ r.receiver → (u v : ℕ) → s.receiving ≡ holding u v → IsWordAt w r.tail → w.value ≡ next r u
-        → Invariant r L c o after (record s { receiving = idle; consumed = s.consumed + 1; received = s.received ++ v ∷ [] })
+        → Invariant r L c o after (record s { receiving = idle; taken = s.taken + 1; consumed = s.consumed + 1; received = s.received ++ v ∷ [] })
     frees mine u v at word value = record {
       landed = d;
+      level = omega (arith, inv.level);
       order = record {
         mine = inv.order.mine;
         consumed_heads = omega (arith, known.1);

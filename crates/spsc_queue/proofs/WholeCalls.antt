@@ -1,15 +1,12 @@
--- What whole calls of both functions share: the first line, the course so far, a party's role.
-use Rattle.std.proofs.Common.{ℕ, ◌*◌, ◌/◌, ◌%◌, ◌^◌, ◌<◌, ◌≡◌, ◌≢◌, ◌==◌, Bool, true, false, if◌then◌else◌}
+-- What whole calls of both functions share: the first line, the course so far.
+use Rattle.std.proofs.Common.{ℕ, ◌*◌, ◌/◌, ◌%◌, ◌^◌, ◌<◌, ◌≡◌, Bool, true, false, if◌then◌else◌}
 use Rattle.std.proofs.Common.{List, [], ◌∷◌, ◌++◌, length, refl, sym, ◌∙◌, ap, subst, arith}
 use Rattle.std.specs.Prelude.{slice_index}
-use Rattle.std.proofs.lemmas.Bool.{ne_eqb, eq-eqb}
 use Rattle.hart.specs.State.{HartState}
 use Rattle.step_machine.specs.declared.events.Entry.{Entry}
 use Rattle.step_machine.specs.Access.{access_of}
 use Rattle.step_machine.specs.Entries.{is_own, own}
-use Rattle.spsc_queue.specs.RingBuffers.{RingBuffer}
-use Rattle.spsc_queue.specs.Protocol.{sends, receives, passes, role_of}
-use Rattle.spsc_queue.specs.Calls.{Block, HasArguments}
+use Rattle.spsc_queue.specs.Calls.{Block, Party, MayPass, HasArguments}
 use Rattle.spsc_queue.specs.CallEffects.{accesses, memory_access}
 use Rattle.spsc_queue.proofs.Courses.{At, at_00, at_04, at_08, at_0C, at_10, at_14, at_18, at_1C, at_20, at_24, at_28, at_2C, at_30, number, Course, went}
 use Rattle.spsc_queue.proofs.Accesses.{other-accesses, other-own, mine-accesses, mine-own}
@@ -30,10 +27,11 @@ first_line at_28 e = absurd (omega (arith, e))
 first_line at_2C e = absurd (omega (arith, e))
 first_line at_30 e = absurd (omega (arith, e))
 
-pub same_arguments : (n : ℕ) (k : Block) (s z : HartState) → s.registers ≡ z.registers → HasArguments n k s → HasArguments n k z
-same_arguments n k s z same a = record {
+pub same_arguments : (p : Party) (n : ℕ) (k : Block) (s z : HartState) → s.registers ≡ z.registers → HasArguments p n k s → HasArguments p n k z
+same_arguments p n k s z same a = record {
   bytes = ap (λ x. slice_index x 12) (sym same) ∙ a.bytes;
   word = subst (λ x. slice_index x 11 < 2 ^ 32) same a.word;
+  sendable = subst (λ x. MayPass p k.kind (slice_index x 11)) same a.sendable;
   back = λ e. a.back (ap (λ x. slice_index x 1 / 2 * 2) same ∙ e);
   back_aligned = subst (λ x. slice_index x 1 / 2 * 2 % 4 ≡ 0) same a.back_aligned;
   back_small = subst (λ x. slice_index x 1 < 2 ^ 32) same a.back_small;
@@ -57,10 +55,3 @@ course_same h s part e off =
 pub chose : (b : Bool) (n : ℕ) → n ≡ (if b then 0 else 1) → n ≡ 0 → b ≡ true
 chose true n is zero = refl
 chose false n is zero = absurd (omega (arith, is, zero))
-
-pub sender_role : (r : RingBuffer) {h : ℕ} → h ≡ r.sender → role_of r h ≡ sends
-sender_role r {h} is = ap (λ b. if b then sends else (if h == r.receiver then receives else passes)) (eq-eqb h r.sender is)
-
-pub receiver_role : (r : RingBuffer) → r.sender ≢ r.receiver → {h : ℕ} → h ≡ r.receiver → role_of r h ≡ receives
-receiver_role r apart {h} is = ap (λ b. if b then sends else (if h == r.receiver then receives else passes)) (ne_eqb h r.sender (λ e. apart (sym e ∙ is)))
-    ∙ ap (λ b. if b then receives else passes) (eq-eqb h r.receiver is)

@@ -8,7 +8,8 @@ use Rattle.step_machine.specs.Access.{Access, nothing, load, store, access_of}
 use Rattle.step_machine.specs.History.{OpeningValue, history_of}
 use Rattle.step_machine.specs.Entries.{hart_of, is_own, pending}
 use Rattle.step_machine.specs.Paths.{state_of}
-use Rattle.spsc_queue.specs.RingBuffers.{RingBuffer, next, writes_to}
+use Rattle.spsc_queue.specs.RingBuffers.{Kind, lamport, fastforward, RingBuffer, next, capacity, writes_to}
+use Rattle.spsc_queue.specs.Protocol.{room_at, says_full, word_at, says_empty}
 use Rattle.spsc_queue.specs.Calls.{Block, SpscQueue, buffer, enters, is_in_call, sent_words, received_words}
 
 -- hart h calls the function at line n for this block by the entries `call`, which come after `done`: s is its state as it
@@ -36,17 +37,26 @@ abbrev pub accesses : ℕ → List Entry → List Access
 accesses h [] = []
 accesses h (e ∷ es) = if is_own h e then memory_access (access_of e) ++ accesses h es else accesses h es
 
--- those of a call of try_send for the word w, where it reads u as the head and v as the tail: if the offset after u is v the
--- queue is full. Else it stores the word, and then the head
-abbrev pub send_accesses : RingBuffer → (w u v : ℕ) → List Access
-send_accesses r w u v = load r.head 4 u ∷ load r.tail 4 v
-    ∷ (if v == next r u then [] else store (write (r.slots + u) 4 w) ∷ store (write r.head 4 (next r u)) ∷ [])
+-- those of a call that sends the word w, where it reads u as the head, and v where it looks for room at u. If v says that there
+-- is none the queue is full. Else it stores the word, and then the head
+abbrev pub send_accesses : Kind → RingBuffer → (w u v : ℕ) → List Access
+send_accesses k r w u v = load r.head 4 u ∷ load (room_at k r u) 4 v
+    ∷ (if says_full k r u v then [] else store (write (r.slots + u) 4 w) ∷ store (write r.head 4 (next r u)) ∷ [])
 
--- those of a call of try_receive, where it reads u as the tail and v as the head: if they are the same the queue is empty.
--- Else it loads the word w, and then stores the tail
-abbrev pub receive_accesses : RingBuffer → (w u v : ℕ) → List Access
-receive_accesses r w u v = load r.tail 4 u ∷ load r.head 4 v
-    ∷ (if v == u then [] else load (r.slots + u) 4 w ∷ store (write r.tail 4 (next r u)) ∷ [])
+-- those of a call that receives, where it reads u as the tail, and v where it looks for a word at u. If v says that there is none
+-- the queue is empty. Else it takes the word w: it loads it from Lamport's slot, or stores a 0 into FastForward's, and then it
+-- stores the tail
+abbrev pub take_accesses : Kind → RingBuffer → (w u : ℕ) → List Access
+take_accesses lamport r w u = load (r.slots + u) 4 w ∷ store (write r.tail 4 (next r u)) ∷ []
+take_accesses fastforward r w u = store (write (r.slots + u) 4 0) ∷ store (write r.tail 4 (next r u)) ∷ []
+
+abbrev pub receive_accesses : Kind → RingBuffer → (w u v : ℕ) → List Access
+receive_accesses k r w u v = load r.tail 4 u ∷ load (word_at k r u) 4 v ∷ (if says_empty k u v then [] else take_accesses k r w u)
+
+-- FastForward's receiver finds the word itself where it looks for one
+abbrev pub IsFound : Kind → (v w : ℕ) → Type 0
+IsFound lamport v w = Unit {0}
+IsFound fastforward v w = v ≡ w
 
 -- every register except x5, x6, x7, a0 and a1
 abbrev pub KeepsOtherRegisters : (xs ys : List ℕ) → Type 0
@@ -62,51 +72,56 @@ pub record Returns (s z : HartState) (count : ℕ) : Type 0 where
   pub registers : KeepsOtherRegisters s.registers z.registers
   pub short : count ≤ 11
 
--- a call of try_send from state s to state z, of this many entries, with these accesses. It keeps a1
-pub record SendEffect (r : RingBuffer) (s z : HartState) (count : ℕ) (did : List Access) : Type 0 where
+-- a call that sends, from state s to state z, of this many entries, with these accesses. It keeps a1
+pub record SendEffect (k : Kind) (r : RingBuffer) (s z : HartState) (count : ℕ) (did : List Access) : Type 0 where
   pub returns : Returns s z count
   pub word : slice_index z.registers 11 ≡ slice_index s.registers 11
   pub head : ℕ
-  pub tail : ℕ
+  pub seen : ℕ
   pub among : head + 4 ≤ 4 * r.size
   pub aligned : head % 4 ≡ 0
-  pub accesses : did ≡ send_accesses r (slice_index s.registers 11) head tail
-  pub answer : slice_index z.registers 10 ≡ (if tail == next r head then 0 else 1)
+  pub accesses : did ≡ send_accesses k r (slice_index s.registers 11) head seen
+  pub answer : slice_index z.registers 10 ≡ (if says_full k r head seen then 0 else 1)
 
--- a call of try_receive: if it returns 1, a1 is the word that it loaded from the slot
-pub record ReceiveEffect (r : RingBuffer) (s z : HartState) (count : ℕ) (did : List Access) : Type 0 where
+-- a call that receives: if it returns 1, a1 is the word that it loaded from the slot
+pub record ReceiveEffect (k : Kind) (r : RingBuffer) (s z : HartState) (count : ℕ) (did : List Access) : Type 0 where
   pub returns : Returns s z count
   pub tail : ℕ
-  pub head : ℕ
+  pub seen : ℕ
   pub among : tail + 4 ≤ 4 * r.size
   pub aligned : tail % 4 ≡ 0
-  pub accesses : did ≡ receive_accesses r (slice_index z.registers 11) tail head
-  pub answer : slice_index z.registers 10 ≡ (if head == tail then 0 else 1)
+  pub found : IsFound k seen (slice_index z.registers 11)
+  pub accesses : did ≡ receive_accesses k r (slice_index z.registers 11) tail seen
+  pub answer : slice_index z.registers 10 ≡ (if says_empty k tail seen then 0 else 1)
 
 -- ---- a call that returns 0
 
--- at an entry e of the call the sender loads the tail, and after the entries before e the queue is full: all slots except
--- one hold words that were sent and that no call returned, as far as the receiver's stores to the block have landed
+-- at an entry e of the call the sender looks for room at its offset and sees none, and after the entries before e the queue is
+-- full: as many words as it holds were sent and no call returned them, as far as the receiver's stores to the block have landed
 pub record FoundFull (M : ℕ) (o : OpeningValue) (q : SpscQueue) (before done call : List Entry) : Type 0 where
   pub part : List Entry
   pub entry : Entry
   pub rest : List Entry
+  pub offset : ℕ
   pub value : ℕ
   pub is : call ≡ part ++ entry ∷ rest
   pub mine : hart_of entry ≡ q.sender
-  pub loads : access_of entry ≡ load (buffer q).tail 4 value
-  pub full : length (received_words M o q before (done ++ part)) + q.block.size
-      ≤ length (sent_words M o q before (done ++ part)) + 1 + length (writes_to (buffer q) (pending q.receiver (before ++ (done ++ part))))
+  pub loads : access_of entry ≡ load (room_at q.block.kind (buffer q) offset) 4 value
+  pub says : says_full q.block.kind (buffer q) offset value ≡ true
+  pub full : length (received_words M o q before (done ++ part)) + capacity (buffer q)
+      ≤ length (sent_words M o q before (done ++ part)) + length (writes_to (buffer q) (pending q.receiver (before ++ (done ++ part))))
 
--- at an entry e of the call the receiver loads the head, and after the entries before e the queue is empty: each word that
--- was sent was returned, as far as the sender's stores to the block have landed
+-- at an entry e of the call the receiver looks for a word at its offset and sees none, and after the entries before e the queue is
+-- empty: each word that was sent was returned, as far as the sender's stores to the block have landed
 pub record FoundEmpty (M : ℕ) (o : OpeningValue) (q : SpscQueue) (before done call : List Entry) : Type 0 where
   pub part : List Entry
   pub entry : Entry
   pub rest : List Entry
+  pub offset : ℕ
   pub value : ℕ
   pub is : call ≡ part ++ entry ∷ rest
   pub mine : hart_of entry ≡ q.receiver
-  pub loads : access_of entry ≡ load (buffer q).head 4 value
+  pub loads : access_of entry ≡ load (word_at q.block.kind (buffer q) offset) 4 value
+  pub says : says_empty q.block.kind offset value ≡ true
   pub empty : length (sent_words M o q before (done ++ part))
       ≤ length (received_words M o q before (done ++ part)) + length (writes_to (buffer q) (pending q.sender (before ++ (done ++ part))))

@@ -11,19 +11,21 @@ use Rattle.step_machine.specs.History.{HartOpeningValue, OpeningValue, history_o
 use Rattle.step_machine.specs.Entries.{hart_of, is_land, is_own}
 use Rattle.step_machine.specs.Paths.{value_of, state_of}
 use Rattle.step_machine.specs.Legal.{WellFormed}
-use Rattle.spsc_queue.specs.RingBuffers.{RingBuffer, IsEmptyAndQuiescent}
-use Rattle.spsc_queue.specs.Protocol.{WritesNothingTo}
+use Rattle.spsc_queue.specs.RingBuffers.{Kind, lamport, fastforward, RingBuffer, IsEmptyAndQuiescent}
+use Rattle.spsc_queue.specs.Protocol.{WritesNothingTo, IsSendable}
 use Rattle.spsc_queue.specs.Listings.{Listed, words_of, try_send, try_receive}
+use Rattle.spsc_queue.specs.FastForward.{fastforward_send, fastforward_receive}
 
--- a block of memory: its base, and how many slots it has. The sender's index lies at its base, the receiver's 64 bytes on,
--- the slots 128 bytes on
+-- a block of memory: which kind of queue it is, its base, and how many slots it has. The sender's index lies at its base, the
+-- receiver's 64 bytes on, the slots 128 bytes on
 pub record Block : Type 0 where
+  pub kind : Kind
   pub base : ℕ
   pub size : ℕ
 
 pub record IsBlock (M : ℕ) (k : Block) : Type 0 where
   pub aligned : k.base % 4 ≡ 0
-  pub some_slots : 2 ≤ k.size
+  pub some_slots : 1 ≤ k.size
   pub inside : k.base + 128 + 4 * k.size ≤ 4 * M
   pub small : 4 * M < 2 ^ 32
 
@@ -38,6 +40,7 @@ pub record SpscQueue : Type 0 where
 
 abbrev pub ring_of : Block → (sender receiver : ℕ) → RingBuffer
 ring_of k sender receiver = record {
+  kind = k.kind;
   sender = sender;
   receiver = receiver;
   first = k.base;
@@ -50,6 +53,28 @@ ring_of k sender receiver = record {
 
 abbrev pub buffer : SpscQueue → RingBuffer
 buffer q = ring_of q.block q.sender q.receiver
+
+-- the two parties of a queue
+pub data Party : Type 0 where
+  the_sender : Party
+  the_receiver : Party
+
+-- a party's hart
+abbrev pub party_hart : SpscQueue → Party → ℕ
+party_hart q the_sender = q.sender
+party_hart q the_receiver = q.receiver
+
+-- the line of its code at which its copy of the function begins
+abbrev pub party_line : SpscQueue → Party → ℕ
+party_line q the_sender = q.send_line
+party_line q the_receiver = q.receive_line
+
+-- the function of each kind that a party calls
+abbrev pub listing_of : Kind → Party → List Listed
+listing_of lamport the_sender = try_send
+listing_of lamport the_receiver = try_receive
+listing_of fastforward the_sender = fastforward_send
+listing_of fastforward the_receiver = fastforward_receive
 
 -- a listing stands in this code, from line n on
 pub record StandsIn (code : List ℕ) (n : ℕ) (listing : List Listed) : Type 0 where
@@ -133,26 +158,34 @@ received_words M o q before es = completed_words M o q.receiver q.receive_line q
 
 -- ---- what a caller owes
 
--- the arguments beside the block: the bytes of the slots, a word, and a return address that isn't the function's entry
-pub record HasArguments (n : ℕ) (k : Block) (s : HartState) : Type 0 where
+-- the arguments beside the block: the bytes of the slots, a word, which may be sent if it is, and a return address that isn't
+-- the function's entry
+abbrev pub MayPass : Party → Kind → ℕ → Type 0
+MayPass the_sender k w = IsSendable k w
+MayPass the_receiver k w = Unit {0}
+
+pub record HasArguments (p : Party) (n : ℕ) (k : Block) (s : HartState) : Type 0 where
   pub bytes : slice_index s.registers 12 ≡ 4 * k.size
   pub word : slice_index s.registers 11 < 2 ^ 32
+  pub sendable : MayPass p k.kind (slice_index s.registers 11)
   pub back : slice_index s.registers 1 / 2 * 2 ≢ 4 * n
   pub back_aligned : slice_index s.registers 1 / 2 * 2 % 4 ≡ 0
   pub back_small : slice_index s.registers 1 < 2 ^ 32
 
--- what a party's hart h owes at an entry e of its own, which comes after done, where it is in no call: it writes nothing to
--- the block, and if it enters the function for this block it does so with arguments. What it loads is free, and so is
--- where it jumps
-abbrev pub PartyOwes : (M : ℕ) → OpeningValue → RingBuffer → (h n : ℕ) → Block → (before done : List Entry) → Entry → Type 0
-PartyOwes M o r h n k before done e = hart_of e ≡ h → is_land e ≡ false
-    → (s : HartState) → state_of M (history_of o (before ++ done)) h ≡ Some s → is_in_call M o h n k before done ≡ false
-    → WritesNothingTo r (access_of e) × (enters n k (advanced s (value_of e)) ≡ true → HasArguments n k (advanced s (value_of e)))
+-- what a party owes at an entry e of its own hart, which comes after done, where it is in no call: it writes nothing to the
+-- block, and if it enters the function for this block it does so with arguments. What it loads is free, and so is where it
+-- jumps
+abbrev pub PartyOwes : (M : ℕ) → OpeningValue → SpscQueue → Party → (before done : List Entry) → Entry → Type 0
+PartyOwes M o q p before done e = hart_of e ≡ party_hart q p → is_land e ≡ false
+    → (s : HartState) → state_of M (history_of o (before ++ done)) (party_hart q p) ≡ Some s
+    → is_in_call M o (party_hart q p) (party_line q p) q.block before done ≡ false
+    → WritesNothingTo (buffer q) (access_of e)
+    × (enters (party_line q p) q.block (advanced s (value_of e)) ≡ true → HasArguments p (party_line q p) q.block (advanced s (value_of e)))
 
 -- all that is owed at an entry e, which comes after done. Other harts write nothing to the block
 pub record CallerObligation (M : ℕ) (o : OpeningValue) (q : SpscQueue) (before done : List Entry) (e : Entry) : Type 0 where
-  pub sender : PartyOwes M o (buffer q) q.sender q.send_line q.block before done e
-  pub receiver : PartyOwes M o (buffer q) q.receiver q.receive_line q.block before done e
+  pub sender : PartyOwes M o q the_sender before done e
+  pub receiver : PartyOwes M o q the_receiver before done e
   pub others : hart_of e ≢ q.sender → hart_of e ≢ q.receiver → WritesNothingTo (buffer q) (access_of e)
 
 -- a run of two harts that have the functions in their codes, from where the block is empty and at rest
@@ -161,8 +194,8 @@ pub record SharesQueue (B M : ℕ) (o : OpeningValue) (q : SpscQueue) (before es
   pub parties : q.sender ≢ q.receiver
   pub run : WellFormed B M (history_of o (before ++ es))
   pub rest : IsEmptyAndQuiescent (buffer q) o before
-  pub sends : HasFunction o q.sender q.send_line try_send
-  pub receives : HasFunction o q.receiver q.receive_line try_receive
+  pub sends : HasFunction o q.sender q.send_line (listing_of q.block.kind the_sender)
+  pub receives : HasFunction o q.receiver q.receive_line (listing_of q.block.kind the_receiver)
 
 -- in which they call these functions for the block, neither in a call where it begins, and each entry keeps what is owed
 pub record UsesAsSpscQueue (B M : ℕ) (o : OpeningValue) (q : SpscQueue) (before es : List Entry) : Type 0 where

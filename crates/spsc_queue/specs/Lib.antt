@@ -2,9 +2,8 @@ pub mod RingBuffers
 pub mod Protocol
 pub mod StoreBuffers
 pub mod Laws
-pub mod FastForward
-pub mod FastForwardExample
 pub mod Listings
+pub mod FastForward
 pub mod Calls
 pub mod CallEffects
 pub mod Obligations

@@ -1,4 +1,4 @@
--- Several queues at once, of which a hart may use any number, by one copy of a function or by several.
+-- Several queues at once, of either kind, of which a hart may use any number, by one copy of a function or by several.
 use Rattle.std.specs.Prelude.{ℕ, ◌≡◌, ◌≢◌, ◌⊎◌, ◌<◌, ◌≤◌, true, false, Some, List, ◌∷◌, ◌++◌}
 use Rattle.hart.specs.State.{HartState}
 use Rattle.hart.specs.Steps.{advanced}
@@ -8,23 +8,25 @@ use Rattle.step_machine.specs.History.{OpeningValue, history_of}
 use Rattle.step_machine.specs.Entries.{hart_of, is_land}
 use Rattle.step_machine.specs.Paths.{value_of, state_of}
 use Rattle.spsc_queue.specs.Protocol.{WritesNothingTo}
-use Rattle.spsc_queue.specs.Calls.{Block, SpscQueue, buffer, enters, is_in_call, is_sender_in_call, is_receiver_in_call, HasArguments, SharesQueue}
+use Rattle.spsc_queue.specs.Calls.{SpscQueue, Party, the_sender, the_receiver, party_hart, party_line, buffer, enters}
+use Rattle.spsc_queue.specs.Calls.{is_in_call, is_sender_in_call, is_receiver_in_call, HasArguments, SharesQueue}
 
 -- hart h is in no call for this queue
 pub record IsIdle (M : ℕ) (o : OpeningValue) (q : SpscQueue) (h : ℕ) (before done : List Entry) : Type 0 where
   pub sender : h ≡ q.sender → is_sender_in_call M o q before done ≡ false
   pub receiver : h ≡ q.receiver → is_receiver_in_call M o q before done ≡ false
 
--- if hart h, in no call for this block, enters the function for it by entry e, it does so with arguments
-abbrev pub PassesArguments : (M : ℕ) → OpeningValue → (h n : ℕ) → Block → (before done : List Entry) → Entry → Type 0
-PassesArguments M o h n k before done e = hart_of e ≡ h → is_land e ≡ false
-    → (s : HartState) → state_of M (history_of o (before ++ done)) h ≡ Some s → is_in_call M o h n k before done ≡ false
-    → enters n k (advanced s (value_of e)) ≡ true → HasArguments n k (advanced s (value_of e))
+-- if a party, in no call for its block, enters the function for it by entry e, it does so with arguments
+abbrev pub PassesArguments : (M : ℕ) → OpeningValue → SpscQueue → Party → (before done : List Entry) → Entry → Type 0
+PassesArguments M o q p before done e = hart_of e ≡ party_hart q p → is_land e ≡ false
+    → (s : HartState) → state_of M (history_of o (before ++ done)) (party_hart q p) ≡ Some s
+    → is_in_call M o (party_hart q p) (party_line q p) q.block before done ≡ false
+    → enters (party_line q p) q.block (advanced s (value_of e)) ≡ true → HasArguments p (party_line q p) q.block (advanced s (value_of e))
 
 -- what is owed at entry e: a hart that is in no call at all writes to none of the blocks. Of calls only arguments are asked
 pub record CallersObligation (M : ℕ) (o : OpeningValue) (count : ℕ) (queues : ℕ → SpscQueue) (before done : List Entry) (e : Entry) : Type 0 where
-  pub senders : (i : ℕ) → i < count → PassesArguments M o (queues i).sender (queues i).send_line (queues i).block before done e
-  pub receivers : (i : ℕ) → i < count → PassesArguments M o (queues i).receiver (queues i).receive_line (queues i).block before done e
+  pub senders : (i : ℕ) → i < count → PassesArguments M o (queues i) the_sender before done e
+  pub receivers : (i : ℕ) → i < count → PassesArguments M o (queues i) the_receiver before done e
   pub stays_off : ((j : ℕ) → j < count → IsIdle M o (queues j) (hart_of e) before done)
       → (i : ℕ) → i < count → WritesNothingTo (buffer (queues i)) (access_of e)
 

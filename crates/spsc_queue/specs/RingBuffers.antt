@@ -1,15 +1,22 @@
 -- A ring buffer in memory that two harts share, wherever its parts lie, and what the words of its places are.
-use Rattle.std.specs.Prelude.{ℕ, ◌≡◌, ◌≢◌, ◌⊎◌, ◌+◌, ◌*◌, ◌%◌, ◌^◌, ◌≤◌, ◌==◌, ◌&&◌, Bool, nat_lt, if◌then◌else◌, List, []}
+use Rattle.std.specs.Prelude.{ℕ, ◌≡◌, ◌≢◌, ◌⊎◌, ◌+◌, ◌-◌, ◌*◌, ◌%◌, ◌^◌, ◌<◌, ◌≤◌, ◌==◌, ◌&&◌, Bool, nat_lt, if◌then◌else◌, List, []}
 use Rattle.std.specs.List.{filter}
 use Rattle.memory.specs.declared.writes.Write.{Write}
 use Rattle.step_machine.specs.declared.events.Entry.{Entry}
 use Rattle.step_machine.specs.History.{OpeningValue}
 use Rattle.step_machine.specs.Entries.{pending, memory_word}
 
--- the harts that send and receive; where the block begins and ends; the words that hold the sender's index and the
+-- the two kinds of queue. In Lamport's each party reads the other's index. In FastForward's a slot that holds 0 is free, so
+-- no party reads the other's index, and no word is 0
+pub data Kind : Type 0 where
+  lamport : Kind
+  fastforward : Kind
+
+-- its kind; the harts that send and receive; where the block begins and ends; the words that hold the sender's index and the
 -- receiver's, as byte offsets among the slots; where the slots begin, and how many they are. Nothing says in which
 -- order these lie, nor how far apart, so each index may have a cache line of its own
 pub record RingBuffer : Type 0 where
+  pub kind : Kind
   pub sender : ℕ
   pub receiver : ℕ
   pub first : ℕ
@@ -27,7 +34,7 @@ pub record IsWordIn (r : RingBuffer) (a : ℕ) : Type 0 where
 
 pub record IsRingBuffer (r : RingBuffer) : Type 0 where
   pub parties : r.sender ≢ r.receiver
-  pub some_slots : 2 ≤ r.size
+  pub some_slots : 1 ≤ r.size
   pub head : IsWordIn r r.head
   pub tail : IsWordIn r r.tail
   pub slots_above : r.first ≤ r.slots
@@ -48,6 +55,16 @@ slot r j = r.slots + offset r j
 abbrev pub next : RingBuffer → ℕ → ℕ
 next r u = if u + 4 == 4 * r.size then 0 else u + 4
 
+-- how many words a queue of this size holds. In Lamport's one slot stays free: if all were full, the indices would be as in
+-- an empty queue
+abbrev pub capacity_of : Kind → (size : ℕ) → ℕ
+capacity_of lamport size = size - 1
+capacity_of fastforward size = size
+
+-- how many words this queue holds
+abbrev pub capacity : RingBuffer → ℕ
+capacity r = capacity_of r.kind r.size
+
 -- a write of some byte of the block
 abbrev pub overlaps : RingBuffer → Write → Bool
 overlaps r w = nat_lt w.addr r.end && nat_lt r.first (w.addr + w.width)
@@ -55,9 +72,10 @@ overlaps r w = nat_lt w.addr r.end && nat_lt r.first (w.addr + w.width)
 abbrev pub writes_to : RingBuffer → List Write → List Write
 writes_to r ws = filter (overlaps r) ws
 
--- the block is empty and at rest: both indices are 0 in memory, and no hart has a pending store to the block. So a
--- machine may open, or a program may leave it so at any point of its run
+-- the block is empty and at rest: both indices are 0 in memory, and no hart has a pending store to the block; and each slot
+-- of FastForward's holds 0. So a machine may open, or a program may leave it so at any point of its run
 pub record IsEmptyAndQuiescent (r : RingBuffer) (o : OpeningValue) (es : List Entry) : Type 0 where
   pub head : memory_word o es r.head ≡ 0
   pub tail : memory_word o es r.tail ≡ 0
   pub pending : (h : ℕ) → writes_to r (pending h es) ≡ []
+  pub slots : r.kind ≡ fastforward → (j : ℕ) → j < r.size → memory_word o es (slot r j) ≡ 0

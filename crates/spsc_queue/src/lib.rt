@@ -1,13 +1,17 @@
-//! A queue of one sender and one receiver as two functions, `try_send` and `try_receive`, that any code calls: Lamport's
-//! ring buffer in memory, with no fence and no atomic instruction.
+//! A queue of one sender and one receiver as two functions that any code calls, with no fence and no atomic instruction:
+//! Lamport's ring buffer in memory (`try_send` and `try_receive`), or FastForward's, in which a slot that holds 0 is free
+//! (`fastforward_send` and `fastforward_receive`).
 //!
-//! The contract: [`laws_of_calls`] states what code gets that calls them and keeps what `CallerObligation` asks of it,
-//! whatever else its harts and others execute before, between and after. [`laws_of_one_call`] states what one call does.
-//! [`laws_of_obligations`] states that what callers owe can be computed and kept. Below these, [`laws_of_protocol`] states
-//! the same of loads and stores alone, of any program that keeps the queue's protocol, and [`laws_of_store_buffers`] what
-//! holds of any program. The crate gives the words of both functions and runs none.
+//! The contract, of queues of either kind: [`laws_of_calls`] states what code gets that calls them and keeps what
+//! `CallerObligation` asks of it, whatever else its harts and others execute before, between and after.
+//! [`laws_of_one_call`] states what one call does, [`laws_of_many_queues`] that calls for one queue stay off the others,
+//! [`laws_of_obligations`] that what callers owe can be computed and kept. Below these, [`laws_of_protocol`] states the same
+//! of loads and stores alone, of any program that keeps the queue's protocol, and [`laws_of_store_buffers`] what holds of
+//! any program. The crate gives the words of the functions and runs none.
 
 #![tactic(auto)]
+
+mod fastforward;
 
 ghost use Rattle.std.specs.Prelude.{ℕ, ◌≡◌, ◌≢◌, ◌<◌, ◌≤◌, ◌+◌, ◌-◌, All, List, [], ◌∷◌, ◌++◌, length, Some, map, true, false, slice_index};
 ghost use Rattle.std.specs.List.{slice_get};
@@ -22,19 +26,19 @@ ghost use Rattle.step_machine.specs.Entries.{hart_of, own, stores, lands, pendin
 ghost use Rattle.step_machine.specs.Access.{access_of, load};
 ghost use Rattle.step_machine.specs.Paths.{state_of};
 ghost use Rattle.step_machine.specs.Legal.{Legal, WellFormed};
-ghost use Rattle.spsc_queue.specs.RingBuffers.{RingBuffer, next, writes_to};
-ghost use Rattle.spsc_queue.specs.Protocol.{at_start, protocol_after, asked, placed};
+ghost use Rattle.spsc_queue.specs.RingBuffers.{Kind, RingBuffer, lamport, capacity, writes_to};
+ghost use Rattle.spsc_queue.specs.Protocol.{at_start, protocol_after, asked, placed, room_at, says_full, word_at, says_empty};
 ghost use Rattle.spsc_queue.specs.StoreBuffers.{IsGloballyPerformed, LeavesByte, AllLeaveByte, IsOnlyWriter};
-ghost use Rattle.spsc_queue.specs.Laws.{IsPrefix, FollowsSpscProtocol, published_words, known_count, ready_count};
+ghost use Rattle.spsc_queue.specs.Laws.{IsPrefix, FollowsSpscProtocol, available_words, available_count, known_count, ready_count};
 ghost use Rattle.spsc_queue.specs.Listings.{try_send, try_receive, words_of, lines_of};
-ghost use Rattle.spsc_queue.specs.Calls.{SpscQueue, buffer, is_sender_in_call, is_receiver_in_call, sent_words, received_words};
+ghost use Rattle.spsc_queue.specs.Calls.{SpscQueue, Party, listing_of, buffer, is_sender_in_call, is_receiver_in_call, sent_words, received_words};
 ghost use Rattle.spsc_queue.specs.Calls.{CallerObligation, UsesAsSpscQueue};
 ghost use Rattle.spsc_queue.specs.CallEffects.{IsSend, IsReceive, accesses, completed_word, SendEffect, ReceiveEffect, FoundFull, FoundEmpty};
 ghost use Rattle.spsc_queue.specs.Obligations.{obligations_kept};
 ghost use Rattle.spsc_queue.specs.ManyQueues.{UsesManyQueues};
-ghost use Rattle.spsc_queue.specs.FastForward as fastforward;
-ghost use Rattle.spsc_queue.specs.FastForwardExample as fastforward_example;
 ghost use Rattle.spsc_queue.specs.Example as example;
+
+pub use fastforward::{fastforward_receive_words, fastforward_send_words};
 
 /// The words of `try_send`: a0 is the block, a1 the word, a2 the bytes of the slots.
 const TRY_SEND: [u32; 13] = [
@@ -48,25 +52,24 @@ const TRY_RECEIVE: [u32; 13] = [
     0x04552023, 0x00100513, 0x00008067, 0x00000513, 0x00008067,
 ];
 
-/// The words of the function that sends.
+/// The words of Lamport's function that sends.
 pub fn try_send_words() -> &'static [u32]
     ensures { result.now ≡ words_of try_send }
 {
     &TRY_SEND
 }
 
-/// The words of the function that receives.
+/// The words of Lamport's function that receives.
 pub fn try_receive_words() -> &'static [u32]
     ensures { result.now ≡ words_of try_receive }
 {
     &TRY_RECEIVE
 }
 
-/// The words of both listings mean their lines' instructions. It does nothing.
-#[tactic(auto, using(crate::proofs::Registers::send_decoded, crate::proofs::Registers::receive_decoded))]
+/// The words of the four listings mean their lines' instructions. It does nothing.
+#[tactic(auto, using(crate::proofs::Registers::decoded))]
 pub fn tables_mean()
-    ensures send { map meaning (words_of try_send) ≡ map Some (lines_of try_send) }
-    ensures receive { map meaning (words_of try_receive) ≡ map Some (lines_of try_receive) }
+    ensures all { (k : Kind) (p : Party) → map meaning (words_of (listing_of k p)) ≡ map Some (lines_of (listing_of k p)) }
 {}
 
 /// Of any program: if more than n stores of a hart have landed, its n-th store has reached memory, and stays among what
@@ -84,81 +87,59 @@ pub fn laws_of_store_buffers()
         → read_byte o (es ++ fs) h x ≡ read_byte o es a x }
 {}
 
-/// Of every run whose entries keep the queue's protocol, from where the queue was empty and at rest. The words received
-/// are a prefix of the words published. Once the receiver knows of more words than were published at some point, all that
-/// the sender's hart had stored there has landed. Once as many words more are ready as the queue has slots than were
-/// consumed at some point, all that the receiver's hart had stored there has landed. Where a receiver that has read its
-/// tail reads the same in the head, each word whose head has landed is consumed; where a sender that has read its head
-/// reads the next offset in the tail, all slots except one hold words whose tail hasn't landed. It does nothing.
+/// Of every run whose entries keep the queue's protocol, Lamport's or FastForward's, from where the queue was empty and at
+/// rest. Lamport's words are available once their heads are stored, FastForward's as soon as they are stored. It does nothing.
+///
+/// - `fifo`: the words received are a prefix of those that are available.
+/// - `publication`: once the receiver knows of more words than were available at some point, all that the sender's hart had
+///   stored there has landed.
+/// - `reclamation`: once more words are ready than were taken at some point and the queue holds besides, all that the
+///   receiver's hart had stored there has landed.
+/// - `linearization_of_empty`: where a receiver that has read its tail looks for a word and sees none (the head is the same,
+///   or the slot holds 0), each word that is available is taken, except for what the sender's pending stores hold back.
+/// - `linearization_of_full`: where a sender that has read its head looks for room and sees none (the tail is the next
+///   offset, or the slot holds a word), all that the queue holds is stored and not taken, except for what the receiver's
+///   pending stores hold back.
+/// - `room`: in Lamport's never more is, so that there it is just so much.
 pub fn laws_of_protocol()
     ensures fifo { (B : ℕ) (r : RingBuffer) (o : OpeningValue) (before es : List Entry) → FollowsSpscProtocol B r o before es
-        → IsPrefix (protocol_after r at_start es).received (published_words (protocol_after r at_start es)) }
+        → IsPrefix (protocol_after r at_start es).received (available_words r (protocol_after r at_start es)) }
     ensures publication { (B : ℕ) (r : RingBuffer) (o : OpeningValue) (before es fs : List Entry) → FollowsSpscProtocol B r o before (es ++ fs)
-        → (protocol_after r at_start es).published < known_count (protocol_after r at_start (es ++ fs))
+        → available_count r (protocol_after r at_start es) < known_count (protocol_after r at_start (es ++ fs))
         → length (stores r.sender (before ++ es)) < lands r.sender (before ++ (es ++ fs)) }
     ensures reclamation { (B : ℕ) (r : RingBuffer) (o : OpeningValue) (before es fs : List Entry) → FollowsSpscProtocol B r o before (es ++ fs)
-        → (protocol_after r at_start es).consumed + r.size ≤ ready_count (protocol_after r at_start (es ++ fs))
+        → (protocol_after r at_start es).taken + capacity r < ready_count (protocol_after r at_start (es ++ fs))
         → length (stores r.receiver (before ++ es)) < lands r.receiver (before ++ (es ++ fs)) }
     ensures linearization_of_empty { (B : ℕ) (r : RingBuffer) (o : OpeningValue) (before es : List Entry) (e : Entry) (fs : List Entry)
-        → FollowsSpscProtocol B r o before (es ++ e ∷ fs) → (v : ℕ) → hart_of e ≡ r.receiver → access_of e ≡ load r.head 4 v
-        → (protocol_after r at_start es).receiving ≡ asked v
-        → (protocol_after r at_start es).published ≤ (protocol_after r at_start es).consumed + length (writes_to r (pending r.sender (before ++ es))) }
+        → FollowsSpscProtocol B r o before (es ++ e ∷ fs) → (u v : ℕ) → hart_of e ≡ r.receiver → access_of e ≡ load (word_at r.kind r u) 4 v
+        → says_empty r.kind u v ≡ true → (protocol_after r at_start es).receiving ≡ asked u
+        → available_count r (protocol_after r at_start es)
+        ≤ (protocol_after r at_start es).taken + length (writes_to r (pending r.sender (before ++ es))) }
     ensures linearization_of_full { (B : ℕ) (r : RingBuffer) (o : OpeningValue) (before es : List Entry) (e : Entry) (fs : List Entry)
-        → FollowsSpscProtocol B r o before (es ++ e ∷ fs) → (u : ℕ) → hart_of e ≡ r.sender → access_of e ≡ load r.tail 4 (next r u)
-        → (protocol_after r at_start es).sending ≡ placed u
-        → (protocol_after r at_start es).consumed + r.size
-        ≡ (protocol_after r at_start es).stored + 1 + length (writes_to r (pending r.receiver (before ++ es))) }
+        → FollowsSpscProtocol B r o before (es ++ e ∷ fs) → (u v : ℕ) → hart_of e ≡ r.sender → access_of e ≡ load (room_at r.kind r u) 4 v
+        → says_full r.kind r u v ≡ true → (protocol_after r at_start es).sending ≡ placed u
+        → (protocol_after r at_start es).taken + capacity r
+        ≤ (protocol_after r at_start es).stored + length (writes_to r (pending r.receiver (before ++ es))) }
+    ensures room { (B : ℕ) (r : RingBuffer) (o : OpeningValue) (before es : List Entry) → FollowsSpscProtocol B r o before es → r.kind ≡ lamport
+        → (protocol_after r at_start es).stored + length (writes_to r (pending r.receiver (before ++ es)))
+        ≤ (protocol_after r at_start es).taken + capacity r }
 {}
 
-/// Of every run whose entries keep FastForward's protocol, from where the queue was empty and at rest and each slot held 0.
-/// There a slot that holds 0 is free, so no party reads the other's index, and all slots serve. The words received are a
-/// prefix of the words stored. Once the receiver knows of more words than were stored at some point, all that the sender's
-/// hart had stored there has landed. Once more words are ready than were taken at some point and the queue has slots
-/// besides, all that the receiver's hart had stored there has landed. Where the receiver reads 0 in its slot, each word that
-/// has landed is taken; where the sender reads another word in its slot, each slot holds a word, except for the 0s that
-/// haven't landed. The run of `specs/FastForwardExample.antt` is such a run (`met`), and passes a word (`passes`). It does
-/// nothing.
-pub fn laws_of_fastforward_protocol()
-    ensures fifo { (B : ℕ) (r : RingBuffer) (o : OpeningValue) (before es : List Entry) → fastforward.FollowsFastForwardProtocol B r o before es
-        → IsPrefix (fastforward.protocol_after r fastforward.at_start es).received (fastforward.protocol_after r fastforward.at_start es).sent }
-    ensures publication { (B : ℕ) (r : RingBuffer) (o : OpeningValue) (before es fs : List Entry)
-        → fastforward.FollowsFastForwardProtocol B r o before (es ++ fs)
-        → (fastforward.protocol_after r fastforward.at_start es).stored
-        < fastforward.known_count (fastforward.protocol_after r fastforward.at_start (es ++ fs))
-        → length (stores r.sender (before ++ es)) < lands r.sender (before ++ (es ++ fs)) }
-    ensures reclamation { (B : ℕ) (r : RingBuffer) (o : OpeningValue) (before es fs : List Entry)
-        → fastforward.FollowsFastForwardProtocol B r o before (es ++ fs)
-        → (fastforward.protocol_after r fastforward.at_start es).taken + r.size
-        < fastforward.ready_count (fastforward.protocol_after r fastforward.at_start (es ++ fs))
-        → length (stores r.receiver (before ++ es)) < lands r.receiver (before ++ (es ++ fs)) }
-    ensures linearization_of_empty { (B : ℕ) (r : RingBuffer) (o : OpeningValue) (before es : List Entry) (e : Entry) (fs : List Entry)
-        → fastforward.FollowsFastForwardProtocol B r o before (es ++ e ∷ fs) → (u : ℕ) → hart_of e ≡ r.receiver
-        → access_of e ≡ load (r.slots + u) 4 0 → (fastforward.protocol_after r fastforward.at_start es).receiving ≡ fastforward.asked u
-        → (fastforward.protocol_after r fastforward.at_start es).stored
-        ≤ (fastforward.protocol_after r fastforward.at_start es).taken + length (writes_to r (pending r.sender (before ++ es))) }
-    ensures linearization_of_full { (B : ℕ) (r : RingBuffer) (o : OpeningValue) (before es : List Entry) (e : Entry) (fs : List Entry)
-        → fastforward.FollowsFastForwardProtocol B r o before (es ++ e ∷ fs) → (u v : ℕ) → hart_of e ≡ r.sender
-        → access_of e ≡ load (r.slots + u) 4 v → v ≢ 0 → (fastforward.protocol_after r fastforward.at_start es).sending ≡ placed u
-        → (fastforward.protocol_after r fastforward.at_start es).taken + r.size
-        ≤ (fastforward.protocol_after r fastforward.at_start es).stored + length (writes_to r (pending r.receiver (before ++ es))) }
-    ensures met { fastforward.FollowsFastForwardProtocol 4 fastforward_example.ring fastforward_example.opening [] fastforward_example.entries }
-    ensures passes { (fastforward.protocol_after fastforward_example.ring fastforward.at_start fastforward_example.entries).received ≡ 99 ∷ [] }
-{}
-
-/// Of every run in which one hart's code calls `try_send` and another's `try_receive` for a block, and each entry keeps
-/// what is owed. It does nothing.
+/// Of every run in which one hart's code calls the function that sends and another's the one that receives, of either
+/// kind, for a block, and each entry keeps what is owed. It does nothing.
 ///
 /// - `follows`: the run keeps the protocol.
 /// - `fifo`: where the sender is in no call, the words that receives returned are a prefix of those that sends sent.
 /// - `fifo_within`: at any point, that holds with the word in the sender's a1 after those that were sent.
-/// - `capacity`: where the receiver is in no call, fewer words than the queue has slots were sent and not returned.
-/// - `capacity_within`: at any point, at most as many as it has slots were.
+/// - `capacity`: where the receiver is in no call, at most as many words as the queue holds were sent and not returned:
+///   Lamport's holds a word less than it has slots, FastForward's as many.
+/// - `capacity_within`: at any point, at most one more was.
 /// - `publication`: once more words are returned than had been sent at a point where the sender was in no call, all that
 ///   its hart had stored at that point has landed.
 /// - `message_passing`: then every hart reads of a byte what the sender's hart read there, if no other hart had a pending
 ///   store over that byte, and nobody has written it since.
-/// - `reclamation` and `handing_back`: the same from the receiver to the sender, once as many words more are sent as the
-///   queue has slots than had been returned.
+/// - `reclamation` and `handing_back`: the same from the receiver to the sender, once more words are sent than had been
+///   returned and the queue holds besides.
 /// - `extends` and `fronts`: an entry more that owes nothing keeps the premises, and they hold up to each point.
 pub fn laws_of_calls()
     ensures follows { (B M : ℕ) (o : OpeningValue) (q : SpscQueue) (before es : List Entry) → UsesAsSpscQueue B M o q before es
@@ -170,9 +151,9 @@ pub fn laws_of_calls()
         → IsPrefix (received_words M o q before es) (sent_words M o q before es ++ slice_index s.registers 11 ∷ []) }
     ensures capacity { (B M : ℕ) (o : OpeningValue) (q : SpscQueue) (before es : List Entry) → UsesAsSpscQueue B M o q before es
         → is_receiver_in_call M o q before es ≡ false
-        → length (sent_words M o q before es) < length (received_words M o q before es) + q.block.size }
+        → length (sent_words M o q before es) ≤ length (received_words M o q before es) + capacity (buffer q) }
     ensures capacity_within { (B M : ℕ) (o : OpeningValue) (q : SpscQueue) (before es : List Entry) → UsesAsSpscQueue B M o q before es
-        → length (sent_words M o q before es) ≤ length (received_words M o q before es) + q.block.size }
+        → length (sent_words M o q before es) ≤ length (received_words M o q before es) + capacity (buffer q) + 1 }
     ensures publication { (B M : ℕ) (o : OpeningValue) (q : SpscQueue) (before es fs : List Entry) → UsesAsSpscQueue B M o q before (es ++ fs)
         → is_sender_in_call M o q before es ≡ false
         → length (sent_words M o q before es) < length (received_words M o q before (es ++ fs))
@@ -184,11 +165,11 @@ pub fn laws_of_calls()
         → read_byte o (before ++ (es ++ fs)) h x ≡ read_byte o (before ++ es) q.sender x }
     ensures reclamation { (B M : ℕ) (o : OpeningValue) (q : SpscQueue) (before es fs : List Entry) → UsesAsSpscQueue B M o q before (es ++ fs)
         → is_receiver_in_call M o q before es ≡ false
-        → length (received_words M o q before es) + q.block.size ≤ length (sent_words M o q before (es ++ fs))
+        → length (received_words M o q before es) + capacity (buffer q) < length (sent_words M o q before (es ++ fs))
         → length (stores q.receiver (before ++ es)) < lands q.receiver (before ++ (es ++ fs)) }
     ensures handing_back { (B M : ℕ) (o : OpeningValue) (q : SpscQueue) (before es fs : List Entry) → UsesAsSpscQueue B M o q before (es ++ fs)
         → is_receiver_in_call M o q before es ≡ false
-        → length (received_words M o q before es) + q.block.size ≤ length (sent_words M o q before (es ++ fs))
+        → length (received_words M o q before es) + capacity (buffer q) < length (sent_words M o q before (es ++ fs))
         → (h x : ℕ) → IsOnlyWriter q.receiver x (before ++ es) → AllLeaveByte x fs
         → read_byte o (before ++ (es ++ fs)) h x ≡ read_byte o (before ++ es) q.receiver x }
     ensures extends { (B M : ℕ) (o : OpeningValue) (q : SpscQueue) (before es : List Entry) (e : Entry) → UsesAsSpscQueue B M o q before es
@@ -198,7 +179,7 @@ pub fn laws_of_calls()
         → UsesAsSpscQueue B M o q before es }
 {}
 
-/// Of a run in which harts use several queues whose blocks don't meet: if an entry that a hart makes in no call at all
+/// Of a run in which harts use several queues, of either kind, whose blocks don't meet: if an entry that a hart makes in no call at all
 /// writes to none of the blocks, and calls pass their arguments, each queue is used as [`laws_of_calls`] asks. So it is
 /// known that a call for one queue stays off the others. It does nothing.
 #[tactic(auto, using(crate::proofs::ManyQueues::each_is_used))]
@@ -207,23 +188,25 @@ pub fn laws_of_many_queues()
         → UsesManyQueues B M o count queues before es → (i : ℕ) → i < count → UsesAsSpscQueue B M o (queues i) before es }
 {}
 
-/// Of one whole call in a run of which [`laws_of_calls`] speaks, from its entry to its return, whatever others execute meanwhile. It does nothing.
+/// Of one whole call in a run of which [`laws_of_calls`] speaks, from its entry to its return, whatever others execute
+/// meanwhile. It does nothing.
 ///
-/// - `send`: a call of `try_send` loads both indices. If the queue is full it returns a0 = 0; else it stores the word of
-///   its a1 into the slot, then the head, and returns a0 = 1. It goes back to ra, keeps all registers except x5, x6, x7 and
-///   a0, and makes at most 11 entries.
-/// - `receive`: a call of `try_receive` loads both indices. If the queue is empty it returns a0 = 0; else it loads the word
-///   into a1, stores the tail, and returns a0 = 1. The rest is as above, and a1 may change.
+/// - `send`: a call that sends loads the head, and then the tail (Lamport's) or the slot (FastForward's). If that says that
+///   the queue is full it returns a0 = 0; else it stores the word of its a1 into the slot, then the head, and returns a0 = 1.
+///   It goes back to ra, keeps all registers except x5, x6, x7 and a0, and makes at most 11 entries.
+/// - `receive`: a call that receives loads the tail, and then the head or the slot. If that says that the queue is empty it
+///   returns a0 = 0; else a1 is the word of the slot, into which FastForward's stores 0, it stores the tail and returns
+///   a0 = 1. The rest is as above, and a1 may change.
 /// - `sends` and `receives`: a call that returns 1 completes the word in a1, and one that returns 0 completes none.
 /// - `linearization_of_full` and `linearization_of_empty`: a call that returned 0 found the queue so at its second load,
 ///   as far as the partner's stores had landed.
 pub fn laws_of_one_call()
     ensures send { (B M : ℕ) (o : OpeningValue) (q : SpscQueue) (before done call : List Entry) (s z : HartState)
         → UsesAsSpscQueue B M o q before (done ++ call) → IsSend M o q before done call s z
-        → SendEffect (buffer q) s z (length (own q.sender call)) (accesses q.sender call) }
+        → SendEffect q.block.kind (buffer q) s z (length (own q.sender call)) (accesses q.sender call) }
     ensures receive { (B M : ℕ) (o : OpeningValue) (q : SpscQueue) (before done call : List Entry) (s z : HartState)
         → UsesAsSpscQueue B M o q before (done ++ call) → IsReceive M o q before done call s z
-        → ReceiveEffect (buffer q) s z (length (own q.receiver call)) (accesses q.receiver call) }
+        → ReceiveEffect q.block.kind (buffer q) s z (length (own q.receiver call)) (accesses q.receiver call) }
     ensures sends { (B M : ℕ) (o : OpeningValue) (q : SpscQueue) (before done call : List Entry) (s z : HartState)
         → UsesAsSpscQueue B M o q before (done ++ call) → IsSend M o q before done call s z
         → sent_words M o q before (done ++ call) ≡ sent_words M o q before done ++ completed_word z }
@@ -241,17 +224,17 @@ pub fn laws_of_one_call()
 /// What callers owe can be computed, and can be kept. It does nothing.
 ///
 /// - `decided`: where the computation over a run's entries says so, each entry keeps what is owed.
-/// - `computed`, `met`, `sent` and `received`: it says so of the run of `specs/Example.antt`, which so keeps all, and one
-///   word passes, by whole calls of both functions (`calls_send`, `calls_receive`).
+/// - `computed`, `met`, `sent` and `received`: it says so of the runs of `specs/Example.antt`, one of either kind, which so
+///   keep all, and one word passes, by whole calls of both functions (`calls_send`, `calls_receive`).
 pub fn laws_of_obligations()
     ensures decided { (M : ℕ) (o : OpeningValue) (q : SpscQueue) (before es : List Entry) → obligations_kept M o q before es ≡ true
         → (done : List Entry) (e : Entry) (more : List Entry) → es ≡ done ++ e ∷ more → CallerObligation M o q before done e }
-    ensures computed { obligations_kept 64 example.opening example.queue [] example.entries ≡ true }
-    ensures met { UsesAsSpscQueue 4 64 example.opening example.queue [] example.entries }
-    ensures calls_send { IsSend 64 example.opening example.queue [] example.before_send example.send (example.sender_after example.before_send)
-        (example.sender_after (example.before_send ++ example.send)) }
-    ensures calls_receive { IsReceive 64 example.opening example.queue [] example.before_receive example.receive
-        (example.receiver_after example.before_receive) (example.receiver_after (example.before_receive ++ example.receive)) }
-    ensures sent { sent_words 64 example.opening example.queue [] example.entries ≡ 99 ∷ [] }
-    ensures received { received_words 64 example.opening example.queue [] example.entries ≡ 99 ∷ [] }
+    ensures computed { (k : Kind) → obligations_kept 64 (example.opening k) (example.queue k) [] (example.entries k) ≡ true }
+    ensures met { (k : Kind) → UsesAsSpscQueue 4 64 (example.opening k) (example.queue k) [] (example.entries k) }
+    ensures calls_send { (k : Kind) → IsSend 64 (example.opening k) (example.queue k) [] example.before_send (example.send k)
+        (example.sender_after k example.before_send) (example.sender_after k (example.before_send ++ example.send k)) }
+    ensures calls_receive { (k : Kind) → IsReceive 64 (example.opening k) (example.queue k) [] (example.before_receive k) (example.receive k)
+        (example.receiver_after k (example.before_receive k)) (example.receiver_after k (example.before_receive k ++ example.receive k)) }
+    ensures sent { (k : Kind) → sent_words 64 (example.opening k) (example.queue k) [] (example.entries k) ≡ 99 ∷ [] }
+    ensures received { (k : Kind) → received_words 64 (example.opening k) (example.queue k) [] (example.entries k) ≡ 99 ∷ [] }
 {}

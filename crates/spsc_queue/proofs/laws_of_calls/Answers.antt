@@ -1,5 +1,6 @@
+use Rattle.std.proofs.Common.{[], sym, append-nil}
 use Rattle.spsc_queue.proofs.Calls.{calls_follow}
-use Rattle.spsc_queue.proofs.CallLaws.{fifo, fifo_within, always_capacity, capacity_at, publication, message_passing, reclamation, handing_back}
+use Rattle.spsc_queue.proofs.CallLaws.{fifo, fifo_within, always_capacity, idle_capacity, publication, message_passing, reclamation, handing_back}
 use Rattle.spsc_queue.proofs.Extend.{extends, fronts}
 use Rattle.spsc_queue.proofs.laws_of_calls.Goals as goal
 
@@ -13,10 +14,10 @@ pub returns-clause-fifo_within : goal.returns-clause-fifo_within
 returns-clause-fifo_within c = λ B M o q before es uses s at. fifo_within B M o q before es uses s at
 
 pub returns-clause-capacity : goal.returns-clause-capacity
-returns-clause-capacity c = λ B M o q before es uses idle. capacity_at B M o q before es uses idle
+returns-clause-capacity c = λ B M o q before es uses idle. idle_capacity B M o q before es uses es [] (sym (append-nil es)) idle
 
 pub returns-clause-capacity_within : goal.returns-clause-capacity_within
-returns-clause-capacity_within c = λ B M o q before es uses. always_capacity B M o q before es uses
+returns-clause-capacity_within c = λ B M o q before es uses. always_capacity B M o q before es uses es [] (sym (append-nil es))
 
 pub returns-clause-publication : goal.returns-clause-publication
 returns-clause-publication c = λ B M o q before es fs uses idle more. publication B M o q before es fs uses idle more

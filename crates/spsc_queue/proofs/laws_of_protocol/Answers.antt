@@ -1,6 +1,6 @@
 use Rattle.spsc_queue.proofs.Runs.{delivered}
 use Rattle.spsc_queue.proofs.Publication.{published, returned}
-use Rattle.spsc_queue.proofs.Linearization.{empty_landed, full_landed}
+use Rattle.spsc_queue.proofs.Linearization.{empty_landed, full_landed, room_landed}
 use Rattle.spsc_queue.proofs.laws_of_protocol.Goals as goal
 
 pub returns-clause-fifo : goal.returns-clause-fifo
@@ -13,7 +13,11 @@ pub returns-clause-reclamation : goal.returns-clause-reclamation
 returns-clause-reclamation c = λ B r o before es fs follows more. returned B r o before es fs follows more
 
 pub returns-clause-linearization_of_empty : goal.returns-clause-linearization_of_empty
-returns-clause-linearization_of_empty c = λ B r o before es e fs follows v mine does was. empty_landed B r o before es e fs follows v mine does was
+returns-clause-linearization_of_empty c =
+    λ B r o before es e fs follows u v mine does says was. empty_landed B r o before es e fs follows u v mine does says was
 
 pub returns-clause-linearization_of_full : goal.returns-clause-linearization_of_full
-returns-clause-linearization_of_full c = λ B r o before es e fs follows u mine does was. full_landed B r o before es e fs follows u mine does was
+returns-clause-linearization_of_full c = λ B r o before es e fs follows u v mine does says was. full_landed B r o before es e fs follows u v mine does says was
+
+pub returns-clause-room : goal.returns-clause-room
+returns-clause-room c = λ B r o before es follows kind. room_landed B r o before es follows kind

@@ -1,0 +1,201 @@
+-- Lines that several of the functions have: each leads to a line `to`, whose row is what the line makes of its own.
+use Rattle.std.proofs.Common.{ℕ, pos, ◌+◌, ◌*◌, ◌%◌, ◌^◌, ◌<◌, ◌≤◌, ◌≡◌, ◌≢◌, ◌⊎◌, inl, inr, true, false}
+use Rattle.std.proofs.Common.{List, [], ◌∷◌, ◌++◌, refl, sym, ◌∙◌, ap, subst, arith}
+use Rattle.std.specs.Prelude.{slice_index, slice_set}
+use Rattle.std.proofs.lemmas.Bool.{cases_eq}
+use Rattle.rv_decode.specs.Meaning.{reg_of}
+use Rattle.rv_decode.specs.declared.instruction.Reg.{Reg}
+use Rattle.rv_decode.specs.declared.instruction.BranchOp.TheVariants as branch
+use Rattle.rv_decode.specs.declared.instruction.ImmediateOp.TheVariants as immediate
+use Rattle.rv_decode.specs.declared.instruction.LoadOp.TheVariants as load_op
+use Rattle.rv_decode.specs.declared.instruction.StoreOp.TheVariants as store_op
+use Rattle.rv_decode.specs.declared.instruction.Instr.TheVariants.{Branch, Load, Store, Immediate}
+use Rattle.memory.specs.declared.writes.Write.{Write}
+use Rattle.memory.specs.Writes.{write}
+use Rattle.hart.specs.State.{HartState}
+use Rattle.hart.specs.Effects.{next_pc, address, read}
+use Rattle.hart.proofs.Instructions.{IsAt}
+use Rattle.step_machine.specs.Access.{nothing, load, store}
+use Rattle.spsc_queue.specs.RingBuffers.{Kind, RingBuffer, IsWordIn, next, overlaps}
+use Rattle.spsc_queue.specs.Protocol.{roomy, filled, ProtocolState, sends, next_by, room_at, says_full, IsWordAt, IsSendable, IsSenderStore}
+use Rattle.spsc_queue.specs.Calls.{Block, IsBlock, Party, the_sender, the_receiver, listing_of, ring_of}
+use Rattle.spsc_queue.specs.CallEffects.{send_accesses}
+use Rattle.spsc_queue.proofs.Lines.{word-plus, add_line, load_line, store_line, other_jumps, same_goes_on, goes_to, leaves_in}
+use Rattle.spsc_queue.proofs.Courses.{At, number, Equipped, Course, went, bytes_of}
+use Rattle.spsc_queue.proofs.Steps.{word_on}
+use Rattle.spsc_queue.proofs.Outline.{part, role, IsOffset, Near, index_at, ready, put, all_accesses, Fresh, Indexed}
+use Rattle.spsc_queue.proofs.Outline.{Ready, Half, Finished, Ended, Row, IsStore, Moves}
+use Rattle.spsc_queue.proofs.Outline.{Part, Stored}
+use Rattle.spsc_queue.proofs.Parts.{ready-offset, stored-offset, slot-sent}
+use Rattle.spsc_queue.proofs.AllLines.{to_line, loads_to, stores_to, on, over, wraps_not, wraps, to_indexed, ready_5, ready_on, to_half, to_finished}
+use Rattle.spsc_queue.proofs.AllLines.{to_answer_1, to_answer_0, sets_10, if_false}
+
+-- where a party's index lies in the block
+abbrev pub gap : Party → ℕ
+gap the_sender = 0
+gap the_receiver = 64
+
+index_is : (k : Block) (a b : ℕ) (p : Party) → index_at p (ring_of k a b) ≡ k.base + gap p
+index_is k a b the_sender = omega arith
+index_is k a b the_receiver = refl
+
+gap_low : (p : Party) → (gap p ≤ 64) × (gap p % 4 ≡ 0)
+gap_low the_sender = (omega arith, refl)
+gap_low the_receiver = (omega arith, refl)
+
+module _ (M n a b : ℕ) (p : Party) (K : Kind) (k : Block) (is : IsBlock M k) (h : ℕ) (s : HartState) (t : ProtocolState) (v : ℕ)
+    (has : Equipped M n (listing_of K p) s) (near : Near k (part p t)) (c : Course) (ws : List ℕ) (j : ℕ) (place : s.pc ≡ 4 * (n + j)) (below : j ≤ 11) where
+  abbrev r : RingBuffer
+  r = ring_of k a b
+
+  abbrev x : List ℕ
+  x = s.registers
+
+  -- the next line, and the one after it
+  ahead : (m : ℕ) → m ≡ j + 1 → next_pc s.pc ≡ 4 * (n + m)
+  ahead m is_next = on M n a b p K k is h s t v has c ws j place (omega (arith, below)) ∙ ap (λ i. 4 * (n + i)) (sym is_next)
+
+  beyond : (m : ℕ) → j ≤ 10 → m ≡ j + 2 → address s.pc (pos 8) ≡ 4 * (n + m)
+  beyond m low is_next = over M n a b p K k is h s t v has c ws j 2 place (omega (arith, low)) ∙ ap (λ i. 4 * (n + i)) (sym is_next)
+
+  module _ (to : At) where
+    -- lw x5,gap(x10)
+    pub index_loads : number to ≡ j + 1 → IsAt s (Load load_op.Word (reg_of 5) (reg_of 10) (pos (gap p))) → Fresh n p k c ws x (part p t)
+        → ((q : Indexed n p k r (went c (load (slice_index x 10 + gap p) 4 v)) 1 ws (slice_set x 5 v)
+        (part p (next_by K r (role p) t (load (slice_index x 10 + gap p) 4 v))))
+        → Row n p K k r (went c (load (slice_index x 10 + gap p) 4 v)) ws to (slice_set x 5 v)
+        (part p (next_by K r (role p) t (load (slice_index x 10 + gap p) 4 v)))) → Moves n p K k r true ws c h s t v
+    index_loads is_next here row so = loads_to M n a b p K k is h s t v has c ws to (slice_index x 10 + gap p) (reg_of 5)
+        (load_line here (omega (arith, row.frame.block, is.aligned)) (gap_low p).1
+        (omega (arith, row.frame.block, is.inside, has.words, (gap_low p).0)) (omega (arith, has.words, is.small)))
+        (ahead (number to) is_next) (so (to_indexed M n a b p K k is h s t v has c ws (slice_index x 10 + gap p)
+        (ap (λ y. y + gap p) row.frame.block ∙ sym (index_is k a b p)) row))
+
+    -- addi x5,x5,4
+    pub bumps : {m : ℕ} (seven : ℕ → ℕ) → number to ≡ j + 1 → IsAt s (Immediate immediate.Add (reg_of 5) (reg_of 5) (pos 4))
+        → Ready n p K k r c m ws x (part p t) (λ u. u) seven
+        → ((q : Ready n p K k r (went c nothing) (m + 1) ws (slice_set x 5 (slice_index x 5 + 4)) (part p t) (λ u. u + 4) seven)
+        → Row n p K k r (went c nothing) ws to (slice_set x 5 (slice_index x 5 + 4)) (part p t)) → Moves n p K k r true ws c h s t v
+    bumps seven is_next here row so =
+        let bound : IsOffset k row.place = ready-offset k p row.place (slice_index x 11) (part p t) row.knows near in
+        to_line M n a b p K k is h s t v has c ws to (leaves_in s (reg_of 5) (slice_index x 5 + 4))
+        (add_line here (word-plus (slice_index x 5) 4 (omega (arith, row.x5, bound.0, is.inside, is.small)))) (ahead (number to) is_next)
+        (so (ready_5 M n a b p K k is h s t v has c ws (λ u. u) seven (λ u. u + 4) (slice_index x 5 + 4) row (ap (λ q. q + 4) row.x5)))
+
+    -- addi x5,x0,0
+    pub zeroes : {m : ℕ} (seven : ℕ → ℕ) → number to ≡ j + 1 → IsAt s (Immediate immediate.Add (reg_of 5) (reg_of 0) (pos 0))
+        → Ready n p K k r c m ws x (part p t) (λ u. u + 4) seven → slice_index x 5 ≡ 4 * k.size
+        → ((q : Ready n p K k r (went c nothing) (m + 1) ws (slice_set x 5 0) (part p t) (λ u. next r u) seven)
+        → Row n p K k r (went c nothing) ws to (slice_set x 5 0) (part p t)) → Moves n p K k r true ws c h s t v
+    zeroes seven is_next here row full so = to_line M n a b p K k is h s t v has c ws to (leaves_in s (reg_of 5) 0)
+        (add_line here (word-plus (slice_index x 0) 0 (omega (arith, has.zero)) ∙ omega (arith, has.zero))) (ahead (number to) is_next)
+        (so (ready_5 M n a b p K k is h s t v has c ws (λ u. u + 4) seven (λ u. next r u) 0 row
+        (wraps M n a b p K k is h s t v has c ws row.place (sym row.x5 ∙ full))))
+
+    -- bne x5,x12,8: on to this line, or to the one after it
+    pub tests : {m : ℕ} (after : At) (seven : ℕ → ℕ) → j ≤ 10 → number to ≡ j + 1 → number after ≡ j + 2
+        → IsAt s (Branch branch.NotEqual (reg_of 5) (reg_of 12) (pos 8)) → Ready n p K k r c m ws x (part p t) (λ u. u + 4) seven
+        → (Ready n p K k r (went c nothing) (m + 1) ws x (part p t) (λ u. u + 4) seven × (slice_index x 5 ≡ 4 * k.size)
+        → Row n p K k r (went c nothing) ws to x (part p t))
+        → (Ready n p K k r (went c nothing) (m + 2) ws x (part p t) (λ u. next r u) seven → Row n p K k r (went c nothing) ws after x (part p t))
+        → Moves n p K k r true ws c h s t v
+    tests {m} after seven low is_next is_after here row so other_so = at (cases_eq (slice_index x 5) (slice_index x 12))
+      where
+        at : (slice_index x 5 ≡ slice_index x 12) ⊎ (slice_index x 5 ≢ slice_index x 12) → Moves n p K k r true ws c h s t v
+        at (inl equal) = to_line M n a b p K k is h s t v has c ws to (goes_to s (next_pc s.pc)) (same_goes_on here equal) (ahead (number to) is_next)
+            (so (ready_on M n a b p K k is h s t v has c ws (λ u. u + 4) seven (λ u. u + 4) (omega arith) row refl, equal ∙ bytes_of row.frame.left))
+        at (inr other) = to_line M n a b p K k is h s t v has c ws after (goes_to s (address s.pc (pos 8)))
+            (other_jumps here other (omega (arith, beyond (number after) low is_after))) (beyond (number after) low is_after)
+            (other_so (ready_on M n a b p K k is h s t v has c ws (λ u. u + 4) seven (λ u. next r u) (omega arith) row
+            (wraps_not M n a b p K k is h s t v has c ws row.place (λ e. other (row.x5 ∙ e ∙ sym (bytes_of row.frame.left))))))
+
+    -- sw of register `from` to the slot, 128 bytes after what register `rs` holds
+    pub slot_stores : {m : ℕ} (five seven : ℕ → ℕ) (rs from : Reg) (i : ℕ) → number to ≡ j + 1 → IsAt s (Store store_op.Word rs from (pos 128))
+        → (row : Ready n p K k r c m ws x (part p t) five seven) → read x rs ≡ k.base + row.place → read x from ≡ put p (slice_index x 11)
+        → slice_index x i ≡ next r row.place
+        → ((made : Write) → overlaps r made ≡ true → made ≡ write (r.slots + row.place) 4 (put p (slice_index x 11)) → IsStore p K r t made
+        × Stored p row.place (part p (next_by K r (role p) t (store made)))
+        × ((part p (next_by K r (role p) t (store made))).words ≡ (part p t).words ++ slice_index x 11 ∷ []))
+        → ((made : Write) → Half n p K k r (went c (store made)) (m + 1) i ws x (part p (next_by K r (role p) t (store made)))
+        → Row n p K k r (went c (store made)) ws to x (part p (next_by K r (role p) t (store made)))) → Moves n p K k r true ws c h s t v
+    slot_stores five seven rs from i is_next here row base value after makes so =
+        let u : ℕ = row.place in
+        let bound : IsOffset k u = ready-offset k p u (slice_index x 11) (part p t) row.knows near in
+        let made : Write = write (read x rs + 128) 4 (read x from) in
+        let is_made : made ≡ write (r.slots + u) 4 (put p (slice_index x 11)) =
+        ap (λ y. write y 4 (read x from)) (omega (arith, base)) ∙ ap (write (r.slots + u) 4) value in
+        let inside : IsWordIn r (r.slots + u) = record { above = omega arith; below = omega (arith, bound.0); aligned = omega (arith, is.aligned, bound.1) } in
+        let hits : overlaps r made ≡ true = word_on r made (r.slots + u) inside (record { place = omega (arith, base); width = refl }) in
+        let made_so = makes made hits is_made in
+        stores_to M n a b p K k is h s t v has c ws to (read x rs + 128) (read x from)
+        (store_line here (omega (arith, base, is.aligned, bound.1)) refl
+        (omega (arith, base, bound.0, is.inside, has.words)) (omega (arith, has.words, is.small)))
+        (ahead (number to) is_next) made_so.0 (so made (to_half M n a b p K k is h s t v has c ws made i five seven row is_made after made_so.1 made_so.2))
+
+    -- sw of register i to the index
+    pub index_stores : {m i : ℕ} (from : Reg) → number to ≡ j + 1 → IsAt s (Store store_op.Word (reg_of 10) from (pos (gap p)))
+        → (row : Half n p K k r c m i ws x (part p t)) → read x from ≡ slice_index x i
+        → ((made : Write) → IsWordAt made (index_at p r) → made.value ≡ next r row.place → IsStore p K r t made)
+        → ready p K r row.place row.seen (slice_index x 11) ++ store (write (r.slots + row.place) 4 (put p (slice_index x 11))) ∷
+        store (write (index_at p r) 4 (next r row.place)) ∷ [] ≡ all_accesses p K r (slice_index x 11) row.place row.seen
+        → ((made : Write) → Finished n p K k r (went c (store made)) (m + 1) (ws ++ slice_index x 11 ∷ []) x (part p (next_by K r (role p) t (store made))) 1
+        → Row n p K k r (went c (store made)) ws to x (part p (next_by K r (role p) t (store made)))) → Moves n p K k r true ws c h s t v
+    index_stores from is_next here row from_is rule whole so =
+        let bound : IsOffset k row.place = stored-offset k p row.place (part p t) row.knows near in
+        let made : Write = write (slice_index x 10 + gap p) 4 (read x from) in
+        let at : slice_index x 10 + gap p ≡ index_at p r = ap (λ y. y + gap p) row.frame.block ∙ sym (index_is k a b p) in
+        let value : read x from ≡ next r row.place = from_is ∙ row.after in
+        let word : IsWordAt made (index_at p r) = record { place = at; width = refl } in
+        let inside : IsWordIn r (index_at p r) = record {
+          above = omega (arith, index_is k a b p);
+          below = omega (arith, index_is k a b p, (gap_low p).0);
+          aligned = omega (arith, index_is k a b p, is.aligned, (gap_low p).1);
+        } in
+        stores_to M n a b p K k is h s t v has c ws to (slice_index x 10 + gap p) (read x from)
+        (store_line here (omega (arith, row.frame.block, is.aligned)) (gap_low p).1
+        (omega (arith, row.frame.block, is.inside, has.words, (gap_low p).0)) (omega (arith, has.words, is.small)))
+        (ahead (number to) is_next) (rule made word value)
+        (so made (to_finished M n a b p K k is h s t v has c ws made (word_on r made (index_at p r) inside word) row
+        (ap (λ y. write y 4 (read x from)) at ∙ ap (write (index_at p r) 4) value) bound whole))
+
+    -- addi x10,x0,1 and addi x10,x0,0
+    pub answers_1 : {m : ℕ} → number to ≡ j + 1 → IsAt s (Immediate immediate.Add (reg_of 10) (reg_of 0) (pos 1))
+        → Finished n p K k r c m (ws ++ slice_index x 11 ∷ []) x (part p t) 1
+        → (Ended n p K k r (went c nothing) (m + 1) (ws ++ slice_index (slice_set x 10 1) 11 ∷ []) (slice_set x 10 1) (part p t) 1
+        → Row n p K k r (went c nothing) ws to (slice_set x 10 1) (part p t)) → Moves n p K k r true ws c h s t v
+    answers_1 is_next here row so = to_line M n a b p K k is h s t v has c ws to (leaves_in s (reg_of 10) 1)
+        (sets_10 M n a b p K k is h s t v has c ws 1 (omega arith) here) (ahead (number to) is_next)
+        (so (to_answer_1 M n a b p K k is h s t v has c ws row))
+
+    pub answers_0 : {m : ℕ} → number to ≡ j + 1 → IsAt s (Immediate immediate.Add (reg_of 10) (reg_of 0) (pos 0)) → Finished n p K k r c m ws x (part p t) 0
+        → (Ended n p K k r (went c nothing) (m + 1) ws (slice_set x 10 0) (part p t) 0
+        → Row n p K k r (went c nothing) ws to (slice_set x 10 0) (part p t)) → Moves n p K k r true ws c h s t v
+    answers_0 is_next here row so = to_line M n a b p K k is h s t v has c ws to (leaves_in s (reg_of 10) 0)
+        (sets_10 M n a b p K k is h s t v has c ws 0 (omega arith) here) (ahead (number to) is_next)
+        (so (to_answer_0 M n a b p K k is h s t v has c ws row))
+
+-- ---- the sender's stores, of either kind
+
+module _ (K : Kind) (r : RingBuffer) (t : ProtocolState) (u : ℕ) where
+  pub sender_puts : (w : ℕ) → t.sending ≡ roomy u → w < 2 ^ 32 → IsSendable K w → (made : Write) → overlaps r made ≡ true → made ≡ write (r.slots + u) 4 w
+      → IsStore the_sender K r t made × Stored the_sender u (part the_sender (next_by K r sends t (store made)))
+      × ((part the_sender (next_by K r sends t (store made))).words ≡ t.sent ++ w ∷ [])
+  sender_puts w knows small some made hits is_made =
+      let becomes = slot-sent K r made hits t u knows in
+      let value : made.value ≡ w = ap (λ (y : Write). y.value) is_made in (
+        subst (λ q. IsSenderStore K r q made) (sym knows) (
+          record { place = ap (λ (y : Write). y.addr) is_made; width = ap (λ (y : Write). y.width) is_made },
+          subst (λ y. y < 2 ^ 32) (sym value) small,
+          subst (IsSendable K) (sym value) some,
+        ),
+        ap (λ (y : Part). y.sending) becomes,
+        ap (λ (y : Part). y.words) becomes ∙ ap (λ y. t.sent ++ y ∷ []) value,
+      )
+
+  pub sender_publishes : t.sending ≡ filled u → (made : Write) → IsWordAt made r.head → made.value ≡ next r u → IsStore the_sender K r t made
+  sender_publishes knows made word value = subst (λ q. IsSenderStore K r q made) (sym knows) (word, value)
+
+  pub send_whole : (v w : ℕ) → says_full K r u v ≡ false
+      → ready the_sender K r u v w ++ store (write (r.slots + u) 4 w) ∷ store (write r.head 4 (next r u)) ∷ [] ≡ send_accesses K r w u v
+  send_whole v w some = ap (λ ys. load r.head 4 u ∷ load (room_at K r u) 4 v ∷ ys)
+      (if_false (says_full K r u v) [] (store (write (r.slots + u) 4 w) ∷ store (write r.head 4 (next r u)) ∷ []) some)

@@ -1,0 +1,247 @@
+-- FastForward's functions, line by line: what each line does keeps the protocol, and leads to the next line of the outline.
+use Rattle.std.proofs.Common.{ℕ, pos, ◌+◌, ◌*◌, ◌%◌, ◌^◌, ◌<◌, ◌≤◌, ◌≡◌, ◌≢◌, ◌==◌, not, ◌⊎◌, inl, inr, true, false, if◌then◌else◌}
+use Rattle.std.proofs.Common.{List, [], ◌∷◌, ◌++◌, refl, sym, ◌∙◌, ap, subst, arith, append-nil}
+use Rattle.std.specs.Prelude.{slice_index}
+use Rattle.std.proofs.lemmas.Bool.{cases_eq, eq-eqb, ne_eqb}
+use Rattle.rv_decode.specs.Meaning.{reg_of}
+use Rattle.rv_decode.specs.declared.instruction.RegisterOp.TheVariants as register
+use Rattle.rv_decode.specs.declared.instruction.Instr.TheVariants.{Register}
+use Rattle.memory.specs.declared.writes.Write.{Write}
+use Rattle.memory.specs.Writes.{write}
+use Rattle.hart.specs.State.{HartState}
+use Rattle.hart.specs.Effects.{next_pc, address}
+use Rattle.hart.proofs.Instructions.{IsAt}
+use Rattle.step_machine.specs.Access.{nothing, load, store}
+use Rattle.spsc_queue.specs.RingBuffers.{fastforward, RingBuffer, next, overlaps}
+use Rattle.spsc_queue.specs.Protocol.{placed, roomy, asked, holding, ProtocolState, receives, next_by, IsSendable, IsReceiverStore}
+use Rattle.spsc_queue.specs.FastForward.{fastforward_send, fastforward_receive}
+use Rattle.spsc_queue.specs.Calls.{Block, IsBlock, Party, the_sender, the_receiver, listing_of, ring_of}
+use Rattle.spsc_queue.specs.CallEffects.{take_accesses, receive_accesses}
+use Rattle.spsc_queue.proofs.Lines.{sum_line, load_line, same_jumps, other_goes_on, other_jumps, same_goes_on, goes_to, leaves_in}
+use Rattle.spsc_queue.proofs.Registers.{set-same, set-other}
+use Rattle.spsc_queue.proofs.Courses.{At, at_00, at_04, at_08, at_0C, at_10, at_14, at_18, at_1C, at_20, at_24, at_28, at_2C, at_30, number, Equipped}
+use Rattle.spsc_queue.proofs.Courses.{Course, frame_on, free_6, free_11}
+use Rattle.spsc_queue.proofs.Outline.{Part, part, IsOffset, Near, Stored, IsStore, Row, Moves}
+use Rattle.spsc_queue.proofs.Parts.{slot-taken, knows-offset, looked-offset}
+use Rattle.spsc_queue.proofs.AllLines.{to_line, to_ready, loads_to, line_at, on, over, indexed_7, to_seen, to_no}
+use Rattle.spsc_queue.proofs.AllLines.{word_set, if_false, Answered, none, returns_1, returns_0}
+use Rattle.spsc_queue.proofs.CommonLines.{index_loads, bumps, zeroes, tests, slot_stores, index_stores, answers_1, answers_0, sender_puts, sender_publishes}
+use Rattle.spsc_queue.proofs.CommonLines.{send_whole}
+
+module _ (M n a b : ℕ) (k : Block) (is : IsBlock M k) (h : ℕ) (s : HartState) (t : ProtocolState) (v : ℕ) where
+  abbrev r : RingBuffer
+  r = ring_of k a b
+
+  abbrev x : List ℕ
+  x = s.registers
+
+  -- add x7,x10,x5
+  at-04 : (p : Party) (has : Equipped M n (listing_of fastforward p) s) → Near k (part p t) → (c : Course) (ws : List ℕ)
+      → IsAt s (Register register.Add (reg_of 7) (reg_of 10) (reg_of 5)) → s.pc ≡ 4 * (n + 1)
+      → Row n p fastforward k r c ws at_04 x (part p t) → Moves n p fastforward k r true ws c h s t v
+  at-04 p has near c ws here place row =
+      let bound : IsOffset k (slice_index x 5) = knows-offset k p (slice_index x 5) (part p t) row.knows near in
+      let sum : ℕ = slice_index x 10 + slice_index x 5 in
+      to_line M n a b p fastforward k is h s t v has c ws at_08 (leaves_in s (reg_of 7) sum)
+      (sum_line here (omega (arith, row.frame.block, bound.0, is.inside, is.small)))
+      (on M n a b p fastforward k is h s t v has c ws 1 place (omega arith)) (
+        indexed_7 M n a b p fastforward k is h s t v has c ws sum row,
+        set-same x 7 sum (omega (arith, has.size)) ∙ ap (λ q. q + slice_index x 5) row.frame.block
+            ∙ ap (λ q. k.base + q) (sym (set-other x 7 5 sum (λ e. omega arith))),
+      )
+
+  -- where x7 leads to the slot
+  slot_below : (p : Party) (has : Equipped M n (listing_of fastforward p) s) → Near k (part p t) → (c : Course) (ws : List ℕ)
+      → Row n p fastforward k r c ws at_08 x (part p t)
+      → (slice_index x 7 % 4 ≡ 0) × (slice_index x 7 + 128 < 4 * s.words) × (4 * s.words ≤ 2 ^ 32)
+  slot_below p has near c ws row =
+      let bound : IsOffset k (slice_index x 5) = knows-offset k p (slice_index x 5) (part p t) row.0.knows near in
+      (omega (arith, row.1, is.aligned, bound.1), omega (arith, row.1, bound.0, is.inside, has.words), omega (arith, has.words, is.small))
+
+  -- ---- fastforward_send
+
+  module _ (kind : k.kind ≡ fastforward) (has : Equipped M n fastforward_send s) (near : Near k (part the_sender t)) (c : Course) (ws : List ℕ) where
+    abbrev Sends : At → Type 0
+    Sends line = s.pc ≡ 4 * (n + number line) → Row n the_sender fastforward k r c ws line x (part the_sender t)
+        → Moves n the_sender fastforward k r true ws c h s t v
+
+    sends_08 : Sends at_08  -- lw x6,128(x7)
+    sends_08 place row =
+        let low = slot_below the_sender has near c ws row in
+        loads_to M n a b the_sender fastforward k is h s t v has c ws at_0C (slice_index x 7 + 128) (reg_of 6)
+        (load_line (line_at M n a b the_sender fastforward k is h s t v has c ws 2 place refl) low.0 refl low.1 low.2)
+        (on M n a b the_sender fastforward k is h s t v has c ws 2 place (omega arith)) (
+          to_seen M n a b the_sender fastforward k is h s t v has c ws (slice_index x 7 + 128) 6 free_6 (λ e. omega arith) (λ e. omega arith) (omega arith)
+              (word_set M n a b the_sender fastforward k is h s t v has c ws 6 v (λ e. omega arith) row.0.word)
+              (λ e. omega (arith, row.1)) (omega (arith, row.1)) row.0,
+          set-other x 6 7 v (λ e. omega arith) ∙ row.1 ∙ ap (λ q. k.base + q) (sym (set-other x 6 5 v (λ e. omega arith))),
+        )
+
+    sends_0C : Sends at_0C  -- bne x6,x0,2C
+    sends_0C place row = at (cases_eq (slice_index x 6) (slice_index x 0))
+      where
+        at : (slice_index x 6 ≡ slice_index x 0) ⊎ (slice_index x 6 ≢ slice_index x 0) → Moves n the_sender fastforward k r true ws c h s t v
+        at (inl equal) =
+            let some : not (slice_index x 6 == 0) ≡ false = ap not (eq-eqb (slice_index x 6) 0 (equal ∙ has.zero)) in
+            to_line M n a b the_sender fastforward k is h s t v has c ws at_10 (goes_to s (next_pc s.pc))
+            (same_goes_on (line_at M n a b the_sender fastforward k is h s t v has c ws 3 place refl) equal)
+            (on M n a b the_sender fastforward k is h s t v has c ws 3 place (omega arith))
+            (to_ready M n a b the_sender fastforward k is h s t v has c ws (λ u. k.base + u) some tt
+            (row.0.knows ∙ ap (λ q. if q then placed (slice_index x 5) else roomy (slice_index x 5)) some) row.1 refl row.0)
+        at (inr other) =
+            let full : not (slice_index x 6 == 0) ≡ true = ap not (ne_eqb (slice_index x 6) 0 (λ e. other (e ∙ sym has.zero))) in
+            to_line M n a b the_sender fastforward k is h s t v has c ws at_2C (goes_to s (address s.pc (pos 32)))
+            (other_jumps (line_at M n a b the_sender fastforward k is h s t v has c ws 3 place refl) other
+            (omega (arith, over M n a b the_sender fastforward k is h s t v has c ws 3 8 place (omega arith))))
+            (over M n a b the_sender fastforward k is h s t v has c ws 3 8 place (omega arith))
+            (to_no M n a b the_sender fastforward k is h s t v has c ws full tt
+            (looked-offset k the_sender fastforward r (slice_index x 5) (slice_index x 6) (part the_sender t) row.0.knows near) row.0)
+
+    pub sends_at : (line : At) → s.pc ≡ 4 * (n + number line) → Row n the_sender fastforward k r c ws line x (part the_sender t)
+        → Answered M n a b the_sender fastforward k is h s t v has c ws
+    sends_at line place row = at line place row
+      where
+        K : (line : At) → number line ≢ 10 → number line ≢ 12 → s.pc ≡ 4 * (n + number line) → Moves n the_sender fastforward k r true ws c h s t v
+            → Answered M n a b the_sender fastforward k is h s t v has c ws
+        K line ten twelve place moves = none M n a b the_sender fastforward k is h s t v has c ws line place ten twelve moves
+
+        at : (line : At) → s.pc ≡ 4 * (n + number line) → Row n the_sender fastforward k r c ws line x (part the_sender t)
+            → Answered M n a b the_sender fastforward k is h s t v has c ws
+        at at_00 place row = K at_00 (λ e. omega arith) (λ e. omega arith) place
+            (index_loads M n a b the_sender fastforward k is h s t v has near c ws 0 place (omega arith) at_04 refl
+            (line_at M n a b the_sender fastforward k is h s t v has c ws 0 place refl) row (λ q. q))
+        at at_04 place row = K at_04 (λ e. omega arith) (λ e. omega arith) place
+            (at-04 the_sender has near c ws (line_at M n a b the_sender fastforward k is h s t v has c ws 1 place refl) place row)
+        at at_08 place row = K at_08 (λ e. omega arith) (λ e. omega arith) place (sends_08 place row)
+        at at_0C place row = K at_0C (λ e. omega arith) (λ e. omega arith) place (sends_0C place row)
+        at at_10 place row = K at_10 (λ e. omega arith) (λ e. omega arith) place
+            (bumps M n a b the_sender fastforward k is h s t v has near c ws 4 place (omega arith) at_14 (λ u. k.base + u) refl
+            (line_at M n a b the_sender fastforward k is h s t v has c ws 4 place refl) row (λ q. q))
+        at at_14 place row = K at_14 (λ e. omega arith) (λ e. omega arith) place
+            (tests M n a b the_sender fastforward k is h s t v has near c ws 5 place (omega arith) at_18 at_1C (λ u. k.base + u) (omega arith) refl refl
+            (line_at M n a b the_sender fastforward k is h s t v has c ws 5 place refl) row (λ q. q) (λ q. q))
+        at at_18 place row = K at_18 (λ e. omega arith) (λ e. omega arith) place
+            (zeroes M n a b the_sender fastforward k is h s t v has near c ws 6 place (omega arith) at_1C (λ u. k.base + u) refl
+            (line_at M n a b the_sender fastforward k is h s t v has c ws 6 place refl) row.0 row.1 (λ q. q))
+        at at_1C place row = K at_1C (λ e. omega arith) (λ e. omega arith) place
+            (slot_stores M n a b the_sender fastforward k is h s t v has near c ws 7 place (omega arith) at_20 (λ u. next r u) (λ u. k.base + u)
+            (reg_of 7) (reg_of 11) 5 refl (line_at M n a b the_sender fastforward k is h s t v has c ws 7 place refl) row row.x7 refl row.x5
+            (sender_puts fastforward r t row.place (slice_index x 11) row.knows (omega (arith, row.word, row.frame.left.args.word))
+            (subst (IsSendable fastforward) (sym row.word)
+            (subst (λ q. IsSendable q (slice_index c.entry.registers 11)) kind row.frame.left.args.sendable)))
+            (λ made q. q))
+        at at_20 place row = K at_20 (λ e. omega arith) (λ e. omega arith) place
+            (index_stores M n a b the_sender fastforward k is h s t v has near c ws 8 place (omega arith) at_24 (reg_of 5) refl
+            (line_at M n a b the_sender fastforward k is h s t v has c ws 8 place refl) row refl
+            (sender_publishes fastforward r t row.place row.knows) (send_whole fastforward r t row.place row.seen (slice_index x 11) row.some) (λ made q. q))
+        at at_24 place row = K at_24 (λ e. omega arith) (λ e. omega arith) place
+            (answers_1 M n a b the_sender fastforward k is h s t v has near c ws 9 place (omega arith) at_28 refl
+            (line_at M n a b the_sender fastforward k is h s t v has c ws 9 place refl) row (λ q. q))
+        at at_28 place row = returns_1 M n a b the_sender fastforward k is h s t v has c ws (omega arith) place
+            (line_at M n a b the_sender fastforward k is h s t v has c ws 10 place refl) row
+        at at_2C place row = K at_2C (λ e. omega arith) (λ e. omega arith) place
+            (answers_0 M n a b the_sender fastforward k is h s t v has near c ws 11 place (omega arith) at_30 refl
+            (line_at M n a b the_sender fastforward k is h s t v has c ws 11 place refl) row (λ q. q))
+        at at_30 place row = returns_0 M n a b the_sender fastforward k is h s t v has c ws (omega arith) place
+            (line_at M n a b the_sender fastforward k is h s t v has c ws 12 place refl) row
+
+  -- ---- fastforward_receive
+
+  module _ (has : Equipped M n fastforward_receive s) (near : Near k (part the_receiver t)) (c : Course) (ws : List ℕ) where
+    abbrev Takes : At → Type 0
+    Takes line = s.pc ≡ 4 * (n + number line) → Row n the_receiver fastforward k r c ws line x (part the_receiver t)
+        → Moves n the_receiver fastforward k r true ws c h s t v
+
+    takes_08 : Takes at_08  -- lw x11,128(x7)
+    takes_08 place row =
+        let low = slot_below the_receiver has near c ws row in
+        loads_to M n a b the_receiver fastforward k is h s t v has c ws at_0C (slice_index x 7 + 128) (reg_of 11)
+        (load_line (line_at M n a b the_receiver fastforward k is h s t v has c ws 2 place refl) low.0 refl low.1 low.2)
+        (on M n a b the_receiver fastforward k is h s t v has c ws 2 place (omega arith)) (
+          to_seen M n a b the_receiver fastforward k is h s t v has c ws (slice_index x 7 + 128) 11 free_11 (λ e. omega arith) (λ e. omega arith) (omega arith)
+              tt (λ e. omega (arith, row.1)) (omega (arith, row.1)) row.0,
+          set-other x 11 7 v (λ e. omega arith) ∙ row.1 ∙ ap (λ q. k.base + q) (sym (set-other x 11 5 v (λ e. omega arith))),
+        )
+
+    takes_0C : Takes at_0C  -- beq x11,x0,2C
+    takes_0C place row = at (cases_eq (slice_index x 11) (slice_index x 0))
+      where
+        at : (slice_index x 11 ≡ slice_index x 0) ⊎ (slice_index x 11 ≢ slice_index x 0) → Moves n the_receiver fastforward k r true ws c h s t v
+        at (inl equal) =
+            to_line M n a b the_receiver fastforward k is h s t v has c ws at_2C (goes_to s (address s.pc (pos 32)))
+            (same_jumps (line_at M n a b the_receiver fastforward k is h s t v has c ws 3 place refl) equal
+            (omega (arith, over M n a b the_receiver fastforward k is h s t v has c ws 3 8 place (omega arith))))
+            (over M n a b the_receiver fastforward k is h s t v has c ws 3 8 place (omega arith))
+            (to_no M n a b the_receiver fastforward k is h s t v has c ws (eq-eqb (slice_index x 11) 0 (equal ∙ has.zero)) refl
+            (looked-offset k the_receiver fastforward r (slice_index x 5) (slice_index x 11) (part the_receiver t) row.0.knows near) row.0)
+        at (inr other) =
+            let some : (slice_index x 11 == 0) ≡ false = ne_eqb (slice_index x 11) 0 (λ e. other (e ∙ sym has.zero)) in
+            to_line M n a b the_receiver fastforward k is h s t v has c ws at_10 (goes_to s (next_pc s.pc))
+            (other_goes_on (line_at M n a b the_receiver fastforward k is h s t v has c ws 3 place refl) other)
+            (on M n a b the_receiver fastforward k is h s t v has c ws 3 place (omega arith))
+            (to_ready M n a b the_receiver fastforward k is h s t v has c ws (λ u. k.base + u) some refl
+            (row.0.knows ∙ ap (λ q. if q then asked (slice_index x 5) else holding (slice_index x 5) (slice_index x 11)) some) row.1 refl row.0)
+
+    -- the 0 goes to the slot, of which the word is taken
+    receiver_puts : (u w : ℕ) → t.receiving ≡ holding u w → (made : Write) → overlaps r made ≡ true → made ≡ write (r.slots + u) 4 0
+        → IsStore the_receiver fastforward r t made × Stored the_receiver u (part the_receiver (next_by fastforward r receives t (store made)))
+        × ((part the_receiver (next_by fastforward r receives t (store made))).words ≡ t.received ++ w ∷ [])
+    receiver_puts u w knows made hits is_made =
+        let becomes = slot-taken fastforward r made hits t u w knows in (
+          subst (λ q. IsReceiverStore fastforward r q made) (sym knows) (
+            record { place = ap (λ (y : Write). y.addr) is_made; width = ap (λ (y : Write). y.width) is_made },
+            ap (λ (y : Write). y.value) is_made,
+          ),
+          ap (λ (y : Part). y.receiving) becomes,
+          ap (λ (y : Part). y.words) becomes,
+        )
+
+    receive_whole : (u v w : ℕ) → (v == 0) ≡ false
+        → load r.tail 4 u ∷ load (r.slots + u) 4 v ∷ take_accesses fastforward r w u ≡ receive_accesses fastforward r w u v
+    receive_whole u v w some = ap (λ ys. load r.tail 4 u ∷ load (r.slots + u) 4 v ∷ ys) (if_false (v == 0) [] (take_accesses fastforward r w u) some)
+
+    pub takes_at : (line : At) → s.pc ≡ 4 * (n + number line) → Row n the_receiver fastforward k r c ws line x (part the_receiver t)
+        → Answered M n a b the_receiver fastforward k is h s t v has c ws
+    takes_at line place row = at line place row
+      where
+        K : (line : At) → number line ≢ 10 → number line ≢ 12 → s.pc ≡ 4 * (n + number line) → Moves n the_receiver fastforward k r true ws c h s t v
+            → Answered M n a b the_receiver fastforward k is h s t v has c ws
+        K line ten twelve place moves = none M n a b the_receiver fastforward k is h s t v has c ws line place ten twelve moves
+
+        at : (line : At) → s.pc ≡ 4 * (n + number line) → Row n the_receiver fastforward k r c ws line x (part the_receiver t)
+            → Answered M n a b the_receiver fastforward k is h s t v has c ws
+        at at_00 place row = K at_00 (λ e. omega arith) (λ e. omega arith) place
+            (index_loads M n a b the_receiver fastforward k is h s t v has near c ws 0 place (omega arith) at_04 refl
+            (line_at M n a b the_receiver fastforward k is h s t v has c ws 0 place refl) row (λ q. q))
+        at at_04 place row = K at_04 (λ e. omega arith) (λ e. omega arith) place
+            (at-04 the_receiver has near c ws (line_at M n a b the_receiver fastforward k is h s t v has c ws 1 place refl) place row)
+        at at_08 place row = K at_08 (λ e. omega arith) (λ e. omega arith) place (takes_08 place row)
+        at at_0C place row = K at_0C (λ e. omega arith) (λ e. omega arith) place (takes_0C place row)
+        at at_10 place row = K at_10 (λ e. omega arith) (λ e. omega arith) place
+            (bumps M n a b the_receiver fastforward k is h s t v has near c ws 4 place (omega arith) at_14 (λ u. k.base + u) refl
+            (line_at M n a b the_receiver fastforward k is h s t v has c ws 4 place refl) row (λ q. q))
+        at at_14 place row = K at_14 (λ e. omega arith) (λ e. omega arith) place
+            (tests M n a b the_receiver fastforward k is h s t v has near c ws 5 place (omega arith) at_18 at_1C (λ u. k.base + u) (omega arith) refl refl
+            (line_at M n a b the_receiver fastforward k is h s t v has c ws 5 place refl) row (λ q. q) (λ q. q))
+        at at_18 place row = K at_18 (λ e. omega arith) (λ e. omega arith) place
+            (zeroes M n a b the_receiver fastforward k is h s t v has near c ws 6 place (omega arith) at_1C (λ u. k.base + u) refl
+            (line_at M n a b the_receiver fastforward k is h s t v has c ws 6 place refl) row.0 row.1 (λ q. q))
+        at at_1C place row = K at_1C (λ e. omega arith) (λ e. omega arith) place
+            (slot_stores M n a b the_receiver fastforward k is h s t v has near c ws 7 place (omega arith) at_20 (λ u. next r u) (λ u. k.base + u)
+            (reg_of 7) (reg_of 0) 5 refl (line_at M n a b the_receiver fastforward k is h s t v has c ws 7 place refl) row row.x7 has.zero row.x5
+            (receiver_puts row.place (slice_index x 11) row.knows) (λ made q. q))
+        at at_20 place row = K at_20 (λ e. omega arith) (λ e. omega arith) place
+            (index_stores M n a b the_receiver fastforward k is h s t v has near c ws 8 place (omega arith) at_24 (reg_of 5) refl
+            (line_at M n a b the_receiver fastforward k is h s t v has c ws 8 place refl) row refl
+            (λ made word value. subst (λ q. IsReceiverStore fastforward r q made) (sym row.knows) (word, value))
+            (receive_whole row.place row.seen (slice_index x 11) row.some) (λ made q. q))
+        at at_24 place row = K at_24 (λ e. omega arith) (λ e. omega arith) place
+            (answers_1 M n a b the_receiver fastforward k is h s t v has near c ws 9 place (omega arith) at_28 refl
+            (line_at M n a b the_receiver fastforward k is h s t v has c ws 9 place refl) row (λ q. q))
+        at at_28 place row = returns_1 M n a b the_receiver fastforward k is h s t v has c ws (omega arith) place
+            (line_at M n a b the_receiver fastforward k is h s t v has c ws 10 place refl) row
+        at at_2C place row = K at_2C (λ e. omega arith) (λ e. omega arith) place
+            (answers_0 M n a b the_receiver fastforward k is h s t v has near c ws 11 place (omega arith) at_30 refl
+            (line_at M n a b the_receiver fastforward k is h s t v has c ws 11 place refl) row (λ q. q))
+        at at_30 place row = returns_0 M n a b the_receiver fastforward k is h s t v has c ws (omega arith) place
+            (line_at M n a b the_receiver fastforward k is h s t v has c ws 12 place refl) row

@@ -1,0 +1,321 @@
+-- One whole call: what it does, what it completes, and what it has found where it returns 0.
+use Rattle.std.proofs.Common.{ℕ, ◌+◌, ◌≡◌, ◌⊎◌, inl, inr, Bool, true, false, if◌then◌else◌}
+use Rattle.std.proofs.Common.{List, [], ◌∷◌, ◌++◌, length, Some, refl, sym, ◌∙◌, ap, subst, arith, append-nil, append_assoc}
+use Rattle.std.specs.Prelude.{slice_index}
+use Rattle.hart.specs.State.{HartState}
+use Rattle.hart.specs.Steps.{advanced}
+use Rattle.step_machine.specs.declared.events.Entry.{Entry}
+use Rattle.step_machine.specs.History.{OpeningValue, history_of}
+use Rattle.memory.specs.Writes.{write}
+use Rattle.step_machine.specs.Access.{Access, load, store, access_of}
+use Rattle.step_machine.specs.Entries.{hart_of, is_own, own}
+use Rattle.step_machine.specs.Paths.{value_of, state_of}
+use Rattle.spsc_queue.specs.RingBuffers.{Kind, RingBuffer, next}
+use Rattle.spsc_queue.specs.Protocol.{ProtocolState, at_start, role_of, next_by, protocol_next, protocol_after, room_at, says_full, word_at, says_empty}
+use Rattle.spsc_queue.specs.Calls.{Block, SpscQueue, Party, the_sender, the_receiver, party_hart, party_line, listing_of, buffer, is_in_call_with}
+use Rattle.spsc_queue.specs.Calls.{completed_by_entry, UsesAsSpscQueue}
+use Rattle.spsc_queue.specs.CallEffects.{IsWholeCall, IsSend, IsReceive, accesses, completed_word, take_accesses, FoundFull, FoundEmpty}
+use Rattle.spsc_queue.proofs.Runs.{protocol-append}
+use Rattle.spsc_queue.proofs.Courses.{at_00, Course}
+use Rattle.spsc_queue.proofs.Outline.{Part, part, role, Level, index_at, look_at, looked, says_no, Knows, Effect, Fresh}
+use Rattle.spsc_queue.proofs.Outline.{Row, Inside, Outside, CourseStands, Stands}
+use Rattle.spsc_queue.proofs.Parts.{first-load, load-words}
+use Rattle.spsc_queue.proofs.Functions.{is_fresh, begins}
+use Rattle.spsc_queue.proofs.OwnEntries.{own_parts, state_here, here_same, here_next}
+use Rattle.spsc_queue.proofs.Completed.{is_in_call-last, completed-last, none_completed, same_call, entered}
+use Rattle.spsc_queue.proofs.Parties.{is_busy, words, has_of, which, other_hart, Mine, Others, whose, not_mine}
+use Rattle.spsc_queue.proofs.Calls.{Stand, stands-at, here, was_here, course_stands, completes}
+use Rattle.spsc_queue.proofs.CallLaws.{finds_full, finds_empty}
+use Rattle.spsc_queue.proofs.Accesses.{First, first_access, off_silent, still, unmoved}
+use Rattle.spsc_queue.proofs.WholeCalls.{first_line, same_arguments, course, course_on, course_same, chose}
+
+carry : (n : ℕ) (p : Party) (K : Kind) (k : Block) (r : RingBuffer) {b b1 : Bool} {ws ws1 : List ℕ} {c c1 : Course} {s s1 : HartState} {t t1 : Part}
+    → b ≡ b1 → ws ≡ ws1 → c ≡ c1 → s ≡ s1 → t ≡ t1 → CourseStands n p K k r b ws c s t → CourseStands n p K k r b1 ws1 c1 s1 t1
+carry n p K k r {b} {b1} {ws} {ws1} {c} {c1} {s} {s1} {t} {t1} eb ew ec es et stands =
+    subst (λ y. CourseStands n p K k r b1 ws1 c1 s1 y) et (subst (λ y. CourseStands n p K k r b1 ws1 c1 y t) es
+    (subst (λ y. CourseStands n p K k r b1 ws1 y s t) ec (subst (λ y. CourseStands n p K k r b1 y c s t) ew
+    (subst (λ y. CourseStands n p K k r y ws c s t) eb stands))))
+
+-- a call that returns 0 looked, and saw that there is no room, or no word
+record Looks (p : Party) (K : Kind) (r : RingBuffer) (all : List Access) : Type 0 where
+  index : ℕ
+  seen : ℕ
+  did : all ≡ looked p K r index seen
+  says : says_no p K r index seen ≡ true
+
+looks_of : (p : Party) (K : Kind) (r : RingBuffer) (s z : HartState) (count : ℕ) (did : List Access) → Effect p K r s z count did
+    → slice_index z.registers 10 ≡ 0 → Looks p K r did
+looks_of the_sender K r s z count did f none =
+    let test = chose (says_full K r f.head f.seen) (slice_index z.registers 10) f.answer none in
+    record {
+      index = f.head;
+      seen = f.seen;
+      did = f.accesses ∙ ap (λ b. load r.head 4 f.head ∷ load (room_at K r f.head) 4 f.seen ∷ (if b then [] else
+          store (write (r.slots + f.head) 4 (slice_index s.registers 11)) ∷ store (write r.head 4 (next r f.head)) ∷ [])) test;
+      says = test;
+    }
+looks_of the_receiver K r s z count did f none =
+    let test = chose (says_empty K f.tail f.seen) (slice_index z.registers 10) f.answer none in
+    record {
+      index = f.tail;
+      seen = f.seen;
+      did = f.accesses ∙ ap (λ b. load r.tail 4 f.tail ∷ load (word_at K r f.tail) 4 f.seen ∷
+          (if b then [] else take_accesses K r (slice_index z.registers 11) f.tail)) test;
+      says = test;
+    }
+
+module _ (B M : ℕ) (o : OpeningValue) (q : SpscQueue) (before es : List Entry) (c : UsesAsSpscQueue B M o q before es) (done call rest : List Entry)
+    (is : es ≡ done ++ (call ++ rest)) (p : Party) (s z : HartState) (w : IsWholeCall M o (party_hart q p) (party_line q p) q.block before done call s z) where
+  abbrev h : ℕ
+  h = party_hart q p
+
+  abbrev n : ℕ
+  n = party_line q p
+
+  abbrev k : Block
+  k = q.block
+
+  abbrev K : Kind
+  K = q.block.kind
+
+  abbrev r : RingBuffer
+  r = buffer q
+
+  -- the hart's state, the party's part of the protocol's state, and whether it is in a call and its words, after these entries
+  abbrev state : List Entry → HartState
+  state xs = here B M o q before es c.shares p xs
+
+  abbrev protocol : List Entry → ProtocolState
+  protocol xs = protocol_after r at_start xs
+
+  abbrev busy_at : List Entry → Bool
+  busy_at xs = is_busy M o q p before xs
+
+  abbrev words_at : List Entry → List ℕ
+  words_at xs = words M o q p before xs
+
+  split : (part more : List Entry) → call ≡ part ++ more → es ≡ (done ++ part) ++ (more ++ rest)
+  split part more cut =
+      is ∙ ap (λ zs. done ++ (zs ++ rest)) cut ∙ ap (λ zs. done ++ zs) (append_assoc part more rest) ∙ sym (append_assoc done part (more ++ rest))
+
+  -- the call up to here, and the words that are completed
+  record So (here part_done : List Entry) : Type 0 where
+    stands : CourseStands n p K k r (busy_at here) (words_at here) (course h s part_done) (state here) (part p (protocol here))
+    words : busy_at here ≡ true → words_at here ≡ words_at done
+    over : busy_at here ≡ false → words_at here ≡ words_at done ++ completed_word (state here)
+
+  -- the state at the entry, in which nothing is loaded yet
+  same_state : state done ≡ s
+  same_state = let one : Some (state done) ≡ Some s = sym (was_here B M o q before es c.shares p done) ∙ w.entry in cc
+
+  fresh : (d : Course) × Fresh n p k d (words_at done) s.registers (part p (protocol done))
+  fresh =
+      let stand = stands-at B M o q before es c done (call ++ rest) is in
+      let inside : Stands n p K k r true (words_at done) s (part p (protocol done)) =
+      subst (λ b. Stands n p K k r b (words_at done) s (part p (protocol done))) w.begun (stand.stands p s w.entry) in
+      let first : inside.1.line ≡ at_00 = first_line inside.1.line (omega (arith, inside.1.place, (entered n k s w.enters).0)) in (
+        inside.0,
+        is_fresh n p K k r inside.0 (words_at done) s.registers (part p (protocol done))
+            (subst (λ l. Row n p K k r inside.0 (words_at done) l s.registers (part p (protocol done))) first inside.1.row),
+      )
+
+  starts : So done []
+  starts =
+      let f = fresh.1 in
+      record {
+        stands = carry n p K k r (sym w.begun) refl refl (sym same_state) refl
+            (begins n p K k r (words_at done) s (part p (protocol done)) w.enters
+            (same_arguments p n k fresh.0.entry s f.same f.frame.left.args) f.level f.words);
+        words = λ busy. refl;
+        over = λ idle. absurd (let no : true ≡ false = sym w.begun ∙ idle in cc);
+      }
+
+  module _ (now part_done : List Entry) (e : Entry) (more : List Entry) (there : es ≡ now ++ e ∷ more) (busy : busy_at now ≡ true) (so : So now part_done) where
+    stand_here : Stand B M o q before es c.shares now
+    stand_here = stands-at B M o q before es c now (e ∷ more) there
+
+    called : is_in_call_with M o h n k (busy_at now) (before ++ now) e ≡ busy_at (now ++ e ∷ [])
+    called = sym (is_in_call-last M o h n k false before now e)
+
+    worded : words_at now ++ completed_by_entry M o h n (busy_at now) (before ++ now) e ≡ words_at (now ++ e ∷ [])
+    worded = sym (completed-last M o h n k false before now e)
+
+    protocol_on : protocol_next r (protocol now) e ≡ protocol (now ++ e ∷ [])
+    protocol_on = sym (protocol-append r at_start now (e ∷ []))
+
+    placed_on : state_here M o h n (listing_of K p) (has_of c.shares p) ((before ++ now) ++ e ∷ []) ≡ state (now ++ e ∷ [])
+    placed_on = ap (state_here M o h n (listing_of K p) (has_of c.shares p)) (append_assoc before now (e ∷ []))
+
+    by_other : is_own h e ≡ false → So (now ++ e ∷ []) (part_done ++ e ∷ [])
+    by_other off =
+        let same : busy_at now ≡ busy_at (now ++ e ∷ []) = same_call M o h n k (busy_at now) (before ++ now) e off ∙ called in
+        let all : words_at now ≡ words_at (now ++ e ∷ []) = none_completed M o h n (busy_at now) (before ++ now) e (words_at now) off ∙ worded in
+        record {
+          stands = carry n p K k r same all (course_same h s part_done e off)
+              (here_same M o h n (listing_of K p) (has_of c.shares p) (before ++ now) e off ∙ placed_on)
+              (sym (still q p (protocol now) e (off_silent h e off [])) ∙ ap (part p) protocol_on) so.stands;
+          words = λ busy_still. sym all ∙ so.words busy;
+          over = λ idle. absurd (let no : true ≡ false = sym busy ∙ same ∙ idle in cc);
+        }
+
+    -- the party's own entry is of its role
+    own_role : is_own h e ≡ true → role_of r (hart_of e) ≡ role p
+    own_role on = at (whose q (hart_of e)) (which_mine on)
+      where
+        which_mine : is_own h e ≡ true → hart_of e ≡ h
+        which_mine on = (own_parts h e on).0
+
+        at : Mine q (hart_of e) ⊎ Others q (hart_of e) → hart_of e ≡ h → role_of r (hart_of e) ≡ role p
+        at (inl m) mine = elim (which m.party p) [
+          | inl same ↦ m.role ∙ ap role same
+          | inr other ↦ absurd (other_hart q c.shares.parties m.party p other (sym m.hart ∙ mine))
+        ]
+        at (inr m) mine = absurd (not_mine q m p mine)
+
+    by_own : is_own h e ≡ true → So (now ++ e ∷ []) (part_done ++ e ∷ [])
+    by_own on =
+        let own = own_parts h e on in
+        let was : state_of M (history_of o (before ++ now)) h ≡ Some (state now) = was_here B M o q before es c.shares p now in
+        let inside : Inside n p K k r (words_at now) (course h s part_done) (state now) (part p (protocol now)) =
+        subst (λ b. CourseStands n p K k r b (words_at now) (course h s part_done) (state now) (part p (protocol now))) busy so.stands in
+        let after : advanced (state now) (value_of e) ≡ state (now ++ e ∷ []) =
+        here_next M o h n (listing_of K p) (has_of c.shares p) (before ++ now) e own.0 own.1 ∙ placed_on in
+        let last : List ℕ = if busy_at (now ++ e ∷ []) then [] else completed_word (state (now ++ e ∷ [])) in
+        let ends : completed_by_entry M o h n (busy_at now) (before ++ now) e ≡ last =
+        completes B M o q before es c.shares now e more there stand_here p own.0 own.1 busy (state now) was (course h s part_done) inside
+        ∙ ap (λ b. if b then [] else completed_word (advanced (state now) (value_of e))) called
+        ∙ ap (λ y. if busy_at (now ++ e ∷ []) then [] else completed_word y) after in
+        let all : words_at (now ++ e ∷ []) ≡ words_at done ++ last =
+        sym worded ∙ ap (λ ws. words_at now ++ ws) ends ∙ ap (λ ws. ws ++ last) (so.words busy) in
+        record {
+          stands = carry n p K k r called worded (course_on h s part_done e on) after
+              (ap (λ g. part p (next_by K r g (protocol now) (access_of e))) (sym (own_role on)) ∙ ap (part p) protocol_on)
+              (course_stands B M o q before es c.shares now e more there stand_here p own.0 own.1 busy (state now) was (course h s part_done) inside);
+          words = λ busy_still. all ∙ ap (λ b. words_at done ++ (if b then [] else completed_word (state (now ++ e ∷ [])))) busy_still
+              ∙ append-nil (words_at done);
+          over = λ idle. all ∙ ap (λ b. words_at done ++ (if b then [] else completed_word (state (now ++ e ∷ [])))) idle;
+        }
+
+    one_on : So (now ++ e ∷ []) (part_done ++ e ∷ [])
+    one_on = at (is_own h e) refl
+      where
+        at : (b : Bool) → is_own h e ≡ b → So (now ++ e ∷ []) (part_done ++ e ∷ [])
+        at true on = by_own on
+        at false off = by_other off
+
+  go : (part next more : List Entry) → call ≡ part ++ (next ++ more) → So (done ++ part) part → So (done ++ (part ++ next)) (part ++ next)
+  go part [] more cut so = subst (λ zs. So (done ++ zs) zs) (sym (append-nil part)) so
+  go part (e ∷ next) more cut so =
+      let there : es ≡ (done ++ part) ++ e ∷ ((next ++ more) ++ rest) = split part (e ∷ (next ++ more)) cut in
+      let one = one_on (done ++ part) part e ((next ++ more) ++ rest) there (w.within part e (next ++ more) cut) so in
+      subst (λ zs. So (done ++ zs) zs) (append_assoc part (e ∷ []) next)
+      (go (part ++ e ∷ []) next more (cut ∙ sym (append_assoc part (e ∷ []) (next ++ more)))
+      (subst (λ zs. So zs (part ++ e ∷ [])) (append_assoc done part (e ∷ [])) one))
+
+  so_far : (part more : List Entry) → call ≡ part ++ more → So (done ++ part) part
+  so_far part more cut = go [] part more cut (subst (λ zs. So zs []) (sym (append-nil done)) starts)
+
+  at_end : So (done ++ call) call
+  at_end = so_far call [] (sym (append-nil call))
+
+  end_state : state (done ++ call) ≡ z
+  end_state = let one : Some (state (done ++ call)) ≡ Some z = sym (was_here B M o q before es c.shares p (done ++ call)) ∙ w.return in cc
+
+  pub effect_of : Effect p K r s z (length (own h call)) (accesses h call)
+  effect_of =
+      let outside : Outside p K r (words_at (done ++ call)) (course h s call) (state (done ++ call)) (part p (protocol (done ++ call))) =
+      subst (λ b. CourseStands n p K k r b (words_at (done ++ call)) (course h s call) (state (done ++ call)) (part p (protocol (done ++ call))))
+      w.over at_end.stands in
+      subst (λ y. Effect p K r s y (length (own h call)) (accesses h call)) end_state outside.effect
+
+  pub call_completes : words_at (done ++ call) ≡ words_at done ++ completed_word z
+  call_completes = at_end.over w.over ∙ ap (λ y. words_at done ++ completed_word y) end_state
+
+  -- where a call that returns 0 looked: the entry, what it loaded there, and the party's part of the protocol's state before it
+  record Found : Type 0 where
+    looks : Looks p K r (accesses h call)
+    part_done : List Entry
+    entry : Entry
+    more : List Entry
+    cut : call ≡ part_done ++ entry ∷ more
+    mine : is_own h entry ≡ true
+    loads : access_of entry ≡ load (look_at p K r looks.index) 4 looks.seen
+    knows : Knows p looks.index (part p (protocol (done ++ part_done)))
+    words : (part p (protocol (done ++ part_done))).words ≡ words_at (done ++ part_done)
+
+  found : slice_index z.registers 10 ≡ 0 → Found
+  found none =
+      let looks : Looks p K r (accesses h call) = looks_of p K r s z (length (own h call)) (accesses h call) effect_of none in
+      let u : ℕ = looks.index in
+      let f : First h call (load (index_at p r) 4 u) (load (look_at p K r u) 4 looks.seen ∷ []) =
+      first_access h call (load (index_at p r) 4 u) (load (look_at p K r u) 4 looks.seen ∷ []) looks.did in
+      let g : First h f.rest (load (look_at p K r u) 4 looks.seen) [] = first_access h f.rest (load (look_at p K r u) 4 looks.seen) [] f.others in
+      let front : List Entry = f.part ++ f.entry ∷ g.part in
+      let cut : call ≡ front ++ g.entry ∷ g.rest = f.is ∙ ap (λ zs. f.part ++ f.entry ∷ zs) g.is
+      ∙ sym (append_assoc f.part (f.entry ∷ g.part) (g.entry ∷ g.rest)) in
+      let first = fresh.1 in
+      let early : ProtocolState = protocol_after r (protocol done) f.part in
+      let same : part p early ≡ part p (protocol done) = unmoved q p (protocol done) f.part f.none in
+      let at_f : es ≡ (done ++ f.part) ++ f.entry ∷ (f.rest ++ rest) = split f.part (f.entry ∷ f.rest) f.is in
+      let so_f = so_far f.part (f.entry ∷ f.rest) f.is in
+      let loaded : part p (protocol_next r early f.entry) ≡ part p (next_by K r (role p) early (load (index_at p r) 4 u)) =
+      ap (λ g. part p (next_by K r g early (access_of f.entry)))
+      (own_role (done ++ f.part) f.part f.entry (f.rest ++ rest) at_f (w.within f.part f.entry f.rest f.is) so_f f.mine)
+      ∙ ap (λ x. part p (next_by K r (role p) early x)) f.does in
+      let now : part p (protocol (done ++ front)) ≡ part p (next_by K r (role p) early (load (index_at p r) 4 u)) =
+      ap (part p) (protocol-append r at_start done front ∙ protocol-append r (protocol done) f.part (f.entry ∷ g.part))
+      ∙ unmoved q p (protocol_next r early f.entry) g.part g.none ∙ loaded in
+      record {
+        looks = looks;
+        part_done = front;
+        entry = g.entry;
+        more = g.rest;
+        cut = cut;
+        mine = g.mine;
+        loads = g.does;
+        knows = subst (Knows p u) (sym now) (first-load K r p early (index_at p r) u (subst Level (sym same) first.level) refl);
+        words = ap (λ (t : Part). t.words) now ∙ load-words K r p early (index_at p r) u ∙ ap (λ (t : Part). t.words) same ∙ first.words
+            ∙ sym ((so_far front (g.entry ∷ g.rest) cut).words (w.within front g.entry g.rest cut));
+      }
+
+module _ (B M : ℕ) (o : OpeningValue) (q : SpscQueue) (before done call : List Entry)
+    (c : UsesAsSpscQueue B M o q before (done ++ call)) (s z : HartState) where
+  pub whole : done ++ call ≡ done ++ (call ++ [])
+  whole = ap (λ zs. done ++ zs) (sym (append-nil call))
+
+  uses_at : (part : List Entry) (e : Entry) (more : List Entry) → call ≡ part ++ e ∷ more → UsesAsSpscQueue B M o q before ((done ++ part) ++ e ∷ more)
+  uses_at part e more is = subst (UsesAsSpscQueue B M o q before) (ap (λ zs. done ++ zs) is ∙ sym (append_assoc done part (e ∷ more))) c
+
+  pub found_full : IsSend M o q before done call s z → slice_index z.registers 10 ≡ 0 → FoundFull M o q before done call
+  found_full w none =
+      let f = found B M o q before (done ++ call) c done call [] whole the_sender s z w none in
+      record {
+        part = f.part_done;
+        entry = f.entry;
+        rest = f.more;
+        offset = f.looks.index;
+        value = f.looks.seen;
+        is = f.cut;
+        mine = (own_parts q.sender f.entry f.mine).0;
+        loads = f.loads;
+        says = f.looks.says;
+        full = finds_full B M o q before (done ++ f.part_done) f.entry f.more (uses_at f.part_done f.entry f.more f.cut) f.looks.index f.looks.seen
+            (own_parts q.sender f.entry f.mine).0 f.loads f.looks.says f.knows f.words;
+      }
+
+  pub found_empty : IsReceive M o q before done call s z → slice_index z.registers 10 ≡ 0 → FoundEmpty M o q before done call
+  found_empty w none =
+      let f = found B M o q before (done ++ call) c done call [] whole the_receiver s z w none in
+      record {
+        part = f.part_done;
+        entry = f.entry;
+        rest = f.more;
+        offset = f.looks.index;
+        value = f.looks.seen;
+        is = f.cut;
+        mine = (own_parts q.receiver f.entry f.mine).0;
+        loads = f.loads;
+        says = f.looks.says;
+        empty = finds_empty B M o q before (done ++ f.part_done) f.entry f.more (uses_at f.part_done f.entry f.more f.cut) f.looks.index f.looks.seen
+            (own_parts q.receiver f.entry f.mine).0 f.loads f.looks.says f.knows f.words;
+      }

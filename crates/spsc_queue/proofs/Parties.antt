@@ -1,0 +1,60 @@
+-- The two parties of a queue: whose entry it is, and which function each has.
+use Rattle.std.proofs.Common.{ℕ, ◌≡◌, ◌≢◌, ◌⊎◌, inl, inr, Bool, List, refl, sym}
+use Rattle.step_machine.specs.declared.events.Entry.{Entry}
+use Rattle.step_machine.specs.History.{OpeningValue}
+use Rattle.spsc_queue.specs.Protocol.{passes, role_of}
+use Rattle.spsc_queue.specs.Calls.{SpscQueue, Party, the_sender, the_receiver, party_hart, party_line, listing_of, buffer, is_in_call, completed_words}
+use Rattle.spsc_queue.specs.Calls.{HasFunction, PartyOwes, CallerObligation, SharesQueue}
+use Rattle.spsc_queue.proofs.Landings.{role-cases}
+use Rattle.spsc_queue.proofs.Outline.{role}
+
+-- whether a party is in a call, and the words that its calls completed
+abbrev pub is_busy : (M : ℕ) → OpeningValue → SpscQueue → Party → (before es : List Entry) → Bool
+is_busy M o q p before es = is_in_call M o (party_hart q p) (party_line q p) q.block before es
+
+abbrev pub words : (M : ℕ) → OpeningValue → SpscQueue → Party → (before es : List Entry) → List ℕ
+words M o q p before es = completed_words M o (party_hart q p) (party_line q p) q.block before es
+
+pub has_of : {B M : ℕ} {o : OpeningValue} {q : SpscQueue} {before es : List Entry} → SharesQueue B M o q before es → (p : Party)
+    → HasFunction o (party_hart q p) (party_line q p) (listing_of q.block.kind p)
+has_of c the_sender = c.sends
+has_of c the_receiver = c.receives
+
+pub owed_of : {M : ℕ} {o : OpeningValue} {q : SpscQueue} {before done : List Entry} {e : Entry} → CallerObligation M o q before done e → (p : Party)
+    → PartyOwes M o q p before done e
+owed_of w the_sender = w.sender
+owed_of w the_receiver = w.receiver
+
+pub which : (p q : Party) → (p ≡ q) ⊎ (p ≢ q)
+which the_sender the_sender = inl refl
+which the_sender the_receiver = inr (λ e. cc)
+which the_receiver the_sender = inr (λ e. cc)
+which the_receiver the_receiver = inl refl
+
+module _ (q : SpscQueue) where
+  pub other_hart : q.sender ≢ q.receiver → (p p2 : Party) → p ≢ p2 → party_hart q p ≢ party_hart q p2
+  other_hart apart the_sender the_sender other = λ e. other refl
+  other_hart apart the_sender the_receiver other = apart
+  other_hart apart the_receiver the_sender other = λ e. apart (sym e)
+  other_hart apart the_receiver the_receiver other = λ e. other refl
+
+  pub record Mine (h : ℕ) : Type 0 where
+    pub party : Party
+    pub hart : h ≡ party_hart q party
+    pub role : role_of (buffer q) h ≡ role party
+
+  pub record Others (h : ℕ) : Type 0 where
+    pub not_sender : h ≢ q.sender
+    pub not_receiver : h ≢ q.receiver
+    pub role : role_of (buffer q) h ≡ passes
+
+  pub whose : (h : ℕ) → Mine h ⊎ Others h
+  whose h = elim (role-cases (buffer q) h) [
+    | inl is ↦ inl (record { party = the_sender; hart = is.0; role = is.1 })
+    | inr (inl is) ↦ inl (record { party = the_receiver; hart = is.1; role = is.2 })
+    | inr (inr is) ↦ inr (record { not_sender = is.0; not_receiver = is.1; role = is.2 })
+  ]
+
+  pub not_mine : {h : ℕ} → Others h → (p : Party) → h ≢ party_hart q p
+  not_mine is the_sender = is.not_sender
+  not_mine is the_receiver = is.not_receiver
