@@ -1,4 +1,6 @@
 -- Lemmas.
-pub mod Needed
-pub mod Parts
+pub mod LevelLaws
+pub mod RowLaws
+pub mod Shortest
 pub mod Ways
+pub mod Witnesses

@@ -69,6 +69,19 @@ all_arrived old new before after goes are =
       are,
     )
 
+-- it does so still after one more was met
+pub arrived_more : {B M : ℕ} {q : LitmusTest} {c : Config} (old new : List (List ℕ)) (before after : List Arrival) (arrival : Arrival) (found : Bool)
+    → length before ≡ length old → Meets B M q c old new before after arrival found → length after ≡ length new
+arrived_more old new before after arrival found are (inl known) =
+    ap (λ (xs : List Arrival). length xs) known.2 ∙ are ∙ ap (λ (ps : List (List ℕ)). length ps) (sym known.1.kept)
+arrived_more {c = c} old new before after arrival found are (inr gets) =
+    omega (
+      arith,
+      ap (λ (xs : List Arrival). length xs) gets.1 ∙ length-append before (arrival ∷ []),
+      ap (λ (ps : List (List ℕ)). length ps) gets.0.appended ∙ length-append old (packed c ∷ []),
+      are,
+    )
+
 -- the first state that is numbered is new
 pub first_met : {B M : ℕ} {q : LitmusTest} {c : Config} (old new : List (List ℕ)) (before after : List Arrival) (arrival : Arrival) (found : Bool)
     → length old ≡ 0 → Meets B M q c old new before after arrival found → ForEachHistory B M c (λ t. IsTrue found ↔ EndsAsWanted M q t)

@@ -11,12 +11,10 @@ use Rattle.litmus.specs.declared.verdict.Quantifier.{Quantifier}
 use Rattle.litmus.specs.declared.verdict.Quantifier.TheVariants.{Exists, NotExists, ForAll}
 use Rattle.recorder.specs.Writing.{canon}
 use Rattle.recorder.specs.declared.reading.TheConstants.{MAX_EVENTS}
-use Rattle.shrink.specs.Shrinking.{without}
 use Rattle.engine_support.specs.declared.fault.Refusal.{Refusal}
 use Rattle.engine_support.specs.Tests.{ByTest}
 use Rattle.finding.specs.declared.finds.Found.{Found}
 use Rattle.finding.specs.declared.finds.Found.TheVariants.{Shown, AllSeen, Cut}
-use Rattle.finding.specs.declared.shortening.TheConstants.{MOST_TRIED}
 
 -- What the condition is in the outcome that is looked for: the one that `exists` and `~exists` ask about makes it
 -- true, and the one that refutes `forall` makes it false.
@@ -41,11 +39,11 @@ pub record Shows (B M : ℕ) (test : LitmusTest) (events : List Event) : Type 0 
   pub ran : Run B M test.opening events history
   pub ends : EndsAsWanted M test history
 
--- these events show such an outcome, one event an entry, and of a list that isn't long no single event can be left out
+-- these events show such an outcome, one event an entry, and no schedule with fewer events does
 pub record IsWitness (B M : ℕ) (test : LitmusTest) (events : List Event) : Type 0 where
   pub shows : Shows B M test events
   pub each : events ≡ map event_of shows.history.entries
-  pub needed : length events ≤ MOST_TRIED → (i : ℕ) → i < length events → Shows B M test (without i 1 events) → ⊥
+  pub shortest : (fewer : List Event) → length fewer < length events → Shows B M test fewer → ⊥
 
 -- what a search saw when it was cut: as many states as it may, or at least as many as a schedule may have events
 abbrev pub IsCut : (limit states : ℕ) → Type 0

@@ -7,12 +7,11 @@ ghost use Rattle.step_machine.specs.Standing.{ForEachHistory};
 ghost use Rattle.engine_support.specs.Engines.{EndsBy};
 ghost use Rattle.engine_support.specs.inner.Making.{FindsByUpToReads, text_and_value};
 ghost use Rattle.finding.specs.declared.finds.Found.TheVariants.{AllSeen, Cut};
-ghost use Rattle.finding.specs.Find.{EndsAsWanted, IsFindAnswer, IsFound, IsWantedAt};
+ghost use Rattle.finding.specs.Find.{EndsAsWanted, IsFindAnswer, IsFound, IsWantedAt, Shows};
 ghost use Rattle.litmus.specs.declared.litmus_test.TheConstants.{MAX_LOCATIONS};
 
 use crate::progress::SearchProgress;
 use crate::searching::{Searched, search};
-use crate::shortening::shown_by;
 use engine_support::fault::Fault;
 use engine_support::litmus_text::read_test;
 use engine_support::output::end_with;
@@ -20,7 +19,8 @@ use litmus::{Test, Verdict};
 use recorder::write_schedule;
 use std::alloc::{AllocError, Global};
 use std::io::{Read, Write};
-use step_machine::MachineState;
+use step_machine::laws::laws_of_runs;
+use step_machine::{Event, Machine, MachineState};
 
 /// What a search came to.
 #[derive(Clone, Copy, PartialEq, Eq)]
@@ -51,7 +51,28 @@ pub(crate) fn ends_as_wanted<const B: usize, const M: usize>(
     }
 }
 
-/// The schedule of what a search hands over, where that shows what the test asks about, without events that it doesn't need.
+/// Whether the run of these events from the test's opening shows what the test asks about.
+fn is_shown_by<const B: usize, const M: usize>(
+    alloc: Global,
+    test: &Test,
+    events: &[Event],
+) -> Result<bool, AllocError>
+    requires some_capacity { 1 ≤ B }
+    requires capacity { B ≤ 64 }
+    requires words { MAX_LOCATIONS ≤ M }
+    requires size { M ≤ 65536 }
+    ensures { IfOk result (λ shown. IsTrue shown ↔ Shows B M test.now events.now) }
+{
+    laws_of_runs();
+    let opening = test.opening(alloc)?;
+    let mut machine: Machine<B, M> = Machine::open(alloc, opening)?;
+    match machine.run(events) {
+        Ok(()) => Ok(ends_as_wanted(test, machine.machine_state())),
+        Err((_, error)) => Err(error),
+    }
+}
+
+/// The schedule of what a search hands over, if that shows what the test asks about.
 fn answer<const B: usize, const M: usize, P: SearchProgress>(
     alloc: Global,
     test: &Test,
@@ -74,8 +95,8 @@ fn answer<const B: usize, const M: usize, P: SearchProgress>(
     } = searched?;
     if let Some(way) = way {
         // a search that is right hands over nothing else than what shows it
-        if let Some(events) = shown_by::<B, M>(alloc, test, &way)? {
-            let text = write_schedule(alloc, &events)?;
+        if is_shown_by::<B, M>(alloc, test, &way)? {
+            let text = write_schedule(alloc, &way)?;
             return Ok((text, Found::Shown));
         }
     }
@@ -116,9 +137,9 @@ fn made<const B: usize, const M: usize, R: Read, P: SearchProgress>(
 /// with store buffers of `B` pairs and `M` words of memory, for one in which a run is finished and the test's
 /// condition true, or with `forall` false. It sees at most `states` distinct states.
 ///
-/// Where it finds one it writes the canonical schedule of events that lead there; of at most 1,024 none can be left
-/// out. Else it writes nothing, and answers how many states it saw, and whether these are
-/// all or it was cut: that the outcome is impossible isn't said.
+/// If it finds one it writes the canonical schedule of events that lead there, and no schedule with fewer events does. Else
+/// it writes nothing, and answers how many states it saw, and whether these are all or it was cut: that the outcome is
+/// impossible isn't said.
 /// The progress learns how far the search is, and that it ended; the answer doesn't depend on it.
 ///
 /// The input is refused as `run` refuses it, and then nothing was written.

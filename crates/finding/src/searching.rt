@@ -1,14 +1,21 @@
 //! The search: breadth first over the machine's states, so that it comes to each by as few events as lead there.
 //!
-//! It is proved safe and to end. What it finds is checked by whoever gets it.
+//! It is proved that fewer events than it hands over lead to no outcome that is looked for. What it finds is checked by
+//! whoever gets it.
 
-ghost use Rattle.std.specs.Prelude.{◌≡◌, ◌≤◌, ◌<◌, ◌+◌, ◌↔◌, IsTrue, IfOk, length};
+ghost use Rattle.std.specs.Prelude.{◌≡◌, ◌≤◌, ◌<◌, ◌+◌, ◌↔◌, false, IsTrue, List, IfOk, IfSome, length};
 ghost use Rattle.recorder.specs.Schedule.{OfHarts};
 ghost use Rattle.step_machine.specs.History.{at_opening};
+ghost use Rattle.step_machine.specs.declared.events.Event.{Event};
+ghost use Rattle.step_machine.specs.Positions.{AreOfOneOpening, IsSoundMachine, packed, position_of};
 ghost use Rattle.step_machine.specs.Standing.{ForEachHistory};
+ghost use Rattle.step_machine.specs.inner.Config.{Config};
 ghost use Rattle.step_machine.specs.declared.opening.TheConstants.{MAX_HARTS};
 ghost use Rattle.litmus.specs.declared.litmus_test.TheConstants.{MAX_LOCATIONS};
+ghost use Rattle.finding.specs.Find.{Shows};
 ghost use Rattle.finding.specs.inner.Arriving.{BeginsAt, GoesOn, IsNewest, IsWithin, Meets, events_with};
+ghost use Rattle.finding.specs.inner.Levels.{AreFewestFor};
+ghost use Rattle.finding.specs.inner.Rows.{GoesFrom, HasTried};
 
 use crate::arrivals::Arrival;
 use crate::finds::ends_as_wanted;
@@ -92,6 +99,7 @@ fn meet<const B: usize, const M: usize, P: SearchProgress>(
     ensures kept { length states.old ≤ length states.new }
     ensures next { length states.new ≤ length states.old + 1 }
     ensures some { IfOk result (λ _. 1 ≤ length states.new) }
+    ensures sound { IfOk result (λ _. IsSoundMachine B M machine.now) }
 {
     let met = states.len();
     if states.number(machine)? < met {
@@ -102,6 +110,22 @@ fn meet<const B: usize, const M: usize, P: SearchProgress>(
         report_stops(machine, progress);
     }
     Ok(ends_as_wanted(test, machine))
+}
+
+/// Puts the machine where these words say, if it doesn't stand there.
+fn stand_at<const B: usize, const M: usize>(
+    machine: &mut MachineState<B, M>,
+    words: &[u32],
+    is_there: bool,
+)
+    ensures there { (d : Config) → AreOfOneOpening machine.old d → IsSoundMachine B M d → words.now ≡ packed d
+        → (IsTrue is_there → position_of machine.old ≡ position_of d) → position_of machine.new ≡ position_of d }
+    ensures opening { AreOfOneOpening machine.old machine.new }
+    ensures harts { length machine.new.harts ≡ length machine.old.harts }
+{
+    if !is_there {
+        machine.unpack(words);
+    }
 }
 
 /// Goes on from a state, whose position has these words, by each event, until there are `limit` states, and answers
@@ -126,16 +150,19 @@ fn go_on<const B: usize, const M: usize, P: SearchProgress>(
     ensures few { length states.new ≤ limit }
     ensures met { IfOk result (λ found. GoesOn from events.now states.old states.new arrivals.old.items arrivals.new.items) }
     ensures found { IfOk result (λ found. IsTrue found → IsNewest B M test.now machine.new states.new) }
+    ensures room { IfOk result (λ found. IsTrue found → length states.old < limit) }
+    ensures opening { AreOfOneOpening machine.old machine.new }
+    ensures tried { IfOk result (λ found. found ≡ false → length states.new < limit
+        → (c : Config) → (at : GoesFrom B M c machine.old states.old words.now)
+        → HasTried B M test.now c (position_of at.here.machine) events.now states.old states.new) }
 {
     let mut is_there = false;
     for event in events {
         if states.len() >= limit as usize {
             return Ok(false);
         }
-        if !is_there {
-            machine.unpack(words);
-            is_there = true;
-        }
+        stand_at(machine, words, is_there);
+        is_there = true;
         if let Outcome::Did(_) = machine.step(*event)? {
             is_there = false;
             let arrival = Arrival::new(from, *event);
@@ -159,11 +186,13 @@ fn search_from<const B: usize, const M: usize, P: SearchProgress>(
 ) -> Result<Searched, AllocError>
     requires harts { length machine.old.harts ≡ length test.now.opening.harts }
     requires names { length test.now.names ≤ M }
+    requires few_harts { length machine.old.harts ≤ MAX_HARTS }
     requires none { length states.old ≡ 0 }
     requires some_states { 1 ≤ limit }
     ensures within { IfOk result (IsWithin limit) }
     ensures count { IfOk result (λ searched. searched.states ≡ length states.new) }
     ensures opening { IfOk result (λ searched. ForEachHistory B M machine.old (BeginsAt M test.now searched)) }
+    ensures fewest { IfOk result (λ searched. IfSome searched.way (λ way. AreFewestFor B test.now (position_of machine.old) (length way.items))) }
 {
     let events = events_of(alloc, machine.harts())?;
     let mut arrivals = Vec::new(alloc);
@@ -222,9 +251,11 @@ fn search_machine<const B: usize, const M: usize, P: SearchProgress>(
 ) -> Result<Searched, AllocError>
     requires harts { length machine.old.harts ≡ length test.now.opening.harts }
     requires names { length test.now.names ≤ M }
+    requires few_harts { length machine.old.harts ≤ MAX_HARTS }
     requires some_states { 1 ≤ limit }
     ensures within { IfOk result (IsWithin limit) }
     ensures opening { IfOk result (λ searched. ForEachHistory B M machine.old (BeginsAt M test.now searched)) }
+    ensures fewest { IfOk result (λ searched. IfSome searched.way (λ way. AreFewestFor B test.now (position_of machine.old) (length way.items))) }
 {
     let mut states = States::new(alloc, machine)?;
     search_from(alloc, test, machine, &mut states, limit, progress)
@@ -243,6 +274,8 @@ pub fn search<const B: usize, const M: usize, P: SearchProgress>(
     requires some_states { 1 ≤ limit }
     ensures within { IfOk result (IsWithin limit) }
     ensures opening { IfOk result (λ searched. BeginsAt M test.now searched (at_opening test.now.opening)) }
+    ensures shortest { IfOk result (λ searched. IfSome searched.way (λ way. (fewer : List Event) → length fewer < length way.items
+        → Shows B M test.now fewer → ⊥)) }
 {
     let opening = test.opening(alloc)?;
     let mut machine = MachineState::<B, M>::open(alloc, &opening)?;

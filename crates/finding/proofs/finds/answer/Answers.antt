@@ -1,18 +1,18 @@
-use Rattle.std.proofs.Common.{◌≤◌, List, length, subst, sym}
+use Rattle.std.proofs.Common.{◌≡◌, ◌∙◌, List, Some, ap, subst, rules}
+use Rattle.std.specs.Prelude.{IsTrue}
 use Rattle.step_machine.specs.declared.events.Event.{Event}
-use Rattle.recorder.specs.Schedule.{OfHarts}
-use Rattle.recorder.specs.declared.reading.TheConstants.{MAX_EVENTS}
-use Rattle.finding.proofs.Needed.{within_limits}
+use Rattle.recorder.specs.Writing.{canon}
+use Rattle.finding.specs.Find.{Shows}
+use Rattle.finding.proofs.Witnesses.{witness_of}
 use Rattle.finding.proofs.finds.answer.Goals as goal
 
-pub write_schedule-requires-clause-harts : goal.write_schedule-requires-clause-harts
-write_schedule-requires-clause-harts g c =
-    subst (λ (es : List Event). OfHarts es) (sym c.deref-in-Some-2.ensures.value)
-    (within_limits c.args.states c.in_ok-states.field-0 c.in-Some.way c.deref.result.now c.in-Some-2.events.items
-    c.in_ok-states.ensures.within (cc) c.deref.ensures.value (rw c.in-Some-2.is at c.in_ok-events.ensures.part)).0
-
-pub write_schedule-requires-clause-few : goal.write_schedule-requires-clause-few
-write_schedule-requires-clause-few g c =
-    subst (λ (es : List Event). length es ≤ MAX_EVENTS) (sym c.deref-in-Some-2.ensures.value)
-    (within_limits c.args.states c.in_ok-states.field-0 c.in-Some.way c.deref.result.now c.in-Some-2.events.items
-    c.in_ok-states.ensures.within (cc) c.deref.ensures.value (rw c.in-Some-2.is at c.in_ok-events.ensures.part)).1
+pub returns-then-branch : goal.returns-then-branch
+returns-then-branch g c =
+    let events = c.in-Some.way.items in
+    let handed : c.in_ok-states.field-0.way ≡ Some c.in-Some.way = cc in
+    let shown : IsTrue c.in_ok-is_shown_by.field-0 = search rules in
+    let shows = subst (λ (es : List Event). Shows g.row.B g.row.M c.args.test.now es) c.deref.ensures.value (c.in_ok-is_shown_by.ensures.0 shown) in (
+      events,
+      witness_of g.row.B g.row.M c.args.test.now events shows (rw handed at c.in_ok-states.ensures.shortest),
+      c.in_ok-text.ensures.canonical ∙ ap canon c.deref-then-branch.ensures.value,
+    )

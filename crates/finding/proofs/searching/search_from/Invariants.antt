@@ -1,4 +1,6 @@
-use Rattle.std.proofs.Common.{◌≡◌, ◌≤◌, length}
+use Rattle.std.proofs.Common.{◌≡◌, ◌≤◌, ◌<◌, length}
+use Rattle.step_machine.specs.Positions.{AreOfOneOpening}
+use Rattle.finding.specs.inner.Rows.{HasNumbered}
 use Rattle.finding.proofs.searching.search_from.Given as goal
 
 abbrev pub invariant-loop-from : goal.invariant-loop-from
@@ -8,4 +10,7 @@ invariant-loop-from g l = record {
   few : length l.states ≤ l.limit;
   depth : l.depth ≤ l.from;
   arrivals : length l.arrivals.items ≡ length l.states;
+  opening : AreOfOneOpening l.fn.machine l.machine;
+  level : l.from ≤ l.level_end;
+  numbered : length l.states < l.limit → HasNumbered g.row.B g.row.M l.test l.fn.machine l.states l.from l.level_end l.depth;
 }
