@@ -6,9 +6,9 @@ from crates import TOP
 
 FILE = TOP / "scripts/costs.tsv"
 KINDS = ("proof", "tests", "mutants")
-# by how much a crate's proof may become dearer, and how many seconds it must be at least
-DEARER, SECONDS = 1.2, 10
-# from so many crates on their middle ratio is that of two machines, and not of what became dearer
+# by how much a crate's proof may become slower, and how many seconds it must be at least
+SLOWER, SECONDS = 1.2, 10
+# from so many crates on their middle ratio is that of two machines, and not of what became slower
 MACHINES = 10
 
 
@@ -39,7 +39,7 @@ class Costs:
         return self.seconds.get(name, {}).get("proof") or (median(known) if known else 100)
 
     def chain(self, name, among):
-        """The costs of a crate and of the dearest chain of crates above it."""
+        """The costs of a crate and of the longest chain of crates above it."""
         above = [other for other in among if name in self.crates.uses[other]]
         return self.proof(name) + max((self.chain(other, among) for other in above), default=0)
 
@@ -64,7 +64,7 @@ class Costs:
         ratios = [self.seconds[name]["proof"] / other.seconds[name]["proof"] for name in self.both(other)]
         return median(ratios) if len(ratios) >= MACHINES else 1
 
-    def dearer(self, other):
-        """The crates whose proofs became dearer than in `other`, with both numbers, after the machines' ratio."""
+    def slower(self, other):
+        """The crates whose proofs became slower than in `other`, with both numbers, after the machines' ratio."""
         rows = [(name, other.seconds[name]["proof"] * self.ratio(other), self.seconds[name]["proof"]) for name in self.both(other)]
-        return [(name, round(was), now) for name, was, now in rows if now > DEARER * was and now > was + SECONDS]
+        return [(name, round(was), now) for name, was, now in rows if now > SLOWER * was and now > was + SECONDS]

@@ -1,5 +1,5 @@
 """Runs channels by drawn schedules, and checks that what the receiver reports is clean, by its own
-definition of clean: of each sender a prefix of its list, the whole of it where it is reported closed,
+definition of clean: of each sender a prefix of its list, the whole of it if it is reported closed,
 and nothing more of it then. It knows no ring and no machine.
 
 tests/rings drawn [--finish] [--seed S] [--count N] [--jobs J] [--kind KIND ..] [PROGRAM]
@@ -11,7 +11,7 @@ whose reports aren't clean is printed with all that it was given. The last lines
 reported.
 
 With --finish each run is made twice, the second time with the program's own --finish. Then that has to
-report what the first one did, and go on until each list is taken whole and every sender is closed; where
+report what the first one did, and go on until each list is taken whole and every sender is closed; if
 the first run reported that already, nothing more.
 """
 

@@ -6,13 +6,13 @@ PROGRAM is the one that ./ztso runs unless it is named. Each line of examples/ri
 programs are those of examples/rings with a line or two changed by chance, by the seed S (1). Each is run with one job and
 with three:
 
-- Where the runs are clean, the program has to print what the reference prints.
-- Where one isn't, the schedule that it prints isn't the only right one. So it has to be a part of the earliest unclean
+- If the runs are clean, the program has to print what the reference prints.
+- If one isn't, the schedule that it prints isn't the only right one. So it has to be a part of the earliest unclean
   run by the reference, in canonical form, and no longer than its line allows; it has to run to the breach that is
   printed with it; without any one of its events nothing may be breached; and `ztso channel own` has to take it, and
   report what the reference reports.
 
-- Where a changed program is refused, the fault has to be the reference's.
+- If a changed program is refused, the fault has to be the reference's.
 
 Then each ring of docs/channels.md is run N times (100,000; 0 leaves it out), 400 events each, which has to be clean. The
 last line is `N passed, M failed`.

@@ -3,9 +3,9 @@ mutants of its crate make of them: does a run show the mistakes that the proof r
 
 tests/rings wrong-orders [KIND ..]
 
-KIND is a ring, and all are run where none is named. Each table runs over several inputs, with one sender. A line
+KIND is a ring, and all are run if none is named. Each table runs over several inputs, with one sender. A line
 for each counts the unclean runs; a run that doesn't end is cut, and the runs after it are left out. A ring's own
-table passes where all of its runs were clean. Whether a wrong table shows its fault is a matter of luck, so only
+table passes if all of its runs were clean. Whether a wrong table shows its fault is a matter of luck, so only
 this is asked of them together: that one at least does. The last line is `N passed, M failed`.
 """
 

@@ -2,10 +2,10 @@
 
 tests/shelf chart [PROGRAM] [TEST ..]
 
-PROGRAM is the one that ./ztso runs unless it is named; TEST is a name like sb, and all are taken where none
-is named. It fails where a picture isn't the one that tools/reference draws, which stops where two texts of a
-row meet; where its rows are wider than 110 characters for one or two harts, else than 20 and 40 for each
-hart or than 200; or where the columns of the witness's first half stand elsewhere than in the whole, except
+PROGRAM is the one that ./ztso runs unless it is named; TEST is a name like sb, and all are taken if none
+is named. It fails if a picture isn't the one that tools/reference draws, which stops if two texts of a
+row meet; if its rows are wider than 110 characters for one or two harts, else than 20 and 40 for each
+hart or than 200; or if the columns of the witness's first half stand elsewhere than in the whole, except
 in the tests of which a load takes its bytes from several places.
 """
 

@@ -3,9 +3,9 @@ excludes by the table of litmus/README.md. It prints how long the schedules are 
 
 tests/shelf find [PROGRAM] [TEST ..]
 
-PROGRAM is the one that ./ztso runs unless it is named; TEST is a name like sb, and all are taken where none is named.
-It fails where an outcome with a witness isn't found, or by a schedule that is longer than the witness or has another
-outcome, and where one is found that a source excludes.
+PROGRAM is the one that ./ztso runs unless it is named; TEST is a name like sb, and all are taken if none is named.
+It fails if an outcome with a witness isn't found, or by a schedule that is longer than the witness or has another
+outcome, and if one is found that a source excludes.
 """
 
 import re

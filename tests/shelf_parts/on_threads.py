@@ -4,11 +4,11 @@ in a hundred doesn't finish.
 
 tests/shelf threads [--runs N] [--turns T] [--busy] [PROGRAM] [TEST ..]
 
-PROGRAM is the one that ./ztso runs unless it is named; TEST is a name like sb, and all are taken where none
+PROGRAM is the one that ./ztso runs unless it is named; TEST is a name like sb, and all are taken if none
 is named. The schedule has to be in canonical form, and `run` has to print the same state and verdict and
 end with the same status. A table lists for each test how often each outcome came; a run that didn't finish
 has none. On a busy machine more runs don't finish: --busy leaves out what is asked of them. The last
-line is `N passed, M failed`, where the share of unfinished runs counts as one more.
+line is `N passed, M failed`, if the share of unfinished runs counts as one more.
 """
 
 import subprocess

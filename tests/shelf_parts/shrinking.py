@@ -3,10 +3,10 @@ events it has, how many of them `ztso shrink` leaves, and how many the outcome's
 
 tests/shelf shrink [--try] [PROGRAM] [TEST ..]
 
-PROGRAM is the one that ./ztso runs unless it is named; TEST is a name like sb, and all are taken where none
+PROGRAM is the one that ./ztso runs unless it is named; TEST is a name like sb, and all are taken if none
 is named. With `--try` the schedules are those that 100,000 drawn runs of each test show, one for each outcome.
-It fails where a shrink doesn't give the schedule's outcome, isn't a part of the schedule, or still gives the
-outcome without one of its events; and with `--try` where a test without a jump back is left with more than two
+It fails if a shrink doesn't give the schedule's outcome, isn't a part of the schedule, or still gives the
+outcome without one of its events; and with `--try` if a test without a jump back is left with more than two
 events above the witness.
 """
 
