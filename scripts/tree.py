@@ -12,14 +12,18 @@ TOP = Path(__file__).resolve().parent.parent
 SHARE = "share/ztso"
 # where zsh looks for completions of what Debian's packages hold, and elsewhere
 ZSH, ZSH_OF_DEBIAN = "share/zsh/site-functions/_ztso", "share/zsh/vendor-completions/_ztso"
+# the tools that are commands, as ztso-page and on
+TOOLS = ("page", "from-c", "chart-lines", "compare-mappings", "from-herd", "to-litmus-log", "allowed", "core-log-to-record",
+         "merge-tries", "tries-over-machines")
 COMMANDS = {
     "bin/ztso": "ztso",
     "bin/ztso-explain": "tools/explain",
-    "bin/ztso-page": "scripts/ztso-page",
+    **{f"bin/ztso-{name}": "scripts/ztso-tool" for name in TOOLS},
     "lib/ztso/at-terminal": "scripts/at-terminal",
-    # what the page calls
-    **{f"{SHARE}/tools/{name}": f"tools/{name}"
-       for name in ("page", "from-c", "from-herd", "reference/ztso", "reference/explore")},
+    # what the pages call by these names, in the folder share/ztso
+    **{f"{SHARE}/{name}": name for name in (
+        *(f"tools/{tool}" for tool in TOOLS), "tools/explain", *(f"tools/reference/{name}" for name in ("ztso", "explore", "axioms")),
+        "examples/core/check", "examples/core/planted", "examples/core/draw-tests", "examples/bare-metal/on-harts")},
 }
 TEXTS = {
     "lib/ztso/usage.awk": "scripts/usage.awk",
@@ -28,17 +32,18 @@ TEXTS = {
     "share/bash-completion/completions/ztso": "scripts/completion.bash",
     ZSH: "scripts/completion.zsh",
     "share/fish/vendor_completions.d/ztso.fish": "scripts/completion.fish",
-    **{f"{SHARE}/{name}": name for name in ("VERSION", "README.md", "CHANGELOG.md", "docs/commands.tsv", "docs/rings.tsv")},
+    **{f"{SHARE}/{name}": name for name in ("VERSION", "README.md", "CHANGELOG.md", "tools/README.md", "docs/commands.tsv", "docs/rings.tsv",
+                                        "examples/firmware-queue/Makefile", "cases/kit/__init__.py", "cases/kit/parts.py")},
 }
-# the folders of the pages, the shelf, the examples and what the page is made of, with what their files are; programs of
-# the examples need the repository's tools, and stay there
+# the folders of the pages, the shelf, the examples and what the tools are made of, with what their files are
 FOLDERS = {
     "docs": (".md", ".png", ".svg"),
     "litmus": (".litmus", ".schedule", ".md"),
     "examples": (".litmus", ".schedule", ".steps", ".lists", ".asm", ".words", ".c", ".h", ".S", ".ld", ".log",
-                 ".spike", ".vcd", ".md"),
+                 ".spike", ".vcd", ".md", ".py", ".sv", ".edit"),
     "tools/page_parts": (".py", ".html", ".css", ".js", ".svg"),
     "tools/bring_parts": (".py", ".c", ".h"),
+    "tools/core_log_parts": (".py",),
     "tools/reference": (".py",),
 }
 LEFT_OUT = ("out", "__pycache__")
@@ -66,7 +71,7 @@ def files(program, page=None):
     yield from sorted([
         *(File(f"{PAGE}/{path.name}", path.read_bytes(), False) for path in (page.iterdir() if page else ())),
         File("lib/ztso/ztso", Path(program).read_bytes(), True),
-        *(File(f"share/man/man1/{name}.1", b".so man1/ztso.1\n", False) for name in ("ztso-explain", "ztso-page")),
+        *(File(f"share/man/man1/{name}.1", b".so man1/ztso.1\n", False) for name in ("ztso-explain", *(f"ztso-{tool}" for tool in TOOLS))),
         *(File(place, (TOP / name).read_bytes(), True) for place, name in COMMANDS.items()),
         *(File(place, (TOP / name).read_bytes(), False) for place, name in TEXTS.items()),
         *(File(f"{SHARE}/{name}", (TOP / name).read_bytes(), False)

@@ -8,57 +8,20 @@ import tempfile
 from pathlib import Path
 
 ROOT = Path(__file__).resolve().parent.parent.parent
-SHELF = ROOT / "litmus"
 REFERENCE = ROOT / "tools/reference/ztso"
 sys.path[:0] = [str(ROOT / folder) for folder in ("tools", "tools/reference", "cases")]
 
-import litmus  # noqa: E402
 import schedules  # noqa: E402
-from bring_parts.logs import values_in  # noqa: E402
+from bring_parts.witnessed import SHELF, Entry, shown  # noqa: E402
 from faults import Fault  # noqa: E402
 from kit import chosen, form  # noqa: E402
 
 RUNS = 100_000
 SEED = 1
-# drawn runs are this many times as long as the longest witness, so that most of them finish
-STRETCH = 4
-# where a test has no witness yet
-LENGTH = 48
 
 
 class Wrong(Exception):
     """Something isn't as it should be."""
-
-
-class Entry:
-    """A test of the shelf and its witnesses."""
-
-    def __init__(self, path):
-        self.path = path
-        self.name = path.name.removesuffix(".litmus")
-        self.test = litmus.read(path.read_text())
-        self.ran = 0
-
-    def witnesses(self):
-        """The events of each outcome that has a witness."""
-        return {tuple(map(int, path.stem.split("-"))): schedules.read(path.read_text())
-                for path in sorted(self.folder().glob("*.schedule"))}
-
-    def folder(self):
-        """Where the witnesses stand, beside the test."""
-        return self.path.parent / self.name
-
-    def witness_path(self, values):
-        return self.folder() / f"{'-'.join(map(str, values))}.schedule"
-
-    def case_name(self, values):
-        return f"{self.name}.{'-'.join(map(str, values))}"
-
-    def expected_path(self):
-        return self.path.parent / f"{self.name}.expected"
-
-    def length(self):
-        return STRETCH * max(map(len, self.witnesses().values()), default=LENGTH // STRETCH)
 
 
 def output(program, *words):
@@ -92,14 +55,6 @@ def outcome(program, entry, events):
         file.write(schedules.written(events))
         file.flush()
         return shown(entry, output(program, "run", entry.path, file.name))
-
-
-def shown(entry, text):
-    """The outcome that a state text and its verdict give, or None where the test isn't finished."""
-    if text.endswith("\nUnfinished\n"):
-        return None
-    values = values_in(text)
-    return tuple(values.get(place, 0) for _, place in entry.test.lefts)
 
 
 def table():

@@ -9,8 +9,9 @@ from pathlib import Path
 
 TOOLS = Path(__file__).resolve().parent.parent
 ROOT = TOOLS.parent
-# what chooses the program of a checkout, and makes it; where ztso is installed there is none
-CHOOSER, REFERENCE = ROOT / "scripts/program", TOOLS / "reference/ztso"
+# what chooses the program of a checkout, and makes it; an installation has its program instead
+CHOOSER, INSTALLED = ROOT / "scripts/program", ROOT.parent.parent / "lib/ztso/ztso"
+REFERENCE = TOOLS / "reference/ztso"
 sys.path.insert(0, str(TOOLS / "reference"))
 
 # what the program reads of a text at most
@@ -91,9 +92,9 @@ def program_of(named=None):
 
 
 def chosen():
-    """The program that ./ztso runs, made where it isn't there, or None."""
+    """The program that ./ztso runs, made if it isn't there, or None."""
     if not CHOOSER.exists():
-        return None
+        return INSTALLED if INSTALLED.exists() else None
     made = subprocess.run([CHOOSER, "--quiet"], stdin=subprocess.DEVNULL, stdout=subprocess.PIPE, text=True, check=False)
     return None if made.returncode else Path(made.stdout.strip())
 

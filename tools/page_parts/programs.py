@@ -51,10 +51,10 @@ def found(named=None):
 
 
 def made():
-    if not bring_parts.CHOOSER.exists():
-        raise Missing("there is no program here, and no sources to build it of: name it by --program")
     if path := bring_parts.chosen():
         return path
+    if not bring_parts.CHOOSER.exists():
+        raise Missing("there is no program here, and no sources to build it of: name it by --program")
     print("page: the second implementation answers, tools/reference/ztso, of which nothing is proved", file=sys.stderr)
     return REFERENCE
 

@@ -6,9 +6,10 @@ from dataclasses import dataclass, field
 from pathlib import Path
 
 from bring_parts import Refused
+from bring_parts.witnessed import Entry
 from core_log_parts import faults, landings, log, record
 from core_log_parts.opening import opening
-from shelf_parts import Entry, Fault
+from faults import Fault
 
 from . import Wrong, bench, explaining, judge, keeping
 

@@ -4,7 +4,7 @@ import re
 import subprocess
 from functools import lru_cache
 
-from shelf_parts import shown
+from bring_parts.witnessed import shown
 
 from . import Wrong
 

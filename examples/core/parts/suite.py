@@ -6,7 +6,7 @@ from concurrent.futures import ProcessPoolExecutor
 from dataclasses import replace
 from functools import partial
 
-from shelf_parts import SHELF
+from bring_parts.witnessed import SHELF
 
 from . import HERE, checking, drawing
 

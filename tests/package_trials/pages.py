@@ -1,0 +1,15 @@
+"""The pages that are installed: each command that they show prints what stands there, with what is installed beside them."""
+
+import tree
+
+from . import call, install, workplace
+
+
+def part(count, program):
+    with workplace(program) as (folder, alone):
+        install("--prefix", folder / "prefix", "--program", alone)
+        status, said, faults = call(tree.TOP / "scripts/check-pages", "--installed", folder / "prefix")
+        count.told("the commands of the pages", status == 0, said + faults)
+        for name in tree.TOOLS:
+            status, said, faults = call(folder / "prefix/bin" / f"ztso-{name}", "--help", folder="/")
+            count.told(f"ztso-{name} --help", status == 0 and f"tools/{name}" in said and not faults, said + faults)
