@@ -59,7 +59,7 @@ def page_by_a_link(count, folder):
 def refusals(count, folder, packed):
     """What isn't committed isn't packed, nor what is no program."""
     clone = folder / "clone"
-    status, _, faults = call("git", "clone", "-q", "--shared", tree.TOP, clone)
+    status, _, faults = call("git", "-c", "advice.detachedHead=false", "clone", "-q", "--shared", tree.TOP, clone)
     count.same("clones", (status, faults), (0, ""))
     (clone / "VERSION").write_text("0.0.1\n")
     status, said, faults = call(clone / "scripts/make-package", "--to", folder / "none", "--program", packed)

@@ -1,10 +1,12 @@
 """Builds the test bench by Verilator, as it stands or with a fault, and runs it."""
 
+import os
 import re
 import shutil
 import subprocess
+from pathlib import Path
 
-from . import HERE, Wrong
+from . import HERE, ROOT, Wrong
 
 # in the order in which they name each other
 SOURCES = [f"{name}.sv" for name in
@@ -12,7 +14,9 @@ SOURCES = [f"{name}.sv" for name in
 # what is built with the harts' RVFI in a trace, and nothing else
 TRACED, TRACING = "traced", ("--trace", "-DRVFI_TRACE")
 PACKAGES = ("verilator", "g++", "make")
-OUT = HERE / "out"
+# in a checkout beside the sources; elsewhere these belong to an installation
+CACHE = Path(os.environ.get("XDG_CACHE_HOME") or Path.home() / ".cache")
+OUT = HERE / "out" if (ROOT / "scripts/program").exists() else CACHE / "ztso-core"
 PLAIN = "plain"
 
 
