@@ -1,6 +1,6 @@
 -- What the functions' lines share: how a line's effect leads to the next line's row, and the returns.
-use Rattle.std.proofs.Common.{ℕ, pos, ◌+◌, ◌*◌, ◌/◌, ◌%◌, ◌^◌, ◌<◌, ◌≤◌, ◌≡◌, ◌≢◌, ◌==◌, Bool, true, false, if◌then◌else◌}
-use Rattle.std.proofs.Common.{List, [], ◌∷◌, ◌++◌, Some, refl, sym, ◌∙◌, ap, subst, arith, append-nil, append_assoc}
+use Rattle.std.proofs.Common.{ℕ, pos, ◌+◌, ◌*◌, ◌/◌, ◌%◌, ◌^◌, ◌<◌, ◌≤◌, ◌≡◌, ◌≢◌, ◌==◌, Bool, true, false, if◌then◌else◌, List, [], ◌∷◌, ◌++◌, Some, refl, sym}
+use Rattle.std.proofs.Common.{◌∙◌, ap, subst, arith, append-nil, append_assoc}
 use Rattle.std.specs.Prelude.{slice_index, slice_set, map}
 use Rattle.std.specs.List.{slice_get}
 use Rattle.std.proofs.lemmas.Bool.{eq-eqb, ne_eqb}
@@ -26,11 +26,11 @@ use Rattle.spsc_queue.specs.Calls.{Block, IsBlock, Party, the_sender, the_receiv
 use Rattle.spsc_queue.specs.CallEffects.{completed_word, take_accesses}
 use Rattle.spsc_queue.proofs.Lines.{Line, word-plus, at_line, add_line, return_line, loads, stores, goes_to, leaves_in}
 use Rattle.spsc_queue.proofs.Registers.{set-same, set-other, decoded, thirteen, code_line, code_room, next_line, line_on}
-use Rattle.spsc_queue.proofs.Courses.{At, number, Equipped, Course, went, left_on, left_set, frame_on, frame_set, more_frame, back_of, returned}
-use Rattle.spsc_queue.proofs.Courses.{free_5, free_7, free_10, goes_on, completes_none, ends_10, ends_12, completes_one, completes_no_word}
-use Rattle.spsc_queue.proofs.Outline.{Part, part, role, Level, IsOffset, index_at, look_at, says_no, Knows, Looked}
-use Rattle.spsc_queue.proofs.Outline.{MayStore, Stored, Word, Found, looked, ready}
-use Rattle.spsc_queue.proofs.Outline.{put, all_accesses, Effect, Fresh, Indexed, Seen, Ready, Half, Finished, Ended, Row, CourseStands, IsStore, Does, Moves}
+use Rattle.spsc_queue.proofs.Courses.{At, number, Equipped, Course, went, left_on, left_set, frame_on, frame_set, more_frame, back_of, returned, free_5, free_7}
+use Rattle.spsc_queue.proofs.Courses.{free_10, goes_on, completes_none, ends_10, ends_12, completes_one, completes_no_word}
+use Rattle.spsc_queue.proofs.Outline.{Part, part, role, Level, IsOffset, index_at, look_at, says_no, Knows, Looked, MayStore, Stored, Word, Found, looked}
+use Rattle.spsc_queue.proofs.Outline.{ready, put, all_accesses, Effect, Fresh, Indexed, Seen, Ready, Half, Finished, Ended, Row, CourseStands, IsStore, Does}
+use Rattle.spsc_queue.proofs.Outline.{Moves}
 use Rattle.spsc_queue.proofs.Parts.{level-next, inner-leaves, first-load, look-load, load-words, index-stored}
 
 -- of a result that chose by a test

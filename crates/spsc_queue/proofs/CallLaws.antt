@@ -1,6 +1,6 @@
 -- What calls of the functions deliver, publish and reclaim, and what they find.
-use Rattle.std.proofs.Common.{ℕ, ◌+◌, ◌<◌, ◌≤◌, ◌≡◌, inl, inr, true, false, List, [], ◌∷◌, ◌++◌, length, Some}
-use Rattle.std.proofs.Common.{refl, sym, ◌∙◌, ap, subst, arith, take, drop, append-nil, append_assoc, length-append}
+use Rattle.std.proofs.Common.{ℕ, ◌+◌, ◌<◌, ◌≤◌, ◌≡◌, inl, inr, true, false, List, [], ◌∷◌, ◌++◌, length, Some, refl, sym, ◌∙◌, ap, subst, arith, take, drop}
+use Rattle.std.proofs.Common.{append-nil, append_assoc, length-append}
 use Rattle.std.specs.Prelude.{slice_index}
 use Rattle.std.proofs.Math.Seq.{take-length}
 use Rattle.std.proofs.lemmas.List.{take-append-drop}
@@ -12,12 +12,12 @@ use Rattle.step_machine.specs.Entries.{hart_of, stores, lands, pending, read_byt
 use Rattle.step_machine.specs.Paths.{state_of}
 use Rattle.step_machine.specs.Legal.{Legal}
 use Rattle.spsc_queue.specs.RingBuffers.{Kind, lamport, fastforward, RingBuffer, capacity, writes_to}
-use Rattle.spsc_queue.specs.Protocol.{SenderState, resting, placed, roomy, filled, asked, ProtocolState, at_start, protocol_after, room_at, says_full}
-use Rattle.spsc_queue.specs.Protocol.{word_at, says_empty}
+use Rattle.spsc_queue.specs.Protocol.{SenderState, resting, placed, roomy, filled, asked, ProtocolState, at_start, protocol_after, room_at, says_full, word_at}
+use Rattle.spsc_queue.specs.Protocol.{says_empty}
 use Rattle.spsc_queue.specs.Laws.{IsPrefix, FollowsSpscProtocol, available_of, available_count, available_words}
 use Rattle.spsc_queue.specs.StoreBuffers.{IsOnlyWriter, AllLeaveByte}
-use Rattle.spsc_queue.specs.Calls.{SpscQueue, Party, the_sender, the_receiver, party_line, buffer, is_sender_in_call, is_receiver_in_call}
-use Rattle.spsc_queue.specs.Calls.{sent_words, received_words, UsesAsSpscQueue}
+use Rattle.spsc_queue.specs.Calls.{SpscQueue, Party, the_sender, the_receiver, party_line, buffer, is_sender_in_call, is_receiver_in_call, sent_words}
+use Rattle.spsc_queue.specs.Calls.{received_words, UsesAsSpscQueue}
 use Rattle.spsc_queue.proofs.Invariants.{IsPlaced, Known}
 use Rattle.spsc_queue.proofs.Runs.{known-of, delivered, length-firsts}
 use Rattle.spsc_queue.proofs.Publication.{published, returned}
@@ -106,12 +106,8 @@ module _ (B M : ℕ) (o : OpeningValue) (q : SpscQueue) (before es : List Entry)
   pub sent_available : length A ≤ available_count r t
   sent_available = elim (told the_sender) [
     | inl l ↦ let same : length t.sent ≡ length A = ap length l.1 in omega (arith, same, stored_count, (level_counts l.0.sending).1)
-    | inr l ↦ omega (
-      arith,
-      one_more A (slice_index (at the_sender).registers 11) t.sent l,
-      stored_count,
-      most-available q.block.kind t facts.stored_published,
-    )
+    | inr l ↦ let most = most-available q.block.kind t facts.stored_published in
+        omega (arith, one_more A (slice_index (at the_sender).registers 11) t.sent l, stored_count, most)
   ]
 
   pub received_least : length R ≤ t.taken
@@ -126,11 +122,11 @@ module _ (B M : ℕ) (o : OpeningValue) (q : SpscQueue) (before es : List Entry)
     | inr l ↦ omega (arith, one_more R (slice_index (at the_receiver).registers 11) t.received l, taken_count)
   ]
 
-  pub idle_sent : is_sender_in_call M o q before done ≡ false → (t.stored ≡ length A) × (available_count r t ≡ length A)
+  pub idle_sent : is_sender_in_call M o q before done ≡ false → (t.stored ≡ length A) × (available_count r t ≡ length A) × (t.stored ≡ t.published)
   idle_sent idle =
       let all = idle_words the_sender idle in
       let same : length t.sent ≡ length A = ap length all.1 in
-      (omega (arith, same, stored_count), omega (arith, same, stored_count, (level_counts all.0.sending).1))
+      let level = level_counts all.0.sending in (omega (arith, same, stored_count), omega (arith, same, stored_count, level.1), level.0)
 
   pub idle_received : is_receiver_in_call M o q before done ≡ false → t.taken ≡ length R
   idle_received idle = let same : length t.received ≡ length R = ap length (idle_words the_receiver idle).1 in omega (arith, same, taken_count)
@@ -193,13 +189,10 @@ module _ (B M : ℕ) (o : OpeningValue) (q : SpscQueue) (before es fs : List Ent
   pub publication : is_sender_in_call M o q before es ≡ false
       → length (sent_words M o q before es) < length (received_words M o q before (es ++ fs))
       → length (stores q.sender (before ++ es)) < lands q.sender (before ++ (es ++ fs))
-  publication idle more = published B (buffer q) o before es fs (calls_follow B M o q before (es ++ fs) c)
-      (omega (
-        arith,
-        (idle_sent B M o q before (es ++ fs) c es fs refl idle).1,
-        more,
-        received_least B M o q before (es ++ fs) c (es ++ fs) [] end,
-      ))
+  publication idle more =
+      let sent = idle_sent B M o q before (es ++ fs) c es fs refl idle in
+      published B (buffer q) o before es fs (calls_follow B M o q before (es ++ fs) c)
+      (omega (arith, sent.1, more, received_least B M o q before (es ++ fs) c (es ++ fs) [] end))
 
   pub reclamation : is_receiver_in_call M o q before es ≡ false
       → length (received_words M o q before es) + capacity (buffer q) < length (sent_words M o q before (es ++ fs))
@@ -242,13 +235,9 @@ module _ (B M : ℕ) (o : OpeningValue) (q : SpscQueue) (before done : List Entr
       → length (sent_words M o q before done) ≤ length (received_words M o q before done) + length (writes_to (buffer q) (pending q.sender (before ++ done)))
   finds_empty u v mine does says was same =
       let count : length now.received ≡ length (received_words M o q before done) = ap length same in
-      omega (
-        arith,
-        empty_landed B (buffer q) o before done e fs all u v mine does says was,
-        count,
-        taken_count B M o q before (done ++ e ∷ fs) c done (e ∷ fs) refl,
-        sent_available B M o q before (done ++ e ∷ fs) c done (e ∷ fs) refl,
-      )
+      let taken = taken_count B M o q before (done ++ e ∷ fs) c done (e ∷ fs) refl in
+      let sent = sent_available B M o q before (done ++ e ∷ fs) c done (e ∷ fs) refl in
+      omega (arith, empty_landed B (buffer q) o before done e fs all u v mine does says was, count, taken, sent)
 
   pub finds_full : (u v : ℕ) → hart_of e ≡ q.sender → access_of e ≡ load (room_at q.block.kind (buffer q) u) 4 v → says_full q.block.kind (buffer q) u v ≡ true
       → now.sending ≡ placed u → now.sent ≡ sent_words M o q before done
@@ -256,10 +245,6 @@ module _ (B M : ℕ) (o : OpeningValue) (q : SpscQueue) (before done : List Entr
       ≤ length (sent_words M o q before done) + length (writes_to (buffer q) (pending q.receiver (before ++ done)))
   finds_full u v mine does says was same =
       let count : length now.sent ≡ length (sent_words M o q before done) = ap length same in
-      omega (
-        arith,
-        full_landed B (buffer q) o before done e fs all u v mine does says was,
-        count,
-        stored_count B M o q before (done ++ e ∷ fs) c done (e ∷ fs) refl,
-        received_least B M o q before (done ++ e ∷ fs) c done (e ∷ fs) refl,
-      )
+      let stored = stored_count B M o q before (done ++ e ∷ fs) c done (e ∷ fs) refl in
+      let received = received_least B M o q before (done ++ e ∷ fs) c done (e ∷ fs) refl in
+      omega (arith, full_landed B (buffer q) o before done e fs all u v mine does says was, count, stored, received)

@@ -1,6 +1,6 @@
 -- Code that calls the functions follows the protocol, and each party stands where its outline says.
-use Rattle.std.proofs.Common.{ℕ, ◌<◌, ◌≡◌, ◌≢◌, ◌⊎◌, inl, inr, Bool, true, false, if◌then◌else◌, List, [], ◌∷◌, ◌++◌, length, Some}
-use Rattle.std.proofs.Common.{refl, sym, ◌∙◌, ap, subst, append-nil, append_assoc}
+use Rattle.std.proofs.Common.{ℕ, ◌<◌, ◌≡◌, ◌≢◌, ◌⊎◌, inl, inr, Bool, true, false, if◌then◌else◌, List, [], ◌∷◌, ◌++◌, length, Some, refl, sym, ◌∙◌, ap, subst}
+use Rattle.std.proofs.Common.{append-nil, append_assoc}
 use Rattle.std.specs.Prelude.{All, slice_index}
 use Rattle.hart.specs.State.{HartState}
 use Rattle.hart.specs.Steps.{advanced}
@@ -14,9 +14,8 @@ use Rattle.step_machine.proofs.Appended.{LegalAfter-front}
 use Rattle.spsc_queue.specs.RingBuffers.{Kind, RingBuffer, IsRingBuffer}
 use Rattle.spsc_queue.specs.Protocol.{ProtocolState, at_start, role_of, next_by, protocol_next, protocol_after, KeepsProtocolBy, KeepsProtocol}
 use Rattle.spsc_queue.specs.Laws.{FollowsSpscProtocol}
-use Rattle.spsc_queue.specs.Calls.{Block, SpscQueue, Party, the_sender, the_receiver, party_hart, party_line}
-use Rattle.spsc_queue.specs.Calls.{listing_of, buffer, enters, is_in_call_after, is_in_call_with}
-use Rattle.spsc_queue.specs.Calls.{completed_at, completed_by_entry, HasArguments, CallerObligation, SharesQueue, UsesAsSpscQueue}
+use Rattle.spsc_queue.specs.Calls.{Block, SpscQueue, Party, the_sender, the_receiver, party_hart, party_line, listing_of, buffer, enters, is_in_call_after}
+use Rattle.spsc_queue.specs.Calls.{is_in_call_with, completed_at, completed_by_entry, HasArguments, CallerObligation, SharesQueue, UsesAsSpscQueue}
 use Rattle.spsc_queue.specs.CallEffects.{completed_word}
 use Rattle.spsc_queue.proofs.Runs.{known-of, protocol-append}
 use Rattle.spsc_queue.proofs.Courses.{moved, Course, went}

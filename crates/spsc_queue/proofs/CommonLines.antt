@@ -1,6 +1,5 @@
 -- Lines that several of the functions have: each leads to a line `to`, whose row is what the line makes of its own.
-use Rattle.std.proofs.Common.{ℕ, pos, ◌+◌, ◌*◌, ◌%◌, ◌^◌, ◌<◌, ◌≤◌, ◌≡◌, ◌≢◌, ◌⊎◌, inl, inr, true, false}
-use Rattle.std.proofs.Common.{List, [], ◌∷◌, ◌++◌, refl, sym, ◌∙◌, ap, subst, arith}
+use Rattle.std.proofs.Common.{ℕ, pos, ◌+◌, ◌*◌, ◌%◌, ◌^◌, ◌<◌, ◌≤◌, ◌≡◌, ◌≢◌, ◌⊎◌, inl, inr, true, false, List, [], ◌∷◌, ◌++◌, refl, sym, ◌∙◌, ap, subst, arith}
 use Rattle.std.specs.Prelude.{slice_index, slice_set}
 use Rattle.std.proofs.lemmas.Bool.{cases_eq}
 use Rattle.rv_decode.specs.Meaning.{reg_of}
@@ -23,9 +22,8 @@ use Rattle.spsc_queue.specs.CallEffects.{send_accesses}
 use Rattle.spsc_queue.proofs.Lines.{word-plus, add_line, load_line, store_line, other_jumps, same_goes_on, goes_to, leaves_in}
 use Rattle.spsc_queue.proofs.Courses.{At, number, Equipped, Course, went, bytes_of}
 use Rattle.spsc_queue.proofs.Steps.{word_on}
-use Rattle.spsc_queue.proofs.Outline.{part, role, IsOffset, Near, index_at, ready, put, all_accesses, Fresh, Indexed}
-use Rattle.spsc_queue.proofs.Outline.{Ready, Half, Finished, Ended, Row, IsStore, Moves}
-use Rattle.spsc_queue.proofs.Outline.{Part, Stored}
+use Rattle.spsc_queue.proofs.Outline.{part, role, IsOffset, Near, index_at, ready, put, all_accesses, Fresh, Indexed, Ready, Half, Finished, Ended, Row}
+use Rattle.spsc_queue.proofs.Outline.{IsStore, Moves, Part, Stored}
 use Rattle.spsc_queue.proofs.Parts.{ready-offset, stored-offset, slot-sent}
 use Rattle.spsc_queue.proofs.AllLines.{to_line, loads_to, stores_to, on, over, wraps_not, wraps, to_indexed, ready_5, ready_on, to_half, to_finished}
 use Rattle.spsc_queue.proofs.AllLines.{to_answer_1, to_answer_0, sets_10, if_false}

@@ -1,6 +1,6 @@
 -- Whether a hart is in a call and what its calls completed, at the end of a list of entries.
-use Rattle.std.proofs.Common.{ℕ, ◌*◌, ◌≡◌, ◌==◌, ◌&&◌, Bool, true, false, if◌then◌else◌, List, [], ◌∷◌, ◌++◌, Some, refl, sym, ◌∙◌, ap}
-use Rattle.std.proofs.Common.{append-nil, append_assoc}
+use Rattle.std.proofs.Common.{ℕ, ◌*◌, ◌≡◌, ◌==◌, ◌&&◌, Bool, true, false, if◌then◌else◌, List, [], ◌∷◌, ◌++◌, Some, refl, sym, ◌∙◌, ap, append-nil}
+use Rattle.std.proofs.Common.{append_assoc}
 use Rattle.std.specs.Prelude.{slice_index}
 use Rattle.std.proofs.lemmas.Bool.{eqb-true}
 use Rattle.hart.specs.State.{HartState}
@@ -9,8 +9,8 @@ use Rattle.step_machine.specs.declared.events.Entry.{Entry}
 use Rattle.step_machine.specs.History.{OpeningValue, history_of}
 use Rattle.step_machine.specs.Entries.{is_own}
 use Rattle.step_machine.specs.Paths.{value_of, state_of}
-use Rattle.spsc_queue.specs.Calls.{Block, enters, is_in_call_after, is_in_call_by, is_in_call_with, is_in_call_from}
-use Rattle.spsc_queue.specs.Calls.{completed_at, completed_in, completed_by_entry, completed_words_from}
+use Rattle.spsc_queue.specs.Calls.{Block, enters, is_in_call_after, is_in_call_by, is_in_call_with, is_in_call_from, completed_at, completed_in}
+use Rattle.spsc_queue.specs.Calls.{completed_by_entry, completed_words_from}
 
 pub is_in_call-last : (M : ℕ) (o : OpeningValue) (h n : ℕ) (k : Block) (b : Bool) (front es : List Entry) (e : Entry)
     → is_in_call_from M o h n k b front (es ++ e ∷ []) ≡ is_in_call_with M o h n k (is_in_call_from M o h n k b front es) (front ++ es) e

@@ -18,8 +18,8 @@ use Rattle.spsc_queue.specs.Calls.{Party, the_sender, the_receiver, party_hart, 
 use Rattle.spsc_queue.specs.Calls.{sent_words, received_words, HasFunction, UsesAsSpscQueue}
 use Rattle.spsc_queue.specs.CallEffects.{IsSend, IsReceive}
 use Rattle.spsc_queue.specs.Obligations.{obligations_kept}
-use Rattle.spsc_queue.specs.Example.{queue, sender_hart, receiver_hart, opening, entries, before_send, send}
-use Rattle.spsc_queue.specs.Example.{before_receive, receive, sender_after, receiver_after}
+use Rattle.spsc_queue.specs.Example.{queue, sender_hart, receiver_hart, opening, entries, before_send, send, before_receive, receive, sender_after}
+use Rattle.spsc_queue.specs.Example.{receiver_after}
 use Rattle.spsc_queue.proofs.Registers.{thirteen}
 use Rattle.spsc_queue.proofs.Obligations.{obligations_decided, both}
 
@@ -100,7 +100,7 @@ unfolding need_of advanced meaning
 received lamport = refl
 received fastforward = refl
 
-clear : (k : Kind) (j : ℕ) → j < 2 → memory_word (opening k) [] (192 + 4 * (j % 2)) ≡ 0
+clear : (k : Kind) (j : ℕ) → j < 2 → memory_word (opening k) [] (192 + 4 * ((0 + j) % 2)) ≡ 0
 clear k zero below = refl
 clear k (suc zero) below = refl
 clear k (suc (suc j)) below = absurd (omega (arith, below))

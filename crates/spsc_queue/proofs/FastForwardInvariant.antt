@@ -1,6 +1,6 @@
 -- What holds of FastForward's block, of the stores to it and of both parties after every run that keeps its protocol.
-use Rattle.std.proofs.Common.{ℕ, zero, suc, ◌+◌, ◌*◌, ◌/◌, ◌%◌, ◌^◌, ◌<◌, ◌≤◌, ◌≡◌, ◌≢◌, ◌==◌, ◌⊎◌, inl, inr, not, Bool, true, false, if◌then◌else◌}
-use Rattle.std.proofs.Common.{List, refl, sym, ◌∙◌, ap, subst, arith}
+use Rattle.std.proofs.Common.{ℕ, zero, suc, ◌+◌, ◌*◌, ◌/◌, ◌%◌, ◌^◌, ◌<◌, ◌≤◌, ◌≡◌, ◌≢◌, ◌==◌, ◌⊎◌, inl, inr, not, Bool, true, false, if◌then◌else◌, List, refl}
+use Rattle.std.proofs.Common.{sym, ◌∙◌, ap, subst, arith}
 use Rattle.std.specs.Prelude.{All}
 use Rattle.std.proofs.lemmas.Bool.{cases_eq, cases_lt, eqb-true, eqb-false}
 use Rattle.std.proofs.lemmas.Bool.Decides.{nat_tests}
@@ -12,12 +12,11 @@ use Rattle.step_machine.specs.Entries.{pending, memory_word, read}
 use Rattle.spsc_queue.specs.RingBuffers.{fastforward, RingBuffer, IsRingBuffer, offset, slot, writes_to}
 use Rattle.spsc_queue.specs.Protocol.{SenderState, resting, placed, roomy, filled, ReceiverState, idle, asked, waiting, holding, cleared, ProtocolState}
 use Rattle.spsc_queue.specs.Protocol.{send_look, send_load, receive_look, receive_load}
-use Rattle.spsc_queue.proofs.Modulo.{mod_apart}
 use Rattle.spsc_queue.proofs.Words.{seen}
-use Rattle.spsc_queue.proofs.Spread.{spread, spread-all, sent_store, sent-slot, sent-head, seen-heads, sent-whole, slot_not_head}
+use Rattle.spsc_queue.proofs.Spread.{slot_apart, spread, spread-all, sent_store, sent-slot, sent-head, seen-heads, sent-whole, slot_not_head}
 use Rattle.spsc_queue.proofs.Effects.{reads-word}
 use Rattle.spsc_queue.proofs.Rows.{Earlier, Rows, RowOrder}
-use Rattle.spsc_queue.proofs.Invariant.{firsts}
+use Rattle.spsc_queue.proofs.Invariant.{firsts, SendingIs}
 use Rattle.spsc_queue.proofs.Loads.{offset_again, slot_word}
 
 -- the receiver's row is the sender's of another ring: its index is the tail, its words are 0
@@ -63,12 +62,6 @@ pub record Words (r : RingBuffer) (L : ℕ → ℕ) (d : Landed) (word : ℕ →
   pub full : (j : ℕ) → d.cleared ≤ j → j < d.slots → word (slot r j) ≡ L j
   pub free : (j : ℕ) → d.slots ≤ j → j < d.cleared + r.size → word (slot r j) ≡ 0
 
-abbrev pub SendingIs : RingBuffer → (stored published n : ℕ) → SenderState → Type 0
-SendingIs r stored published n resting = stored ≡ published
-SendingIs r stored published n (placed u) = (stored ≡ published) × (u ≡ offset r published)
-SendingIs r stored published n (roomy u) = (stored ≡ published) × (u ≡ offset r published) × (stored + 1 ≤ n + r.size)
-SendingIs r stored published n (filled u) = (stored ≡ published + 1) × (u ≡ offset r published)
-
 abbrev pub ReceivingIs : RingBuffer → (ℕ → ℕ) → (taken consumed slots : ℕ) → ReceiverState → Type 0
 ReceivingIs r L taken consumed slots idle = taken ≡ consumed
 ReceivingIs r L taken consumed slots (asked u) = (taken ≡ consumed) × (u ≡ offset r consumed)
@@ -89,17 +82,11 @@ pub record Invariant (r : RingBuffer) (L : ℕ → ℕ) (c : Earlier) (o : Openi
   pub order : Order r s.stored s.published s.taken s.consumed landed
   pub words : Words r L landed (memory_word o es)
   pub nonzero : (j : ℕ) → j < s.stored → L j ≢ 0
-  pub sending : SendingIs r s.stored s.published landed.cleared s.sending
+  pub sending : SendingIs 0 r s.stored s.published landed.cleared s.sending
   pub receiving : ReceivingIs r L s.taken s.consumed landed.slots s.receiving
   pub buffers : Buffers r L c es s.stored s.published s.taken s.consumed landed
   pub sent : s.sent ≡ firsts L s.stored
   pub received : s.received ≡ firsts L s.taken
-
-pub sending-more : (r : RingBuffer) (stored published n m : ℕ) (p : SenderState) → n ≤ m → SendingIs r stored published n p → SendingIs r stored published m p
-sending-more r stored published n m resting le h = h
-sending-more r stored published n m (placed x) le h = h
-sending-more r stored published n m (roomy x) le h = (h.0, h.1, omega (arith, le, h.2))
-sending-more r stored published n m (filled x) le h = h
 
 pub receiving-more : (r : RingBuffer) (L : ℕ → ℕ) (taken consumed g h : ℕ) (p : ReceiverState) → g ≤ h
     → ReceivingIs r L taken consumed g p → ReceivingIs r L taken consumed h p
@@ -143,7 +130,7 @@ row_apart r is L p J near = at (cases_eq (p % 2) 0)
     at : (p % 2 ≡ 0) ⊎ (p % 2 ≢ 0) → (sent_store r L p).addr ≢ slot r J
     at (inl even) = λ same.
         let place : (sent_store r L p).addr ≡ slot r (p / 2) = ap (λ (w : Write). w.addr) (sent-slot r L p (p / 2) (omega (arith, even))) in
-        mod_apart r.size (p / 2) J (omega (arith, is.some_slots)) (near even).0 (near even).1 (omega (arith, sym place ∙ same))
+        slot_apart r is (p / 2) J (near even).0 (near even).1 (sym place ∙ same)
     at (inr odd) = λ same.
         let place : (sent_store r L p).addr ≡ r.head = ap (λ (w : Write). w.addr) (sent-head r L p (p / 2) (omega (arith, odd))) in
         slot_not_head r is J (sym same ∙ place)
@@ -259,13 +246,13 @@ module _ (r : RingBuffer) (is : IsRingBuffer r) (L : ℕ → ℕ) (small : (j : 
 
   -- ---- loads
 
-  send-looked : (a v : ℕ) (p : SenderState) → v ≡ read o es r.sender a 4 → SendingIs r s.stored s.published d.cleared p
-      → SendingIs r s.stored s.published d.cleared (send_look fastforward r a v p)
+  send-looked : (a v : ℕ) (p : SenderState) → v ≡ read o es r.sender a 4 → SendingIs 0 r s.stored s.published d.cleared p
+      → SendingIs 0 r s.stored s.published d.cleared (send_look fastforward r a v p)
   send-looked a v resting is_read holds = holds
   send-looked a v (placed u) is_read holds = by (a == r.slots + u) refl (v == 0) refl
     where
       by : (b : Bool) → (a == r.slots + u) ≡ b → (c : Bool) → (v == 0) ≡ c
-          → SendingIs r s.stored s.published d.cleared (if b then (if not c then placed u else roomy u) else placed u)
+          → SendingIs 0 r s.stored s.published d.cleared (if b then (if not c then placed u else roomy u) else placed u)
       by true here true zero_read =
           let place : a ≡ slot r s.stored = eqb-true a (r.slots + u) here ∙ ap (λ x. r.slots + x) (holds.1 ∙ ap (offset r) (sym holds.0)) in
           let none : read o es r.sender (slot r s.stored) 4 ≡ 0 = ap (λ x. read o es r.sender x 4) (sym place) ∙ sym is_read ∙ eqb-true v 0 zero_read in
@@ -278,16 +265,16 @@ module _ (r : RingBuffer) (is : IsRingBuffer r) (L : ℕ → ℕ) (small : (j : 
   send-looked a v (filled u) is_read holds = holds
 
   send-head : (a v : ℕ) (p : SenderState) → s.stored ≡ s.published → v ≡ read o es r.sender a 4
-      → SendingIs r s.stored s.published d.cleared (send_look fastforward r a v p)
-      → SendingIs r s.stored s.published d.cleared (if a == r.head then placed v else send_look fastforward r a v p)
+      → SendingIs 0 r s.stored s.published d.cleared (send_look fastforward r a v p)
+      → SendingIs 0 r s.stored s.published d.cleared (if a == r.head then placed v else send_look fastforward r a v p)
   send-head a v p level is_read holds = by (a == r.head) refl
     where
-      by : (b : Bool) → (a == r.head) ≡ b → SendingIs r s.stored s.published d.cleared (if b then placed v else send_look fastforward r a v p)
+      by : (b : Bool) → (a == r.head) ≡ b → SendingIs 0 r s.stored s.published d.cleared (if b then placed v else send_look fastforward r a v p)
       by true same = (level, is_read ∙ ap (λ x. read o es r.sender x 4) (eqb-true a r.head same) ∙ sender-head)
       by false apart = holds
 
-  pub sending-load : (a v : ℕ) (p : SenderState) → v ≡ read o es r.sender a 4 → SendingIs r s.stored s.published d.cleared p
-      → SendingIs r s.stored s.published d.cleared (send_load fastforward r a v p)
+  pub sending-load : (a v : ℕ) (p : SenderState) → v ≡ read o es r.sender a 4 → SendingIs 0 r s.stored s.published d.cleared p
+      → SendingIs 0 r s.stored s.published d.cleared (send_load fastforward r a v p)
   sending-load a v resting is_read holds = send-head a v resting holds is_read (send-looked a v resting is_read holds)
   sending-load a v (placed u) is_read holds = send-head a v (placed u) holds.0 is_read (send-looked a v (placed u) is_read holds)
   sending-load a v (roomy u) is_read holds = send-head a v (roomy u) holds.0 is_read (send-looked a v (roomy u) is_read holds)

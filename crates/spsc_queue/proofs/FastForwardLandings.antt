@@ -1,5 +1,5 @@
 -- Each landing of a store of FastForward's parties keeps the invariant.
-use Rattle.std.proofs.Common.{ℕ, suc, ◌+◌, ◌%◌, ◌^◌, ◌<◌, ◌≤◌, ◌≡◌, ◌≢◌, inl, inr, List, [], ◌∷◌, ◌++◌, length, refl, sym, ◌∙◌, ap, subst, arith}
+use Rattle.std.proofs.Common.{ℕ, suc, ◌+◌, ◌^◌, ◌<◌, ◌≤◌, ◌≡◌, inl, inr, List, [], ◌∷◌, ◌++◌, length, refl, sym, ◌∙◌, ap, subst, arith}
 use Rattle.std.proofs.lemmas.Bool.{cases_eq}
 use Rattle.memory.specs.declared.writes.Write.{Write}
 use Rattle.memory.specs.Writes.{write, IsWholeWord}
@@ -9,12 +9,11 @@ use Rattle.step_machine.specs.Access.{land, access_of}
 use Rattle.step_machine.specs.Entries.{hart_of, pending, memory_word, stores, lands}
 use Rattle.spsc_queue.specs.RingBuffers.{RingBuffer, IsRingBuffer, offset, slot}
 use Rattle.spsc_queue.specs.Protocol.{ProtocolState}
-use Rattle.spsc_queue.proofs.Modulo.{mod_apart}
-use Rattle.spsc_queue.proofs.Spread.{sent_store, sent-slot, sent-head, slot_not_head, slot_not_tail, offset_low}
+use Rattle.spsc_queue.proofs.Spread.{slot_apart, sent_store, sent-slot, sent-head, slot_not_head, slot_not_tail, offset_low}
 use Rattle.spsc_queue.proofs.Rows.{slot-landed, head-landed, Earlier, Rows, Lands, hit, miss, landing}
 use Rattle.spsc_queue.proofs.Loads.{slot_word}
-use Rattle.spsc_queue.proofs.FastForwardInvariant.{Landed, Invariant, turned, zeros, cleared_store}
-use Rattle.spsc_queue.proofs.FastForwardInvariant.{sending-more, receiving-more, slot_again}
+use Rattle.spsc_queue.proofs.Invariant.{sending-more}
+use Rattle.spsc_queue.proofs.FastForwardInvariant.{Landed, Invariant, turned, zeros, cleared_store, receiving-more, slot_again}
 use Rattle.spsc_queue.proofs.FastForwardSteps.{idles}
 
 module _ (r : RingBuffer) (is : IsRingBuffer r) (L : ℕ → ℕ) (small : (j : ℕ) → L j < 2 ^ 32) (c : Earlier) (o : OpeningValue) (es : List Entry)
@@ -43,9 +42,8 @@ module _ (r : RingBuffer) (is : IsRingBuffer r) (L : ℕ → ℕ) (small : (j : 
           tail = miss r o es after w r.tail written is.tail whole (λ e. slot_not_tail r is d.slots (sym place ∙ e)) ∙ inv.words.tail;
           full = full;
           free = λ j from below.
-              let apart : d.slots % r.size ≢ j % r.size = mod_apart r.size d.slots j (omega (arith, is.some_slots)) (omega arith)
-              (omega (arith, below, inv.order.theirs.slots_stored, inv.order.taken_slots)) in
-              miss r o es after w (slot r j) written (slot_word r is j) whole (λ same. apart (omega (arith, place, same)))
+              miss r o es after w (slot r j) written (slot_word r is j) whole (λ same. slot_apart r is d.slots j (omega arith)
+              (omega (arith, below, inv.order.theirs.slots_stored, inv.order.taken_slots)) (sym place ∙ same))
               ∙ inv.words.free j (omega arith) below;
         };
         nonzero = inv.nonzero;
@@ -76,9 +74,9 @@ module _ (r : RingBuffer) (is : IsRingBuffer r) (L : ℕ → ℕ) (small : (j : 
             | inl same ↦ hit r o es after w (slot r j) written (slot_word r is j) whole (place ∙ ap (slot r) (sym same))
                 ∙ ap (λ (x : Write). x.value) is_slot ∙ ap L (sym same)
             | inr other ↦
-                let apart : j % r.size ≢ d.slots % r.size =
-                mod_apart r.size j d.slots (omega (arith, is.some_slots)) (omega arith) (omega (arith, some, from, inv.order.room)) in
-                miss r o es after w (slot r j) written (slot_word r is j) whole (λ same. apart (omega (arith, place))) ∙ inv.words.full j from (omega arith)
+                miss r o es after w (slot r j) written (slot_word r is j) whole
+                (λ same. slot_apart r is j d.slots (omega arith) (omega (arith, some, from, inv.order.room))
+                (sym same ∙ place)) ∙ inv.words.full j from (omega arith)
           ]
 
       head-lands : d.slots ≡ d.heads + 1 → w ≡ write r.head 4 (offset r (d.heads + 1)) → Invariant r L c o after s
@@ -144,7 +142,7 @@ module _ (r : RingBuffer) (is : IsRingBuffer r) (L : ℕ → ℕ) (small : (j : 
           free = free;
         };
         nonzero = inv.nonzero;
-        sending = sending-more r s.stored s.published d.cleared (suc d.cleared) s.sending (omega arith) inv.sending;
+        sending = sending-more 0 r s.stored s.published d.cleared (suc d.cleared) s.sending (omega arith) inv.sending;
         receiving = inv.receiving;
         buffers = record {
           unsent = inv.buffers.unsent;
@@ -167,9 +165,8 @@ module _ (r : RingBuffer) (is : IsRingBuffer r) (L : ℕ → ℕ) (small : (j : 
           whole = subst IsWholeWord (sym is_zero) (record { whole = refl; aligned = (slot_word r is d.cleared).aligned; small = omega arith })
 
           apart-from : (j : ℕ) → d.cleared < j → j < d.cleared + r.size → memory_word o after (slot r j) ≡ memory_word o es (slot r j)
-          apart-from j from below =
-              let apart : d.cleared % r.size ≢ j % r.size = mod_apart r.size d.cleared j (omega (arith, is.some_slots)) from below in
-              miss r o es after w (slot r j) written (slot_word r is j) whole (λ same. apart (omega (arith, place, same)))
+          apart-from j from below = miss r o es after w (slot r j) written (slot_word r is j) whole
+              (λ same. slot_apart r is d.cleared j from below (sym place ∙ same))
 
           free : (j : ℕ) → d.slots ≤ j → j < suc d.cleared + r.size → memory_word o after (slot r j) ≡ 0
           free j from below = elim (cases_eq j (d.cleared + r.size)) [

@@ -1,6 +1,6 @@
 -- FastForward's functions, line by line: what each line does keeps the protocol, and leads to the next line of the outline.
-use Rattle.std.proofs.Common.{ℕ, pos, ◌+◌, ◌*◌, ◌%◌, ◌^◌, ◌<◌, ◌≤◌, ◌≡◌, ◌≢◌, ◌==◌, not, ◌⊎◌, inl, inr, true, false, if◌then◌else◌}
-use Rattle.std.proofs.Common.{List, [], ◌∷◌, ◌++◌, refl, sym, ◌∙◌, ap, subst, arith, append-nil}
+use Rattle.std.proofs.Common.{ℕ, pos, ◌+◌, ◌*◌, ◌%◌, ◌^◌, ◌<◌, ◌≤◌, ◌≡◌, ◌≢◌, ◌==◌, not, ◌⊎◌, inl, inr, true, false, if◌then◌else◌, List, [], ◌∷◌, ◌++◌, refl}
+use Rattle.std.proofs.Common.{sym, ◌∙◌, ap, subst, arith}
 use Rattle.std.specs.Prelude.{slice_index}
 use Rattle.std.proofs.lemmas.Bool.{cases_eq, eq-eqb, ne_eqb}
 use Rattle.rv_decode.specs.Meaning.{reg_of}
@@ -11,7 +11,7 @@ use Rattle.memory.specs.Writes.{write}
 use Rattle.hart.specs.State.{HartState}
 use Rattle.hart.specs.Effects.{next_pc, address}
 use Rattle.hart.proofs.Instructions.{IsAt}
-use Rattle.step_machine.specs.Access.{nothing, load, store}
+use Rattle.step_machine.specs.Access.{load, store}
 use Rattle.spsc_queue.specs.RingBuffers.{fastforward, RingBuffer, next, overlaps}
 use Rattle.spsc_queue.specs.Protocol.{placed, roomy, asked, holding, ProtocolState, receives, next_by, IsSendable, IsReceiverStore}
 use Rattle.spsc_queue.specs.FastForward.{fastforward_send, fastforward_receive}
@@ -19,12 +19,12 @@ use Rattle.spsc_queue.specs.Calls.{Block, IsBlock, Party, the_sender, the_receiv
 use Rattle.spsc_queue.specs.CallEffects.{take_accesses, receive_accesses}
 use Rattle.spsc_queue.proofs.Lines.{sum_line, load_line, same_jumps, other_goes_on, other_jumps, same_goes_on, goes_to, leaves_in}
 use Rattle.spsc_queue.proofs.Registers.{set-same, set-other}
-use Rattle.spsc_queue.proofs.Courses.{At, at_00, at_04, at_08, at_0C, at_10, at_14, at_18, at_1C, at_20, at_24, at_28, at_2C, at_30, number, Equipped}
-use Rattle.spsc_queue.proofs.Courses.{Course, frame_on, free_6, free_11}
+use Rattle.spsc_queue.proofs.Courses.{At, at_00, at_04, at_08, at_0C, at_10, at_14, at_18, at_1C, at_20, at_24, at_28, at_2C, at_30, number, Equipped, Course}
+use Rattle.spsc_queue.proofs.Courses.{free_6, free_11}
 use Rattle.spsc_queue.proofs.Outline.{Part, part, IsOffset, Near, Stored, IsStore, Row, Moves}
 use Rattle.spsc_queue.proofs.Parts.{slot-taken, knows-offset, looked-offset}
-use Rattle.spsc_queue.proofs.AllLines.{to_line, to_ready, loads_to, line_at, on, over, indexed_7, to_seen, to_no}
-use Rattle.spsc_queue.proofs.AllLines.{word_set, if_false, Answered, none, returns_1, returns_0}
+use Rattle.spsc_queue.proofs.AllLines.{to_line, to_ready, loads_to, line_at, on, over, indexed_7, to_seen, to_no, word_set, if_false, Answered, none, returns_1}
+use Rattle.spsc_queue.proofs.AllLines.{returns_0}
 use Rattle.spsc_queue.proofs.CommonLines.{index_loads, bumps, zeroes, tests, slot_stores, index_stores, answers_1, answers_0, sender_puts, sender_publishes}
 use Rattle.spsc_queue.proofs.CommonLines.{send_whole}
 
@@ -97,53 +97,50 @@ module _ (M n a b : ℕ) (k : Block) (is : IsBlock M k) (h : ℕ) (s : HartState
             (to_no M n a b the_sender fastforward k is h s t v has c ws full tt
             (looked-offset k the_sender fastforward r (slice_index x 5) (slice_index x 6) (part the_sender t) row.0.knows near) row.0)
 
+    -- a line that doesn't return
+    sends : (line : At) → number line ≢ 10 → number line ≢ 12 → s.pc ≡ 4 * (n + number line) → Moves n the_sender fastforward k r true ws c h s t v
+        → Answered M n a b the_sender fastforward k is h s t v has c ws
+    sends line ten twelve place moves = none M n a b the_sender fastforward k is h s t v has c ws line place ten twelve moves
+
     pub sends_at : (line : At) → s.pc ≡ 4 * (n + number line) → Row n the_sender fastforward k r c ws line x (part the_sender t)
         → Answered M n a b the_sender fastforward k is h s t v has c ws
-    sends_at line place row = at line place row
-      where
-        K : (line : At) → number line ≢ 10 → number line ≢ 12 → s.pc ≡ 4 * (n + number line) → Moves n the_sender fastforward k r true ws c h s t v
-            → Answered M n a b the_sender fastforward k is h s t v has c ws
-        K line ten twelve place moves = none M n a b the_sender fastforward k is h s t v has c ws line place ten twelve moves
-
-        at : (line : At) → s.pc ≡ 4 * (n + number line) → Row n the_sender fastforward k r c ws line x (part the_sender t)
-            → Answered M n a b the_sender fastforward k is h s t v has c ws
-        at at_00 place row = K at_00 (λ e. omega arith) (λ e. omega arith) place
-            (index_loads M n a b the_sender fastforward k is h s t v has near c ws 0 place (omega arith) at_04 refl
-            (line_at M n a b the_sender fastforward k is h s t v has c ws 0 place refl) row (λ q. q))
-        at at_04 place row = K at_04 (λ e. omega arith) (λ e. omega arith) place
-            (at-04 the_sender has near c ws (line_at M n a b the_sender fastforward k is h s t v has c ws 1 place refl) place row)
-        at at_08 place row = K at_08 (λ e. omega arith) (λ e. omega arith) place (sends_08 place row)
-        at at_0C place row = K at_0C (λ e. omega arith) (λ e. omega arith) place (sends_0C place row)
-        at at_10 place row = K at_10 (λ e. omega arith) (λ e. omega arith) place
-            (bumps M n a b the_sender fastforward k is h s t v has near c ws 4 place (omega arith) at_14 (λ u. k.base + u) refl
-            (line_at M n a b the_sender fastforward k is h s t v has c ws 4 place refl) row (λ q. q))
-        at at_14 place row = K at_14 (λ e. omega arith) (λ e. omega arith) place
-            (tests M n a b the_sender fastforward k is h s t v has near c ws 5 place (omega arith) at_18 at_1C (λ u. k.base + u) (omega arith) refl refl
-            (line_at M n a b the_sender fastforward k is h s t v has c ws 5 place refl) row (λ q. q) (λ q. q))
-        at at_18 place row = K at_18 (λ e. omega arith) (λ e. omega arith) place
-            (zeroes M n a b the_sender fastforward k is h s t v has near c ws 6 place (omega arith) at_1C (λ u. k.base + u) refl
-            (line_at M n a b the_sender fastforward k is h s t v has c ws 6 place refl) row.0 row.1 (λ q. q))
-        at at_1C place row = K at_1C (λ e. omega arith) (λ e. omega arith) place
-            (slot_stores M n a b the_sender fastforward k is h s t v has near c ws 7 place (omega arith) at_20 (λ u. next r u) (λ u. k.base + u)
-            (reg_of 7) (reg_of 11) 5 refl (line_at M n a b the_sender fastforward k is h s t v has c ws 7 place refl) row row.x7 refl row.x5
-            (sender_puts fastforward r t row.place (slice_index x 11) row.knows (omega (arith, row.word, row.frame.left.args.word))
-            (subst (IsSendable fastforward) (sym row.word)
-            (subst (λ q. IsSendable q (slice_index c.entry.registers 11)) kind row.frame.left.args.sendable)))
-            (λ made q. q))
-        at at_20 place row = K at_20 (λ e. omega arith) (λ e. omega arith) place
-            (index_stores M n a b the_sender fastforward k is h s t v has near c ws 8 place (omega arith) at_24 (reg_of 5) refl
-            (line_at M n a b the_sender fastforward k is h s t v has c ws 8 place refl) row refl
-            (sender_publishes fastforward r t row.place row.knows) (send_whole fastforward r t row.place row.seen (slice_index x 11) row.some) (λ made q. q))
-        at at_24 place row = K at_24 (λ e. omega arith) (λ e. omega arith) place
-            (answers_1 M n a b the_sender fastforward k is h s t v has near c ws 9 place (omega arith) at_28 refl
-            (line_at M n a b the_sender fastforward k is h s t v has c ws 9 place refl) row (λ q. q))
-        at at_28 place row = returns_1 M n a b the_sender fastforward k is h s t v has c ws (omega arith) place
-            (line_at M n a b the_sender fastforward k is h s t v has c ws 10 place refl) row
-        at at_2C place row = K at_2C (λ e. omega arith) (λ e. omega arith) place
-            (answers_0 M n a b the_sender fastforward k is h s t v has near c ws 11 place (omega arith) at_30 refl
-            (line_at M n a b the_sender fastforward k is h s t v has c ws 11 place refl) row (λ q. q))
-        at at_30 place row = returns_0 M n a b the_sender fastforward k is h s t v has c ws (omega arith) place
-            (line_at M n a b the_sender fastforward k is h s t v has c ws 12 place refl) row
+    sends_at at_00 place row = sends at_00 (λ e. omega arith) (λ e. omega arith) place
+        (index_loads M n a b the_sender fastforward k is h s t v has near c ws 0 place (omega arith) at_04 refl
+        (line_at M n a b the_sender fastforward k is h s t v has c ws 0 place refl) row (λ q. q))
+    sends_at at_04 place row = sends at_04 (λ e. omega arith) (λ e. omega arith) place
+        (at-04 the_sender has near c ws (line_at M n a b the_sender fastforward k is h s t v has c ws 1 place refl) place row)
+    sends_at at_08 place row = sends at_08 (λ e. omega arith) (λ e. omega arith) place (sends_08 place row)
+    sends_at at_0C place row = sends at_0C (λ e. omega arith) (λ e. omega arith) place (sends_0C place row)
+    sends_at at_10 place row = sends at_10 (λ e. omega arith) (λ e. omega arith) place
+        (bumps M n a b the_sender fastforward k is h s t v has near c ws 4 place (omega arith) at_14 (λ u. k.base + u) refl
+        (line_at M n a b the_sender fastforward k is h s t v has c ws 4 place refl) row (λ q. q))
+    sends_at at_14 place row = sends at_14 (λ e. omega arith) (λ e. omega arith) place
+        (tests M n a b the_sender fastforward k is h s t v has near c ws 5 place (omega arith) at_18 at_1C (λ u. k.base + u) (omega arith) refl refl
+        (line_at M n a b the_sender fastforward k is h s t v has c ws 5 place refl) row (λ q. q) (λ q. q))
+    sends_at at_18 place row = sends at_18 (λ e. omega arith) (λ e. omega arith) place
+        (zeroes M n a b the_sender fastforward k is h s t v has near c ws 6 place (omega arith) at_1C (λ u. k.base + u) refl
+        (line_at M n a b the_sender fastforward k is h s t v has c ws 6 place refl) row.0 row.1 (λ q. q))
+    sends_at at_1C place row = sends at_1C (λ e. omega arith) (λ e. omega arith) place
+        (slot_stores M n a b the_sender fastforward k is h s t v has near c ws 7 place (omega arith) at_20 (λ u. next r u) (λ u. k.base + u)
+        (reg_of 7) (reg_of 11) 5 refl (line_at M n a b the_sender fastforward k is h s t v has c ws 7 place refl) row row.x7 refl row.x5
+        (sender_puts fastforward r t row.place (slice_index x 11) row.knows (omega (arith, row.word, row.frame.left.args.word))
+        (subst (IsSendable fastforward) (sym row.word)
+        (subst (λ q. IsSendable q (slice_index c.entry.registers 11)) kind row.frame.left.args.sendable)))
+        (λ made q. q))
+    sends_at at_20 place row = sends at_20 (λ e. omega arith) (λ e. omega arith) place
+        (index_stores M n a b the_sender fastforward k is h s t v has near c ws 8 place (omega arith) at_24 (reg_of 5) refl
+        (line_at M n a b the_sender fastforward k is h s t v has c ws 8 place refl) row refl
+        (sender_publishes fastforward r t row.place row.knows) (send_whole fastforward r t row.place row.seen (slice_index x 11) row.some) (λ made q. q))
+    sends_at at_24 place row = sends at_24 (λ e. omega arith) (λ e. omega arith) place
+        (answers_1 M n a b the_sender fastforward k is h s t v has near c ws 9 place (omega arith) at_28 refl
+        (line_at M n a b the_sender fastforward k is h s t v has c ws 9 place refl) row (λ q. q))
+    sends_at at_28 place row = returns_1 M n a b the_sender fastforward k is h s t v has c ws (omega arith) place
+        (line_at M n a b the_sender fastforward k is h s t v has c ws 10 place refl) row
+    sends_at at_2C place row = sends at_2C (λ e. omega arith) (λ e. omega arith) place
+        (answers_0 M n a b the_sender fastforward k is h s t v has near c ws 11 place (omega arith) at_30 refl
+        (line_at M n a b the_sender fastforward k is h s t v has c ws 11 place refl) row (λ q. q))
+    sends_at at_30 place row = returns_0 M n a b the_sender fastforward k is h s t v has c ws (omega arith) place
+        (line_at M n a b the_sender fastforward k is h s t v has c ws 12 place refl) row
 
   -- ---- fastforward_receive
 
@@ -200,48 +197,45 @@ module _ (M n a b : ℕ) (k : Block) (is : IsBlock M k) (h : ℕ) (s : HartState
         → load r.tail 4 u ∷ load (r.slots + u) 4 v ∷ take_accesses fastforward r w u ≡ receive_accesses fastforward r w u v
     receive_whole u v w some = ap (λ ys. load r.tail 4 u ∷ load (r.slots + u) 4 v ∷ ys) (if_false (v == 0) [] (take_accesses fastforward r w u) some)
 
+    -- a line that doesn't return
+    takes : (line : At) → number line ≢ 10 → number line ≢ 12 → s.pc ≡ 4 * (n + number line) → Moves n the_receiver fastforward k r true ws c h s t v
+        → Answered M n a b the_receiver fastforward k is h s t v has c ws
+    takes line ten twelve place moves = none M n a b the_receiver fastforward k is h s t v has c ws line place ten twelve moves
+
     pub takes_at : (line : At) → s.pc ≡ 4 * (n + number line) → Row n the_receiver fastforward k r c ws line x (part the_receiver t)
         → Answered M n a b the_receiver fastforward k is h s t v has c ws
-    takes_at line place row = at line place row
-      where
-        K : (line : At) → number line ≢ 10 → number line ≢ 12 → s.pc ≡ 4 * (n + number line) → Moves n the_receiver fastforward k r true ws c h s t v
-            → Answered M n a b the_receiver fastforward k is h s t v has c ws
-        K line ten twelve place moves = none M n a b the_receiver fastforward k is h s t v has c ws line place ten twelve moves
-
-        at : (line : At) → s.pc ≡ 4 * (n + number line) → Row n the_receiver fastforward k r c ws line x (part the_receiver t)
-            → Answered M n a b the_receiver fastforward k is h s t v has c ws
-        at at_00 place row = K at_00 (λ e. omega arith) (λ e. omega arith) place
-            (index_loads M n a b the_receiver fastforward k is h s t v has near c ws 0 place (omega arith) at_04 refl
-            (line_at M n a b the_receiver fastforward k is h s t v has c ws 0 place refl) row (λ q. q))
-        at at_04 place row = K at_04 (λ e. omega arith) (λ e. omega arith) place
-            (at-04 the_receiver has near c ws (line_at M n a b the_receiver fastforward k is h s t v has c ws 1 place refl) place row)
-        at at_08 place row = K at_08 (λ e. omega arith) (λ e. omega arith) place (takes_08 place row)
-        at at_0C place row = K at_0C (λ e. omega arith) (λ e. omega arith) place (takes_0C place row)
-        at at_10 place row = K at_10 (λ e. omega arith) (λ e. omega arith) place
-            (bumps M n a b the_receiver fastforward k is h s t v has near c ws 4 place (omega arith) at_14 (λ u. k.base + u) refl
-            (line_at M n a b the_receiver fastforward k is h s t v has c ws 4 place refl) row (λ q. q))
-        at at_14 place row = K at_14 (λ e. omega arith) (λ e. omega arith) place
-            (tests M n a b the_receiver fastforward k is h s t v has near c ws 5 place (omega arith) at_18 at_1C (λ u. k.base + u) (omega arith) refl refl
-            (line_at M n a b the_receiver fastforward k is h s t v has c ws 5 place refl) row (λ q. q) (λ q. q))
-        at at_18 place row = K at_18 (λ e. omega arith) (λ e. omega arith) place
-            (zeroes M n a b the_receiver fastforward k is h s t v has near c ws 6 place (omega arith) at_1C (λ u. k.base + u) refl
-            (line_at M n a b the_receiver fastforward k is h s t v has c ws 6 place refl) row.0 row.1 (λ q. q))
-        at at_1C place row = K at_1C (λ e. omega arith) (λ e. omega arith) place
-            (slot_stores M n a b the_receiver fastforward k is h s t v has near c ws 7 place (omega arith) at_20 (λ u. next r u) (λ u. k.base + u)
-            (reg_of 7) (reg_of 0) 5 refl (line_at M n a b the_receiver fastforward k is h s t v has c ws 7 place refl) row row.x7 has.zero row.x5
-            (receiver_puts row.place (slice_index x 11) row.knows) (λ made q. q))
-        at at_20 place row = K at_20 (λ e. omega arith) (λ e. omega arith) place
-            (index_stores M n a b the_receiver fastforward k is h s t v has near c ws 8 place (omega arith) at_24 (reg_of 5) refl
-            (line_at M n a b the_receiver fastforward k is h s t v has c ws 8 place refl) row refl
-            (λ made word value. subst (λ q. IsReceiverStore fastforward r q made) (sym row.knows) (word, value))
-            (receive_whole row.place row.seen (slice_index x 11) row.some) (λ made q. q))
-        at at_24 place row = K at_24 (λ e. omega arith) (λ e. omega arith) place
-            (answers_1 M n a b the_receiver fastforward k is h s t v has near c ws 9 place (omega arith) at_28 refl
-            (line_at M n a b the_receiver fastforward k is h s t v has c ws 9 place refl) row (λ q. q))
-        at at_28 place row = returns_1 M n a b the_receiver fastforward k is h s t v has c ws (omega arith) place
-            (line_at M n a b the_receiver fastforward k is h s t v has c ws 10 place refl) row
-        at at_2C place row = K at_2C (λ e. omega arith) (λ e. omega arith) place
-            (answers_0 M n a b the_receiver fastforward k is h s t v has near c ws 11 place (omega arith) at_30 refl
-            (line_at M n a b the_receiver fastforward k is h s t v has c ws 11 place refl) row (λ q. q))
-        at at_30 place row = returns_0 M n a b the_receiver fastforward k is h s t v has c ws (omega arith) place
-            (line_at M n a b the_receiver fastforward k is h s t v has c ws 12 place refl) row
+    takes_at at_00 place row = takes at_00 (λ e. omega arith) (λ e. omega arith) place
+        (index_loads M n a b the_receiver fastforward k is h s t v has near c ws 0 place (omega arith) at_04 refl
+        (line_at M n a b the_receiver fastforward k is h s t v has c ws 0 place refl) row (λ q. q))
+    takes_at at_04 place row = takes at_04 (λ e. omega arith) (λ e. omega arith) place
+        (at-04 the_receiver has near c ws (line_at M n a b the_receiver fastforward k is h s t v has c ws 1 place refl) place row)
+    takes_at at_08 place row = takes at_08 (λ e. omega arith) (λ e. omega arith) place (takes_08 place row)
+    takes_at at_0C place row = takes at_0C (λ e. omega arith) (λ e. omega arith) place (takes_0C place row)
+    takes_at at_10 place row = takes at_10 (λ e. omega arith) (λ e. omega arith) place
+        (bumps M n a b the_receiver fastforward k is h s t v has near c ws 4 place (omega arith) at_14 (λ u. k.base + u) refl
+        (line_at M n a b the_receiver fastforward k is h s t v has c ws 4 place refl) row (λ q. q))
+    takes_at at_14 place row = takes at_14 (λ e. omega arith) (λ e. omega arith) place
+        (tests M n a b the_receiver fastforward k is h s t v has near c ws 5 place (omega arith) at_18 at_1C (λ u. k.base + u) (omega arith) refl refl
+        (line_at M n a b the_receiver fastforward k is h s t v has c ws 5 place refl) row (λ q. q) (λ q. q))
+    takes_at at_18 place row = takes at_18 (λ e. omega arith) (λ e. omega arith) place
+        (zeroes M n a b the_receiver fastforward k is h s t v has near c ws 6 place (omega arith) at_1C (λ u. k.base + u) refl
+        (line_at M n a b the_receiver fastforward k is h s t v has c ws 6 place refl) row.0 row.1 (λ q. q))
+    takes_at at_1C place row = takes at_1C (λ e. omega arith) (λ e. omega arith) place
+        (slot_stores M n a b the_receiver fastforward k is h s t v has near c ws 7 place (omega arith) at_20 (λ u. next r u) (λ u. k.base + u)
+        (reg_of 7) (reg_of 0) 5 refl (line_at M n a b the_receiver fastforward k is h s t v has c ws 7 place refl) row row.x7 has.zero row.x5
+        (receiver_puts row.place (slice_index x 11) row.knows) (λ made q. q))
+    takes_at at_20 place row = takes at_20 (λ e. omega arith) (λ e. omega arith) place
+        (index_stores M n a b the_receiver fastforward k is h s t v has near c ws 8 place (omega arith) at_24 (reg_of 5) refl
+        (line_at M n a b the_receiver fastforward k is h s t v has c ws 8 place refl) row refl
+        (λ made word value. subst (λ q. IsReceiverStore fastforward r q made) (sym row.knows) (word, value))
+        (receive_whole row.place row.seen (slice_index x 11) row.some) (λ made q. q))
+    takes_at at_24 place row = takes at_24 (λ e. omega arith) (λ e. omega arith) place
+        (answers_1 M n a b the_receiver fastforward k is h s t v has near c ws 9 place (omega arith) at_28 refl
+        (line_at M n a b the_receiver fastforward k is h s t v has c ws 9 place refl) row (λ q. q))
+    takes_at at_28 place row = returns_1 M n a b the_receiver fastforward k is h s t v has c ws (omega arith) place
+        (line_at M n a b the_receiver fastforward k is h s t v has c ws 10 place refl) row
+    takes_at at_2C place row = takes at_2C (λ e. omega arith) (λ e. omega arith) place
+        (answers_0 M n a b the_receiver fastforward k is h s t v has near c ws 11 place (omega arith) at_30 refl
+        (line_at M n a b the_receiver fastforward k is h s t v has c ws 11 place refl) row (λ q. q))
+    takes_at at_30 place row = returns_0 M n a b the_receiver fastforward k is h s t v has c ws (omega arith) place
+        (line_at M n a b the_receiver fastforward k is h s t v has c ws 12 place refl) row

@@ -10,10 +10,10 @@ use Rattle.spsc_queue.specs.RingBuffers.{RingBuffer, IsRingBuffer, IsWordIn, off
 use Rattle.spsc_queue.specs.Protocol.{SenderState, resting, roomy, filled, ReceiverState, idle, holding, cleared, ProtocolState, IsWordAt}
 use Rattle.spsc_queue.proofs.Spread.{sent_store, sent-slot, sent-head}
 use Rattle.spsc_queue.proofs.Rows.{row-stores, row-publishes, Earlier, Stays, rows-stay, words-stay, sender-stores, receiver-stores}
-use Rattle.spsc_queue.proofs.Invariant.{firsts}
+use Rattle.spsc_queue.proofs.Invariant.{firsts, SendingIs}
 use Rattle.spsc_queue.proofs.Loads.{next_offset, slot_word}
 use Rattle.spsc_queue.proofs.Steps.{write-is}
-use Rattle.spsc_queue.proofs.FastForwardInvariant.{Landed, Words, SendingIs, ReceivingIs, Invariant, turned, zeros, cleared_store}
+use Rattle.spsc_queue.proofs.FastForwardInvariant.{Landed, Words, ReceivingIs, Invariant, turned, zeros, cleared_store}
 
 -- where the words of the block stay
 words-same : (r : RingBuffer) (is : IsRingBuffer r) (L : ℕ → ℕ) (d : Landed) (old new : ℕ → ℕ) → ((a : ℕ) → IsWordIn r a → new a ≡ old a)
@@ -35,7 +35,7 @@ module _ (r : RingBuffer) (is : IsRingBuffer r) (L : ℕ → ℕ) (c : Earlier) 
 
   -- the block stays, and so do the stores to it: what a party knows may change
   pub stays : (p : SenderState) (q : ReceiverState) → Stays r o es after
-      → SendingIs r s.stored s.published d.cleared p → ReceivingIs r L s.taken s.consumed d.slots q
+      → SendingIs 0 r s.stored s.published d.cleared p → ReceivingIs r L s.taken s.consumed d.slots q
       → Invariant r L c o after (record s { sending = p; receiving = q })
   stays p q block sending receiving = record {
     landed = d;
@@ -68,7 +68,12 @@ module _ (r : RingBuffer) (is : IsRingBuffer r) (L : ℕ → ℕ) (c : Earlier) 
         → Invariant r L c o after (record s { sending = filled u; stored = s.stored + 1; sent = s.sent ++ w.value ∷ [] })
     sends-word mine u at word value some = record {
       landed = d;
-      order = record { mine = row-stores inv.order.mine known.0; theirs = inv.order.theirs; taken_slots = inv.order.taken_slots; room = known.2 };
+      order = record {
+        mine = row-stores inv.order.mine known.0;
+        theirs = inv.order.theirs;
+        taken_slots = inv.order.taken_slots;
+        room = omega (arith, known.2);
+      };
       words = words;
       nonzero = λ j below. elim (cases_eq j s.stored) [
         | inl same ↦ λ none. some (value ∙ ap L (sym same) ∙ none)
@@ -88,8 +93,8 @@ module _ (r : RingBuffer) (is : IsRingBuffer r) (L : ℕ → ℕ) (c : Earlier) 
       received = inv.received;
     }
       where
-        known : SendingIs r s.stored s.published d.cleared (roomy u)
-        known = subst (SendingIs r s.stored s.published d.cleared) at inv.sending
+        known : SendingIs 0 r s.stored s.published d.cleared (roomy u)
+        known = subst (SendingIs 0 r s.stored s.published d.cleared) at inv.sending
 
         one_more : suc s.stored ≡ s.stored + 1
         one_more = omega arith
@@ -120,8 +125,8 @@ module _ (r : RingBuffer) (is : IsRingBuffer r) (L : ℕ → ℕ) (c : Earlier) 
       received = inv.received;
     }
       where
-        known : SendingIs r s.stored s.published d.cleared (filled u)
-        known = subst (SendingIs r s.stored s.published d.cleared) at inv.sending
+        known : SendingIs 0 r s.stored s.published d.cleared (filled u)
+        known = subst (SendingIs 0 r s.stored s.published d.cleared) at inv.sending
 
         is_next : w ≡ sent_store r L ((d.slots + d.heads) + inv.buffers.unsent)
         is_next = write-is w r.head (offset r (s.published + 1)) word (value ∙ next_offset r is u s.published known.1)

@@ -31,12 +31,12 @@ pub record Words (r : RingBuffer) (L : ℕ → ℕ) (d : Landed) (word : ℕ →
   pub tail : word r.tail ≡ offset r d.tails
   pub slots : (j : ℕ) → d.tails ≤ j → j < d.slots → word (slot r j) ≡ L j
 
--- what the sender knows, where t tails have landed
-abbrev pub SendingIs : RingBuffer → (stored published t : ℕ) → SenderState → Type 0
-SendingIs r stored published t resting = stored ≡ published
-SendingIs r stored published t (placed u) = (stored ≡ published) × (u ≡ offset r published)
-SendingIs r stored published t (roomy u) = (stored ≡ published) × (u ≡ offset r published) × (stored + 2 ≤ t + r.size)
-SendingIs r stored published t (filled u) = (stored ≡ published + 1) × (u ≡ offset r published)
+-- what the sender of either kind knows, where n slots have been freed in memory and this many stay free
+abbrev pub SendingIs : (spare : ℕ) → RingBuffer → (stored published n : ℕ) → SenderState → Type 0
+SendingIs spare r stored published n resting = stored ≡ published
+SendingIs spare r stored published n (placed u) = (stored ≡ published) × (u ≡ offset r published)
+SendingIs spare r stored published n (roomy u) = (stored ≡ published) × (u ≡ offset r published) × (stored + 1 + spare ≤ n + r.size)
+SendingIs spare r stored published n (filled u) = (stored ≡ published + 1) × (u ≡ offset r published)
 
 -- what the receiver knows, where h heads have landed
 abbrev pub ReceivingIs : RingBuffer → (ℕ → ℕ) → (tails h : ℕ) → ReceiverState → Type 0
@@ -59,17 +59,18 @@ pub record Invariant (r : RingBuffer) (L : ℕ → ℕ) (c : Earlier) (o : Openi
   pub order : Order r s.stored s.published s.consumed landed
   pub level : s.taken ≡ s.consumed
   pub words : Words r L landed (memory_word o es)
-  pub sending : SendingIs r s.stored s.published landed.tails s.sending
+  pub sending : SendingIs 1 r s.stored s.published landed.tails s.sending
   pub receiving : ReceivingIs r L s.consumed landed.heads s.receiving
   pub buffers : Buffers r L c es s.stored s.published s.consumed landed
   pub sent : s.sent ≡ firsts L s.stored
   pub received : s.received ≡ firsts L s.consumed
 
-pub sending-more : (r : RingBuffer) (stored published t u : ℕ) (p : SenderState) → t ≤ u → SendingIs r stored published t p → SendingIs r stored published u p
-sending-more r stored published t u resting le h = h
-sending-more r stored published t u (placed x) le h = h
-sending-more r stored published t u (roomy x) le h = (h.0, h.1, omega (arith, le, h.2))
-sending-more r stored published t u (filled x) le h = h
+pub sending-more : (spare : ℕ) (r : RingBuffer) (stored published n m : ℕ) (p : SenderState) → n ≤ m → SendingIs spare r stored published n p
+    → SendingIs spare r stored published m p
+sending-more spare r stored published n m resting le h = h
+sending-more spare r stored published n m (placed x) le h = h
+sending-more spare r stored published n m (roomy x) le h = (h.0, h.1, omega (arith, le, h.2))
+sending-more spare r stored published n m (filled x) le h = h
 
 pub receiving-more : (r : RingBuffer) (L : ℕ → ℕ) (tails h g : ℕ) (p : ReceiverState) → h ≤ g → ReceivingIs r L tails h p → ReceivingIs r L tails g p
 receiving-more r L tails h g idle le is = is

@@ -1,6 +1,5 @@
 -- The invariant of a queue of either kind: what keeps it, and what the laws take from it.
-use Rattle.std.proofs.Common.{ℕ, ◌+◌, ◌%◌, ◌^◌, ◌<◌, ◌≤◌, ◌≡◌, true, List, [], ◌∷◌, ◌++◌, length, refl, sym, ◌∙◌, ap, subst, arith}
-use Rattle.std.proofs.Math.Nat.{zero-mod}
+use Rattle.std.proofs.Common.{ℕ, ◌+◌, ◌^◌, ◌<◌, ◌≤◌, ◌≡◌, true, List, [], ◌∷◌, ◌++◌, length, refl, sym, ◌∙◌, ap, subst, arith}
 use Rattle.memory.specs.declared.writes.Write.{Write}
 use Rattle.step_machine.specs.declared.events.Entry.{Entry}
 use Rattle.step_machine.specs.History.{OpeningValue}
@@ -10,8 +9,9 @@ use Rattle.spsc_queue.specs.RingBuffers.{Kind, lamport, fastforward, RingBuffer,
 use Rattle.spsc_queue.specs.Protocol.{SenderState, resting, placed, roomy, filled, ReceiverState, idle, asked, waiting, holding, cleared, ProtocolState}
 use Rattle.spsc_queue.specs.Protocol.{at_start, send_load, send_store, receive_load, receive_store, IsWordAt, IsSendable, IsTaking}
 use Rattle.spsc_queue.specs.Laws.{available_of}
-use Rattle.spsc_queue.proofs.Rows.{row-none, Earlier, Stays, on_count}
-use Rattle.spsc_queue.proofs.Invariant.{firsts}
+use Rattle.spsc_queue.proofs.Spread.{sent_store, freed_store}
+use Rattle.spsc_queue.proofs.Rows.{row-none, Earlier, Rows, Stays, on_count}
+use Rattle.spsc_queue.proofs.Invariant.{firsts, SendingIs}
 use Rattle.spsc_queue.proofs.Invariant as lamports
 use Rattle.spsc_queue.proofs.Loads as lamports_loads
 use Rattle.spsc_queue.proofs.Loads.{slot_word}
@@ -19,6 +19,7 @@ use Rattle.spsc_queue.proofs.Steps as lamports_steps
 use Rattle.spsc_queue.proofs.Steps.{word_on}
 use Rattle.spsc_queue.proofs.Landings as lamports_landings
 use Rattle.spsc_queue.proofs.FastForwardInvariant as fastforwards
+use Rattle.spsc_queue.proofs.FastForwardInvariant.{cleared_store}
 use Rattle.spsc_queue.proofs.FastForwardSteps as fastforwards_steps
 use Rattle.spsc_queue.proofs.FastForwardLandings as fastforwards_landings
 
@@ -53,18 +54,11 @@ pub record Known (k : Kind) (r : RingBuffer) (L : ℕ → ℕ) (s : ProtocolStat
   pub available_stored : available_of k s ≤ s.stored
   pub room : s.stored ≤ s.taken + capacity_of k r.size
 
-lamports-placed : (r : RingBuffer) (stored published t : ℕ) (p : SenderState) → lamports.SendingIs r stored published t p → IsPlaced r stored published p
-lamports-placed r stored published t resting h = h
-lamports-placed r stored published t (placed u) h = h
-lamports-placed r stored published t (roomy u) h = (h.0, h.1)
-lamports-placed r stored published t (filled u) h = h
-
-fastforwards-placed : (r : RingBuffer) (stored published n : ℕ) (p : SenderState) → fastforwards.SendingIs r stored published n p
-    → IsPlaced r stored published p
-fastforwards-placed r stored published n resting h = h
-fastforwards-placed r stored published n (placed u) h = h
-fastforwards-placed r stored published n (roomy u) h = (h.0, h.1)
-fastforwards-placed r stored published n (filled u) h = h
+placed-of : (spare : ℕ) (r : RingBuffer) (stored published n : ℕ) (p : SenderState) → SendingIs spare r stored published n p → IsPlaced r stored published p
+placed-of spare r stored published n resting h = h
+placed-of spare r stored published n (placed u) h = h
+placed-of spare r stored published n (roomy u) h = (h.0, h.1)
+placed-of spare r stored published n (filled u) h = h
 
 lamports-asked : (r : RingBuffer) (L : ℕ → ℕ) (consumed h : ℕ) (p : ReceiverState) → lamports.ReceivingIs r L consumed h p → IsAsked r consumed p
 lamports-asked r L consumed h idle is = tt
@@ -86,7 +80,7 @@ module _ (r : RingBuffer) (is : IsRingBuffer r) (L : ℕ → ℕ) (c : Earlier) 
   known lamport inv = record {
     sent = inv.sent;
     received = inv.received ∙ ap (firsts L) (sym inv.level);
-    sending = lamports-placed r s.stored s.published inv.landed.tails s.sending inv.sending;
+    sending = placed-of 1 r s.stored s.published inv.landed.tails s.sending inv.sending;
     receiving = lamports-asked r L s.consumed inv.landed.heads s.receiving inv.receiving;
     published_stored = inv.order.mine.published_stored;
     stored_published = inv.order.mine.stored_published;
@@ -97,7 +91,7 @@ module _ (r : RingBuffer) (is : IsRingBuffer r) (L : ℕ → ℕ) (c : Earlier) 
   known fastforward inv = record {
     sent = inv.sent;
     received = inv.received;
-    sending = fastforwards-placed r s.stored s.published inv.landed.cleared s.sending inv.sending;
+    sending = placed-of 0 r s.stored s.published inv.landed.cleared s.sending inv.sending;
     receiving = fastforwards-asked r L s.taken s.consumed inv.landed.slots s.receiving inv.receiving;
     published_stored = inv.order.mine.published_stored;
     stored_published = inv.order.mine.stored_published;
@@ -174,8 +168,14 @@ module _ (r : RingBuffer) (is : IsRingBuffer r) (L : ℕ → ℕ) (c : Earlier) 
 abbrev pub earlier : RingBuffer → List Entry → Earlier
 earlier r es = record { sender = on_count r r.sender es; receiver = on_count r r.receiver es }
 
-offset_0 : (r : RingBuffer) → offset r 0 ≡ 0
-offset_0 r = let none : 0 % r.size ≡ 0 = zero-mod r.size in omega arith
+rows_at_rest : (r : RingBuffer) (o : OpeningValue) (es : List Entry) (f g : ℕ → Write) → IsEmptyAndQuiescent r o es → Rows r (earlier r es) f g es 0 0 0 0
+rows_at_rest r o es f g quiet = record {
+  mine = quiet.pending r.sender;
+  mine_made = omega arith;
+  theirs = quiet.pending r.receiver;
+  theirs_made = omega arith;
+  others = λ h not_sender not_receiver. quiet.pending h;
+}
 
 pub at_rest : (k : Kind) (r : RingBuffer) (is : IsRingBuffer r) (L : ℕ → ℕ) (o : OpeningValue) (es : List Entry) → IsEmptyAndQuiescent r o es
     → r.kind ≡ k → Holds k r L (earlier r es) o es at_start
@@ -184,8 +184,8 @@ at_rest lamport r is L o es quiet kind = record {
   order = record { mine = row-none; consumed_heads = omega arith; landed_consumed = omega arith; room = omega (arith, is.some_slots) };
   level = refl;
   words = record {
-    head = quiet.head ∙ sym (offset_0 r);
-    tail = quiet.tail ∙ sym (offset_0 r);
+    head = quiet.head;
+    tail = quiet.tail;
     slots = λ j from below. absurd (omega arith);
   };
   sending = refl;
@@ -193,13 +193,7 @@ at_rest lamport r is L o es quiet kind = record {
   buffers = record {
     unsent = 0;
     unread = 0;
-    rows = record {
-      mine = quiet.pending r.sender;
-      mine_made = omega arith;
-      theirs = quiet.pending r.receiver;
-      theirs_made = omega arith;
-      others = λ h not_sender not_receiver. quiet.pending h;
-    };
+    rows = rows_at_rest r o es (sent_store r L) (freed_store r) quiet;
     mine_count = refl;
     theirs_count = refl;
   };
@@ -210,8 +204,8 @@ at_rest fastforward r is L o es quiet kind = record {
   landed = record { slots = 0; heads = 0; cleared = 0; tails = 0 };
   order = record { mine = row-none; theirs = row-none; taken_slots = omega arith; room = omega arith };
   words = record {
-    head = quiet.head ∙ sym (offset_0 r);
-    tail = quiet.tail ∙ sym (offset_0 r);
+    head = quiet.head;
+    tail = quiet.tail;
     full = λ j from below. absurd (omega arith);
     free = λ j from below. quiet.slots kind j (omega arith);
   };
@@ -221,13 +215,7 @@ at_rest fastforward r is L o es quiet kind = record {
   buffers = record {
     unsent = 0;
     unread = 0;
-    rows = record {
-      mine = quiet.pending r.sender;
-      mine_made = omega arith;
-      theirs = quiet.pending r.receiver;
-      theirs_made = omega arith;
-      others = λ h not_sender not_receiver. quiet.pending h;
-    };
+    rows = rows_at_rest r o es (sent_store r L) (cleared_store r) quiet;
     mine_count = refl;
     theirs_count = refl;
   };

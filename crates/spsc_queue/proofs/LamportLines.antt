@@ -1,6 +1,6 @@
 -- Lamport's functions, line by line: what each line does keeps the protocol, and leads to the next line of the outline.
-use Rattle.std.proofs.Common.{ℕ, pos, ◌+◌, ◌*◌, ◌≤◌, ◌≡◌, ◌≢◌, ◌==◌, ◌⊎◌, inl, inr, true, false, if◌then◌else◌}
-use Rattle.std.proofs.Common.{List, [], ◌∷◌, ◌++◌, refl, sym, ◌∙◌, ap, subst, arith, append-nil}
+use Rattle.std.proofs.Common.{ℕ, pos, ◌+◌, ◌*◌, ◌≤◌, ◌≡◌, ◌≢◌, ◌==◌, ◌⊎◌, inl, inr, true, false, if◌then◌else◌, List, [], ◌∷◌, ◌++◌, refl, sym, ◌∙◌, ap, subst}
+use Rattle.std.proofs.Common.{arith, append-nil}
 use Rattle.std.specs.Prelude.{slice_index, slice_set}
 use Rattle.std.proofs.lemmas.Bool.{cases_eq, eq-eqb, ne_eqb}
 use Rattle.rv_decode.specs.Meaning.{reg_of}
@@ -14,17 +14,16 @@ use Rattle.spsc_queue.specs.Protocol.{placed, roomy, asked, waiting, holding, Pr
 use Rattle.spsc_queue.specs.Listings.{try_send, try_receive}
 use Rattle.spsc_queue.specs.Calls.{Block, IsBlock, the_sender, the_receiver, ring_of}
 use Rattle.spsc_queue.specs.CallEffects.{take_accesses}
-use Rattle.spsc_queue.proofs.Lines.{word-plus, add_line, sum_line, load_line, store_line, same_jumps, other_goes_on}
-use Rattle.spsc_queue.proofs.Lines.{other_jumps, same_goes_on, goes_to, leaves_in}
+use Rattle.spsc_queue.proofs.Lines.{word-plus, add_line, sum_line, load_line, store_line, same_jumps, other_goes_on, other_jumps, same_goes_on, goes_to}
+use Rattle.spsc_queue.proofs.Lines.{leaves_in}
 use Rattle.spsc_queue.proofs.Registers.{set-same, set-other}
-use Rattle.spsc_queue.proofs.Courses.{At, at_00, at_04, at_08, at_0C, at_10, at_14, at_18, at_1C, at_20, at_24, at_28, at_2C, at_30, number, Equipped}
-use Rattle.spsc_queue.proofs.Courses.{Course, went, left_on, frame_on, frame_set, more_frame, bytes_of, free_6, free_7, free_11}
+use Rattle.spsc_queue.proofs.Courses.{At, at_00, at_04, at_08, at_0C, at_10, at_14, at_18, at_1C, at_20, at_24, at_28, at_2C, at_30, number, Equipped, Course}
+use Rattle.spsc_queue.proofs.Courses.{went, left_on, frame_on, frame_set, more_frame, bytes_of, free_6, free_7, free_11}
 use Rattle.spsc_queue.proofs.Steps.{word_on}
 use Rattle.spsc_queue.proofs.Outline.{Part, part, Level, IsOffset, IsFit, Near, Looked, looked, Seen, Row, Moves}
 use Rattle.spsc_queue.proofs.Parts.{level-next, word-load, tail-taken, looked-offset, ready-offset}
-use Rattle.spsc_queue.proofs.AllLines.{to_line, to_ready, loads_to, stores_to, line_at, on, over, wraps_not, wraps}
-use Rattle.spsc_queue.proofs.AllLines.{to_seen, to_no, ready_5, word_set, if_false, Answered}
-use Rattle.spsc_queue.proofs.AllLines.{none, returns_1, returns_0}
+use Rattle.spsc_queue.proofs.AllLines.{to_line, to_ready, loads_to, stores_to, line_at, on, over, wraps_not, wraps, to_seen, to_no, ready_5, word_set, if_false}
+use Rattle.spsc_queue.proofs.AllLines.{Answered, none, returns_1, returns_0}
 use Rattle.spsc_queue.proofs.CommonLines.{index_loads, bumps, zeroes, tests, slot_stores, index_stores, answers_1, answers_0, sender_puts, sender_publishes}
 use Rattle.spsc_queue.proofs.CommonLines.{send_whole}
 
@@ -133,61 +132,58 @@ module _ (M n a b : ℕ) (k : Block) (is : IsBlock M k) (h : ℕ) (s : HartState
         (ready_5 M n a b the_sender lamport k is h s t v has c ws (λ u. u) (λ u. next r u) (λ u. k.base + u) (slice_index x 10 + slice_index x 5) row
         (ap (λ q. q + slice_index x 5) row.frame.block ∙ ap (λ q. k.base + q) row.x5))
 
+    -- a line that doesn't return
+    sends : (line : At) → number line ≢ 10 → number line ≢ 12 → s.pc ≡ 4 * (n + number line) → Moves n the_sender lamport k r true ws c h s t v
+        → Answered M n a b the_sender lamport k is h s t v has c ws
+    sends line ten twelve place moves = none M n a b the_sender lamport k is h s t v has c ws line place ten twelve moves
+
     pub sends_at : (line : At) → s.pc ≡ 4 * (n + number line) → Row n the_sender lamport k r c ws line x (part the_sender t)
         → Answered M n a b the_sender lamport k is h s t v has c ws
-    sends_at line place row = at line place row
+    sends_at at_00 place row = sends at_00 (λ e. omega arith) (λ e. omega arith) place
+        (index_loads M n a b the_sender lamport k is h s t v has near c ws 0 place (omega arith) at_04 refl
+        (line_at M n a b the_sender lamport k is h s t v has c ws 0 place refl) row (λ q. q))
+    sends_at at_04 place row = sends at_04 (λ e. omega arith) (λ e. omega arith) place (sends_04 place row)
+    sends_at at_08 place row = sends at_08 (λ e. omega arith) (λ e. omega arith) place (sends_08 place row)
+    sends_at at_0C place row = sends at_0C (λ e. omega arith) (λ e. omega arith) place (sends_0C place row)
+    sends_at at_10 place row = sends at_10 (λ e. omega arith) (λ e. omega arith) place (sends_10 place row)
+    -- beq x6,x7,2C
+    sends_at at_14 place row = sends at_14 (λ e. omega arith) (λ e. omega arith) place (by (cases_eq (slice_index x 6) (slice_index x 7)))
       where
-        K : (line : At) → number line ≢ 10 → number line ≢ 12 → s.pc ≡ 4 * (n + number line) → Moves n the_sender lamport k r true ws c h s t v
-            → Answered M n a b the_sender lamport k is h s t v has c ws
-        K line ten twelve place moves = none M n a b the_sender lamport k is h s t v has c ws line place ten twelve moves
-
-        at : (line : At) → s.pc ≡ 4 * (n + number line) → Row n the_sender lamport k r c ws line x (part the_sender t)
-            → Answered M n a b the_sender lamport k is h s t v has c ws
-        at at_00 place row = K at_00 (λ e. omega arith) (λ e. omega arith) place
-            (index_loads M n a b the_sender lamport k is h s t v has near c ws 0 place (omega arith) at_04 refl
-            (line_at M n a b the_sender lamport k is h s t v has c ws 0 place refl) row (λ q. q))
-        at at_04 place row = K at_04 (λ e. omega arith) (λ e. omega arith) place (sends_04 place row)
-        at at_08 place row = K at_08 (λ e. omega arith) (λ e. omega arith) place (sends_08 place row)
-        at at_0C place row = K at_0C (λ e. omega arith) (λ e. omega arith) place (sends_0C place row)
-        at at_10 place row = K at_10 (λ e. omega arith) (λ e. omega arith) place (sends_10 place row)
-        -- beq x6,x7,2C
-        at at_14 place row = K at_14 (λ e. omega arith) (λ e. omega arith) place (by (cases_eq (slice_index x 6) (slice_index x 7)))
-          where
-            by : (slice_index x 6 ≡ slice_index x 7) ⊎ (slice_index x 6 ≢ slice_index x 7) → Moves n the_sender lamport k r true ws c h s t v
-            by (inl equal) =
-                to_line M n a b the_sender lamport k is h s t v has c ws at_2C (goes_to s (address s.pc (pos 24)))
-                (same_jumps (line_at M n a b the_sender lamport k is h s t v has c ws 5 place refl) equal
-                (omega (arith, over M n a b the_sender lamport k is h s t v has c ws 5 6 place (omega arith))))
-                (over M n a b the_sender lamport k is h s t v has c ws 5 6 place (omega arith))
-                (to_no M n a b the_sender lamport k is h s t v has c ws (eq-eqb (slice_index x 6) (next r (slice_index x 5)) (equal ∙ row.1)) tt
-                (looked-offset k the_sender lamport r (slice_index x 5) (slice_index x 6) (part the_sender t) row.0.knows near) row.0)
-            by (inr other) =
-                let some : (slice_index x 6 == next r (slice_index x 5)) ≡ false =
-                ne_eqb (slice_index x 6) (next r (slice_index x 5)) (λ e. other (e ∙ sym row.1)) in
-                to_line M n a b the_sender lamport k is h s t v has c ws at_18 (goes_to s (next_pc s.pc))
-                (other_goes_on (line_at M n a b the_sender lamport k is h s t v has c ws 5 place refl) other)
-                (on M n a b the_sender lamport k is h s t v has c ws 5 place (omega arith))
-                (to_ready M n a b the_sender lamport k is h s t v has c ws (λ u. next r u) some tt
-                (row.0.knows ∙ ap (λ q. if q then placed (slice_index x 5) else roomy (slice_index x 5)) some) row.1 refl row.0)
-        at at_18 place row = K at_18 (λ e. omega arith) (λ e. omega arith) place (sends_18 place row)
-        at at_1C place row = K at_1C (λ e. omega arith) (λ e. omega arith) place
-            (slot_stores M n a b the_sender lamport k is h s t v has near c ws 7 place (omega arith) at_20 (λ u. k.base + u) (λ u. next r u)
-            (reg_of 5) (reg_of 11) 7 refl (line_at M n a b the_sender lamport k is h s t v has c ws 7 place refl) row row.x5 refl row.x7
-            (sender_puts lamport r t row.place (slice_index x 11) row.knows (omega (arith, row.word, row.frame.left.args.word)) tt) (λ made q. q))
-        at at_20 place row = K at_20 (λ e. omega arith) (λ e. omega arith) place
-            (index_stores M n a b the_sender lamport k is h s t v has near c ws 8 place (omega arith) at_24 (reg_of 7) refl
-            (line_at M n a b the_sender lamport k is h s t v has c ws 8 place refl) row refl
-            (sender_publishes lamport r t row.place row.knows) (send_whole lamport r t row.place row.seen (slice_index x 11) row.some) (λ made q. q))
-        at at_24 place row = K at_24 (λ e. omega arith) (λ e. omega arith) place
-            (answers_1 M n a b the_sender lamport k is h s t v has near c ws 9 place (omega arith) at_28 refl
-            (line_at M n a b the_sender lamport k is h s t v has c ws 9 place refl) row (λ q. q))
-        at at_28 place row = returns_1 M n a b the_sender lamport k is h s t v has c ws (omega arith) place
-            (line_at M n a b the_sender lamport k is h s t v has c ws 10 place refl) row
-        at at_2C place row = K at_2C (λ e. omega arith) (λ e. omega arith) place
-            (answers_0 M n a b the_sender lamport k is h s t v has near c ws 11 place (omega arith) at_30 refl
-            (line_at M n a b the_sender lamport k is h s t v has c ws 11 place refl) row (λ q. q))
-        at at_30 place row = returns_0 M n a b the_sender lamport k is h s t v has c ws (omega arith) place
-            (line_at M n a b the_sender lamport k is h s t v has c ws 12 place refl) row
+        by : (slice_index x 6 ≡ slice_index x 7) ⊎ (slice_index x 6 ≢ slice_index x 7) → Moves n the_sender lamport k r true ws c h s t v
+        by (inl equal) =
+            to_line M n a b the_sender lamport k is h s t v has c ws at_2C (goes_to s (address s.pc (pos 24)))
+            (same_jumps (line_at M n a b the_sender lamport k is h s t v has c ws 5 place refl) equal
+            (omega (arith, over M n a b the_sender lamport k is h s t v has c ws 5 6 place (omega arith))))
+            (over M n a b the_sender lamport k is h s t v has c ws 5 6 place (omega arith))
+            (to_no M n a b the_sender lamport k is h s t v has c ws (eq-eqb (slice_index x 6) (next r (slice_index x 5)) (equal ∙ row.1)) tt
+            (looked-offset k the_sender lamport r (slice_index x 5) (slice_index x 6) (part the_sender t) row.0.knows near) row.0)
+        by (inr other) =
+            let some : (slice_index x 6 == next r (slice_index x 5)) ≡ false =
+            ne_eqb (slice_index x 6) (next r (slice_index x 5)) (λ e. other (e ∙ sym row.1)) in
+            to_line M n a b the_sender lamport k is h s t v has c ws at_18 (goes_to s (next_pc s.pc))
+            (other_goes_on (line_at M n a b the_sender lamport k is h s t v has c ws 5 place refl) other)
+            (on M n a b the_sender lamport k is h s t v has c ws 5 place (omega arith))
+            (to_ready M n a b the_sender lamport k is h s t v has c ws (λ u. next r u) some tt
+            (row.0.knows ∙ ap (λ q. if q then placed (slice_index x 5) else roomy (slice_index x 5)) some) row.1 refl row.0)
+    sends_at at_18 place row = sends at_18 (λ e. omega arith) (λ e. omega arith) place (sends_18 place row)
+    sends_at at_1C place row = sends at_1C (λ e. omega arith) (λ e. omega arith) place
+        (slot_stores M n a b the_sender lamport k is h s t v has near c ws 7 place (omega arith) at_20 (λ u. k.base + u) (λ u. next r u)
+        (reg_of 5) (reg_of 11) 7 refl (line_at M n a b the_sender lamport k is h s t v has c ws 7 place refl) row row.x5 refl row.x7
+        (sender_puts lamport r t row.place (slice_index x 11) row.knows (omega (arith, row.word, row.frame.left.args.word)) tt) (λ made q. q))
+    sends_at at_20 place row = sends at_20 (λ e. omega arith) (λ e. omega arith) place
+        (index_stores M n a b the_sender lamport k is h s t v has near c ws 8 place (omega arith) at_24 (reg_of 7) refl
+        (line_at M n a b the_sender lamport k is h s t v has c ws 8 place refl) row refl
+        (sender_publishes lamport r t row.place row.knows) (send_whole lamport r t row.place row.seen (slice_index x 11) row.some) (λ made q. q))
+    sends_at at_24 place row = sends at_24 (λ e. omega arith) (λ e. omega arith) place
+        (answers_1 M n a b the_sender lamport k is h s t v has near c ws 9 place (omega arith) at_28 refl
+        (line_at M n a b the_sender lamport k is h s t v has c ws 9 place refl) row (λ q. q))
+    sends_at at_28 place row = returns_1 M n a b the_sender lamport k is h s t v has c ws (omega arith) place
+        (line_at M n a b the_sender lamport k is h s t v has c ws 10 place refl) row
+    sends_at at_2C place row = sends at_2C (λ e. omega arith) (λ e. omega arith) place
+        (answers_0 M n a b the_sender lamport k is h s t v has near c ws 11 place (omega arith) at_30 refl
+        (line_at M n a b the_sender lamport k is h s t v has c ws 11 place refl) row (λ q. q))
+    sends_at at_30 place row = returns_0 M n a b the_sender lamport k is h s t v has c ws (omega arith) place
+        (line_at M n a b the_sender lamport k is h s t v has c ws 12 place refl) row
 
   -- ---- try_receive
 
@@ -304,40 +300,37 @@ module _ (M n a b : ℕ) (k : Block) (is : IsBlock M k) (h : ℕ) (s : HartState
           answers = if_false (row.seen == u) 0 1 row.some;
         })
 
+    -- a line that doesn't return
+    takes : (line : At) → number line ≢ 10 → number line ≢ 12 → s.pc ≡ 4 * (n + number line) → Moves n the_receiver lamport k r true ws c h s t v
+        → Answered M n a b the_receiver lamport k is h s t v has c ws
+    takes line ten twelve place moves = none M n a b the_receiver lamport k is h s t v has c ws line place ten twelve moves
+
     pub takes_at : (line : At) → s.pc ≡ 4 * (n + number line) → Row n the_receiver lamport k r c ws line x (part the_receiver t)
         → Answered M n a b the_receiver lamport k is h s t v has c ws
-    takes_at line place row = at line place row
-      where
-        K : (line : At) → number line ≢ 10 → number line ≢ 12 → s.pc ≡ 4 * (n + number line) → Moves n the_receiver lamport k r true ws c h s t v
-            → Answered M n a b the_receiver lamport k is h s t v has c ws
-        K line ten twelve place moves = none M n a b the_receiver lamport k is h s t v has c ws line place ten twelve moves
-
-        at : (line : At) → s.pc ≡ 4 * (n + number line) → Row n the_receiver lamport k r c ws line x (part the_receiver t)
-            → Answered M n a b the_receiver lamport k is h s t v has c ws
-        at at_00 place row = K at_00 (λ e. omega arith) (λ e. omega arith) place
-            (index_loads M n a b the_receiver lamport k is h s t v has near c ws 0 place (omega arith) at_04 refl
-            (line_at M n a b the_receiver lamport k is h s t v has c ws 0 place refl) row (λ q. q))
-        at at_04 place row = K at_04 (λ e. omega arith) (λ e. omega arith) place (takes_04 place row)
-        at at_08 place row = K at_08 (λ e. omega arith) (λ e. omega arith) place (takes_08 place row)
-        at at_0C place row = K at_0C (λ e. omega arith) (λ e. omega arith) place (takes_0C place row)
-        at at_10 place row = K at_10 (λ e. omega arith) (λ e. omega arith) place (takes_10 place row)
-        at at_14 place row = K at_14 (λ e. omega arith) (λ e. omega arith) place
-            (bumps M n a b the_receiver lamport k is h s t v has near c ws 5 place (omega arith) at_18 (λ u. k.base + u) refl
-            (line_at M n a b the_receiver lamport k is h s t v has c ws 5 place refl) row (λ q. q))
-        at at_18 place row = K at_18 (λ e. omega arith) (λ e. omega arith) place
-            (tests M n a b the_receiver lamport k is h s t v has near c ws 6 place (omega arith) at_1C at_20 (λ u. k.base + u) (omega arith) refl refl
-            (line_at M n a b the_receiver lamport k is h s t v has c ws 6 place refl) row (λ q. q) (λ q. q))
-        at at_1C place row = K at_1C (λ e. omega arith) (λ e. omega arith) place
-            (zeroes M n a b the_receiver lamport k is h s t v has near c ws 7 place (omega arith) at_20 (λ u. k.base + u) refl
-            (line_at M n a b the_receiver lamport k is h s t v has c ws 7 place refl) row.0 row.1 (λ q. q))
-        at at_20 place row = K at_20 (λ e. omega arith) (λ e. omega arith) place (takes_20 place row)
-        at at_24 place row = K at_24 (λ e. omega arith) (λ e. omega arith) place
-            (answers_1 M n a b the_receiver lamport k is h s t v has near c ws 9 place (omega arith) at_28 refl
-            (line_at M n a b the_receiver lamport k is h s t v has c ws 9 place refl) row (λ q. q))
-        at at_28 place row = returns_1 M n a b the_receiver lamport k is h s t v has c ws (omega arith) place
-            (line_at M n a b the_receiver lamport k is h s t v has c ws 10 place refl) row
-        at at_2C place row = K at_2C (λ e. omega arith) (λ e. omega arith) place
-            (answers_0 M n a b the_receiver lamport k is h s t v has near c ws 11 place (omega arith) at_30 refl
-            (line_at M n a b the_receiver lamport k is h s t v has c ws 11 place refl) row (λ q. q))
-        at at_30 place row = returns_0 M n a b the_receiver lamport k is h s t v has c ws (omega arith) place
-            (line_at M n a b the_receiver lamport k is h s t v has c ws 12 place refl) row
+    takes_at at_00 place row = takes at_00 (λ e. omega arith) (λ e. omega arith) place
+        (index_loads M n a b the_receiver lamport k is h s t v has near c ws 0 place (omega arith) at_04 refl
+        (line_at M n a b the_receiver lamport k is h s t v has c ws 0 place refl) row (λ q. q))
+    takes_at at_04 place row = takes at_04 (λ e. omega arith) (λ e. omega arith) place (takes_04 place row)
+    takes_at at_08 place row = takes at_08 (λ e. omega arith) (λ e. omega arith) place (takes_08 place row)
+    takes_at at_0C place row = takes at_0C (λ e. omega arith) (λ e. omega arith) place (takes_0C place row)
+    takes_at at_10 place row = takes at_10 (λ e. omega arith) (λ e. omega arith) place (takes_10 place row)
+    takes_at at_14 place row = takes at_14 (λ e. omega arith) (λ e. omega arith) place
+        (bumps M n a b the_receiver lamport k is h s t v has near c ws 5 place (omega arith) at_18 (λ u. k.base + u) refl
+        (line_at M n a b the_receiver lamport k is h s t v has c ws 5 place refl) row (λ q. q))
+    takes_at at_18 place row = takes at_18 (λ e. omega arith) (λ e. omega arith) place
+        (tests M n a b the_receiver lamport k is h s t v has near c ws 6 place (omega arith) at_1C at_20 (λ u. k.base + u) (omega arith) refl refl
+        (line_at M n a b the_receiver lamport k is h s t v has c ws 6 place refl) row (λ q. q) (λ q. q))
+    takes_at at_1C place row = takes at_1C (λ e. omega arith) (λ e. omega arith) place
+        (zeroes M n a b the_receiver lamport k is h s t v has near c ws 7 place (omega arith) at_20 (λ u. k.base + u) refl
+        (line_at M n a b the_receiver lamport k is h s t v has c ws 7 place refl) row.0 row.1 (λ q. q))
+    takes_at at_20 place row = takes at_20 (λ e. omega arith) (λ e. omega arith) place (takes_20 place row)
+    takes_at at_24 place row = takes at_24 (λ e. omega arith) (λ e. omega arith) place
+        (answers_1 M n a b the_receiver lamport k is h s t v has near c ws 9 place (omega arith) at_28 refl
+        (line_at M n a b the_receiver lamport k is h s t v has c ws 9 place refl) row (λ q. q))
+    takes_at at_28 place row = returns_1 M n a b the_receiver lamport k is h s t v has c ws (omega arith) place
+        (line_at M n a b the_receiver lamport k is h s t v has c ws 10 place refl) row
+    takes_at at_2C place row = takes at_2C (λ e. omega arith) (λ e. omega arith) place
+        (answers_0 M n a b the_receiver lamport k is h s t v has near c ws 11 place (omega arith) at_30 refl
+        (line_at M n a b the_receiver lamport k is h s t v has c ws 11 place refl) row (λ q. q))
+    takes_at at_30 place row = returns_0 M n a b the_receiver lamport k is h s t v has c ws (omega arith) place
+        (line_at M n a b the_receiver lamport k is h s t v has c ws 12 place refl) row

@@ -1,6 +1,6 @@
 -- Each landing of a party's store keeps the invariant.
-use Rattle.std.proofs.Common.{ℕ, suc, ◌+◌, ◌%◌, ◌^◌, ◌<◌, ◌≤◌, ◌≡◌, ◌≢◌, ◌==◌, ◌⊎◌, inl, inr, Bool, true, false, if◌then◌else◌}
-use Rattle.std.proofs.Common.{List, [], ◌∷◌, ◌++◌, length, refl, sym, ◌∙◌, ap, subst, arith}
+use Rattle.std.proofs.Common.{ℕ, suc, ◌+◌, ◌^◌, ◌<◌, ◌≤◌, ◌≡◌, ◌≢◌, ◌==◌, ◌⊎◌, inl, inr, Bool, true, false, if◌then◌else◌, List, [], ◌∷◌, ◌++◌, length, refl}
+use Rattle.std.proofs.Common.{sym, ◌∙◌, ap, subst, arith}
 use Rattle.std.proofs.lemmas.Bool.{cases_eq, eqb-true, eqb-false}
 use Rattle.memory.specs.declared.writes.Write.{Write}
 use Rattle.memory.specs.Writes.{write, IsWholeWord}
@@ -10,8 +10,7 @@ use Rattle.step_machine.specs.Access.{land, access_of}
 use Rattle.step_machine.specs.Entries.{hart_of, pending, memory_word, stores, lands}
 use Rattle.spsc_queue.specs.RingBuffers.{RingBuffer, IsRingBuffer, offset, slot}
 use Rattle.spsc_queue.specs.Protocol.{ProtocolState, sends, receives, passes, role_of}
-use Rattle.spsc_queue.proofs.Modulo.{mod_apart}
-use Rattle.spsc_queue.proofs.Spread.{sent_store, freed_store, sent-slot, sent-head, slot_not_head, slot_not_tail, offset_low}
+use Rattle.spsc_queue.proofs.Spread.{slot_apart, sent_store, freed_store, sent-slot, sent-head, slot_not_head, slot_not_tail, offset_low}
 use Rattle.spsc_queue.proofs.Rows.{slot-landed, head-landed, Earlier, Rows, Lands, hit, miss, landing}
 use Rattle.spsc_queue.proofs.Invariant.{Landed, Invariant, sending-more, receiving-more}
 use Rattle.spsc_queue.proofs.Loads.{slot_word, freed-whole}
@@ -91,9 +90,10 @@ module _ (r : RingBuffer) (is : IsRingBuffer r) (L : ℕ → ℕ) (small : (j : 
             | inl same ↦ hit r o es after w (slot r j) written (slot_word r is j) whole (place ∙ ap (slot r) (sym same))
                 ∙ ap (λ (x : Write). x.value) is_slot ∙ ap L (sym same)
             | inr other ↦
-                let apart : j % r.size ≢ d.slots % r.size =
-                mod_apart r.size j d.slots (omega (arith, is.some_slots)) (omega arith) (omega (arith, some, inv.order.room)) in
-                miss r o es after w (slot r j) written (slot_word r is j) whole (λ same. apart (omega (arith, place))) ∙ inv.words.slots j from (omega arith)
+                miss r o es after w (slot r j) written (slot_word r is j) whole
+                (λ same.
+                slot_apart r is j d.slots (omega arith) (omega (arith, some, inv.order.room)) (sym same ∙ place))
+                ∙ inv.words.slots j from (omega arith)
           ]
 
       head-lands : d.slots ≡ d.heads + 1 → w ≡ write r.head 4 (offset r (d.heads + 1)) → Invariant r L c o after s
@@ -160,7 +160,7 @@ module _ (r : RingBuffer) (is : IsRingBuffer r) (L : ℕ → ℕ) (small : (j : 
         slots = λ j from below. miss r o es after w (slot r j) written (slot_word r is j) whole (λ e. slot_not_tail r is j (sym e ∙ place))
             ∙ inv.words.slots j (omega (arith, from)) below;
       };
-      sending = sending-more r s.stored s.published d.tails (suc d.tails) s.sending (omega arith) inv.sending;
+      sending = sending-more 1 r s.stored s.published d.tails (suc d.tails) s.sending (omega arith) inv.sending;
       receiving = inv.receiving;
       buffers = record {
         unsent = inv.buffers.unsent;

@@ -33,6 +33,7 @@ pub mod OwnEntries
 pub mod Parties
 pub mod Calls
 pub mod CallLaws
+pub mod ChangingHands
 pub mod Extend
 pub mod Accesses
 pub mod WholeCalls

@@ -11,10 +11,10 @@ use Rattle.step_machine.proofs.Appended.{LegalAfter-back}
 use Rattle.spsc_queue.specs.RingBuffers.{Kind, lamport, fastforward, RingBuffer, IsRingBuffer, offset, slot, next, capacity_of, capacity, writes_to}
 use Rattle.spsc_queue.specs.Protocol.{placed, asked, ProtocolState, at_start, protocol_after, room_at, says_full, word_at, says_empty, KeepsProtocol}
 use Rattle.spsc_queue.specs.Laws.{FollowsSpscProtocol, available_of, available_count}
-use Rattle.spsc_queue.proofs.Modulo.{same_offset, mod_apart}
-use Rattle.spsc_queue.proofs.Spread.{sent_store, freed_store}
+use Rattle.spsc_queue.proofs.Spread.{offset_apart, sent_store, freed_store}
 use Rattle.spsc_queue.proofs.Rows.{Earlier}
 use Rattle.spsc_queue.proofs.Invariant as lamports
+use Rattle.spsc_queue.proofs.Invariant.{SendingIs}
 use Rattle.spsc_queue.proofs.Loads.{next_offset, sender-tail, receiver-other}
 use Rattle.spsc_queue.proofs.FastForwardInvariant as fastforwards
 use Rattle.spsc_queue.proofs.FastForwardInvariant.{cleared_store, receiver-word, sender-free}
@@ -30,9 +30,12 @@ module _ (r : RingBuffer) (is : IsRingBuffer r) (L : ℕ → ℕ) (small : (j : 
   empty lamport inv u v found says was =
       let known : u ≡ offset r T.consumed = subst (lamports.ReceivingIs r L T.consumed inv.landed.heads) was inv.receiving in
       let head : v ≡ offset r inv.landed.heads = found ∙ receiver-other r is L small c o es T inv r.head is.head (λ q. is.apart (sym q)) ∙ inv.words.head in
-      let same : T.consumed ≡ inv.landed.heads = same_offset r.size T.consumed inv.landed.heads (omega (arith, is.some_slots)) inv.order.consumed_heads
-      (omega (arith, inv.order.mine.heads_slots, inv.order.mine.slots_stored, inv.order.room, inv.order.landed_consumed))
-      (sym known ∙ sym (eqb-true v u says) ∙ head) in
+      let same : T.consumed ≡ inv.landed.heads = elim (cases_lt T.consumed inv.landed.heads) [
+        | inl less ↦ absurd (offset_apart r is T.consumed inv.landed.heads less
+            (omega (arith, inv.order.mine.heads_slots, inv.order.mine.slots_stored, inv.order.room, inv.order.landed_consumed))
+            (sym known ∙ sym (eqb-true v u says) ∙ head))
+        | inr more ↦ omega (arith, more, inv.order.consumed_heads)
+      ] in
       let left : length (writes_to r (pending r.sender es)) ≡ inv.buffers.unsent =
       ap length inv.buffers.rows.mine ∙ length-spread (sent_store r L) (inv.landed.slots + inv.landed.heads) inv.buffers.unsent in
       omega (arith, same, left, inv.level, inv.buffers.mine_count, inv.order.mine.slots_stored, inv.order.mine.heads_published)
@@ -53,19 +56,19 @@ module _ (r : RingBuffer) (is : IsRingBuffer r) (L : ℕ → ℕ) (small : (j : 
   full : (k : Kind) → Holds k r L c o es T → (u v : ℕ) → v ≡ read o es r.sender (room_at k r u) 4 → says_full k r u v ≡ true → T.sending ≡ placed u
       → T.taken + capacity_of k r.size ≤ T.stored + length (writes_to r (pending r.receiver es))
   full lamport inv u v found says was =
-      let known : (T.stored ≡ T.published) × (u ≡ offset r T.published) = subst (lamports.SendingIs r T.stored T.published inv.landed.tails) was inv.sending in
+      let known : (T.stored ≡ T.published) × (u ≡ offset r T.published) = subst (SendingIs 1 r T.stored T.published inv.landed.tails) was inv.sending in
       let tail : next r u ≡ offset r inv.landed.tails = sym (eqb-true v (next r u) says) ∙ found ∙ sender-tail r is L small c o es T inv in
       let one : offset r inv.landed.tails ≡ offset r (T.published + 1) = sym tail ∙ next_offset r is u T.published known.1 in
       let over : inv.landed.tails < T.published + 1 = omega (arith, inv.order.landed_consumed, inv.order.consumed_heads, inv.order.mine.heads_published) in
       let far : inv.landed.tails + r.size ≤ T.published + 1 = elim (cases_lt (T.published + 1) (inv.landed.tails + r.size)) [
-        | inl less ↦ absurd (mod_apart r.size inv.landed.tails (T.published + 1) (omega (arith, is.some_slots)) over less (omega (arith, one)))
+        | inl less ↦ absurd (offset_apart r is inv.landed.tails (T.published + 1) over less one)
         | inr more ↦ more
       ] in
       let left : length (writes_to r (pending r.receiver es)) ≡ inv.buffers.unread =
       ap length inv.buffers.rows.theirs ∙ length-spread (freed_store r) inv.landed.tails inv.buffers.unread in
       omega (arith, far, left, known.0, inv.level, inv.buffers.theirs_count, is.some_slots)
   full fastforward inv u v found says was =
-      let known = subst (fastforwards.SendingIs r T.stored T.published inv.landed.cleared) was inv.sending in
+      let known = subst (SendingIs 0 r T.stored T.published inv.landed.cleared) was inv.sending in
       let place : r.slots + u ≡ slot r T.stored = ap (λ x. r.slots + x) (known.1 ∙ ap (offset r) (sym known.0)) in
       let some : v ≢ 0 = λ none. (let no : false ≡ true = sym (ap not (eq-eqb v 0 none)) ∙ says in cc) in
       let left : length (writes_to r (pending r.receiver es)) ≡ inv.buffers.unread =

@@ -1,6 +1,5 @@
 -- What a party knows after a load, whichever word it loads.
-use Rattle.std.proofs.Common.{ℕ, ◌+◌, ◌*◌, ◌%◌, ◌^◌, ◌<◌, ◌≡◌, ◌≢◌, ◌==◌, Bool, true, false, if◌then◌else◌}
-use Rattle.std.proofs.Common.{List, refl, sym, ◌∙◌, ap, subst, arith}
+use Rattle.std.proofs.Common.{ℕ, ◌+◌, ◌*◌, ◌%◌, ◌^◌, ◌<◌, ◌≡◌, ◌≢◌, ◌==◌, Bool, true, false, if◌then◌else◌, List, refl, sym, ◌∙◌, ap, subst, arith}
 use Rattle.std.specs.Prelude.{All}
 use Rattle.std.proofs.lemmas.Bool.{eqb-true, eqb-false}
 use Rattle.std.proofs.Math.Nat.{add-mod_right}
@@ -23,15 +22,21 @@ use Rattle.spsc_queue.proofs.Invariant.{Landed, SendingIs, ReceivingIs, Invarian
 pub next_offset : (r : RingBuffer) (is : IsRingBuffer r) (u j : ℕ) → u ≡ offset r j → next r u ≡ offset r (j + 1)
 next_offset r is u j at = by (u + 4 == 4 * r.size) refl
   where
+    on : 4 * ((r.start + j + 1) % r.size) ≡ offset r (j + 1)
+    on = ap (λ y. 4 * (y % r.size)) (omega arith)
+
     by : (b : Bool) → (u + 4 == 4 * r.size) ≡ b → (if b then 0 else u + 4) ≡ offset r (j + 1)
     by true full = let same : u + 4 ≡ 4 * r.size = eqb-true (u + 4) (4 * r.size) full in
-        let wrap : 4 * ((j + 1) % r.size) ≡ 0 = offset_wrap r.size j (omega (arith, is.some_slots)) (omega arith) in omega arith
+        let wrap : 4 * ((r.start + j + 1) % r.size) ≡ 0 = offset_wrap r.size (r.start + j) (omega (arith, is.some_slots)) (omega arith) in
+        sym wrap ∙ on
     by false more = let other : u + 4 ≢ 4 * r.size = eqb-false (u + 4) (4 * r.size) more in
-        let step : 4 * (j % r.size) + 4 ≡ 4 * ((j + 1) % r.size) = offset_step r.size j (omega (arith, is.some_slots)) (λ e. other (omega arith)) in omega arith
+        let step : offset r j + 4 ≡ 4 * ((r.start + j + 1) % r.size) =
+        offset_step r.size (r.start + j) (omega (arith, is.some_slots)) (λ e. other (omega (arith, at, e))) in ap (λ y. y + 4) at ∙ step ∙ on
 
 -- a whole size on is the same offset
 pub offset_again : (r : RingBuffer) (is : IsRingBuffer r) (j k : ℕ) → k ≡ j + r.size → offset r k ≡ offset r j
-offset_again r is j k at = ap (λ x. 4 * (x % r.size)) at ∙ ap (λ x. 4 * x) (add-mod_right j r.size)
+offset_again r is j k at =
+    let on : r.start + k ≡ (r.start + j) + r.size = omega (arith, at) in ap (λ x. 4 * (x % r.size)) on ∙ ap (λ x. 4 * x) (add-mod_right (r.start + j) r.size)
 
 pub slot_word : (r : RingBuffer) (is : IsRingBuffer r) (j : ℕ) → IsWordIn r (slot r j)
 slot_word r is j = record {
@@ -86,10 +91,10 @@ module _ (r : RingBuffer) (is : IsRingBuffer r) (L : ℕ → ℕ) (small : (j : 
 
   -- the sender's loads
   tail-says : (u v : ℕ) → (s.stored ≡ s.published) → u ≡ offset r s.published → v ≡ offset r d.tails
-      → SendingIs r s.stored s.published d.tails (looks_for_room lamport r u v)
+      → SendingIs 1 r s.stored s.published d.tails (looks_for_room lamport r u v)
   tail-says u v level at is_tail = by (v == next r u) refl
     where
-      by : (b : Bool) → (v == next r u) ≡ b → SendingIs r s.stored s.published d.tails (if b then placed u else roomy u)
+      by : (b : Bool) → (v == next r u) ≡ b → SendingIs 1 r s.stored s.published d.tails (if b then placed u else roomy u)
       by true same = (level, at)
       by false other =
           let apart : v ≢ next r u = eqb-false v (next r u) other in
@@ -97,27 +102,27 @@ module _ (r : RingBuffer) (is : IsRingBuffer r) (L : ℕ → ℕ) (small : (j : 
           λ full. apart (is_tail ∙ sym (offset_again r is d.tails (s.published + 1) full) ∙ sym (next_offset r is u s.published at)) in
           (level, at, omega (arith, inv.order.room))
 
-  send-looked : (a v : ℕ) (p : SenderState) → v ≡ read o es r.sender a 4 → SendingIs r s.stored s.published d.tails p
-      → SendingIs r s.stored s.published d.tails (send_look lamport r a v p)
+  send-looked : (a v : ℕ) (p : SenderState) → v ≡ read o es r.sender a 4 → SendingIs 1 r s.stored s.published d.tails p
+      → SendingIs 1 r s.stored s.published d.tails (send_look lamport r a v p)
   send-looked a v resting is_read holds = holds
   send-looked a v (placed u) is_read holds = by (a == r.tail) refl
     where
-      by : (b : Bool) → (a == r.tail) ≡ b → SendingIs r s.stored s.published d.tails (if b then looks_for_room lamport r u v else placed u)
+      by : (b : Bool) → (a == r.tail) ≡ b → SendingIs 1 r s.stored s.published d.tails (if b then looks_for_room lamport r u v else placed u)
       by true same = tail-says u v holds.0 holds.1 (is_read ∙ ap (λ x. read o es r.sender x 4) (eqb-true a r.tail same) ∙ sender-tail)
       by false other = holds
   send-looked a v (roomy u) is_read holds = holds
   send-looked a v (filled u) is_read holds = holds
 
-  loaded : (a v : ℕ) (p : SenderState) → s.stored ≡ s.published → v ≡ read o es r.sender a 4 → SendingIs r s.stored s.published d.tails p
-      → SendingIs r s.stored s.published d.tails (if a == r.head then placed v else send_look lamport r a v p)
+  loaded : (a v : ℕ) (p : SenderState) → s.stored ≡ s.published → v ≡ read o es r.sender a 4 → SendingIs 1 r s.stored s.published d.tails p
+      → SendingIs 1 r s.stored s.published d.tails (if a == r.head then placed v else send_look lamport r a v p)
   loaded a v p level is_read holds = by (a == r.head) refl
     where
-      by : (b : Bool) → (a == r.head) ≡ b → SendingIs r s.stored s.published d.tails (if b then placed v else send_look lamport r a v p)
+      by : (b : Bool) → (a == r.head) ≡ b → SendingIs 1 r s.stored s.published d.tails (if b then placed v else send_look lamport r a v p)
       by true same = (level, is_read ∙ ap (λ x. read o es r.sender x 4) (eqb-true a r.head same) ∙ sender-head)
       by false apart = send-looked a v p is_read holds
 
-  pub sending-load : (a v : ℕ) (p : SenderState) → v ≡ read o es r.sender a 4 → SendingIs r s.stored s.published d.tails p
-      → SendingIs r s.stored s.published d.tails (send_load lamport r a v p)
+  pub sending-load : (a v : ℕ) (p : SenderState) → v ≡ read o es r.sender a 4 → SendingIs 1 r s.stored s.published d.tails p
+      → SendingIs 1 r s.stored s.published d.tails (send_load lamport r a v p)
   sending-load a v resting is_read holds = loaded a v resting holds is_read holds
   sending-load a v (placed u) is_read holds = loaded a v (placed u) holds.0 is_read holds
   sending-load a v (roomy u) is_read holds = loaded a v (roomy u) holds.0 is_read holds

@@ -1,6 +1,6 @@
 -- The computation of what a caller owes is sound.
-use Rattle.std.proofs.Common.{ℕ, ◌≡◌, ◌≢◌, ◌==◌, ◌&&◌, ◌||◌, not, Bool, true, false, if◌then◌else◌, List, [], ◌∷◌, ◌++◌}
-use Rattle.std.proofs.Common.{Some, refl, sym, ◌∙◌, ap, subst, arith, append-nil, append_assoc}
+use Rattle.std.proofs.Common.{ℕ, ◌≡◌, ◌≢◌, ◌==◌, ◌&&◌, ◌||◌, not, Bool, true, false, if◌then◌else◌, List, [], ◌∷◌, ◌++◌, Some, refl, sym, ◌∙◌, ap, subst, arith}
+use Rattle.std.proofs.Common.{append-nil, append_assoc}
 use Rattle.std.proofs.lemmas.Bool.{ne_eqb, eq-eqb}
 use Rattle.hart.specs.State.{HartState}
 use Rattle.hart.specs.Steps.{advanced}
@@ -11,8 +11,8 @@ use Rattle.step_machine.specs.Entries.{hart_of}
 use Rattle.step_machine.specs.Paths.{value_of, state_of}
 use Rattle.spsc_queue.specs.RingBuffers.{Kind, lamport, fastforward, RingBuffer}
 use Rattle.spsc_queue.specs.Protocol.{WritesNothingTo}
-use Rattle.spsc_queue.specs.Calls.{Block, SpscQueue, Party, the_sender, the_receiver, party_hart, party_line, buffer, enters, is_in_call_with}
-use Rattle.spsc_queue.specs.Calls.{is_in_call_from, MayPass, HasArguments, PartyOwes, CallerObligation}
+use Rattle.spsc_queue.specs.Calls.{Block, SpscQueue, Party, the_sender, the_receiver, party_hart, party_line, buffer, enters, is_in_call_with, is_in_call_from}
+use Rattle.spsc_queue.specs.Calls.{MayPass, HasArguments, PartyOwes, CallerObligation}
 use Rattle.spsc_queue.specs.Obligations.{writes_nothing_to, may_pass, has_arguments, party_keeps_in, party_keeps, others_keep, obligation_kept}
 use Rattle.spsc_queue.specs.Obligations.{obligations_kept_from, obligations_kept}
 use Rattle.spsc_queue.proofs.OwnEntries.{own_is}

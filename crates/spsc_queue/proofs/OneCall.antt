@@ -1,6 +1,6 @@
 -- One whole call: what it does, what it completes, and what it has found where it returns 0.
-use Rattle.std.proofs.Common.{ℕ, ◌+◌, ◌≡◌, ◌⊎◌, inl, inr, Bool, true, false, if◌then◌else◌}
-use Rattle.std.proofs.Common.{List, [], ◌∷◌, ◌++◌, length, Some, refl, sym, ◌∙◌, ap, subst, arith, append-nil, append_assoc}
+use Rattle.std.proofs.Common.{ℕ, ◌+◌, ◌≡◌, ◌⊎◌, inl, inr, Bool, true, false, if◌then◌else◌, List, [], ◌∷◌, ◌++◌, length, Some, refl, sym, ◌∙◌, ap, subst, arith}
+use Rattle.std.proofs.Common.{append-nil, append_assoc}
 use Rattle.std.specs.Prelude.{slice_index}
 use Rattle.hart.specs.State.{HartState}
 use Rattle.hart.specs.Steps.{advanced}
@@ -17,8 +17,8 @@ use Rattle.spsc_queue.specs.Calls.{completed_by_entry, UsesAsSpscQueue}
 use Rattle.spsc_queue.specs.CallEffects.{IsWholeCall, IsSend, IsReceive, accesses, completed_word, take_accesses, FoundFull, FoundEmpty}
 use Rattle.spsc_queue.proofs.Runs.{protocol-append}
 use Rattle.spsc_queue.proofs.Courses.{at_00, Course}
-use Rattle.spsc_queue.proofs.Outline.{Part, part, role, Level, index_at, look_at, looked, says_no, Knows, Effect, Fresh}
-use Rattle.spsc_queue.proofs.Outline.{Row, Inside, Outside, CourseStands, Stands}
+use Rattle.spsc_queue.proofs.Outline.{Part, part, role, Level, index_at, look_at, looked, says_no, Knows, Effect, Fresh, Row, Inside, Outside, CourseStands}
+use Rattle.spsc_queue.proofs.Outline.{Stands}
 use Rattle.spsc_queue.proofs.Parts.{first-load, load-words}
 use Rattle.spsc_queue.proofs.Functions.{is_fresh, begins}
 use Rattle.spsc_queue.proofs.OwnEntries.{own_parts, state_here, here_same, here_next}
@@ -160,11 +160,8 @@ module _ (B M : ℕ) (o : OpeningValue) (q : SpscQueue) (before es : List Entry)
 
     -- the party's own entry is of its role
     own_role : is_own h e ≡ true → role_of r (hart_of e) ≡ role p
-    own_role on = at (whose q (hart_of e)) (which_mine on)
+    own_role on = at (whose q (hart_of e)) (own_parts h e on).0
       where
-        which_mine : is_own h e ≡ true → hart_of e ≡ h
-        which_mine on = (own_parts h e on).0
-
         at : Mine q (hart_of e) ⊎ Others q (hart_of e) → hart_of e ≡ h → role_of r (hart_of e) ≡ role p
         at (inl m) mine = elim (which m.party p) [
           | inl same ↦ m.role ∙ ap role same

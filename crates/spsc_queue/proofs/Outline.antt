@@ -7,13 +7,13 @@ use Rattle.hart.specs.State.{HartState}
 use Rattle.hart.specs.Steps.{advanced}
 use Rattle.step_machine.specs.Access.{Access, load, store, exchange}
 use Rattle.spsc_queue.specs.RingBuffers.{Kind, lamport, fastforward, RingBuffer, next}
-use Rattle.spsc_queue.specs.Protocol.{SenderState, resting, placed, roomy, filled, ReceiverState, idle, asked, waiting, holding, cleared, ProtocolState}
-use Rattle.spsc_queue.specs.Protocol.{Role, sends, receives, room_at, says_full, word_at, says_empty, looks_for_room, looks_for_word, next_by}
-use Rattle.spsc_queue.specs.Protocol.{IsSenderStore, IsReceiverStore}
+use Rattle.spsc_queue.specs.Protocol.{SenderState, resting, placed, roomy, filled, ReceiverState, idle, asked, waiting, holding, cleared, ProtocolState, Role}
+use Rattle.spsc_queue.specs.Protocol.{sends, receives, room_at, says_full, word_at, says_empty, looks_for_room, looks_for_word, next_by, IsSenderStore}
+use Rattle.spsc_queue.specs.Protocol.{IsReceiverStore}
 use Rattle.spsc_queue.specs.Calls.{Block, Party, the_sender, the_receiver}
 use Rattle.spsc_queue.specs.CallEffects.{send_accesses, receive_accesses, IsFound, SendEffect, ReceiveEffect}
-use Rattle.spsc_queue.proofs.Courses.{At, at_00, at_04, at_08, at_0C, at_10, at_14, at_18, at_1C, at_20, at_24, at_28, at_2C, at_30, number, moved}
-use Rattle.spsc_queue.proofs.Courses.{Course, went, Left, Frame}
+use Rattle.spsc_queue.proofs.Courses.{At, at_00, at_04, at_08, at_0C, at_10, at_14, at_18, at_1C, at_20, at_24, at_28, at_2C, at_30, number, moved, Course}
+use Rattle.spsc_queue.proofs.Courses.{went, Left, Frame}
 
 -- a party's part of the protocol's state
 pub record Part : Type 0 where

@@ -1,21 +1,20 @@
 -- What an access makes of a party's part of the protocol's state, and which accesses keep the protocol.
-use Rattle.std.proofs.Common.{ℕ, ◌+◌, ◌≡◌, ◌≢◌, ◌==◌, inl, inr, Bool, true, false, if◌then◌else◌, List, [], ◌∷◌, ◌++◌, refl, sym, ◌∙◌, ap, subst}
-use Rattle.std.proofs.Common.{arith}
+use Rattle.std.proofs.Common.{ℕ, ◌+◌, ◌≡◌, ◌≢◌, ◌==◌, inl, inr, Bool, true, false, if◌then◌else◌, List, [], ◌∷◌, ◌++◌, refl, sym, ◌∙◌, ap, subst, arith}
 use Rattle.std.proofs.lemmas.Bool.{eq-eqb, ne_eqb}
 use Rattle.memory.specs.declared.writes.Write.{Write}
 use Rattle.step_machine.specs.declared.events.Entry.{Entry}
 use Rattle.step_machine.specs.Access.{Access, nothing, load, store, exchange, fence, land, access_of}
 use Rattle.step_machine.specs.Entries.{hart_of}
 use Rattle.spsc_queue.specs.RingBuffers.{Kind, lamport, fastforward, RingBuffer, IsRingBuffer, overlaps}
-use Rattle.spsc_queue.specs.Protocol.{SenderState, resting, placed, roomy, filled, ReceiverState, idle, asked, waiting, holding, cleared, ProtocolState}
-use Rattle.spsc_queue.specs.Protocol.{Role, sends, receives, passes, role_of, looks_for_room, looks_for_word, send_look, send_load, send_store, receive_look}
+use Rattle.spsc_queue.specs.Protocol.{SenderState, resting, placed, roomy, filled, ReceiverState, idle, asked, waiting, holding, cleared, ProtocolState, Role}
+use Rattle.spsc_queue.specs.Protocol.{sends, receives, passes, role_of, looks_for_room, looks_for_word, send_look, send_load, send_store, receive_look}
 use Rattle.spsc_queue.specs.Protocol.{receive_load, receive_store, says_full, says_empty, next_by, protocol_next, protocol_after, WritesNothingTo}
 use Rattle.spsc_queue.specs.Protocol.{KeepsProtocolBy, KeepsProtocol}
 use Rattle.spsc_queue.specs.Calls.{Block, IsBlock, Party, the_sender, the_receiver, ring_of}
 use Rattle.spsc_queue.proofs.Spread.{offset_low}
 use Rattle.spsc_queue.proofs.Invariants.{IsPlaced, IsAsked, Known}
-use Rattle.spsc_queue.proofs.Outline.{Part, part, role, IsLevel, IsWhole, Level, IsOffset, IsNear, IsFit, Near, index_at, look_at, Knows, Looked}
-use Rattle.spsc_queue.proofs.Outline.{MayStore, Stored, Does}
+use Rattle.spsc_queue.proofs.Outline.{Part, part, role, IsLevel, IsWhole, Level, IsOffset, IsNear, IsFit, Near, index_at, look_at, Knows, Looked, MayStore}
+use Rattle.spsc_queue.proofs.Outline.{Stored, Does}
 
 -- the ring buffer of a block
 pub ring_is : (M : ℕ) (k : Block) (a b : ℕ) → IsBlock M k → a ≢ b → IsRingBuffer (ring_of k a b)

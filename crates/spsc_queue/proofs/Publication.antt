@@ -11,6 +11,7 @@ use Rattle.spsc_queue.specs.Laws.{FollowsSpscProtocol, available_of, available_c
 use Rattle.spsc_queue.proofs.Spread.{sent_store, freed_store}
 use Rattle.spsc_queue.proofs.Rows.{Earlier}
 use Rattle.spsc_queue.proofs.Invariant as lamports
+use Rattle.spsc_queue.proofs.Invariant.{SendingIs}
 use Rattle.spsc_queue.proofs.FastForwardInvariant as fastforwards
 use Rattle.spsc_queue.proofs.FastForwardInvariant.{cleared_store}
 use Rattle.spsc_queue.proofs.Invariants.{Holds, earlier}
@@ -32,19 +33,12 @@ known_slots r L taken consumed n (waiting u) le is = absurd is
 known_slots r L taken consumed n (holding u w) le is = omega (arith, is.2)
 known_slots r L taken consumed n (cleared u) le is = omega (arith, le)
 
-ready_tails : (r : RingBuffer) (stored published t : ℕ) (p : SenderState) → stored + 1 ≤ t + r.size → lamports.SendingIs r stored published t p
-    → stored + ready_by_state p + 1 ≤ t + r.size
-ready_tails r stored published t resting le is = omega (arith, le)
-ready_tails r stored published t (placed u) le is = omega (arith, le)
-ready_tails r stored published t (roomy u) le is = omega (arith, is.2)
-ready_tails r stored published t (filled u) le is = omega (arith, le)
-
-ready_cleared : (r : RingBuffer) (stored published n : ℕ) (p : SenderState) → stored ≤ n + r.size → fastforwards.SendingIs r stored published n p
-    → stored + ready_by_state p ≤ n + r.size
-ready_cleared r stored published n resting le is = omega (arith, le)
-ready_cleared r stored published n (placed u) le is = omega (arith, le)
-ready_cleared r stored published n (roomy u) le is = omega (arith, is.2)
-ready_cleared r stored published n (filled u) le is = omega (arith, le)
+ready_freed : (spare : ℕ) (r : RingBuffer) (stored published n : ℕ) (p : SenderState) → stored + spare ≤ n + r.size → SendingIs spare r stored published n p
+    → stored + ready_by_state p + spare ≤ n + r.size
+ready_freed spare r stored published n resting le is = omega (arith, le)
+ready_freed spare r stored published n (placed u) le is = omega (arith, le)
+ready_freed spare r stored published n (roomy u) le is = omega (arith, is.2)
+ready_freed spare r stored published n (filled u) le is = omega (arith, le)
 
 module _ (r : RingBuffer) (is : IsRingBuffer r) (L M : ℕ → ℕ) (c : Earlier) (o : OpeningValue) (before es fs : List Entry) (s z : ProtocolState) where
   -- once the receiver knows of a word, all that the sender's hart stored before it made that word available has reached memory
@@ -70,14 +64,14 @@ module _ (r : RingBuffer) (is : IsRingBuffer r) (L M : ℕ → ℕ) (c : Earlier
   receiver-passed : (k : Kind) → Holds k r L c o (before ++ es) s → Holds k r M c o (before ++ (es ++ fs)) z
       → s.taken + capacity_of k r.size < ready_count z → length (stores r.receiver (before ++ es)) < lands r.receiver (before ++ (es ++ fs))
   receiver-passed lamport inv later again =
-      let freed = ready_tails r z.stored z.published later.landed.tails z.sending later.order.room later.sending in
+      let freed = ready_freed 1 r z.stored z.published later.landed.tails z.sending later.order.room later.sending in
       receiver-past r c (sent_store r L) (freed_store r) (sent_store r M) (freed_store r) (before ++ es) fs (before ++ (es ++ fs))
       (inv.landed.slots + inv.landed.heads) inv.buffers.unsent inv.landed.tails inv.buffers.unread
       (later.landed.slots + later.landed.heads) later.buffers.unsent later.landed.tails later.buffers.unread
       (sym (append_assoc before es fs)) inv.buffers.rows later.buffers.rows
       (omega (arith, again, freed, inv.level, inv.buffers.theirs_count, is.some_slots))
   receiver-passed fastforward inv later again =
-      let freed = ready_cleared r z.stored z.published later.landed.cleared z.sending later.order.room later.sending in
+      let freed = ready_freed 0 r z.stored z.published later.landed.cleared z.sending (omega (arith, later.order.room)) later.sending in
       receiver-past r c (sent_store r L) (cleared_store r) (sent_store r M) (cleared_store r) (before ++ es) fs (before ++ (es ++ fs))
       (inv.landed.slots + inv.landed.heads) inv.buffers.unsent (inv.landed.cleared + inv.landed.tails) inv.buffers.unread
       (later.landed.slots + later.landed.heads) later.buffers.unsent (later.landed.cleared + later.landed.tails) later.buffers.unread

@@ -1,6 +1,6 @@
 -- Whole runs that keep the protocol: what is received is a prefix of what was sent.
-use Rattle.std.proofs.Common.{ℕ, zero, suc, ◌+◌, ◌-◌, ◌^◌, ◌<◌, ◌≤◌, ◌≡◌, ◌==◌, ◌⊎◌, inl, inr, Bool, true, false, if◌then◌else◌}
-use Rattle.std.proofs.Common.{List, [], ◌∷◌, ◌++◌, length, take, refl, sym, ◌∙◌, ap, subst, arith, append-nil, append_assoc, length-append}
+use Rattle.std.proofs.Common.{ℕ, zero, suc, ◌+◌, ◌-◌, ◌^◌, ◌<◌, ◌≤◌, ◌≡◌, ◌==◌, ◌⊎◌, inl, inr, Bool, true, false, if◌then◌else◌, List, [], ◌∷◌, ◌++◌, length}
+use Rattle.std.proofs.Common.{take, refl, sym, ◌∙◌, ap, subst, arith, append-nil, append_assoc, length-append}
 use Rattle.std.specs.Prelude.{slice_index}
 use Rattle.std.proofs.lemmas.Bool.{eqb-true}
 use Rattle.std.proofs.Math.Seq.{get_or-append_seam, take-append_seam}
@@ -23,8 +23,8 @@ use Rattle.spsc_queue.proofs.Invariant.{firsts}
 use Rattle.spsc_queue.proofs.Loads.{slot_word}
 use Rattle.spsc_queue.proofs.Steps.{word_on}
 use Rattle.spsc_queue.proofs.Landings.{role-cases}
-use Rattle.spsc_queue.proofs.Invariants.{Holds, IsPlaced, Known, known, idles, sender-loads, receiver-loads, lands-store, sends-word, sends-head}
-use Rattle.spsc_queue.proofs.Invariants.{takes-word, frees, earlier, at_rest}
+use Rattle.spsc_queue.proofs.Invariants.{Holds, IsPlaced, Known, known, idles, sender-loads, receiver-loads, lands-store, sends-word, sends-head, takes-word}
+use Rattle.spsc_queue.proofs.Invariants.{frees, earlier, at_rest}
 
 pub length-firsts : (L : ℕ → ℕ) (n : ℕ) → length (firsts L n) ≡ n
 length-firsts L zero = refl

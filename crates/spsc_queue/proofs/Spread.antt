@@ -1,6 +1,6 @@
 -- Rows of stores: those of a party to the block, in order, and what a word is after some of them.
-use Rattle.std.proofs.Common.{ℕ, zero, suc, ◌+◌, ◌*◌, ◌/◌, ◌%◌, ◌^◌, ◌<◌, ◌≤◌, ◌≡◌, ◌≢◌, ◌==◌, ◌⊎◌, inl, inr, if◌then◌else◌, Bool, true, false}
-use Rattle.std.proofs.Common.{List, [], ◌∷◌, ◌++◌, refl, ◌∙◌, ap, arith}
+use Rattle.std.proofs.Common.{ℕ, zero, suc, ◌+◌, ◌*◌, ◌/◌, ◌%◌, ◌^◌, ◌<◌, ◌≤◌, ◌≡◌, ◌≢◌, ◌==◌, ◌⊎◌, inl, inr, if◌then◌else◌, Bool, true, false, List, [], ◌∷◌}
+use Rattle.std.proofs.Common.{◌++◌, refl, ◌∙◌, ap, arith}
 use Rattle.std.specs.Prelude.{All}
 use Rattle.std.proofs.lemmas.Bool.{cases_eq}
 use Rattle.std.proofs.lemmas.Bool.Decides.{nat_tests}
@@ -8,6 +8,7 @@ use Rattle.std.proofs.lemmas.Nat.{mod_below}
 use Rattle.std.proofs.lemmas.List.Elements.{All-nil, All-cons}
 use Rattle.memory.specs.declared.writes.Write.{Write}
 use Rattle.memory.specs.Writes.{write, IsWholeWord}
+use Rattle.spsc_queue.proofs.Modulo.{mod_apart}
 use Rattle.spsc_queue.specs.RingBuffers.{RingBuffer, IsRingBuffer, offset, slot}
 use Rattle.spsc_queue.proofs.Words.{seen}
 
@@ -68,7 +69,15 @@ seen-tails r i (suc n) =
 
 module _ (r : RingBuffer) (is : IsRingBuffer r) where
   pub offset_low : (j : ℕ) → offset r j + 4 ≤ 4 * r.size
-  offset_low j = let below : j % r.size < r.size = mod_below j r.size (omega (arith, is.some_slots)) in omega arith
+  offset_low j = let below : (r.start + j) % r.size < r.size = mod_below (r.start + j) r.size (omega (arith, is.some_slots)) in omega arith
+
+  -- the slots of words that are near are apart
+  pub offset_apart : (j k : ℕ) → j < k → k < j + r.size → offset r j ≢ offset r k
+  offset_apart j k less near same = mod_apart r.size (r.start + j) (r.start + k) (omega (arith, is.some_slots)) (omega (arith, less)) (omega (arith, near))
+      (omega (arith, same))
+
+  pub slot_apart : (j k : ℕ) → j < k → k < j + r.size → slot r j ≢ slot r k
+  slot_apart j k less near same = offset_apart j k less near (omega (arith, same))
 
   pub slot_not_head : (j : ℕ) → slot r j ≢ r.head
   slot_not_head j same = elim is.head_apart [

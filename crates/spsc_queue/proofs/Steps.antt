@@ -41,7 +41,7 @@ module _ (r : RingBuffer) (is : IsRingBuffer r) (L : ℕ → ℕ) (c : Earlier) 
 
   -- the block stays, and so do the stores to it: what a party knows may change
   pub stays : (p : SenderState) (q : ReceiverState) → Stays r o es after
-      → SendingIs r s.stored s.published d.tails p → ReceivingIs r L s.consumed d.heads q
+      → SendingIs 1 r s.stored s.published d.tails p → ReceivingIs r L s.consumed d.heads q
       → Invariant r L c o after (record s { sending = p; receiving = q })
   stays p q block sending receiving = record {
     landed = d;
@@ -95,8 +95,8 @@ module _ (r : RingBuffer) (is : IsRingBuffer r) (L : ℕ → ℕ) (c : Earlier) 
       received = inv.received;
     }
       where
-        known : SendingIs r s.stored s.published d.tails (roomy u)
-        known = subst (SendingIs r s.stored s.published d.tails) at inv.sending
+        known : SendingIs 1 r s.stored s.published d.tails (roomy u)
+        known = subst (SendingIs 1 r s.stored s.published d.tails) at inv.sending
 
         one_more : suc s.stored ≡ s.stored + 1
         one_more = omega arith
@@ -132,8 +132,8 @@ module _ (r : RingBuffer) (is : IsRingBuffer r) (L : ℕ → ℕ) (c : Earlier) 
       received = inv.received;
     }
       where
-        known : SendingIs r s.stored s.published d.tails (filled u)
-        known = subst (SendingIs r s.stored s.published d.tails) at inv.sending
+        known : SendingIs 1 r s.stored s.published d.tails (filled u)
+        known = subst (SendingIs 1 r s.stored s.published d.tails) at inv.sending
 
         is_next : w ≡ sent_store r L ((d.slots + d.heads) + inv.buffers.unsent)
         is_next = write-is w r.head (offset r (s.published + 1)) word (value ∙ next_offset r is u s.published known.1)

@@ -1,7 +1,7 @@
 -- Calls of the two functions by code that does as it likes around them: where a block lies, when a hart is in a call, which
 -- words its calls completed, and all that a caller owes.
-use Rattle.std.specs.Prelude.{ℕ, ◌≡◌, ◌≢◌, ◌+◌, ◌*◌, ◌/◌, ◌%◌, ◌^◌, ◌<◌, ◌≤◌, ◌==◌, ◌&&◌, ◌||◌, if◌then◌else◌, Bool, true, false}
-use Rattle.std.specs.Prelude.{Option, None, Some, List, [], ◌∷◌, ◌++◌, length, slice_index}
+use Rattle.std.specs.Prelude.{ℕ, ◌≡◌, ◌≢◌, ◌+◌, ◌*◌, ◌/◌, ◌%◌, ◌^◌, ◌<◌, ◌≤◌, ◌==◌, ◌&&◌, ◌||◌, if◌then◌else◌, Bool, true, false, Option, None, Some, List, []}
+use Rattle.std.specs.Prelude.{◌∷◌, ◌++◌, length, slice_index}
 use Rattle.std.specs.List.{slice_get}
 use Rattle.hart.specs.State.{HartState}
 use Rattle.hart.specs.Steps.{advanced}
@@ -16,12 +16,13 @@ use Rattle.spsc_queue.specs.Protocol.{WritesNothingTo, IsSendable}
 use Rattle.spsc_queue.specs.Listings.{Listed, words_of, try_send, try_receive}
 use Rattle.spsc_queue.specs.FastForward.{fastforward_send, fastforward_receive}
 
--- a block of memory: which kind of queue it is, its base, and how many slots it has. The sender's index lies at its base, the
+-- a block of memory: which kind of queue it is, its base, how many slots it has, and at which slot its indices stand. The sender's index lies at its base, the
 -- receiver's 64 bytes on, the slots 128 bytes on
 pub record Block : Type 0 where
   pub kind : Kind
   pub base : ℕ
   pub size : ℕ
+  pub start : ℕ
 
 pub record IsBlock (M : ℕ) (k : Block) : Type 0 where
   pub aligned : k.base % 4 ≡ 0
@@ -41,6 +42,7 @@ pub record SpscQueue : Type 0 where
 abbrev pub ring_of : Block → (sender receiver : ℕ) → RingBuffer
 ring_of k sender receiver = record {
   kind = k.kind;
+  start = k.start;
   sender = sender;
   receiver = receiver;
   first = k.base;
@@ -53,6 +55,10 @@ ring_of k sender receiver = record {
 
 abbrev pub buffer : SpscQueue → RingBuffer
 buffer q = ring_of q.block q.sender q.receiver
+
+-- this block after n words went through it
+abbrev pub moved_on : Block → (n : ℕ) → Block
+moved_on k n = record k { start = k.start + n }
 
 -- the two parties of a queue
 pub data Party : Type 0 where

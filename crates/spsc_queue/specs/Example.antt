@@ -12,7 +12,7 @@ use Rattle.spsc_queue.specs.Listings.{Listed, words_of}
 use Rattle.spsc_queue.specs.Calls.{SpscQueue, the_sender, the_receiver, listing_of}
 
 abbrev pub queue : Kind → SpscQueue
-queue k = record { block = record { kind = k; base = 64; size = 2 }; sender = 0; receiver = 1; send_line = 1; receive_line = 1 }
+queue k = record { block = record { kind = k; base = 64; size = 2; start = 0 }; sender = 0; receiver = 1; send_line = 1; receive_line = 1 }
 
 -- 32 registers: ra = 56, past the code; a0 the block, a1 a word, a2 the bytes of the slots
 abbrev pub registers_with : ℕ → List ℕ

@@ -8,8 +8,8 @@ use Rattle.step_machine.specs.History.{OpeningValue, history_of}
 use Rattle.step_machine.specs.Entries.{hart_of, is_land}
 use Rattle.step_machine.specs.Paths.{value_of, state_of}
 use Rattle.spsc_queue.specs.Protocol.{WritesNothingTo}
-use Rattle.spsc_queue.specs.Calls.{SpscQueue, Party, the_sender, the_receiver, party_hart, party_line, buffer, enters}
-use Rattle.spsc_queue.specs.Calls.{is_in_call, is_sender_in_call, is_receiver_in_call, HasArguments, SharesQueue}
+use Rattle.spsc_queue.specs.Calls.{SpscQueue, Party, the_sender, the_receiver, party_hart, party_line, buffer, enters, is_in_call, is_sender_in_call}
+use Rattle.spsc_queue.specs.Calls.{is_receiver_in_call, HasArguments, SharesQueue}
 
 -- hart h is in no call for this queue
 pub record IsIdle (M : ℕ) (o : OpeningValue) (q : SpscQueue) (h : ℕ) (before done : List Entry) : Type 0 where

@@ -12,11 +12,13 @@ pub data Kind : Type 0 where
   lamport : Kind
   fastforward : Kind
 
--- its kind; the harts that send and receive; where the block begins and ends; the words that hold the sender's index and the
--- receiver's, as byte offsets among the slots; where the slots begin, and how many they are. Nothing says in which
--- order these lie, nor how far apart, so each index may have a cache line of its own
+-- its kind, and the slot that its indices stand at when a run begins; the harts that send and receive; where the block
+-- begins and ends; the words that hold the sender's index and the receiver's, as byte offsets among the slots; where the
+-- slots begin, and how many they are. Nothing says in which order these lie, nor how far apart, so each index may have a
+-- cache line of its own
 pub record RingBuffer : Type 0 where
   pub kind : Kind
+  pub start : ℕ
   pub sender : ℕ
   pub receiver : ℕ
   pub first : ℕ
@@ -45,9 +47,9 @@ pub record IsRingBuffer (r : RingBuffer) : Type 0 where
   pub tail_apart : (r.tail + 4 ≤ r.slots) ⊎ (r.slots + 4 * r.size ≤ r.tail)
   pub small : 4 * r.size ≤ 2 ^ 32
 
--- the offset of word j among the slots, its slot, and the offset after one
+-- the offset of word j of a run among the slots, its slot, and the offset after one
 abbrev pub offset : RingBuffer → ℕ → ℕ
-offset r j = 4 * (j % r.size)
+offset r j = 4 * ((r.start + j) % r.size)
 
 abbrev pub slot : RingBuffer → ℕ → ℕ
 slot r j = r.slots + offset r j
@@ -72,10 +74,10 @@ overlaps r w = nat_lt w.addr r.end && nat_lt r.first (w.addr + w.width)
 abbrev pub writes_to : RingBuffer → List Write → List Write
 writes_to r ws = filter (overlaps r) ws
 
--- the block is empty and at rest: both indices are 0 in memory, and no hart has a pending store to the block; and each slot
--- of FastForward's holds 0. So a machine may open, or a program may leave it so at any point of its run
+-- the block is empty and at rest: both indices are the same offset in memory, no hart has a pending store to the block, and
+-- each slot of FastForward's holds 0. So a machine may open, with zeros, or a program may leave it so at any point of its run
 pub record IsEmptyAndQuiescent (r : RingBuffer) (o : OpeningValue) (es : List Entry) : Type 0 where
-  pub head : memory_word o es r.head ≡ 0
-  pub tail : memory_word o es r.tail ≡ 0
+  pub head : memory_word o es r.head ≡ offset r 0
+  pub tail : memory_word o es r.tail ≡ offset r 0
   pub pending : (h : ℕ) → writes_to r (pending h es) ≡ []
   pub slots : r.kind ≡ fastforward → (j : ℕ) → j < r.size → memory_word o es (slot r j) ≡ 0

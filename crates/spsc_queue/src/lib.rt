@@ -26,12 +26,13 @@ ghost use Rattle.step_machine.specs.Entries.{hart_of, own, stores, lands, pendin
 ghost use Rattle.step_machine.specs.Access.{access_of, load};
 ghost use Rattle.step_machine.specs.Paths.{state_of};
 ghost use Rattle.step_machine.specs.Legal.{Legal, WellFormed};
-ghost use Rattle.spsc_queue.specs.RingBuffers.{Kind, RingBuffer, lamport, capacity, writes_to};
+ghost use Rattle.spsc_queue.specs.RingBuffers.{Kind, RingBuffer, lamport, capacity, writes_to, IsEmptyAndQuiescent};
 ghost use Rattle.spsc_queue.specs.Protocol.{at_start, protocol_after, asked, placed, room_at, says_full, word_at, says_empty};
 ghost use Rattle.spsc_queue.specs.StoreBuffers.{IsGloballyPerformed, LeavesByte, AllLeaveByte, IsOnlyWriter};
 ghost use Rattle.spsc_queue.specs.Laws.{IsPrefix, FollowsSpscProtocol, available_words, available_count, known_count, ready_count};
 ghost use Rattle.spsc_queue.specs.Listings.{try_send, try_receive, words_of, lines_of};
-ghost use Rattle.spsc_queue.specs.Calls.{SpscQueue, Party, listing_of, buffer, is_sender_in_call, is_receiver_in_call, sent_words, received_words};
+ghost use Rattle.spsc_queue.specs.Calls.{SpscQueue, Party, listing_of, moved_on, ring_of};
+ghost use Rattle.spsc_queue.specs.Calls.{buffer, is_sender_in_call, is_receiver_in_call, sent_words, received_words};
 ghost use Rattle.spsc_queue.specs.Calls.{CallerObligation, UsesAsSpscQueue};
 ghost use Rattle.spsc_queue.specs.CallEffects.{IsSend, IsReceive, accesses, completed_word, SendEffect, ReceiveEffect, FoundFull, FoundEmpty};
 ghost use Rattle.spsc_queue.specs.Obligations.{obligations_kept};
@@ -140,6 +141,9 @@ pub fn laws_of_protocol()
 ///   store over that byte, and nobody has written it since.
 /// - `reclamation` and `handing_back`: the same from the receiver to the sender, once more words are sent than had been
 ///   returned and the queue holds besides.
+/// - `changes_hands`: where neither party is in a call, each word that was sent is returned and no store to the block is
+///   pending, the block is at rest as it must be where a run begins, at the slot at which its indices stand now, for any
+///   two harts.
 /// - `extends` and `fronts`: an entry more that owes nothing keeps the premises, and they hold up to each point.
 pub fn laws_of_calls()
     ensures follows { (B M : ℕ) (o : OpeningValue) (q : SpscQueue) (before es : List Entry) → UsesAsSpscQueue B M o q before es
@@ -175,6 +179,11 @@ pub fn laws_of_calls()
     ensures extends { (B M : ℕ) (o : OpeningValue) (q : SpscQueue) (before es : List Entry) (e : Entry) → UsesAsSpscQueue B M o q before es
         → WellFormed B M (history_of o (before ++ (es ++ e ∷ []))) → CallerObligation M o q before es e
         → UsesAsSpscQueue B M o q before (es ++ e ∷ []) }
+    ensures changes_hands { (B M : ℕ) (o : OpeningValue) (q : SpscQueue) (before es : List Entry) → UsesAsSpscQueue B M o q before es
+        → is_sender_in_call M o q before es ≡ false → is_receiver_in_call M o q before es ≡ false
+        → length (received_words M o q before es) ≡ length (sent_words M o q before es)
+        → ((h : ℕ) → writes_to (buffer q) (pending h (before ++ es)) ≡ [])
+        → (a b : ℕ) → IsEmptyAndQuiescent (ring_of (moved_on q.block (length (sent_words M o q before es))) a b) o (before ++ es) }
     ensures fronts { (B M : ℕ) (o : OpeningValue) (q : SpscQueue) (before es fs : List Entry) → UsesAsSpscQueue B M o q before (es ++ fs)
         → UsesAsSpscQueue B M o q before es }
 {}

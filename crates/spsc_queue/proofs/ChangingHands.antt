@@ -1,0 +1,90 @@
+-- A queue that is empty and at rest again, at whichever slot, may be used from there on, also by other harts.
+use Rattle.std.proofs.Common.{ℕ, ◌+◌, ◌*◌, ◌%◌, ◌<◌, ◌≡◌, false, List, [], ◌++◌, length, sym, ◌∙◌, ap, subst, arith, append-nil}
+use Rattle.std.specs.Prelude.{slice_index}
+use Rattle.memory.specs.declared.writes.Write.{Write}
+use Rattle.step_machine.specs.declared.events.Entry.{Entry}
+use Rattle.step_machine.specs.History.{OpeningValue}
+use Rattle.step_machine.specs.Entries.{pending, memory_word}
+use Rattle.spsc_queue.specs.RingBuffers.{Kind, lamport, fastforward, RingBuffer, offset, slot, writes_to, IsEmptyAndQuiescent}
+use Rattle.spsc_queue.specs.Protocol.{ReceiverState, idle, asked, waiting, holding, cleared, ProtocolState, at_start, protocol_after}
+use Rattle.spsc_queue.specs.Laws.{FollowsSpscProtocol}
+use Rattle.spsc_queue.specs.Calls.{SpscQueue, the_receiver, moved_on, ring_of, buffer, is_sender_in_call, is_receiver_in_call, sent_words, received_words}
+use Rattle.spsc_queue.specs.Calls.{UsesAsSpscQueue}
+use Rattle.spsc_queue.proofs.Spread.{spread, sent_store, freed_store}
+use Rattle.spsc_queue.proofs.Rows.{Earlier}
+use Rattle.spsc_queue.proofs.PastRows.{length-spread}
+use Rattle.spsc_queue.proofs.FastForwardInvariant as fastforwards
+use Rattle.spsc_queue.proofs.FastForwardInvariant.{cleared_store}
+use Rattle.spsc_queue.proofs.Invariants.{Holds, earlier}
+use Rattle.spsc_queue.proofs.Runs.{invariant-of}
+use Rattle.spsc_queue.proofs.Outline.{IsWhole}
+use Rattle.spsc_queue.proofs.Calls.{calls_follow}
+use Rattle.spsc_queue.proofs.CallLaws.{idle_words, idle_sent, idle_received}
+
+none_left : (f : ℕ → Write) (i n : ℕ) (ws : List Write) → ws ≡ spread f i n → ws ≡ [] → n ≡ 0
+none_left f i n ws is none = sym (length-spread f i n) ∙ ap length (sym is ∙ none)
+
+whole-counts : (r : RingBuffer) (L : ℕ → ℕ) (taken consumed n : ℕ) (p : ReceiverState) → IsWhole p → fastforwards.ReceivingIs r L taken consumed n p
+    → taken ≡ consumed
+whole-counts r L taken consumed n idle whole is = is
+whole-counts r L taken consumed n (asked u) whole is = is.0
+whole-counts r L taken consumed n (waiting u) whole is = absurd is
+whole-counts r L taken consumed n (holding u w) whole is = is.0
+whole-counts r L taken consumed n (cleared u) whole is = absurd whole
+
+-- the words of the block where all words are taken and no store to it is pending
+record IsQuiet (k : Kind) (r : RingBuffer) (o : OpeningValue) (es : List Entry) (n : ℕ) : Type 0 where
+  head : memory_word o es r.head ≡ offset r n
+  tail : memory_word o es r.tail ≡ offset r n
+  slots : k ≡ fastforward → (j : ℕ) → j < r.size → memory_word o es (slot r (n + j)) ≡ 0
+
+quiet : (k : Kind) (r : RingBuffer) (L : ℕ → ℕ) (c : Earlier) (o : OpeningValue) (es : List Entry) (s : ProtocolState) → Holds k r L c o es s
+    → s.stored ≡ s.published → s.taken ≡ s.stored → IsWhole s.receiving → ((h : ℕ) → writes_to r (pending h es) ≡ []) → IsQuiet k r o es s.stored
+quiet lamport r L c o es s inv level all whole none =
+    let unsent = none_left (sent_store r L) (inv.landed.slots + inv.landed.heads) inv.buffers.unsent (writes_to r (pending r.sender es))
+    inv.buffers.rows.mine (none r.sender) in
+    let unread = none_left (freed_store r) inv.landed.tails inv.buffers.unread (writes_to r (pending r.receiver es))
+    inv.buffers.rows.theirs (none r.receiver) in
+    record {
+      head = inv.words.head ∙ ap (offset r) (omega (arith, unsent, level, inv.buffers.mine_count, inv.order.mine.slots_stored, inv.order.mine.heads_published));
+      tail = inv.words.tail ∙ ap (offset r) (omega (arith, unread, all, inv.level, inv.buffers.theirs_count));
+      slots = λ kind. cc;
+    }
+quiet fastforward r L c o es s inv level all whole none =
+    let unsent = none_left (sent_store r L) (inv.landed.slots + inv.landed.heads) inv.buffers.unsent (writes_to r (pending r.sender es))
+    inv.buffers.rows.mine (none r.sender) in
+    let unread = none_left (cleared_store r) (inv.landed.cleared + inv.landed.tails) inv.buffers.unread (writes_to r (pending r.receiver es))
+    inv.buffers.rows.theirs (none r.receiver) in
+    let same = whole-counts r L s.taken s.consumed inv.landed.slots s.receiving whole inv.receiving in
+    let cleared : (inv.landed.cleared ≡ s.stored) × (inv.landed.tails ≡ s.stored) = (
+      omega (arith, unread, all, same, inv.buffers.theirs_count, inv.order.theirs.slots_stored, inv.order.theirs.heads_published),
+      omega (arith, unread, all, same, inv.buffers.theirs_count, inv.order.theirs.slots_stored, inv.order.theirs.heads_published),
+    ) in
+    record {
+      head = inv.words.head ∙ ap (offset r) (omega (arith, unsent, level, inv.buffers.mine_count, inv.order.mine.slots_stored, inv.order.mine.heads_published));
+      tail = inv.words.tail ∙ ap (offset r) cleared.1;
+      slots = λ kind j below. inv.words.free (s.stored + j) (omega (arith, inv.order.mine.slots_stored)) (omega (arith, below, cleared.0));
+    }
+
+pub changes_hands : (B M : ℕ) (o : OpeningValue) (q : SpscQueue) (before es : List Entry) → UsesAsSpscQueue B M o q before es
+    → is_sender_in_call M o q before es ≡ false → is_receiver_in_call M o q before es ≡ false
+    → length (received_words M o q before es) ≡ length (sent_words M o q before es) → ((h : ℕ) → writes_to (buffer q) (pending h (before ++ es)) ≡ [])
+    → (a b : ℕ) → IsEmptyAndQuiescent (ring_of (moved_on q.block (length (sent_words M o q before es))) a b) o (before ++ es)
+changes_hands B M o q before es c idle_sender idle_receiver all none a b =
+    let r : RingBuffer = buffer q in
+    let n : ℕ = length (sent_words M o q before es) in
+    let s : ProtocolState = protocol_after r at_start es in
+    let whole : es ≡ es ++ [] = sym (append-nil es) in
+    let sent = idle_sent B M o q before es c es [] whole idle_sender in
+    let taken = idle_received B M o q before es c es [] whole idle_receiver in
+    let inv = invariant-of B r o before es [] (subst (FollowsSpscProtocol B r o before) whole (calls_follow B M o q before es c)) in
+    let rest : IsQuiet q.block.kind r o (before ++ es) s.stored = quiet q.block.kind r (slice_index (protocol_after r at_start (es ++ [])).sent)
+    (earlier r before) o (before ++ es) s inv sent.2 (omega (arith, taken, all, sent.0))
+    (idle_words B M o q before es c es [] whole the_receiver idle_receiver).0.receiving
+    none in
+    record {
+      head = rest.head ∙ ap (λ j. 4 * (j % q.block.size)) (omega (arith, sent.0));
+      tail = rest.tail ∙ ap (λ j. 4 * (j % q.block.size)) (omega (arith, sent.0));
+      pending = none;
+      slots = λ kind j below. ap (λ i. memory_word o (before ++ es) (r.slots + 4 * (i % q.block.size))) (omega (arith, sent.0)) ∙ rest.slots kind j below;
+    }
