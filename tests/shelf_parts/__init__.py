@@ -5,6 +5,7 @@ import re
 import subprocess
 import sys
 import tempfile
+from concurrent.futures import ThreadPoolExecutor
 from pathlib import Path
 
 ROOT = Path(__file__).resolve().parent.parent.parent
@@ -22,6 +23,15 @@ SEED = 1
 
 class Wrong(Exception):
     """Something isn't as it should be."""
+
+
+def answers(part, work, rows):
+    """What the work on each row answers, several side by side. What goes wrong ends the tool by one line."""
+    with ThreadPoolExecutor(os.cpu_count()) as pool:
+        try:
+            return list(pool.map(lambda row: work(*row), rows))
+        except (Wrong, Fault, OSError) as error:
+            sys.exit(f"shelf {part}: {error}")
 
 
 def output(program, *words):

@@ -9,11 +9,8 @@ hart or than 200; or if the columns of the witness's first half stand elsewhere 
 in the tests of which a load takes its bytes from several places.
 """
 
-import sys
 import tempfile
 from collections import Counter
-from concurrent.futures import ThreadPoolExecutor
-from os import cpu_count
 
 import shelf_parts as shelf
 from shelf_parts import schedules
@@ -49,12 +46,7 @@ def half_drawn(program, entry, values):
 def main(words):
     program, entries = shelf.program_and_tests(words)
     rows = [(entry, values) for entry in entries for values in sorted(entry.witnesses())]
-    with ThreadPoolExecutor(cpu_count()) as pool:
-        try:
-            answers = list(pool.map(lambda row: drawn(program, *row), rows))
-        except (shelf.Wrong, shelf.Fault, OSError) as error:
-            print(f"shelf chart: {error}", file=sys.stderr)
-            return 1
+    answers = shelf.answers("chart", lambda *row: drawn(program, *row), rows)
     for width, count in sorted(Counter(width for width, _ in answers).items()):
         print(f"{count:4} of width {width}")
     failed = [line for _, wrong in answers for line in wrong]

@@ -10,10 +10,7 @@ outcome, and if one is found that a source excludes.
 
 import re
 import subprocess
-import sys
 import tempfile
-from concurrent.futures import ThreadPoolExecutor
-from os import cpu_count
 from pathlib import Path
 
 import shelf_parts as shelf
@@ -59,12 +56,7 @@ def main(words):
     table = shelf.table()
     rows = [(entry, values, witness) for entry in entries for values, witness in sorted(entry.witnesses().items())]
     rows += [(entry, values, None) for entry in entries for values in sorted(table.get(entry.name, ((), ()))[1])]
-    with ThreadPoolExecutor(cpu_count()) as pool:
-        try:
-            answers = list(pool.map(lambda row: measured(program, *row), rows))
-        except (shelf.Wrong, shelf.Fault, OSError) as error:
-            print(f"shelf find: {error}", file=sys.stderr)
-            return 1
+    answers = shelf.answers("find", lambda *row: measured(program, *row), rows)
     failed = [f"{entry.case_name(values)} {each}" for (entry, values, _), (_, wrong) in zip(rows, answers) for each in wrong]
     shown = [(length, len(witness)) for (*_, witness), (length, _) in zip(rows, answers) if witness is not None]
     print("\n".join([*failed, f"{len(shown)} outcomes in {sum(length for length, _ in shown)} events, the witnesses have "

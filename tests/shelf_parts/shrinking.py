@@ -11,10 +11,7 @@ events above the witness.
 """
 
 import re
-import sys
 import tempfile
-from concurrent.futures import ThreadPoolExecutor
-from os import cpu_count
 
 import shelf_parts as shelf
 from shelf_parts import schedules
@@ -71,12 +68,7 @@ def main(words):
                                           else entry.witnesses()).items())]
     before = after = shorter = failed = 0
     print(f"{'outcome':40} {'events':>6} {'left':>5} {'witness':>8}")
-    with ThreadPoolExecutor(cpu_count()) as pool:
-        try:
-            answers = list(pool.map(lambda row: measured(program, *row), rows))
-        except (shelf.Wrong, shelf.Fault, OSError) as error:
-            print(f"shelf shrink: {error}", file=sys.stderr)
-            return 1
+    answers = shelf.answers("shrink", lambda *row: measured(program, *row), rows)
     for (entry, values, events), (left, wrong) in zip(rows, answers):
         print(f"{entry.case_name(values):40} {len(events):6} {left:5} {len(entry.witnesses().get(values, [])):8}")
         for line in wrong:
