@@ -12,7 +12,6 @@ from schedules import read as read_schedule, record_written
 
 from rings_parts import drawn_channels
 
-from . import ROOT
 from .runs import brief, refused
 
 HARTS, BUFFER, EVENTS = 64, 16, 1_048_576

@@ -1,6 +1,5 @@
 """Allocations that are refused: the nth, and the nth with every later one."""
 
-import os
 import subprocess
 from pathlib import Path
 

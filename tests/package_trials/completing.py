@@ -1,6 +1,5 @@
 """The completions in the shells themselves: what comes after the words of a line."""
 
-import os
 import re
 
 import tree

@@ -13,7 +13,6 @@ import random
 import re
 import subprocess
 import sys
-from pathlib import Path
 
 from kit import mutants, parts
 

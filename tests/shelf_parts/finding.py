@@ -11,7 +11,6 @@ outcome, and if one is found that a source excludes.
 import re
 import subprocess
 import tempfile
-from pathlib import Path
 
 import shelf_parts as shelf
 from shelf_parts import schedules

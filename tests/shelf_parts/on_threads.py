@@ -12,7 +12,6 @@ line is `N passed, M failed`, if the share of unfinished runs counts as one more
 """
 
 import subprocess
-import sys
 import tempfile
 from collections import Counter
 from concurrent.futures import ThreadPoolExecutor
