@@ -10,7 +10,7 @@ use Rattle.recorder.specs.Replaying.{RecordFrom, IsRunRecord, DiffersAt}
 use Rattle.recorder.specs.Versions.{ScheduleValue, plain, recorded}
 use Rattle.recorder.proofs.RunRecords.{no_other, record_runs}
 use Rattle.engine_support.specs.declared.fault.Refusal.{Refusal}
-use Rattle.engine_support.specs.Histories.{Runs, Records, differing}
+use Rattle.engine_support.specs.Runs.{Runs, Records, differing}
 
 -- the front of a front, and what stands in it
 front : {X : Type 0} (xs : List X) (i j : ℕ) → i < j → (take i (take j xs) ≡ take i xs) × (slice_get (take j xs) i ≡ slice_get xs i)

@@ -1,50 +1,15 @@
 -- What answers a litmus text and a schedule of either version: what must hold of both, and what of their history.
-use Rattle.std.specs.Prelude.{ℕ, ◌≡◌, List, Result, Ok, Err}
-use Rattle.step_machine.specs.History.{OpeningValue, History}
-use Rattle.step_machine.specs.Runs.{Run}
+use Rattle.std.specs.Prelude.{ℕ, List, Result, Ok, Err}
+use Rattle.step_machine.specs.History.{History}
 use Rattle.step_machine.specs.declared.events.Event.{Event}
 use Rattle.litmus.specs.LitmusTests.{LitmusTest}
 use Rattle.litmus_reader.specs.Grammar.{IsTestOf}
-use Rattle.recorder.specs.Records.{Step, events_in}
 use Rattle.recorder.specs.Versions.{ScheduleValue, Says, events_said}
-use Rattle.recorder.specs.Versions.ScheduleValue.{plain, recorded}
-use Rattle.recorder.specs.Replaying.{IsRunRecord, DiffersAt}
-use Rattle.recorder.specs.declared.replaying.CheckError.{CheckError}
-use Rattle.recorder.specs.declared.replaying.CheckError.TheVariants as error
-use Rattle.engine_support.specs.declared.fault.Fault.{Fault}
-use Rattle.engine_support.specs.declared.fault.Fault.TheVariants.{NoMemory, Refused}
 use Rattle.engine_support.specs.declared.fault.Refusal.{Refusal}
-use Rattle.engine_support.specs.declared.fault.Position.TheVariants.{Event as AtEvent}
 use Rattle.engine_support.specs.Engines.{Accepted}
+use Rattle.engine_support.specs.Runs.{Runs}
 use Rattle.engine_support.specs.Tests.{IsNoTest}
 use Rattle.engine_support.specs.Schedules.{IsNoSchedule}
-
--- ---- what a schedule makes
-
--- a record that differs is refused at the first event whose outcome isn't the run's, counted from 0
-abbrev pub differing : (event : ℕ) → Refusal
-differing event = record { number = 38; place = AtEvent event }
-
--- why a check of a record fails, as a fault
-abbrev pub fault_of_check : CheckError → Fault
-fault_of_check error.NoMemory = NoMemory
-fault_of_check (error.Differs event) = Refused (differing event)
-
--- What running a schedule from an opening gives: the history of its events, and of a record only where
--- each outcome is the run's; else the first event whose outcome isn't.
-abbrev pub Runs : (B M : ℕ) → OpeningValue → ScheduleValue → Result History Refusal → Type 0
-Runs B M opening (plain events) (Ok history) = Run B M opening events history
-Runs B M opening (plain events) (Err refusal) = ⊥
-Runs B M opening (recorded steps) (Ok history) = IsRunRecord B M opening steps history
-Runs B M opening (recorded steps) (Err refusal) = (event : ℕ) × DiffersAt B M opening steps event × (refusal ≡ differing event)
-
--- What noting its outcomes gives: its events, each with its outcome in the run.
-abbrev pub Records : (B M : ℕ) → OpeningValue → ScheduleValue → Result (List Step) Refusal → Type 0
-Records B M opening said (Ok steps) = (events_in steps ≡ events_said said)
-    × ((history : History) × Runs B M opening said (Ok history) × IsRunRecord B M opening steps history)
-Records B M opening said (Err refusal) = Runs B M opening said (Err refusal)
-
--- ---- what answers both
 
 -- What answers a litmus text and a schedule of either version, where this holds of their test, of what the
 -- schedule says and of the answer. The test is judged first, then the schedule's text.

@@ -7,6 +7,7 @@ pub mod Engines
 pub mod Interactive
 pub mod Tests
 pub mod Schedules
+pub mod Runs
 pub mod Histories
 pub mod Places
 pub mod OpeningTexts

@@ -23,7 +23,7 @@ use Rattle.engine_support.specs.declared.fault.Fault.TheVariants.{Refused}
 use Rattle.engine_support.specs.declared.fault.Refusal.{Refusal}
 use Rattle.engine_support.specs.Engines.{Output, AreOneAnswer}
 use Rattle.engine_support.specs.Faults.{AnswersAs, too_large}
-use Rattle.engine_support.specs.Histories.{Runs}
+use Rattle.engine_support.specs.Runs.{Runs}
 use Rattle.engine_support.proofs.RunLaws.{one_difference, one_run, opening_stays, runs_or_differs}
 use Rattle.view_engines.specs.About.{IsAbout}
 use Rattle.view_engines.specs.LeastWidths.{least_widths}

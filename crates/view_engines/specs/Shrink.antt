@@ -14,7 +14,8 @@ use Rattle.engine_support.specs.declared.fault.Fault.TheVariants.{NoMemory, Refu
 use Rattle.engine_support.specs.declared.fault.Refusal.{Refusal}
 use Rattle.engine_support.specs.declared.fault.Position.TheVariants.{Nowhere}
 use Rattle.engine_support.specs.Engines.{Output}
-use Rattle.engine_support.specs.Histories.{BySchedule, Runs}
+use Rattle.engine_support.specs.Histories.{BySchedule}
+use Rattle.engine_support.specs.Runs.{Runs}
 
 -- a run that isn't finished is refused as a whole
 abbrev pub not_finished : Refusal

@@ -6,7 +6,7 @@ ghost use Rattle.recorder.specs.Versions.{ScheduleValue, said_of};
 ghost use Rattle.litmus_reader.specs.Headings.{heading_of};
 ghost use Rattle.engine_support.specs.Engines.{AnswersBoth, EndsByBoth};
 ghost use Rattle.engine_support.specs.Faults.{AnswersAs};
-ghost use Rattle.engine_support.specs.Histories.{Runs};
+ghost use Rattle.engine_support.specs.Runs.{Runs};
 ghost use Rattle.engine_support.specs.Tests.{HasNoTest};
 ghost use Rattle.engine_support.specs.inner.Making.{FindsUpToReads, text_and_value};
 ghost use Rattle.view_engines.specs.Chart.{IsChart, IsChartAnswer, drawing};

@@ -23,7 +23,7 @@ use Rattle.engine_support.specs.declared.fault.Fault.TheVariants.{NoMemory, Refu
 use Rattle.engine_support.specs.declared.fault.Refusal.{Refusal}
 use Rattle.engine_support.specs.Engines.{Output, OfInput, AnswersBoth}
 use Rattle.engine_support.specs.Faults.{AnswersAs}
-use Rattle.engine_support.specs.Histories.{fault_of_check}
+use Rattle.engine_support.specs.Runs.{fault_of_check}
 use Rattle.engine_support.specs.Schedules.{IsNoSchedule}
 use Rattle.ztso_engines.specs.Channels.{fault_from, IsUnfilled, IsDelivery, IsReported, IsUnreported, IsChannelAnswer, Reported}
 use Rattle.ztso_engines.specs.Channels.IsChannelAnswer.{no_schedule, no_lists, unreported, delivered}

@@ -20,7 +20,7 @@ use Rattle.engine_support.specs.declared.fault.Position.{Position}
 use Rattle.engine_support.specs.declared.fault.Position.TheVariants.{Nowhere, Word}
 use Rattle.engine_support.specs.declared.fault.Refusal.{Refusal}
 use Rattle.engine_support.specs.Engines.{Output, Accepted, AreAlike, decoded}
-use Rattle.engine_support.specs.Histories.{Runs}
+use Rattle.engine_support.specs.Runs.{Runs}
 use Rattle.engine_support.specs.Schedules.{schedule_of}
 use Rattle.engine_support.proofs.RunLaws.{one_difference, runs_or_differs}
 use Rattle.recorder.proofs.HeadLaws.{one_said}

@@ -14,7 +14,7 @@ use Rattle.engine_support.specs.Engines.{Accepted, OfInput, Output}
 use Rattle.engine_support.specs.Faults.{AnswersAs}
 use Rattle.engine_support.specs.inner.Inputs.{IsReadAsSchedule}
 use Rattle.engine_support.specs.inner.Making.{FindsByUpToReads}
-use Rattle.engine_support.specs.Histories.{Runs}
+use Rattle.engine_support.specs.Runs.{Runs}
 use Rattle.engine_support.proofs.Endings.{answered_by, weaker}
 use Rattle.engine_support.proofs.RunLaws.{opening_stays}
 use Rattle.engine_support.proofs.ScheduleLaws.{stopped_by}

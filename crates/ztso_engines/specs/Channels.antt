@@ -20,7 +20,7 @@ use Rattle.engine_support.specs.declared.fault.Position.TheVariants as place
 use Rattle.engine_support.specs.declared.fault.Refusal.{Refusal}
 use Rattle.engine_support.specs.Engines.{Output, Accepted, decoded}
 use Rattle.engine_support.specs.Schedules.{IsNoSchedule}
-use Rattle.engine_support.specs.Histories.{Runs}
+use Rattle.engine_support.specs.Runs.{Runs}
 use Rattle.ztso_engines.specs.Lists.{SaysLists, lists_at}
 
 -- `took I W` or `closed I`, and a line end

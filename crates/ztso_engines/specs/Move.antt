@@ -5,7 +5,8 @@ use Rattle.recorder.specs.Records.{Step, IsRecordOf, record_text}
 use Rattle.recorder.specs.Versions.{ScheduleValue}
 use Rattle.engine_support.specs.declared.fault.Refusal.{Refusal}
 use Rattle.engine_support.specs.Engines.{Output}
-use Rattle.engine_support.specs.Histories.{BySchedule, Records}
+use Rattle.engine_support.specs.Histories.{BySchedule}
+use Rattle.engine_support.specs.Runs.{Records}
 
 -- The one text of the record of the schedule's run from the test's opening, which is read as this record again;
 -- a record that differs has none.

@@ -10,7 +10,7 @@ use Rattle.poll_close.specs.Laws.{Ring, AcceptedAt as IsWithin, opening_over}
 use Rattle.poll_close.specs.Layout.{Layout}
 use Rattle.engine_support.specs.declared.fault.Refusal.{Refusal}
 use Rattle.engine_support.specs.Engines.{Accepted, OfInput, Output}
-use Rattle.engine_support.specs.Histories.{Runs}
+use Rattle.engine_support.specs.Runs.{Runs}
 use Rattle.engine_support.specs.Schedules.{IsNoSchedule}
 use Rattle.ztso_engines.specs.Channels.{IsNoLists, IsUnreported, report_line}
 use Rattle.ztso_engines.specs.Lists.{SaysLists}

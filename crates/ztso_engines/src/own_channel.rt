@@ -7,7 +7,7 @@ ghost use Rattle.recorder.specs.Versions.{said_of};
 ghost use Rattle.poll_close.specs.Laws.{AreShort};
 ghost use Rattle.poll_close.specs.Places.{layout_of};
 ghost use Rattle.engine_support.specs.Faults.{AnswersAs, AnswersBy};
-ghost use Rattle.engine_support.specs.Histories.{Runs};
+ghost use Rattle.engine_support.specs.Runs.{Runs};
 ghost use Rattle.engine_support.specs.Schedules.{HasNoSchedule};
 ghost use Rattle.engine_support.specs.inner.Making.{text_and_value};
 ghost use Rattle.ring_trials.specs.Own.{layout_from, lists_of, ring_of};

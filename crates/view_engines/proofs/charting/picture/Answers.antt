@@ -2,7 +2,7 @@ use Rattle.std.proofs.Common.{arith}
 use Rattle.step_machine.specs.History.{HistoryWithRoom}
 use Rattle.litmus_reader.specs.Headings.{heading_of}
 use Rattle.recorder.specs.Versions.{said_of}
-use Rattle.engine_support.specs.Histories.{Runs}
+use Rattle.engine_support.specs.Runs.{Runs}
 use Rattle.engine_support.specs.inner.Making.{text_and_value}
 use Rattle.engine_support.proofs.Endings.{is_handed}
 use Rattle.engine_support.proofs.RunLaws.{opening_stays}

@@ -3,7 +3,7 @@ use Rattle.std.proofs.lemmas.Result.{err_from_is_err_and}
 use Rattle.step_machine.specs.History.{HistoryWithRoom}
 use Rattle.recorder.specs.Versions.{events_said, said_of}
 use Rattle.recorder.specs.Writing.{canon}
-use Rattle.engine_support.specs.Histories.{Runs}
+use Rattle.engine_support.specs.Runs.{Runs}
 use Rattle.engine_support.specs.inner.Making.{text_and_value}
 use Rattle.engine_support.proofs.RunLaws.{opening_stays}
 use Rattle.engine_support.proofs.ScheduleLaws.{stopped_by}

@@ -5,7 +5,7 @@ use Rattle.engine_support.proofs.Endings.{is_handed}
 use Rattle.recorder.specs.Records.{Step}
 use Rattle.recorder.specs.Schedule.{OfHarts}
 use Rattle.recorder.specs.Versions.{said_of}
-use Rattle.engine_support.specs.Histories.{Records}
+use Rattle.engine_support.specs.Runs.{Records}
 use Rattle.engine_support.specs.inner.Making.{text_and_value}
 use Rattle.engine_support.proofs.ScheduleLaws.{stopped_by}
 use Rattle.ztso_engines.specs.Move.{IsMoved}

@@ -4,7 +4,8 @@ use Rattle.engine_support.proofs.Endings.{is_handed}
 use Rattle.step_machine.specs.History.{HistoryWithRoom}
 use Rattle.recorder.specs.Outcomes.{entry_line}
 use Rattle.recorder.specs.Versions.{said_of}
-use Rattle.engine_support.specs.Histories.{AnswersRun, Runs}
+use Rattle.engine_support.specs.Histories.{AnswersRun}
+use Rattle.engine_support.specs.Runs.{Runs}
 use Rattle.engine_support.specs.inner.Making.{text_and_value}
 use Rattle.engine_support.proofs.ScheduleLaws.{stopped_by}
 use Rattle.ztso_engines.specs.Replay.{IsReplay}
