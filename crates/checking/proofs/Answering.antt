@@ -4,17 +4,15 @@ use Rattle.std.specs.Prelude.{◌==◌, IfErr, IfOk}
 use Rattle.std.specs.Io.KnownBytes.{Appends}
 use Rattle.std.proofs.lemmas.List.{append-nil}
 use Rattle.litmus.specs.LitmusTests.{LitmusTest}
-use Rattle.litmus_reader.specs.Grammar.{IsTestOf}
 use Rattle.engine_support.specs.declared.fault.Fault.{Fault}
 use Rattle.engine_support.specs.declared.fault.Fault.TheVariants.{ReadFailed, WriteFailed, NoMemory, Refused}
 use Rattle.engine_support.specs.declared.fault.Refusal.{Refusal}
-use Rattle.engine_support.specs.Engines.{Accepted, OfInput}
+use Rattle.engine_support.specs.Inputs.{Reads}
+use Rattle.engine_support.specs.Inputs.After.{read, refused}
 use Rattle.engine_support.specs.Interactive.{EndsInteractive, OnStopped, OnUnwritten}
-use Rattle.engine_support.specs.Tests.ByTest.{no_test, of_test}
+use Rattle.engine_support.specs.Tests.{tests}
 use Rattle.engine_support.specs.inner.Failures.{IsFailure}
-use Rattle.engine_support.specs.inner.Inputs.{IsReadAsTest}
-use Rattle.engine_support.specs.inner.Making.{FindsByUpToReads}
-use Rattle.engine_support.proofs.Endings.{weaker}
+use Rattle.engine_support.specs.inner.Making.{FindsUpToReads}
 use Rattle.checking.specs.declared.tally.Tally.{Tally}
 use Rattle.engine_support.specs.WholeLines.{whole_lines}
 use Rattle.checking.specs.RecordTexts.{is_left_out, texts_in}
@@ -95,20 +93,20 @@ none_reported B M test input known = ([], appends_nothing known, at input)
 
 module _ (B M : ℕ) (input known : Option (List ℕ)) {W : Type 0} (contents : W → Option (List ℕ)) where
   abbrev Answers : Result (List ℕ × Bool) Refusal → Type 0
-  Answers answer = OfInput known (λ bytes. IsCheckAnswer B M input bytes answer)
+  Answers = IsCheckAnswer B M input known
 
   abbrev Fronts : List ℕ → Type 0
-  Fronts out = OfInput known (λ bytes. IsCheckFront B M input bytes (Ok out))
+  Fronts out = IsCheckFront B M input known (Ok out)
 
-  module _ (test : LitmusTest) (read : OfInput known (λ bytes. Accepted IsTestOf bytes test)) where
+  module _ (test : LitmusTest) (is_test : Reads tests known (Ok test)) where
     front_of : (out : List ℕ) → OfLines input (λ lines. IsFront B M lines test out) → Fronts out
-    front_of out is = weaker known _ _ (λ bytes accepted. of_test test (Ok out) accepted is) read
+    front_of out is = read test (Ok out) is_test is
 
     pub ends_checked : (result : Result Bool Fault) (old new : W) → IfErr result IsFailure
         → IfOk result (λ good. (out : List ℕ) × Appends (contents old) (contents new) out × OfLines input (λ lines. IsChecked B M lines test (out, good)))
         → EndsInteractive Answers result contents old new
     ends_checked (Ok good) old new fails (out, appends, is) =
-        (out, weaker known _ _ (λ bytes accepted. of_test test (Ok (out, good)) accepted is) read, appends)
+        (out, read test (Ok (out, good)) is_test is, appends)
     ends_checked (Err (Refused r)) old new fails checked = absurd fails
     ends_checked (Err ReadFailed) old new fails checked = tt
     ends_checked (Err WriteFailed) old new fails checked = tt
@@ -132,12 +130,12 @@ module _ (B M : ℕ) (input known : Option (List ℕ)) {W : Type 0} (contents : 
 
   -- no test was read
   module _ (result : Result Bool Fault) (fault : Fault) (is : result ≡ Err fault)
-      (found : FindsByUpToReads IsReadAsTest (λ (test : LitmusTest). test) known (Err fault)) where
+      (found : FindsUpToReads (Reads tests known) (λ (test : LitmusTest). test) (Err fault)) where
     pub ends_refused : (old : W) → EndsInteractive Answers result contents old old
     ends_refused old = rw is (at fault found)
       where
-        at : (f : Fault) → FindsByUpToReads IsReadAsTest (λ (test : LitmusTest). test) known (Err f) → EndsInteractive Answers (Err f) contents old old
-        at (Refused r) bad = (weaker known _ _ (λ bytes none. no_test r none) bad, refl)
+        at : (f : Fault) → FindsUpToReads (Reads tests known) (λ (test : LitmusTest). test) (Err f) → EndsInteractive Answers (Err f) contents old old
+        at (Refused r) bad = (refused r bad, refl)
         at ReadFailed bad = tt
         at NoMemory bad = tt
         at WriteFailed bad = tt
@@ -145,7 +143,7 @@ module _ (B M : ℕ) (input known : Option (List ℕ)) {W : Type 0} (contents : 
     pub unwritten_refused : (P : Type 0) → OnUnwritten result P
     unwritten_refused P = rw is (at fault found)
       where
-        at : (f : Fault) → FindsByUpToReads IsReadAsTest (λ (test : LitmusTest). test) known (Err f) → OnUnwritten {V = Bool} (Err f) P
+        at : (f : Fault) → FindsUpToReads (Reads tests known) (λ (test : LitmusTest). test) (Err f) → OnUnwritten {V = Bool} (Err f) P
         at (Refused r) bad = tt
         at ReadFailed bad = tt
         at NoMemory bad = tt

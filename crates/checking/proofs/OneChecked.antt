@@ -1,5 +1,5 @@
 -- Records answer one text: what is said of them is determined by the test and the input.
-use Rattle.std.proofs.Common.{◌≡◌, ℕ, Bool, List, [], ◌∷◌, ◌++◌, map, take, count_by, Some, Result, Ok, Err, refl, sym, ap, ap₂, ◌∙◌, subst}
+use Rattle.std.proofs.Common.{◌≡◌, ℕ, Bool, List, [], ◌∷◌, ◌++◌, map, take, count_by, Some, Result, Ok, refl, sym, ap, ap₂, ◌∙◌, subst}
 use Rattle.std.specs.Prelude.{◌==◌}
 use Rattle.std.specs.List.{flat_map, slice_get}
 use Rattle.texts.proofs.FormatLaws.{settled_one, settled_only}
@@ -18,8 +18,10 @@ use Rattle.recorder.proofs.RunRecords.{no_other, record_runs}
 use Rattle.engine_support.specs.declared.fault.Refusal.{Refusal}
 use Rattle.engine_support.specs.Engines.{AreOneAnswer, decoded}
 use Rattle.engine_support.specs.Outcomes.{unfinished_line}
+use Rattle.engine_support.specs.Tests.{tests}
 use Rattle.engine_support.proofs.OutcomeTables.{one_outcomes}
-use Rattle.engine_support.proofs.OneInput.{alike_by_test, one_refusal, value_or_refusal}
+use Rattle.engine_support.proofs.InputLaws.{alike_after, one_litmus_text, one_made}
+use Rattle.engine_support.proofs.OneInput.{equal_alike, one_refusal, value_or_refusal}
 use Rattle.engine_support.proofs.RunLaws.{one_place}
 use Rattle.checking.specs.EventLines.{line_of_event}
 use Rattle.engine_support.specs.WholeLines.{whole_lines}
@@ -30,7 +32,7 @@ use Rattle.checking.specs.Judgements.IsSaidOf.{of_run, of_difference}
 use Rattle.checking.specs.Judgements.IsJudged.{none, record_is}
 use Rattle.checking.specs.Reports.{reports_from}
 use Rattle.checking.specs.Outcomes.{gave, IsTable, is_refused, is_unfinished, outcome_row, refused_line}
-use Rattle.checking.specs.Checking.{IsCheckAnswer, IsChecked, IsCheckedOf}
+use Rattle.checking.specs.Checking.{IsCheckAnswer, IsChecked}
 
 -- ---- one run of a record
 
@@ -120,13 +122,8 @@ one_checked B M lines q a b is other =
     let goods : a.1 ≡ b.1 = is.good ∙ ap (λ (xs : List Judged). count_by is_refused xs == 0) answers ∙ sym other.good in
     λ i. (texts i, goods i)
 
-module _ (B M : ℕ) (records : List ℕ) where
-  one_of_test : (q : LitmusTest) (a b : Result (List ℕ × Bool) Refusal)
-      → IsCheckedOf B M (Some records) q a → IsCheckedOf B M (Some records) q b → AreOneAnswer a b
-  one_of_test q (Ok a) (Ok b) is other = one_checked B M (whole_lines records) q a b is other
-  one_of_test q (Ok a) (Err s) is never = absurd never
-  one_of_test q (Err r) b never other = absurd never
-
-  pub one_check : (file : List ℕ) (a b : Result (List ℕ × Bool) Refusal)
-      → IsCheckAnswer B M (Some records) file a → IsCheckAnswer B M (Some records) file b → AreOneAnswer a b
-  one_check = alike_by_test AreOneAnswer (λ r s e. e) (IsCheckedOf B M (Some records)) one_of_test
+pub one_check : (B M : ℕ) (records file : List ℕ) (a b : Result (List ℕ × Bool) Refusal)
+    → IsCheckAnswer B M (Some records) (Some file) a → IsCheckAnswer B M (Some records) (Some file) b → AreOneAnswer a b
+one_check B M records file =
+    alike_after tests (λ r s. r.number ≡ s.number) one_litmus_text AreOneAnswer (λ r s e. e) file _
+    (λ q a b is other. equal_alike a b (one_made (IsChecked B M (whole_lines records) q) (one_checked B M (whole_lines records) q) a b is other))

@@ -1,8 +1,9 @@
 -- The command `check`: what is written of the records of an input.
-use Rattle.std.specs.Prelude.{ℕ, ◌≡◌, ◌==◌, Bool, List, ◌++◌, count_by, Option, None, Some, Result, Ok, Err}
+use Rattle.std.specs.Prelude.{ℕ, ◌≡◌, ◌==◌, Bool, List, ◌++◌, count_by, Option, None, Some, IsOkAnd, Result}
 use Rattle.litmus.specs.LitmusTests.{LitmusTest}
 use Rattle.engine_support.specs.declared.fault.Refusal.{Refusal}
-use Rattle.engine_support.specs.Tests.{ByTest}
+use Rattle.engine_support.specs.Inputs.{After}
+use Rattle.engine_support.specs.Tests.{tests}
 use Rattle.engine_support.specs.WholeLines.{whole_lines}
 use Rattle.checking.specs.RecordTexts.{texts_in}
 use Rattle.checking.specs.Judgements.{Judged, AreJudged}
@@ -33,18 +34,10 @@ abbrev pub OfLines : (input : Option (List ℕ)) → (List (List ℕ) → Type 0
 OfLines None Holds = (lines : List (List ℕ)) × Holds lines
 OfLines (Some bytes) Holds = Holds (whole_lines bytes)
 
-abbrev pub IsCheckedOf : (B M : ℕ) → (input : Option (List ℕ)) → LitmusTest → Result (List ℕ × Bool) Refusal → Type 0
-IsCheckedOf B M input test (Ok answer) = OfLines input (λ lines. IsChecked B M lines test answer)
-IsCheckedOf B M input test (Err refusal) = ⊥
-
 -- What answers a test and the records of an input. The test is judged first.
-abbrev pub IsCheckAnswer : (B M : ℕ) → (input : Option (List ℕ)) → (file : List ℕ) → Result (List ℕ × Bool) Refusal → Type 0
-IsCheckAnswer B M input file answer = ByTest (IsCheckedOf B M input) file answer
-
-abbrev pub IsFrontOf : (B M : ℕ) → (input : Option (List ℕ)) → LitmusTest → Result (List ℕ) Refusal → Type 0
-IsFrontOf B M input test (Ok out) = OfLines input (λ lines. IsFront B M lines test out)
-IsFrontOf B M input test (Err refusal) = ⊥
+abbrev pub IsCheckAnswer : (B M : ℕ) → (input file : Option (List ℕ)) → Result (List ℕ × Bool) Refusal → Type 0
+IsCheckAnswer B M input file = After tests file (λ test given. IsOkAnd given (λ answer. OfLines input (λ lines. IsChecked B M lines test answer)))
 
 -- What was written where the command came to no end: the lines of the first texts, for a test that is read.
-abbrev pub IsCheckFront : (B M : ℕ) → (input : Option (List ℕ)) → (file : List ℕ) → Result (List ℕ) Refusal → Type 0
-IsCheckFront B M input file answer = ByTest (IsFrontOf B M input) file answer
+abbrev pub IsCheckFront : (B M : ℕ) → (input file : Option (List ℕ)) → Result (List ℕ) Refusal → Type 0
+IsCheckFront B M input file = After tests file (λ test given. IsOkAnd given (λ out. OfLines input (λ lines. IsFront B M lines test out)))

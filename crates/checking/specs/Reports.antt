@@ -5,13 +5,20 @@ use Rattle.recorder.specs.Schedule.{hart_of}
 use Rattle.recorder.specs.Outcomes.{outcome_text}
 use Rattle.engine_support.specs.declared.fault.Refusal.{Refusal}
 use Rattle.engine_support.specs.declared.fault.Position.{Position}
-use Rattle.engine_support.specs.declared.fault.Position.TheVariants.{Nowhere, Line, Byte, Word, Event}
+use Rattle.engine_support.specs.declared.fault.Position.TheVariants.{Nowhere, Line, ProgramLine, Byte, Word, Event}
+use Rattle.engine_support.specs.declared.fault.Role.{Role}
+use Rattle.engine_support.specs.declared.fault.Role.TheVariants.{Sender, Receiver}
 use Rattle.checking.specs.Judgements.{Difference, Judged}
 use Rattle.checking.specs.Judgements.Judged.{finished, unfinished, differing, no_record}
+
+abbrev pub role_text : Role → List ℕ
+role_text Sender = codes "sender"
+role_text Receiver = codes "receiver"
 
 abbrev pub position_text : Position → List ℕ
 position_text Nowhere = []
 position_text (Line line) = codes " at line " ++ decimal line
+position_text (ProgramLine role line) = codes " at line " ++ decimal line ++ codes " of the " ++ role_text role
 position_text (Byte byte) = codes " at byte " ++ decimal byte
 position_text (Word sender place) = codes " at sender " ++ decimal sender ++ codes " place " ++ decimal place
 position_text (Event event) = codes " at event " ++ decimal event

@@ -4,9 +4,9 @@ ghost use Rattle.std.specs.Prelude.{◌≡◌, ◌≤◌, ◌⊎◌, ℕ, List, 
 ghost use Rattle.std.specs.Io.KnownBytes.{Appends};
 ghost use Rattle.step_machine.specs.Standing.{RepresentsRunFrom};
 ghost use Rattle.litmus.specs.declared.litmus_test.TheConstants.{MAX_LOCATIONS};
-ghost use Rattle.engine_support.specs.Engines.{OfInput};
 ghost use Rattle.engine_support.specs.Interactive.{EndsInteractive, OnStopped, OnUnwritten};
-ghost use Rattle.engine_support.specs.Tests.{HasNoTest};
+ghost use Rattle.engine_support.specs.Inputs.{IsRefused};
+ghost use Rattle.engine_support.specs.Tests.{tests};
 ghost use Rattle.engine_support.specs.inner.Failures.{IsFailure};
 ghost use Rattle.checking.specs.Checking.{IsCheckAnswer, IsChecked, IsCheckFront, IsFront, OfLines};
 ghost use Rattle.checking.specs.inner.Reporting.{AllReported, Closes, SomeReported, TakesLine};
@@ -170,17 +170,15 @@ pub fn check_engine<const B: usize, const M: usize, F: Read, R: BufRead, W: Writ
     requires capacity { B ≤ 64 }
     requires words { MAX_LOCATIONS ≤ M }
     requires size { M ≤ 65536 }
-    ensures ends { EndsInteractive (λ answer. OfInput (F.remaining file.old)
-        (λ bytes. IsCheckAnswer B M (R.remaining records.old) bytes answer)) result W.contents writer.old writer.new }
-    ensures unread { HasNoTest (F.remaining file.old) → records.new ≡ records.old }
+    ensures ends { EndsInteractive (IsCheckAnswer B M (R.remaining records.old) (F.remaining file.old)) result W.contents writer.old writer.new }
+    ensures unread { IsRefused tests (F.remaining file.old) → records.new ≡ records.old }
 
     // where a read failed or memory ran out, the lines of the first texts were written, or nothing
     ensures left { OnStopped result ((out : List ℕ) × Appends (W.contents writer.old) (W.contents writer.new) out
-        × ((out ≡ []) ⊎ OfInput (F.remaining file.old) (λ bytes. IsCheckFront B M (R.remaining records.old) bytes (Ok out)))) }
+        × ((out ≡ []) ⊎ IsCheckFront B M (R.remaining records.old) (F.remaining file.old) (Ok out))) }
 
     // where a write failed, the test was accepted, and the lines of the first texts were made
-    ensures unwritten { OnUnwritten result ((out : List ℕ) × OfInput (F.remaining file.old)
-        (λ bytes. IsCheckFront B M (R.remaining records.old) bytes (Ok out))) }
+    ensures unwritten { OnUnwritten result ((out : List ℕ) × IsCheckFront B M (R.remaining records.old) (F.remaining file.old) (Ok out)) }
 {
     let test = read_test(alloc, file)?;
     check_all::<B, M, R, W>(alloc, &test, records, writer)

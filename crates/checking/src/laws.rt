@@ -9,5 +9,5 @@ ghost use Rattle.checking.specs.Checking.{IsCheckAnswer};
 /// of one number. Of a refused litmus text it isn't said on which line its first fault stands. It does nothing.
 pub fn one_check()
     ensures { (B M : ℕ) (records file : List ℕ) (a b : Result (List ℕ × Bool) Refusal)
-        → IsCheckAnswer B M (Some records) file a → IsCheckAnswer B M (Some records) file b → AreOneAnswer a b }
+        → IsCheckAnswer B M (Some records) (Some file) a → IsCheckAnswer B M (Some records) (Some file) b → AreOneAnswer a b }
 {}

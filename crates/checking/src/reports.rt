@@ -6,7 +6,7 @@ ghost use Rattle.checking.specs.Reports.{difference_place, difference_text, judg
 ghost use Rattle.checking.specs.inner.Tallies.{difference_of, judged_by};
 
 use crate::judging::{Difference, Judgement};
-use engine_support::fault::{Position, Refusal};
+use engine_support::fault::{Position, Refusal, Role};
 use recorder::push_outcome;
 use std::alloc::{AllocError, Global};
 
@@ -16,6 +16,14 @@ fn push_position(out: &mut String, place: Position) -> Result<(), AllocError>
     match place {
         Position::Nowhere => Ok(()),
         Position::Line(line) => write!(out, " at line {line}"),
+        Position::ProgramLine {
+            role: Role::Sender,
+            line,
+        } => write!(out, " at line {line} of the sender"),
+        Position::ProgramLine {
+            role: Role::Receiver,
+            line,
+        } => write!(out, " at line {line} of the receiver"),
         Position::Byte(byte) => write!(out, " at byte {byte}"),
         Position::Word { sender, place } => write!(out, " at sender {sender} place {place}"),
         Position::Event(event) => write!(out, " at event {event}"),

@@ -23,11 +23,10 @@ use Rattle.debugger.specs.Transcripts.{PrintsFront, PrintsSome, Transcript, quit
 use Rattle.engine_support.specs.inner.Making.{FindsUpToReads, IsEndOf, text_and_value}
 use Rattle.debugger.specs.inner.Asking.{AsksNext, IsNextLine}
 use Rattle.debugger.specs.inner.Failures.{IsFailure, IsReadFailure, IsAtStart}
-use Rattle.engine_support.specs.Engines.{AnswersBoth, Output}
+use Rattle.engine_support.specs.Engines.{Output}
 use Rattle.engine_support.specs.Histories.{AnswersEvents, ByEvents}
-use Rattle.engine_support.specs.Histories.BySchedule.{both}
 use Rattle.engine_support.proofs.Written.{appends_more, appends_nothing, stopped}
-use Rattle.engine_support.proofs.ScheduleLaws.{by_schedule_as, weaker_both}
+use Rattle.engine_support.proofs.ScheduleLaws.{made_both, refused_both}
 
 -- ---- what a writer holds, where that is known
 
@@ -177,20 +176,18 @@ replied B M said old kept points others made (Err other) result contents before 
 
 module _ (B M : ℕ) (first second input : Option (List ℕ)) {W : Type 0} (contents : W → Option (List ℕ)) where
   abbrev Ends : Result (Unit {0}) Fault → (old new : W) → Type 0
-  Ends result old new = EndsInteractive (AnswersBoth (IsDebugAnswer B M input) first second) result contents old new
+  Ends result old new = EndsInteractive (IsDebugAnswer B M input first second) result contents old new
 
   -- a debugger stands at the opening of what the readers give
   abbrev Opens : DebuggerState → Type 0
-  Opens debugger = AnswersBoth (ByEvents IsAtStart) first second (Ok debugger)
+  Opens debugger = ByEvents IsAtStart first second (Ok debugger)
 
   -- what holds of the debugger that is opened answers the inputs
   opened : (P : LitmusTest → List Event → Output → Type 0) (debugger : DebuggerState) (answer : Output)
       → ((test : LitmusTest) (events : List Event) → debugger ≡ at_start test.opening events → P test events answer)
-      → Opens debugger → AnswersBoth (ByEvents P) first second (Ok answer)
-  opened P debugger answer holds = weaker_both first second (ByEvents IsAtStart) (ByEvents P) (Ok debugger) (Ok answer) more
-    where
-      more : (file schedule : List ℕ) → ByEvents IsAtStart file schedule (Ok debugger) → ByEvents P file schedule (Ok answer)
-      more file schedule (both test said known is_test read set) = both test said (Ok answer) is_test read (holds test (events_said said) set)
+      → Opens debugger → ByEvents P first second (Ok answer)
+  opened P debugger answer holds =
+      made_both first second (AnswersEvents IsAtStart) (AnswersEvents P) debugger (Ok answer) (λ test said. holds test (events_said said))
 
   -- a transcript that is over ends the command
   pub transcribed : (result : Result (Unit {0}) Fault) (debugger : DebuggerState) (old new : W) → Opens debugger
@@ -206,24 +203,23 @@ module _ (B M : ℕ) (first second input : Option (List ℕ)) {W : Type 0} (cont
 
   -- and so does a fault before it begins
   pub not_begun : {X : Type 0} (view : X → DebuggerState) (result : Result (Unit {0}) Fault) (fault : Fault) (old : W) → result ≡ Err fault
-      → FindsUpToReads (AnswersBoth (ByEvents IsAtStart) first second) view (Err fault) → Ends result old old
+      → FindsUpToReads (ByEvents IsAtStart first second) view (Err fault) → Ends result old old
   not_begun view result (Refused refusal) old is finds =
       rw is (
-        weaker_both first second (ByEvents IsAtStart) (IsDebugAnswer B M input) (Err refusal) (Err refusal)
-            (by_schedule_as (AnswersEvents IsAtStart) (AnswersEvents (IsTranscript B M input)) refusal (λ test said none. none)) finds,
+        refused_both first second (AnswersEvents IsAtStart) (AnswersEvents (IsTranscript B M input)) refusal (λ test said none. none) finds,
         refl,
       )
   not_begun view result other old is finds = rw is tt
 
   pub not_unwritten : {X : Type 0} (view : X → DebuggerState) (result : Result (Unit {0}) Fault) (fault : Fault) (P : Type 0) → result ≡ Err fault
-      → FindsUpToReads (AnswersBoth (ByEvents IsAtStart) first second) view (Err fault) → OnUnwritten result P
+      → FindsUpToReads (ByEvents IsAtStart first second) view (Err fault) → OnUnwritten result P
   not_unwritten view result WriteFailed P is finds = absurd finds
   not_unwritten view result other P is finds = rw is tt
 
   -- where a write failed, the first lines print what was to be written
   pub unwritten_begun : (result : Result (Unit {0}) Fault) (debugger : DebuggerState) → Opens debugger
       → OnUnwritten result ((out : List ℕ) × PrintsSome B M input debugger [] out)
-      → OnUnwritten result ((out : List ℕ) × AnswersBoth (IsDebugSome B M input) first second (Ok (out, tt)))
+      → OnUnwritten result ((out : List ℕ) × IsDebugSome B M input first second (Ok (out, tt)))
   unwritten_begun (Err WriteFailed) debugger opens (out, prints) = (
     out,
     opened (λ test events answer. PrintsSome B M input (at_start test.opening events) [] answer.0) debugger (out, tt)
@@ -233,7 +229,7 @@ module _ (B M : ℕ) (first second input : Option (List ℕ)) {W : Type 0} (cont
 
   -- what was written where it stops: nothing, or what the first lines print
   abbrev Left : (old new : W) → Type 0
-  Left old new = Printed (contents old) (contents new) (λ out. (out ≡ []) ⊎ AnswersBoth (IsDebugFront B M input) first second (Ok (out, tt)))
+  Left old new = Printed (contents old) (contents new) (λ out. (out ≡ []) ⊎ IsDebugFront B M input first second (Ok (out, tt)))
 
   left_of : (debugger : DebuggerState) (old new : W) → Opens debugger → Printed (contents old) (contents new) (PrintsFront B M input debugger []) → Left old new
   left_of debugger old new opens (out, appends, prints) = (

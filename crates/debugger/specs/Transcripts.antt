@@ -82,13 +82,13 @@ IsTranscript B M input test events answer = Prints B M input (at_start test.open
 
 -- What answers a test, a schedule of either version and the user's lines. The test is judged first. A debugger
 -- goes along the schedule's events; what a record says of their outcomes isn't checked.
-abbrev pub IsDebugAnswer : (B M : ℕ) → (input : Option (List ℕ)) → (file schedule : List ℕ) → Result Output Refusal → Type 0
+abbrev pub IsDebugAnswer : (B M : ℕ) → (input file schedule : Option (List ℕ)) → Result Output Refusal → Type 0
 IsDebugAnswer B M input = ByEvents (IsTranscript B M input)
 
 -- What the first of the user's lines print, for a test and a schedule that are read.
-abbrev pub IsDebugFront : (B M : ℕ) → (input : Option (List ℕ)) → (file schedule : List ℕ) → Result Output Refusal → Type 0
+abbrev pub IsDebugFront : (B M : ℕ) → (input file schedule : Option (List ℕ)) → Result Output Refusal → Type 0
 IsDebugFront B M input = ByEvents (λ test events answer. PrintsFront B M input (at_start test.opening events) [] answer.0)
 
 -- and what the first of them print, one line at least
-abbrev pub IsDebugSome : (B M : ℕ) → (input : Option (List ℕ)) → (file schedule : List ℕ) → Result Output Refusal → Type 0
+abbrev pub IsDebugSome : (B M : ℕ) → (input file schedule : Option (List ℕ)) → Result Output Refusal → Type 0
 IsDebugSome B M input = ByEvents (λ test events answer. PrintsSome B M input (at_start test.opening events) [] answer.0)

@@ -3,8 +3,8 @@
 ghost use Rattle.std.specs.Prelude.{◌≡◌, ◌≤◌, ◌⊎◌, ℕ, List, [], Ok, OnOk};
 ghost use Rattle.std.specs.Io.KnownBytes.{Appends};
 ghost use Rattle.recorder.specs.Versions.{said_of};
-ghost use Rattle.engine_support.specs.Engines.{AnswersBoth};
-ghost use Rattle.engine_support.specs.Tests.{HasNoTest};
+ghost use Rattle.engine_support.specs.Inputs.{IsRefused};
+ghost use Rattle.engine_support.specs.Tests.{tests};
 ghost use Rattle.engine_support.specs.Faults.{AnswersAs};
 ghost use Rattle.engine_support.specs.Histories.{AnswersEvents, ByEvents};
 ghost use Rattle.debugger.specs.Transcripts.{EndsInteractive, IsDebugAnswer, IsDebugFront, IsDebugSome, Leaves, OnRefused, OnStopped, OnUnwritten};
@@ -56,8 +56,8 @@ fn open_debugger<const B: usize, const M: usize, F: Read, S: Read>(
     requires capacity { B ≤ 64 }
     requires words { MAX_LOCATIONS ≤ M }
     requires size { M ≤ 65536 }
-    ensures debugger { FindsUpToReads (AnswersBoth (ByEvents IsAtStart) (F.remaining file.old) (S.remaining schedule.old)) (λ debugger. debugger) result }
-    ensures unread { HasNoTest (F.remaining file.old) → schedule.new ≡ schedule.old }
+    ensures debugger { FindsUpToReads (ByEvents IsAtStart (F.remaining file.old) (S.remaining schedule.old)) (λ debugger. debugger) result }
+    ensures unread { IsRefused tests (F.remaining file.old) → schedule.new ≡ schedule.old }
 {
     let (test, said) = read_both(alloc, file, schedule)?;
     debugger_along(alloc, &test, said)
@@ -85,19 +85,19 @@ pub fn debug_engine<const B: usize, const M: usize, F: Read, S: Read, C: BufRead
     requires capacity { B ≤ 64 }
     requires words { MAX_LOCATIONS ≤ M }
     requires size { M ≤ 65536 }
-    ensures ends { EndsInteractive (AnswersBoth (IsDebugAnswer B M (C.remaining commands.old)) (F.remaining file.old)
-        (S.remaining schedule.old)) result W.contents writer.old writer.new }
-    ensures unread { HasNoTest (F.remaining file.old) → schedule.new ≡ schedule.old }
+    ensures ends { EndsInteractive (IsDebugAnswer B M (C.remaining commands.old) (F.remaining file.old) (S.remaining schedule.old)) result
+        W.contents writer.old writer.new }
+    ensures unread { IsRefused tests (F.remaining file.old) → schedule.new ≡ schedule.old }
     ensures unasked { OnRefused result (commands.new ≡ commands.old) }
     ensures rest { OnOk result (Leaves (C.remaining commands.old) (C.remaining commands.new)) }
 
     // where a read failed or memory ran out, what the first lines print was written, or nothing
     ensures left { OnStopped result ((out : List ℕ) × Appends (W.contents writer.old) (W.contents writer.new) out
-        × ((out ≡ []) ⊎ AnswersBoth (IsDebugFront B M (C.remaining commands.old)) (F.remaining file.old) (S.remaining schedule.old) (Ok (out, tt)))) }
+        × ((out ≡ []) ⊎ IsDebugFront B M (C.remaining commands.old) (F.remaining file.old) (S.remaining schedule.old) (Ok (out, tt)))) }
 
     // where a write failed, both texts were accepted, and a line was answered
     ensures unwritten { OnUnwritten result ((out : List ℕ)
-        × AnswersBoth (IsDebugSome B M (C.remaining commands.old)) (F.remaining file.old) (S.remaining schedule.old) (Ok (out, tt))) }
+        × IsDebugSome B M (C.remaining commands.old) (F.remaining file.old) (S.remaining schedule.old) (Ok (out, tt))) }
 {
     let debugger = open_debugger::<B, M, F, S>(alloc, file, schedule)?;
     converse(alloc, debugger, commands, writer)

@@ -5,11 +5,11 @@ pub mod Endings
 pub mod Written
 pub mod LineFaulted
 pub mod TestTexts
-pub mod ScheduleTexts
 pub mod ThreadRuns
 pub mod RunLaws
 pub mod ScheduleLaws
 pub mod OneInput
+pub mod InputLaws
 pub mod TextInputs
 pub mod Rows
 pub mod OutcomeLines

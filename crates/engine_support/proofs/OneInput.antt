@@ -1,24 +1,22 @@
--- What answers a litmus text, or one and a schedule, is one answer where it is one of their values: an input has
--- its value or a refusal of one number.
+-- An input has its value or a refusal of one number, and so one answer.
 use Rattle.std.proofs.Common.{arith, ◌≡◌, ℕ, Bool, cond, ltb, List, length, Result, Ok, Err, refl, ap, ◌∙◌, subst}
 use Rattle.std.specs.Str.{is_utf8}
 use Rattle.texts.proofs.FormatLaws.{settled_only}
 use Rattle.step_machine.specs.History.{History}
 use Rattle.recorder.specs.Versions.{ScheduleValue, Says, said_at}
-use Rattle.recorder.proofs.HeadLaws.{one_said, said_settles}
+use Rattle.recorder.proofs.HeadLaws.{said_settles}
 use Rattle.litmus.specs.LitmusTests.{LitmusTest}
 use Rattle.litmus_reader.specs.declared.faults.LitmusFault.{LitmusFault}
 use Rattle.litmus_reader.specs.Grammar.{IsTestOf}
 use Rattle.litmus_reader.specs.Reading.{Content, content_of, test_at}
 use Rattle.litmus_reader.proofs.TestGrammar.{one_test, read_exactly}
 use Rattle.engine_support.specs.declared.fault.Refusal.{Refusal}
-use Rattle.engine_support.specs.Engines.{Output, Accepted, AreOneAnswer, ByValue, decoded}
+use Rattle.engine_support.specs.Engines.{Output, Accepted, AreOneAnswer, decoded}
 use Rattle.engine_support.specs.Faults.{too_large, not_text}
 use Rattle.engine_support.specs.Tests.{ByTest, IsNoTest, refused_test, test_of}
 use Rattle.engine_support.specs.Tests as tests
-use Rattle.engine_support.specs.Schedules.{IsNoSchedule, schedule_of}
-use Rattle.engine_support.specs.Histories.{AnswersRun, BySchedule}
-use Rattle.engine_support.specs.Histories.BySchedule.{no_test, no_schedule, both}
+use Rattle.engine_support.specs.Schedules.{schedule_of}
+use Rattle.engine_support.specs.Histories.{AnswersRun}
 use Rattle.engine_support.proofs.Judging.{accepted-decoded, decoded-text}
 use Rattle.engine_support.proofs.RunLaws.{one_run}
 use Rattle.engine_support.proofs.TestTexts.{test_or_none}
@@ -26,7 +24,7 @@ use Rattle.engine_support.proofs.TestTexts.{test_or_none}
 pub same_output : (a b : Output) → a.0 ≡ b.0 → a ≡ b
 same_output a b e = λ i. (e i, tt)
 
-test_or_refusal : (input : List ℕ) (q : LitmusTest) (r : Refusal) → Accepted IsTestOf input q → IsNoTest input r → ⊥
+pub test_or_refusal : (input : List ℕ) (q : LitmusTest) (r : Refusal) → Accepted IsTestOf input q → IsNoTest input r → ⊥
 unfolding test_of IsTestOf
 test_or_refusal input q r is (line, refused) =
     let read : test_at input ≡ Ok (content_of q) = (read_exactly input (content_of q)).1 is.value_is.0 in
@@ -38,7 +36,7 @@ numbers_of : (long text : Bool) (read : Result Content LitmusFault) (line other 
     → cond long (Err too_large) (cond text (refused_test other read) (Err not_text)) ≡ Err s → r.number ≡ s.number
 numbers_of long text read line other r s e f = grind arith
 
-one_number : (input : List ℕ) (r s : Refusal) → IsNoTest input r → IsNoTest input s → r.number ≡ s.number
+pub one_number : (input : List ℕ) (r s : Refusal) → IsNoTest input r → IsNoTest input s → r.number ≡ s.number
 unfolding test_of
 one_number input r s (line, e) (other, f) = numbers_of (ltb 1048576 (length input)) (is_utf8 input) (test_at input) line other r s e f
 
@@ -47,7 +45,7 @@ pub value_or_refusal : {V : Type 0} (value_at : List ℕ → Result V Refusal) (
     → (IsValue input v → value_at input ≡ Ok v) → Accepted IsValue input v → decoded value_at input ≡ Err r → ⊥
 value_or_refusal value_at IsValue input v r only is refused = let read : decoded value_at input ≡ Ok v = accepted-decoded value_at IsValue input v only is in cc
 
-pub said-or_refusal : (input : List ℕ) (said : ScheduleValue) (r : Refusal) → Accepted Says input said → IsNoSchedule input r → ⊥
+pub said-or_refusal : (input : List ℕ) (said : ScheduleValue) (r : Refusal) → Accepted Says input said → decoded schedule_of input ≡ Err r → ⊥
 unfolding schedule_of
 said-or_refusal input said r =
     value_or_refusal schedule_of Says input said r
@@ -55,19 +53,6 @@ said-or_refusal input said r =
 
 pub one_refusal : {V : Type 0} (judgement : Result V Refusal) (r s : Refusal) → judgement ≡ Err r → judgement ≡ Err s → r ≡ s
 one_refusal judgement r s e f = cc
-
--- ---- what is answered by a value
-
-module _ {V W : Type 0} (IsValue : List ℕ → V → Type 0) (value_at : List ℕ → Result W Refusal) (Makes : V → Output → Type 0) (input : List ℕ)
-    (one : (v w : V) → IsValue input v → IsValue input w → v ≡ w)
-    (never : (v : V) (r : Refusal) → Accepted IsValue input v → decoded value_at input ≡ Err r → ⊥)
-    (same : (v : V) (a b : Output) → Makes v a → Makes v b → a ≡ b) where
-  pub one_by_value : (a b : Result Output Refusal) → ByValue IsValue value_at Makes input a → ByValue IsValue value_at Makes input b → a ≡ b
-  one_by_value (Ok a) (Ok b) (v, is, makes) (w, also, other) =
-      ap (λ (out : Output). Ok out) (same v a b makes (subst (λ (x : V). Makes x b) (one w v also.value_is is.value_is) other))
-  one_by_value (Ok a) (Err r) (v, is, makes) refused = absurd (never v r is refused)
-  one_by_value (Err r) (Ok a) refused (v, is, makes) = absurd (never v r is refused)
-  one_by_value (Err r) (Err s) refused other = ap (λ (x : Refusal). Err x) (one_refusal (decoded value_at input) r s refused other)
 
 -- ---- what is answered by a test
 
@@ -81,33 +66,7 @@ module _ {A : Type 0} (Alike : Result A Refusal → Result A Refusal → Type 0)
   alike_by_test a b (tests.ByTest.of_test q given is holds) (tests.ByTest.of_test p other also tells) =
       alike q a b holds (subst (λ (x : LitmusTest). IsAnswer x b) (one_test input p q also.value_is is.value_is) tells)
 
--- ---- and by a schedule
-
-module _ {A : Type 0} (Alike : Result A Refusal → Result A Refusal → Type 0)
-    (refusals : (r s : Refusal) → r.number ≡ s.number → Alike (Err r) (Err s)) (IsAnswer : LitmusTest → ScheduleValue → Result A Refusal → Type 0)
-    (alike : (q : LitmusTest) (said : ScheduleValue) (a b : Result A Refusal) → IsAnswer q said a → IsAnswer q said b → Alike a b)
-    (file schedule : List ℕ) where
-  alike_of_values : (q p : LitmusTest) (said other : ScheduleValue) (a b : Result A Refusal) → Accepted IsTestOf file q → Accepted IsTestOf file p
-      → Accepted Says schedule said → Accepted Says schedule other → IsAnswer q said a → IsAnswer p other b → Alike a b
-  alike_of_values q p said other a b is also reads says answers tells =
-      alike q said a b answers
-      (subst (λ (x : LitmusTest). IsAnswer x said b) (one_test file p q also.value_is is.value_is)
-      (subst (λ (x : ScheduleValue). IsAnswer p x b) (one_said schedule other said says.value_is reads.value_is) tells))
-
-  pub alike_by_schedule : (a b : Result A Refusal) → BySchedule IsAnswer file schedule a → BySchedule IsAnswer file schedule b → Alike a b
-  alike_by_schedule a b (no_test r none) (no_test s other) = refusals r s (one_number file r s none other)
-  alike_by_schedule a b (no_test r none) (no_schedule q s is bad) = absurd (test_or_refusal file q r is none)
-  alike_by_schedule a b (no_test r none) (both q said given is reads holds) = absurd (test_or_refusal file q r is none)
-  alike_by_schedule a b (no_schedule q r is bad) (no_test s none) = absurd (test_or_refusal file q s is none)
-  alike_by_schedule a b (no_schedule q r is bad) (no_schedule p s also other) =
-      refusals r s (ap (λ (x : Refusal). x.number) (one_refusal (decoded schedule_of schedule) r s bad other))
-  alike_by_schedule a b (no_schedule q r is bad) (both p said given also reads holds) = absurd (said-or_refusal schedule said r reads bad)
-  alike_by_schedule a b (both q said given is reads holds) (no_test s none) = absurd (test_or_refusal file q s is none)
-  alike_by_schedule a b (both q said given is reads holds) (no_schedule p s also bad) = absurd (said-or_refusal schedule said s reads bad)
-  alike_by_schedule a b (both q said given is reads holds) (both p others other also says tells) =
-      alike_of_values q p said others a b is also reads says holds tells
-
--- ---- and by a history
+-- ---- what is answered by a history
 
 -- answers that are the same are one answer
 pub equal_alike : {A : Type 0} (a b : Result A Refusal) → a ≡ b → AreOneAnswer a b

@@ -1,15 +1,20 @@
 -- Running a schedule gives one thing, and so does noting its outcomes.
-use Rattle.std.proofs.Common.{◌≡◌, ℕ, zero, suc, ◌<◌, List, [], ◌∷◌, take, Result, Ok, Err, refl, sym, ap, ap₂, subst, ◌∙◌, arith}
+use Rattle.std.proofs.Common.{◌≡◌, ℕ, zero, suc, ◌<◌, List, [], ◌∷◌, length, take, Result, Ok, Err, refl, sym, ap, ap₂, subst, ◌∙◌, arith}
+use Rattle.std.specs.Prelude.{IfOk}
 use Rattle.std.specs.List.{slice_get}
 use Rattle.step_machine.specs.History.{OpeningValue, History, at_opening}
 use Rattle.step_machine.specs.Runs.{Happens, Run}
+use Rattle.step_machine.specs.Standing.{RepresentsHistory}
+use Rattle.step_machine.specs.inner.Config.{Config}
 use Rattle.step_machine.specs.declared.events.Event.{Event}
 use Rattle.step_machine.proofs.Running.{happens-one, run-one, opening_kept}
 use Rattle.recorder.specs.Records.{Step, events_in}
 use Rattle.recorder.specs.Replaying.{RecordFrom, IsRunRecord, DiffersAt}
-use Rattle.recorder.specs.Versions.{ScheduleValue, plain, recorded}
+use Rattle.recorder.specs.Versions.{ScheduleValue, events_said, plain, recorded}
 use Rattle.recorder.proofs.RunRecords.{no_other, record_runs}
+use Rattle.engine_support.specs.declared.fault.Fault.{Fault}
 use Rattle.engine_support.specs.declared.fault.Refusal.{Refusal}
+use Rattle.engine_support.specs.Faults.{AnswersAs, AnswersBy}
 use Rattle.engine_support.specs.Runs.{Runs, Records, differing}
 
 -- the front of a front, and what stands in it
@@ -81,6 +86,22 @@ one_record B M o said a b differs other = grind (arith, same_outcomes, runs_or_d
 pub opening_stays : (B M : ℕ) (o : OpeningValue) (said : ScheduleValue) (t : History) → Runs B M o said (Ok t) → t.opening ≡ o
 opening_stays B M o (plain events) t ran = opening_kept B M o events t ran
 opening_stays B M o (recorded steps) t ran = opening_kept B M o (events_in steps) t (record_runs B M o steps t ran)
+
+-- so what is after it has as many harts
+module _ (B M : ℕ) (o p : OpeningValue) (same : p ≡ o) (said : ScheduleValue) where
+  pub harts_stay : {X : Type 0} (view : X → History) (result : Result X Fault) → AnswersAs (Runs B M p said) view result
+      → IfOk result (λ x. length (view x).opening.harts ≡ length o.harts)
+  harts_stay view (Ok x) ran = ap (λ (q : OpeningValue). length q.harts) (opening_stays B M p said (view x) ran ∙ same)
+  harts_stay view (Err fault) answers = tt
+
+  pub harts_left : (result : Result Config Fault) → AnswersBy (Runs B M p said) (RepresentsHistory B M) result
+      → IfOk result (λ c. length c.harts ≡ length o.harts)
+  harts_left (Ok c) (t, ran, stands) = stands.count ∙ ap (λ (q : OpeningValue). length q.harts) (opening_stays B M p said t ran ∙ same)
+  harts_left (Err fault) answers = tt
+
+-- and runs its events
+pub runs_events : (B M : ℕ) (o : OpeningValue) (said : ScheduleValue) (t : History) → Runs B M o said (Ok t) → Run B M o (events_said said) t
+runs_events B M o said t ran = grind (arith, record_runs)
 
 -- the record of a run of events alone
 pub noted : (B M : ℕ) (o : OpeningValue) (steps : List Step) (events : List Event) (said : ScheduleValue)

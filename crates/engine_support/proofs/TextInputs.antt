@@ -1,14 +1,17 @@
 -- What answers an input that is read as a text.
-use Rattle.std.proofs.Common.{arith, ◌≡◌, ℕ, ◌≤◌, List, length, Result, Ok, Err, sym, subst}
-use Rattle.std.specs.Prelude.{Option}
-use Rattle.std.specs.Str.{IsUtf8}
+use Rattle.std.proofs.Common.{arith, ◌≡◌, ℕ, ◌≤◌, Bool, true, false, List, length, Result, Ok, Err, sym, subst, ◌∙◌}
+use Rattle.std.specs.Prelude.{Option, Some, None, IfOk, IsErrAnd, nat_lt, if◌then◌else◌}
+use Rattle.std.specs.Str.{IsUtf8, is_utf8}
 use Rattle.engine_support.specs.declared.fault.Fault.{Fault}
+use Rattle.engine_support.specs.declared.fault.Fault.TheVariants.{ReadFailed, WriteFailed, NoMemory, Refused}
 use Rattle.engine_support.specs.declared.fault.Refusal.{Refusal}
-use Rattle.engine_support.specs.Engines.{OfInput, Output, Accepted}
-use Rattle.engine_support.specs.Faults.{AnswersAs, not_text}
+use Rattle.engine_support.specs.Engines.{OfInput, decoded}
+use Rattle.engine_support.specs.Faults.{Answers, AnswersAs, not_text, too_large}
+use Rattle.engine_support.specs.Inputs.{After, Format, IsReadAs, Reads, format}
+use Rattle.engine_support.specs.Inputs as after
 use Rattle.engine_support.specs.inner.Inputs.{IsReadAsText}
-use Rattle.engine_support.specs.inner.Making.{FindsByUpToReads}
-use Rattle.engine_support.proofs.Endings.{answered_by, weaker}
+use Rattle.engine_support.specs.inner.Making.{FindsByUpToReads, FindsUpToReads}
+use Rattle.engine_support.proofs.Endings.{answered_by, handed_on, is_handed, weaker}
 use Rattle.engine_support.proofs.Judging.{decoded-as_text, decoded-no_text, decoded-text}
 
 -- what holds of an input that is known or not holds of some bytes
@@ -37,13 +40,65 @@ answered_text IsAnswer view known text result read answers =
     (λ answer holds. weaker known _ _ (λ other same. subst (λ (xs : List ℕ). IsAnswer xs answer) (sym (decoded-as_text other text same).0) holds) read)
     (answers text_is.1 text_is.2)
 
--- and so does what its value makes
-pub answered_value : {V : Type 0} (IsValue : List ℕ → V → Type 0) (Makes : V → Output → Type 0)
-    (known : Option (List ℕ)) (text : List ℕ) (value : V) (answer : Output)
-    → OfInput known (λ bytes. IsReadAsText bytes (Ok text)) → IsValue text value → Makes value answer
-    → OfInput known (λ bytes. (v : V) × Accepted IsValue bytes v × Makes v answer)
-answered_value IsValue Makes known text value answer read is makes =
-    weaker known _ _ (λ bytes e. (value, accepted bytes (decoded-as_text bytes text e), makes)) read
+-- so does its value, or why it has none
+pub format_read : {V W X : Type 0} (Says : List ℕ → V → Type 0) (value_at : List ℕ → Result W Refusal) (view : X → V) (seen : X → W)
+    (known : Option (List ℕ)) (text : List ℕ) (result : Result X Fault) → OfInput known (λ bytes. IsReadAsText bytes (Ok text))
+    → IfOk result (λ x. Says text (view x)) → Answers seen result (value_at text) → FindsUpToReads (Reads (format Says value_at) known) view result
+format_read Says value_at view seen known text result read found exact =
+    answered_text (IsReadAs (format Says value_at)) view known text result read (λ few is_text. at few is_text result found exact)
   where
-    accepted : (bytes : List ℕ) → (bytes ≡ text) × (length text ≤ 1048576) × IsUtf8 text → Accepted IsValue bytes value
-    accepted bytes (same, few, is_text) = subst (λ (xs : List ℕ). Accepted IsValue xs value) (sym same) (record { few = few; text = is_text; value_is = is })
+    at : length text ≤ 1048576 → IsUtf8 text → (r : Result _ Fault) → IfOk r (λ x. Says text (view x)) → Answers seen r (value_at text)
+        → AnswersAs (IsReadAs (format Says value_at) text) view r
+    at few is_text (Ok x) says answers = record { few = few; text = is_text; value_is = says }
+    at few is_text (Err (Refused refusal)) says answers = decoded-text value_at text few is_text ∙ answers
+    at few is_text (Err NoMemory) says answers = tt
+    at few is_text (Err ReadFailed) says answers = absurd answers
+    at few is_text (Err WriteFailed) says answers = absurd answers
+
+-- as where it is judged, and what is judged to have a value has it
+pub judged_read : {V X : Type 0} (Says : List ℕ → V → Type 0) (value_at : List ℕ → Result V Refusal) (view : X → V) (known : Option (List ℕ))
+    (text : List ℕ) (result : Result X Fault) → OfInput known (λ bytes. IsReadAsText bytes (Ok text))
+    → ((v : V) → value_at text ≡ Ok v → Says text v) → Answers view result (value_at text) → FindsUpToReads (Reads (format Says value_at) known) view result
+judged_read Says value_at view known text result is found answers =
+    format_read Says value_at view view known text result is (at result answers) answers
+  where
+    at : (r : Result _ Fault) → Answers view r (value_at text) → IfOk r (λ x. Says text (view x))
+    at (Ok x) same = found (view x) same
+    at (Err fault) same = tt
+
+-- an input that is no text is refused so, whatever it is to be
+refused_first : {V W : Type 0} (large is_text : Bool) (value : Result V Refusal) (other : W) (refusal : Refusal)
+    → (if large then Err too_large else (if is_text then Ok other else Err not_text)) ≡ Err refusal
+    → (if large then Err too_large else (if is_text then value else Err not_text)) ≡ Err refusal
+refused_first true is_text value other refusal e = grind arith
+refused_first false true value other refusal e = grind arith
+refused_first false false value other refusal e = grind arith
+
+pub no_text_judged : {V : Type 0} (value_at : List ℕ → Result V Refusal) (bytes : List ℕ) (refusal : Refusal)
+    → IsReadAsText bytes (Err refusal) → decoded value_at bytes ≡ Err refusal
+no_text_judged value_at bytes refusal e = refused_first (nat_lt 1048576 (length bytes)) (is_utf8 bytes) (value_at bytes) bytes refusal e
+
+pub no_text_read_as : {V X Y : Type 0} (form : Format V) (view : X → V) (seen : Y → List ℕ) (known : Option (List ℕ)) (result : Result X Fault) (fault : Fault)
+    → ((bytes : List ℕ) (refusal : Refusal) → IsReadAsText bytes (Err refusal) → form.Refuses bytes refusal) → IsErrAnd result (λ e. e ≡ fault)
+    → FindsByUpToReads IsReadAsText seen known (Err fault) → FindsUpToReads (Reads form known) view result
+no_text_read_as form view seen known result fault refuses is =
+    handed_on (λ a. OfInput known (λ bytes. IsReadAsText bytes a)) (Reads form known) seen view result fault
+    (λ refusal. weaker known _ _ (λ bytes. refuses bytes refusal)) (is_handed result fault is)
+
+-- what answers the text that was read answers the reader's input
+of_known : {V A : Type 0} (form : Format V) (Next : V → Result A Refusal → Type 0) (known : Option (List ℕ)) (answer : Result A Refusal)
+    → OfInput known (λ bytes. After form (Some bytes) Next answer) → After form known Next answer
+of_known form Next None answer (bytes, after.After.refused r none) = after.After.refused r (bytes, none)
+of_known form Next None answer (bytes, after.After.read v _ is holds) = after.After.read v answer (bytes, is) holds
+of_known form Next (Some bytes) answer is = is
+
+pub text_after : {V A X : Type 0} (form : Format V) (Next : V → Result A Refusal → Type 0) (view : X → A) (known : Option (List ℕ)) (text : List ℕ)
+    (result : Result X Fault) → OfInput known (λ bytes. IsReadAsText bytes (Ok text))
+    → (length text ≤ 1048576 → IsUtf8 text → AnswersAs (After form (Some text) Next) view result) → FindsUpToReads (After form known Next) view result
+text_after form Next view known text result is answers =
+    let (bytes, same) = some_bytes known _ is in
+    let text_is = decoded-as_text bytes text same in
+    answered_by (After form (Some text) Next) (After form known Next) view result
+    (λ answer holds. of_known form Next known answer (weaker known _ _ (λ other also.
+    subst (λ (xs : List ℕ). After form (Some xs) Next answer) (sym (decoded-as_text other text also).0) holds) is))
+    (answers text_is.1 text_is.2)

@@ -16,10 +16,10 @@ use Rattle.engine_support.specs.declared.fault.Fault.{Fault}
 use Rattle.engine_support.specs.declared.fault.Refusal.{Refusal}
 use Rattle.engine_support.specs.Faults.{AnswersAs}
 use Rattle.engine_support.specs.Engines.{Accepted, OfInput}
-use Rattle.engine_support.specs.Tests.{ByTest}
+use Rattle.engine_support.specs.Tests.{ByTest, tests}
 use Rattle.engine_support.specs.Tests.ByTest.{no_test, of_test}
 use Rattle.engine_support.specs.inner.Making.{FindsByUpToReads}
-use Rattle.engine_support.specs.inner.Inputs.{IsReadAsTest}
+use Rattle.engine_support.specs.Inputs.{IsReadAs}
 use Rattle.engine_support.proofs.Endings.{answered_by, handed_on, weaker}
 
 event_hart : (e : Entry) → hart_of (event_of e) ≡ entries.hart_of e
@@ -43,10 +43,10 @@ module _ {X A : Type 0} (IsAnswer : LitmusTest → Result A Refusal → Type 0) 
 
   -- no test was read
   pub by_no_test : {Y : Type 0} (seen : Y → LitmusTest) (result : Result X Fault) (fault : Fault)
-      → result ≡ Err fault → FindsByUpToReads IsReadAsTest seen known (Err fault)
+      → result ≡ Err fault → FindsByUpToReads (IsReadAs tests) seen known (Err fault)
       → FindsByUpToReads (ByTest IsAnswer) view known result
   by_no_test seen result fault =
-      handed_on (λ (a : Result LitmusTest Refusal). OfInput known (λ bytes. IsReadAsTest bytes a))
+      handed_on (λ (a : Result LitmusTest Refusal). OfInput known (λ bytes. IsReadAs tests bytes a))
       (λ answer. OfInput known (λ bytes. ByTest IsAnswer bytes answer)) seen view
       result fault (λ r. weaker known _ _ (λ bytes bad. no_test r bad))
 

@@ -22,13 +22,6 @@ pub record Accepted {V : Type 0} (IsValue : List ℕ → V → Type 0) (input : 
 abbrev pub decoded : {V : Type 0} → (List ℕ → Result V Refusal) → List ℕ → Result V Refusal
 decoded value_at input = if nat_lt INPUT_BYTES (length input) then Err too_large else (if is_utf8 input then value_at input else Err not_text)
 
--- What answers an input: what this value of it makes, where it is a text within the limit that has one, else
--- the refusal for its first fault.
-abbrev pub ByValue : {V W : Type 0} → (IsValue : List ℕ → V → Type 0) → (value_at : List ℕ → Result W Refusal)
-    → (V → Output → Type 0) → List ℕ → Result Output Refusal → Type 0
-ByValue {V = V} IsValue value_at Makes input (Ok answer) = (value : V) × Accepted IsValue input value × Makes value answer
-ByValue IsValue value_at Makes input (Err refusal) = decoded value_at input ≡ Err refusal
-
 -- this holds of a reader's bytes, or of some bytes where the reader doesn't tell its own
 abbrev pub OfInput : Option (List ℕ) → (List ℕ → Type 0) → Type 0
 OfInput None Holds = (bytes : List ℕ) × Holds bytes
@@ -49,15 +42,6 @@ Ends {V = V} IsAnswer (Err WriteFailed) contents old new = (answer : List ℕ ×
 abbrev pub EndsBy : {V W : Type 0} → (List ℕ → Result (List ℕ × V) Refusal → Type 0) → Result V Fault
     → (input : Option (List ℕ)) → (contents : W → Option (List ℕ)) → (old new : W) → Type 0
 EndsBy IsAnswer result input contents old new = Ends (λ answer. OfInput input (λ bytes. IsAnswer bytes answer)) result contents old new
-
--- what answers two inputs
-abbrev pub AnswersBoth : {A : Type 0} → (List ℕ → List ℕ → A → Type 0) → (first second : Option (List ℕ)) → A → Type 0
-AnswersBoth IsAnswer first second answer = OfInput first (λ a. OfInput second (λ b. IsAnswer a b answer))
-
--- how an engine with two inputs ends
-abbrev pub EndsByBoth : {V W : Type 0} → (List ℕ → List ℕ → Result (List ℕ × V) Refusal → Type 0) → Result V Fault
-    → (first second : Option (List ℕ)) → (contents : W → Option (List ℕ)) → (old new : W) → Type 0
-EndsByBoth IsAnswer result first second contents old new = Ends (AnswersBoth IsAnswer first second) result contents old new
 
 -- Two answers are both outputs, or one refusal.
 abbrev pub AreAlike : {A : Type 0} → Result A Refusal → Result A Refusal → Type 0

@@ -1,24 +1,19 @@
 -- What answers a litmus text and a schedule of either version: what must hold of both, and what of their history.
-use Rattle.std.specs.Prelude.{ℕ, List, Result, Ok, Err}
+use Rattle.std.specs.Prelude.{ℕ, List, Option, IsOkAnd, Result, Ok, Err}
 use Rattle.step_machine.specs.History.{History}
 use Rattle.step_machine.specs.declared.events.Event.{Event}
 use Rattle.litmus.specs.LitmusTests.{LitmusTest}
-use Rattle.litmus_reader.specs.Grammar.{IsTestOf}
-use Rattle.recorder.specs.Versions.{ScheduleValue, Says, events_said}
+use Rattle.recorder.specs.Versions.{ScheduleValue, events_said}
 use Rattle.engine_support.specs.declared.fault.Refusal.{Refusal}
-use Rattle.engine_support.specs.Engines.{Accepted}
+use Rattle.engine_support.specs.Inputs.{After}
 use Rattle.engine_support.specs.Runs.{Runs}
-use Rattle.engine_support.specs.Tests.{IsNoTest}
-use Rattle.engine_support.specs.Schedules.{IsNoSchedule}
+use Rattle.engine_support.specs.Schedules.{schedules}
+use Rattle.engine_support.specs.Tests.{tests}
 
 -- What answers a litmus text and a schedule of either version, where this holds of their test, of what the
 -- schedule says and of the answer. The test is judged first, then the schedule's text.
-pub data BySchedule {A : Type 0} (IsAnswer : LitmusTest → ScheduleValue → Result A Refusal → Type 0) (file schedule : List ℕ) : Result A Refusal → Type 0 where
-  no_test : (refusal : Refusal) → IsNoTest file refusal → BySchedule IsAnswer file schedule (Err refusal)
-  no_schedule : (test : LitmusTest) (refusal : Refusal) → Accepted IsTestOf file test
-      → IsNoSchedule schedule refusal → BySchedule IsAnswer file schedule (Err refusal)
-  both : (test : LitmusTest) (said : ScheduleValue) (answer : Result A Refusal) → Accepted IsTestOf file test
-      → Accepted Says schedule said → IsAnswer test said answer → BySchedule IsAnswer file schedule answer
+abbrev pub BySchedule : {A : Type 0} → (LitmusTest → ScheduleValue → Result A Refusal → Type 0) → (file schedule : Option (List ℕ)) → Result A Refusal → Type 0
+BySchedule IsAnswer file schedule = After tests file (λ test. After schedules schedule (IsAnswer test))
 
 -- This holds of the history that the schedule makes of the test's opening, over store buffers of B pairs
 -- and a memory of M words.
@@ -34,14 +29,13 @@ AnswersRun B M IsAnswer test said (Ok answer) = IsOfRun B M IsAnswer test said a
 AnswersRun B M IsAnswer test said (Err refusal) = Runs B M test.opening said (Err refusal)
 
 -- what answers both, where this holds of their history
-abbrev pub ByRun : {A : Type 0} → (B M : ℕ) → (LitmusTest → History → A → Type 0) → (file schedule : List ℕ) → Result A Refusal → Type 0
+abbrev pub ByRun : {A : Type 0} → (B M : ℕ) → (LitmusTest → History → A → Type 0) → (file schedule : Option (List ℕ)) → Result A Refusal → Type 0
 ByRun B M IsAnswer = BySchedule (AnswersRun B M IsAnswer)
 
 -- This holds of the schedule's events, whatever a record says of their outcomes: no record is refused.
 abbrev pub AnswersEvents : {A : Type 0} → (LitmusTest → List Event → A → Type 0) → LitmusTest → ScheduleValue → Result A Refusal → Type 0
-AnswersEvents IsAnswer test said (Ok answer) = IsAnswer test (events_said said) answer
-AnswersEvents IsAnswer test said (Err refusal) = ⊥
+AnswersEvents IsAnswer test said answer = IsOkAnd answer (IsAnswer test (events_said said))
 
 -- what answers both, where this holds of their events
-abbrev pub ByEvents : {A : Type 0} → (LitmusTest → List Event → A → Type 0) → (file schedule : List ℕ) → Result A Refusal → Type 0
+abbrev pub ByEvents : {A : Type 0} → (LitmusTest → List Event → A → Type 0) → (file schedule : Option (List ℕ)) → Result A Refusal → Type 0
 ByEvents IsAnswer = BySchedule (AnswersEvents IsAnswer)

@@ -5,6 +5,7 @@ pub mod LineFaults
 pub mod StateText
 pub mod Engines
 pub mod Interactive
+pub mod Inputs
 pub mod Tests
 pub mod Schedules
 pub mod Runs

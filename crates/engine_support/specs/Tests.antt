@@ -1,5 +1,5 @@
 -- Inputs that are litmus texts.
-use Rattle.std.specs.Prelude.{ℕ, ◌≡◌, List, Option, IsSomeAnd, Result, Err}
+use Rattle.std.specs.Prelude.{ℕ, ◌≡◌, List, Result, Err}
 use Rattle.texts.specs.Results.{map_err}
 use Rattle.litmus.specs.LitmusTests.{LitmusTest}
 use Rattle.litmus_reader.specs.declared.faults.LitmusFault.{LitmusFault}
@@ -9,6 +9,7 @@ use Rattle.litmus_reader.specs.Grammar.{IsTestOf}
 use Rattle.engine_support.specs.declared.fault.Refusal.{Refusal}
 use Rattle.engine_support.specs.Faults.{refused_at}
 use Rattle.engine_support.specs.Engines.{Accepted, decoded}
+use Rattle.engine_support.specs.Inputs.{Format}
 
 -- a fault of a litmus text, refused by its number at this line
 abbrev pub refused_test : {V : Type 0} → (line : ℕ) → Result V LitmusFault → Result V Refusal
@@ -22,9 +23,16 @@ test_of line text = refused_test line (test_at text)
 abbrev pub IsNoTest : List ℕ → Refusal → Type 0
 IsNoTest input refusal = (line : ℕ) × (decoded (test_of line) input ≡ Err refusal)
 
--- a reader's bytes are known, and refused as a test
-abbrev pub HasNoTest : (input : Option (List ℕ)) → Type 0
-HasNoTest input = IsSomeAnd input (λ bytes. (refusal : Refusal) × IsNoTest bytes refusal)
+-- inputs that are litmus texts, by what is read of them
+abbrev pub litmus_texts : {V : Type 0} → (Says : List ℕ → V → Type 0) → Format V
+litmus_texts Says = record { Says = Says; Refuses = IsNoTest }
+
+-- their tests, and these with what else the texts tell
+abbrev pub tests : Format LitmusTest
+tests = litmus_texts IsTestOf
+
+abbrev pub tests_with : {X : Type 0} → (Tells : List ℕ → X → Type 0) → Format (LitmusTest × X)
+tests_with Tells = litmus_texts (λ text read. IsTestOf text read.0 × Tells text read.1)
 
 -- What answers an input that is to be a test.
 pub data ByTest {A : Type 0} (IsAnswer : LitmusTest → Result A Refusal → Type 0) (input : List ℕ) : Result A Refusal → Type 0 where

@@ -4,10 +4,11 @@ ghost use Rattle.std.specs.Prelude.{◌≡◌, ◌≤◌, length};
 ghost use Rattle.recorder.specs.Schedule.{OfHarts};
 ghost use Rattle.recorder.specs.Versions.{events_said, said_of};
 ghost use Rattle.recorder.specs.declared.reading.TheConstants.{MAX_EVENTS};
-ghost use Rattle.engine_support.specs.Engines.{AnswersBoth, EndsByBoth};
+ghost use Rattle.engine_support.specs.Engines.{Ends};
 ghost use Rattle.engine_support.specs.Faults.{AnswersAs};
 ghost use Rattle.engine_support.specs.Histories.{BySchedule};
-ghost use Rattle.engine_support.specs.Tests.{HasNoTest};
+ghost use Rattle.engine_support.specs.Inputs.{IsRefused};
+ghost use Rattle.engine_support.specs.Tests.{tests};
 ghost use Rattle.engine_support.specs.inner.Making.{FindsUpToReads, text_and_value};
 ghost use Rattle.litmus.specs.declared.litmus_test.TheConstants.{MAX_LOCATIONS};
 
@@ -53,8 +54,8 @@ fn made<C: ScheduleCommand<B, M>, const B: usize, const M: usize, F: Read, S: Re
     requires capacity { B ≤ 64 }
     requires words { MAX_LOCATIONS ≤ M }
     requires size { M ≤ 65536 }
-    ensures made { FindsUpToReads (AnswersBoth (BySchedule C.is_answer) (F.remaining file.old) (S.remaining schedule.old)) text_and_value result }
-    ensures unread { HasNoTest (F.remaining file.old) → schedule.new ≡ schedule.old }
+    ensures made { FindsUpToReads (BySchedule C.is_answer (F.remaining file.old) (S.remaining schedule.old)) text_and_value result }
+    ensures unread { IsRefused tests (F.remaining file.old) → schedule.new ≡ schedule.old }
 {
     let (test, said) = read_both(alloc, file, schedule)?;
     C::answer(alloc, &test, said)
@@ -75,8 +76,8 @@ pub fn schedule_engine<
     requires capacity { B ≤ 64 }
     requires words { MAX_LOCATIONS ≤ M }
     requires size { M ≤ 65536 }
-    ensures ends { EndsByBoth (BySchedule C.is_answer) result (F.remaining file.old) (S.remaining schedule.old) W.contents writer.old writer.new }
-    ensures unread { HasNoTest (F.remaining file.old) → schedule.new ≡ schedule.old }
+    ensures ends { Ends (BySchedule C.is_answer (F.remaining file.old) (S.remaining schedule.old)) result W.contents writer.old writer.new }
+    ensures unread { IsRefused tests (F.remaining file.old) → schedule.new ≡ schedule.old }
 {
     end_with(made::<C, B, M, F, S>(alloc, file, schedule), writer)
 }

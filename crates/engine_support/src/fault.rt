@@ -19,6 +19,24 @@ pub const TOO_LARGE: u8 = 37;
 /// A record that says another outcome of an event than its run has.
 pub const DIFFERS: u8 = 38;
 
+/// Which of a channel's programs.
+#[derive(Clone, Copy, Debug, PartialEq, Eq)]
+pub enum Role {
+    /// The one that each sender runs.
+    Sender,
+    /// The one that the receiver runs.
+    Receiver,
+}
+
+impl fmt::Display for Role {
+    fn fmt<W: fmt::Write>(&self, f: &mut fmt::Formatter<W>) -> fmt::Result {
+        match self {
+            Role::Sender => f.write_str("sender"),
+            Role::Receiver => f.write_str("receiver"),
+        }
+    }
+}
+
 /// Where an input was refused.
 #[derive(Clone, Copy, Debug, PartialEq, Eq)]
 pub enum Position {
@@ -26,6 +44,8 @@ pub enum Position {
     Nowhere,
     /// A line, counted from 1.
     Line(usize),
+    /// A line of one of a channel's programs, counted from 1.
+    ProgramLine { role: Role, line: usize },
     /// A byte, counted from 0.
     Byte(usize),
     /// A word of a sender's list, both counted from 0.
@@ -39,6 +59,7 @@ impl fmt::Display for Position {
         match self {
             Position::Nowhere => Ok(()),
             Position::Line(line) => write!(f, " at line {line}"),
+            Position::ProgramLine { role, line } => write!(f, " at line {line} of the {role}"),
             Position::Byte(byte) => write!(f, " at byte {byte}"),
             Position::Word { sender, place } => write!(f, " at sender {sender} place {place}"),
             Position::Event(event) => write!(f, " at event {event}"),

@@ -5,10 +5,10 @@ ghost use Rattle.std.specs.Io.KnownBytes.{IsAtEnd};
 ghost use Rattle.litmus_reader.specs.Reading.{content_of};
 ghost use Rattle.litmus_reader.specs.Grammar.{IsTestOf};
 ghost use Rattle.engine_support.specs.Faults.{Answers};
-ghost use Rattle.engine_support.specs.Tests.{test_of, HasNoTest};
+ghost use Rattle.engine_support.specs.Tests.{test_of, tests};
 ghost use Rattle.engine_support.specs.Input.{TakesFew};
-ghost use Rattle.engine_support.specs.inner.Making.{FindsByUpToReads};
-ghost use Rattle.engine_support.specs.inner.Inputs.{IsReadAsTest};
+ghost use Rattle.engine_support.specs.Inputs.{IsRefused, Reads};
+ghost use Rattle.engine_support.specs.inner.Making.{FindsUpToReads};
 
 use crate::fault::Fault;
 use crate::input::read_text;
@@ -27,8 +27,8 @@ fn test_of_text(alloc: Global, text: &str) -> Result<Test, Fault>
 
 /// The test of the input that a reader gives.
 pub fn read_test<R: Read>(alloc: Global, reader: &mut R) -> Result<Test, Fault>
-    ensures test { FindsByUpToReads IsReadAsTest (λ test. test) (R.remaining reader.old) result }
-    ensures refused { HasNoTest (R.remaining reader.old) → IsErr result }
+    ensures test { FindsUpToReads (Reads tests (R.remaining reader.old)) (λ test. test) result }
+    ensures refused { IsRefused tests (R.remaining reader.old) → IsErr result }
     ensures taken { TakesFew (R.remaining reader.old) (R.remaining reader.new) }
     ensures end { IfOk result (λ test. IsAtEnd (R.remaining reader.new)) }
 {

@@ -1,16 +1,16 @@
 //! A test's runs.
 
 ghost use Rattle.std.specs.Prelude.{◌≡◌, ◌≤◌, ℕ, List, Result, length, IfOk};
-ghost use Rattle.step_machine.specs.History.{OpeningValue, History};
+ghost use Rattle.step_machine.specs.History.{FitsIn, OpeningValue, History};
 ghost use Rattle.step_machine.specs.Standing.{RepresentsHistory};
 ghost use Rattle.recorder.specs.Records.{Step};
 ghost use Rattle.recorder.specs.Schedule.{OfHarts};
 ghost use Rattle.recorder.specs.Versions.{ScheduleValue, events_said, said_of};
 ghost use Rattle.recorder.specs.declared.reading.TheConstants.{MAX_EVENTS};
-ghost use Rattle.engine_support.specs.Engines.{AnswersBoth};
 ghost use Rattle.engine_support.specs.Faults.{AnswersAs, AnswersBy};
-ghost use Rattle.engine_support.specs.Tests.{HasNoTest};
 ghost use Rattle.engine_support.specs.Histories.{BySchedule};
+ghost use Rattle.engine_support.specs.Inputs.{IsRefused};
+ghost use Rattle.engine_support.specs.Tests.{tests};
 ghost use Rattle.engine_support.specs.Runs.{Records, Runs, fault_of_check};
 ghost use Rattle.engine_support.specs.declared.fault.Refusal.{Refusal};
 ghost use Rattle.engine_support.specs.inner.Making.{FindsUpToReads};
@@ -24,7 +24,7 @@ use litmus::Test;
 use recorder::{CheckError, Schedule, check_record, record, replay, replay_checked, replay_state};
 use std::alloc::Global;
 use std::io::Read;
-use step_machine::{Event, Machine, MachineState, Outcome};
+use step_machine::{Event, Machine, MachineState, Opening, Outcome};
 
 /// Why a record isn't replayed, as a fault.
 impl From<CheckError> for Fault {
@@ -38,8 +38,44 @@ impl From<CheckError> for Fault {
     }
 }
 
-/// The machine that a schedule of either version makes of the test's opening. A record is checked as it
-/// runs: it is refused by [`DIFFERS`] at the first event whose outcome isn't the run's.
+/// The machine that a schedule of either version makes of an opening. A record is checked as it runs: it is refused by
+/// [`DIFFERS`] at the first event whose outcome isn't the run's.
+pub fn machine_after<const B: usize, const M: usize>(
+    alloc: Global,
+    opening: Opening,
+    said: Schedule,
+) -> Result<Machine<B, M>, Fault>
+    requires some_capacity { 1 ≤ B }
+    requires capacity { B ≤ 64 }
+    requires some_word { 1 ≤ M }
+    requires size { M ≤ 65536 }
+    requires fits { FitsIn M opening }
+    ensures { AnswersAs (Runs B M opening (said_of said)) (λ machine. machine.history) result }
+{
+    match said {
+        Schedule::Plain(events) => Ok(replay(alloc, opening, &events)?),
+        Schedule::Record(steps) => Ok(replay_checked(alloc, opening, &steps)?),
+    }
+}
+
+/// The same machine without its history.
+pub fn state_after<const B: usize, const M: usize>(
+    alloc: Global,
+    opening: &Opening,
+    said: Schedule,
+) -> Result<MachineState<B, M>, Fault>
+    requires capacity { B ≤ 64 }
+    requires size { M ≤ 65536 }
+    requires fits { FitsIn M opening.now }
+    ensures { AnswersBy (Runs B M opening.now (said_of said)) (RepresentsHistory B M) result }
+{
+    match said {
+        Schedule::Plain(events) => Ok(replay_state(alloc, opening, &events)?),
+        Schedule::Record(steps) => Ok(check_record(alloc, opening, &steps)?),
+    }
+}
+
+/// The machine that a schedule makes of the test's opening.
 pub fn machine_of_schedule<const B: usize, const M: usize>(
     alloc: Global,
     test: &Test,
@@ -54,10 +90,7 @@ pub fn machine_of_schedule<const B: usize, const M: usize>(
     ensures names { IfOk result (λ _. length test.now.names ≤ M) }
 {
     let opening = test.opening(alloc)?;
-    match schedule {
-        Schedule::Plain(events) => Ok(replay(alloc, opening, &events)?),
-        Schedule::Record(steps) => Ok(replay_checked(alloc, opening, &steps)?),
-    }
+    machine_after(alloc, opening, schedule)
 }
 
 /// The same machine without its history.
@@ -74,10 +107,7 @@ pub fn state_of_schedule<const B: usize, const M: usize>(
     ensures names { IfOk result (λ _. length test.now.names ≤ M) }
 {
     let opening = test.opening(alloc)?;
-    match schedule {
-        Schedule::Plain(events) => Ok(replay_state(alloc, &opening, &events)?),
-        Schedule::Record(steps) => Ok(check_record(alloc, &opening, &steps)?),
-    }
+    state_after(alloc, &opening, schedule)
 }
 
 /// The record of a test's run by a schedule of either version: its events, each with its outcome. A record
@@ -109,8 +139,8 @@ pub fn read_both<F: Read, S: Read>(
     file: &mut F,
     schedule: &mut S,
 ) -> Result<(Test, Schedule), Fault>
-    ensures read { FindsUpToReads (AnswersBoth (BySchedule AreRead) (F.remaining file.old) (S.remaining schedule.old)) test_and_said result }
-    ensures unread { HasNoTest (F.remaining file.old) → schedule.new ≡ schedule.old }
+    ensures read { FindsUpToReads (BySchedule AreRead (F.remaining file.old) (S.remaining schedule.old)) test_and_said result }
+    ensures unread { IsRefused tests (F.remaining file.old) → schedule.new ≡ schedule.old }
     ensures harts { IfOk result (λ read. OfHarts (events_said (said_of read.1))) }
     ensures few { IfOk result (λ read. length (events_said (said_of read.1)) ≤ MAX_EVENTS) }
 {

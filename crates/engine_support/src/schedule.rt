@@ -6,10 +6,10 @@ ghost use Rattle.recorder.specs.Schedule.{OfHarts};
 ghost use Rattle.recorder.specs.Versions.{Says, events_said, said_of};
 ghost use Rattle.recorder.specs.declared.reading.TheConstants.{MAX_EVENTS};
 ghost use Rattle.engine_support.specs.Faults.{Answers, fault_for};
-ghost use Rattle.engine_support.specs.Schedules.{refused_at_byte, schedule_of as schedule_said, HasNoSchedule};
+ghost use Rattle.engine_support.specs.Schedules.{refused_at_byte, schedule_of as schedule_said, schedules};
 ghost use Rattle.engine_support.specs.Input.{TakesFew};
-ghost use Rattle.engine_support.specs.inner.Making.{FindsByUpToReads};
-ghost use Rattle.engine_support.specs.inner.Inputs.{IsReadAsSchedule};
+ghost use Rattle.engine_support.specs.Inputs.{IsRefused, Reads};
+ghost use Rattle.engine_support.specs.inner.Making.{FindsUpToReads};
 
 use crate::fault::{Fault, Position};
 use crate::input::read_text;
@@ -44,8 +44,8 @@ fn schedule_of_text(alloc: Global, text: &str) -> Result<Schedule, Fault>
 
 /// The schedule of either version that a reader gives. A record's outcomes are not checked here.
 pub fn read_schedule<R: Read>(alloc: Global, reader: &mut R) -> Result<Schedule, Fault>
-    ensures schedule { FindsByUpToReads IsReadAsSchedule said_of (R.remaining reader.old) result }
-    ensures refused { HasNoSchedule (R.remaining reader.old) → IsErr result }
+    ensures schedule { FindsUpToReads (Reads schedules (R.remaining reader.old)) said_of result }
+    ensures refused { IsRefused schedules (R.remaining reader.old) → IsErr result }
     ensures taken { TakesFew (R.remaining reader.old) (R.remaining reader.new) }
     ensures end { IfOk result (λ schedule. IsAtEnd (R.remaining reader.new)) }
     ensures harts { IfOk result (λ schedule. OfHarts (events_said (said_of schedule))) }

@@ -22,7 +22,6 @@ use ztso_engines::channel::channel_engine;
 use ztso_engines::dis::dis_engine;
 use ztso_engines::moving::move_engine;
 use ztso_engines::own_channel::own_channel_engine;
-use ztso_engines::programs::OwnFault;
 use ztso_engines::replay::replay_engine;
 use ztso_engines::ring::ring_engine;
 use ztso_engines::run::run_engine;
@@ -163,9 +162,9 @@ pub fn answer(
         }
         Engine::Move => move_engine::<4, 4096, _, _, _>(alloc, first, second, writer),
         Engine::Own => {
-            whoever(own_channel_engine::<4, 4096, _, _, _, _, _>(
+            own_channel_engine::<4, 4096, _, _, _, _, _>(
                 alloc, RING, first, second, third, fourth, writer,
-            ))
+            )
         }
         Engine::Replay => replay_engine::<4, 4096, _, _, _>(alloc, first, second, writer),
         Engine::Run => run_engine::<4, 4096, _, _, _>(alloc, first, second, writer).map(|_| ()),
@@ -191,19 +190,10 @@ pub fn answer(
         Engine::Ring => {
             let generator = Pcg32::new(42, 54);
             let runs = ONE_RUN;
-            whoever(ring_engine::<4, 4096, _, _, _, _, _, _>(
+            ring_engine::<4, 4096, _, _, _, _, _, _>(
                 rt, alloc, RING, first, second, third, &generator, runs, writer,
             )
-            .map(|_| ()))
+            .map(|_| ())
         }
-    }
-}
-
-/// How `ring` and `channel own` end, whoever's program is refused.
-fn whoever(ended: Result<(), OwnFault>) -> Result<(), Fault> {
-    match ended {
-        Ok(()) => Ok(()),
-        Err(OwnFault::Program { refusal, .. }) => Err(Fault::Refused(refusal)),
-        Err(OwnFault::Other(fault)) => Err(fault),
     }
 }

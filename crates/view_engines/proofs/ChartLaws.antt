@@ -1,5 +1,5 @@
 -- A test's chart is one text, or one refusal, and no text of its rows stands on another one.
-use Rattle.std.proofs.Common.{◌≡◌, ℕ, ◌<◌, ◌≤◌, List, length, map, All, Result, Ok, Err, refl, sym, ap, ◌∙◌, subst, arith}
+use Rattle.std.proofs.Common.{◌≡◌, ℕ, ◌<◌, ◌≤◌, List, length, map, All, Some, Result, Ok, Err, refl, sym, ap, ◌∙◌, subst, arith}
 use Rattle.std.proofs.lemmas.List.{length-map}
 use Rattle.step_machine.specs.declared.events.Entry.{Entry}
 use Rattle.step_machine.specs.Entries.{hart_of}
@@ -8,7 +8,7 @@ use Rattle.step_machine.proofs.Running.{kept-run, kept-at_opening}
 use Rattle.litmus.specs.LitmusTests.{LitmusTest}
 use Rattle.litmus.proofs.VerdictLaws.{one_verdict}
 use Rattle.litmus_reader.specs.Grammar.{IsTestOf}
-use Rattle.litmus_reader.specs.Headings.{HeadingOf}
+use Rattle.litmus_reader.specs.Headings.{HeadingOf, IsHeading}
 use Rattle.litmus_reader.specs.Reading.{hart_content}
 use Rattle.litmus_reader.proofs.HeadingLaws.{one_heading}
 use Rattle.recorder.specs.Versions.{ScheduleValue, events_said}
@@ -24,12 +24,13 @@ use Rattle.engine_support.specs.declared.fault.Refusal.{Refusal}
 use Rattle.engine_support.specs.Engines.{Output, AreOneAnswer}
 use Rattle.engine_support.specs.Faults.{AnswersAs, too_large}
 use Rattle.engine_support.specs.Runs.{Runs}
-use Rattle.engine_support.proofs.RunLaws.{one_difference, one_run, opening_stays, runs_or_differs}
+use Rattle.engine_support.proofs.RunLaws.{one_difference, one_run, opening_stays, runs_events, runs_or_differs}
 use Rattle.view_engines.specs.About.{IsAbout}
 use Rattle.view_engines.specs.LeastWidths.{least_widths}
-use Rattle.view_engines.specs.Chart.{Drawing, IsChartOf, IsNotCharted, differs, too_long, IsChart, Headed, IsChartAnswer}
-use Rattle.view_engines.proofs.ShrinkLaws.{runs_events}
-use Rattle.engine_support.proofs.OneInput.{alike_by_schedule}
+use Rattle.view_engines.specs.Chart.{Drawing, IsChartOf, IsNotCharted, differs, too_long, IsChart, IsChartAnswer}
+use Rattle.engine_support.specs.Schedules.{schedules}
+use Rattle.engine_support.specs.Tests.{tests_with}
+use Rattle.engine_support.proofs.InputLaws.{alike_after, one_litmus_with, one_schedule}
 
 one_about : (M : ℕ) (q : LitmusTest) (heading : HeadingOf) (t : History) (a b : AboutOf)
     → IsAbout M q heading t a → IsAbout M q heading t b → a ≡ b
@@ -76,16 +77,11 @@ module _ (B M : ℕ) (draws : Drawing) (heading : HeadingOf) (q : LitmusTest) (s
   one_answer (Err r) (Err s) first other = ap (λ (x : Refusal). x.number) (one_reason r s first other)
 
 pub charts_alike : (B M : ℕ) (draws : Drawing) (file schedule : List ℕ) (a b : Result Output Refusal)
-    → IsChartAnswer B M draws file schedule a → IsChartAnswer B M draws file schedule b → AreOneAnswer a b
+    → IsChartAnswer B M draws (Some file) (Some schedule) a → IsChartAnswer B M draws (Some file) (Some schedule) b → AreOneAnswer a b
 charts_alike B M draws file schedule =
-    alike_by_schedule AreOneAnswer (λ (r s : Refusal) (e : r.number ≡ s.number). e)
-    (Headed (IsChart B M draws) file) one file schedule
-  where
-    one : (q : LitmusTest) (said : ScheduleValue) (a b : Result Output Refusal) → Headed (IsChart B M draws) file q said a
-        → Headed (IsChart B M draws) file q said b → AreOneAnswer a b
-    one q said a b (heading, is, tells) (other, also, holds) =
-        one_answer B M draws heading q said a b tells
-        (subst (λ (h : HeadingOf). IsChart B M draws h q said b) (one_heading file other heading also is) holds)
+    alike_after (tests_with IsHeading) (λ r s. r.number ≡ s.number) (one_litmus_with IsHeading one_heading) AreOneAnswer (λ r s e. e) file _
+    (λ headed. alike_after schedules (λ r s. r ≡ s) one_schedule AreOneAnswer (λ r s e. ap (λ (x : Refusal). x.number) e) schedule _
+    (λ said. one_answer B M draws headed.1 headed.0 said))
 
 pub clear_chart : (selection : Selection) (B M : ℕ) (draws : Drawing) (file : List ℕ) (heading : HeadingOf)
     (q : LitmusTest) (said : ScheduleValue) (answer : Output)

@@ -1,12 +1,10 @@
 -- What answers a test and a schedule, by the schedule's run.
 use Rattle.std.proofs.Common.{arith, ◌≡◌, ℕ, Result, Ok, Err, refl, subst}
-use Rattle.step_machine.specs.History.{OpeningValue, History, at_opening}
-use Rattle.step_machine.specs.Runs.{Run}
+use Rattle.step_machine.specs.History.{History, at_opening}
 use Rattle.step_machine.proofs.Running.{run-one}
 use Rattle.litmus.specs.LitmusTests.{LitmusTest}
 use Rattle.litmus.specs.Verdicts.{IsFinished}
 use Rattle.recorder.specs.Versions.{ScheduleValue, events_said}
-use Rattle.recorder.proofs.RunRecords.{record_runs}
 use Rattle.shrink.specs.Shrinking.{RefusesRun}
 use Rattle.shrink.specs.declared.faults.ShrinkError.{ShrinkError}
 use Rattle.shrink.specs.declared.faults.ShrinkError.TheVariants as error
@@ -15,12 +13,8 @@ use Rattle.engine_support.specs.declared.fault.Refusal.{Refusal}
 use Rattle.engine_support.specs.Engines.{Output, AreAlike}
 use Rattle.engine_support.specs.Faults.{AnswersAs}
 use Rattle.engine_support.specs.Runs.{Runs}
-use Rattle.engine_support.proofs.RunLaws.{one_difference, runs_or_differs}
+use Rattle.engine_support.proofs.RunLaws.{one_difference, runs_events, runs_or_differs}
 use Rattle.view_engines.specs.Shrink.{AreOfOneKind, IsNotShrunk, IsShrink, IsShrinkOf, differs, fault_of_shrink, unfinished}
-
--- a schedule's run is the run of its events
-pub runs_events : (B M : ℕ) (o : OpeningValue) (said : ScheduleValue) (t : History) → Runs B M o said (Ok t) → Run B M o (events_said said) t
-runs_events B M o said t ran = grind (arith, record_runs)
 
 module _ (B M : ℕ) (q : LitmusTest) (said : ScheduleValue) where
   -- why the run isn't shrunk is why the schedule isn't

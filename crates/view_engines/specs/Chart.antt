@@ -1,5 +1,5 @@
 -- The command `chart`: the picture of a test's run by a schedule.
-use Rattle.std.specs.Prelude.{ℕ, ◌≡◌, ◌<◌, ◌≤◌, List, length, Result, Ok, Err}
+use Rattle.std.specs.Prelude.{ℕ, ◌≡◌, ◌<◌, ◌≤◌, List, length, Option, Result, Ok, Err}
 use Rattle.step_machine.specs.declared.events.Entry.{Entry}
 use Rattle.step_machine.specs.History.{History}
 use Rattle.litmus.specs.LitmusTests.{LitmusTest}
@@ -11,8 +11,10 @@ use Rattle.chart.specs.Svg.{chart_svg}
 use Rattle.engine_support.specs.declared.fault.Refusal.{Refusal}
 use Rattle.engine_support.specs.Engines.{Output}
 use Rattle.engine_support.specs.Faults.{too_large}
-use Rattle.engine_support.specs.Histories.{BySchedule}
+use Rattle.engine_support.specs.Inputs.{After}
 use Rattle.engine_support.specs.Runs.{Runs}
+use Rattle.engine_support.specs.Schedules.{schedules}
+use Rattle.engine_support.specs.Tests.{tests_with}
 use Rattle.view_engines.specs.About.{IsAbout}
 use Rattle.chart.specs.declared.scenes.Style.{Style}
 use Rattle.chart.specs.declared.scenes.Style.TheVariants.{Text, Svg}
@@ -47,16 +49,7 @@ abbrev pub IsChart : (B M : ℕ) → Drawing → HeadingOf → LitmusTest → Sc
 IsChart B M draws heading test said (Ok answer) = IsChartOf B M draws heading test said answer
 IsChart B M draws heading test said (Err refusal) = IsNotCharted B M test said refusal
 
--- this holds of a text's heading, beside other things
-abbrev pub Headed : {A : Type 0} → (HeadingOf → LitmusTest → ScheduleValue → A → Type 0) → (file : List ℕ) → LitmusTest → ScheduleValue → A → Type 0
-Headed IsAnswer file test said answer = (heading : HeadingOf) × IsHeading file heading × IsAnswer heading test said answer
-
--- what answers a litmus text and a schedule, where this holds of the text's heading, its test, what the schedule says and
--- the answer
-abbrev pub ByHeading : {A : Type 0} → (HeadingOf → LitmusTest → ScheduleValue → Result A Refusal → Type 0)
-    → (file schedule : List ℕ) → Result A Refusal → Type 0
-ByHeading IsAnswer file = BySchedule (Headed IsAnswer file) file
-
--- what answers a litmus text and a schedule
-abbrev pub IsChartAnswer : (B M : ℕ) → Drawing → (file schedule : List ℕ) → Result Output Refusal → Type 0
-IsChartAnswer B M draws = ByHeading (IsChart B M draws)
+-- what answers a litmus text, whose heading the picture has, and a schedule
+abbrev pub IsChartAnswer : (B M : ℕ) → Drawing → (file schedule : Option (List ℕ)) → Result Output Refusal → Type 0
+IsChartAnswer B M draws file schedule =
+    After (tests_with IsHeading) file (λ read. After schedules schedule (IsChart B M draws read.1 read.0))

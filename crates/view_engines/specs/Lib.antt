@@ -4,4 +4,3 @@ pub mod About
 pub mod Chart
 pub mod TestLines
 pub mod Show
-pub mod inner

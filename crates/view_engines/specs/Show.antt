@@ -1,5 +1,5 @@
 -- The command `show`: what the test of a litmus text is.
-use Rattle.std.specs.Prelude.{ℕ, ◌≡◌, ◌<◌, ◌≤◌, List, length, Result, Ok, Err}
+use Rattle.std.specs.Prelude.{ℕ, ◌≡◌, ◌<◌, ◌≤◌, List, length, Option, Result, Ok, Err}
 use Rattle.litmus.specs.LitmusTests.{LitmusTest}
 use Rattle.litmus_reader.specs.Headings.{HeadingOf, IsHeading}
 use Rattle.litmus_reader.specs.Listings.{RowOf, listing_at}
@@ -7,7 +7,8 @@ use Rattle.engine_support.specs.declared.fault.Refusal.{Refusal}
 use Rattle.engine_support.specs.declared.input.TheConstants.{INPUT_BYTES}
 use Rattle.engine_support.specs.Engines.{Output}
 use Rattle.engine_support.specs.Faults.{too_large}
-use Rattle.engine_support.specs.Tests.{ByTest}
+use Rattle.engine_support.specs.Inputs.{After}
+use Rattle.engine_support.specs.Tests.{tests_with}
 use Rattle.engine_support.specs.OpeningTexts.{steps_text}
 use Rattle.view_engines.specs.TestLines.{test_lines}
 use Rattle.view_engines.specs.declared.showing.Form.{Form}
@@ -31,5 +32,5 @@ IsShow Table file test (Err refusal) = ⊥
 IsShow Steps file test answer = IsSteps test answer
 
 -- what answers a litmus text
-abbrev pub IsShowAnswer : Form → (file : List ℕ) → Result Output Refusal → Type 0
-IsShowAnswer form file = ByTest (IsShow form file) file
+abbrev pub IsShowAnswer : Form → (file : Option (List ℕ)) → Result Output Refusal → Type 0
+IsShowAnswer form file = After (tests_with (λ text same. same ≡ text)) file (λ read. IsShow form read.1 read.0)

@@ -1,5 +1,5 @@
 -- The command `shrink`: a schedule with the same outcome, from which nothing can be left out.
-use Rattle.std.specs.Prelude.{ℕ, ◌≡◌, List, Result, Ok, Err}
+use Rattle.std.specs.Prelude.{ℕ, ◌≡◌, List, Option, Result, Ok, Err}
 use Rattle.step_machine.specs.History.{History}
 use Rattle.step_machine.specs.declared.events.Event.{Event}
 use Rattle.litmus.specs.LitmusTests.{LitmusTest}
@@ -48,7 +48,7 @@ IsShrink B M test said (Ok answer) = IsShrinkOf B M test said answer
 IsShrink B M test said (Err refusal) = IsNotShrunk B M test said refusal
 
 -- what answers a litmus text and a schedule
-abbrev pub IsShrinkAnswer : (B M : ℕ) → (file schedule : List ℕ) → Result Output Refusal → Type 0
+abbrev pub IsShrinkAnswer : (B M : ℕ) → (file schedule : Option (List ℕ)) → Result Output Refusal → Type 0
 IsShrinkAnswer B M = BySchedule (IsShrink B M)
 
 -- Two answers are both outputs, or refusals of one number.

@@ -4,10 +4,11 @@ ghost use Rattle.std.specs.Prelude.{◌≡◌, ◌≤◌, IfOk, Ok, length};
 ghost use Rattle.std.specs.String.{string_bytes};
 ghost use Rattle.recorder.specs.Versions.{ScheduleValue, said_of};
 ghost use Rattle.litmus_reader.specs.Headings.{heading_of};
-ghost use Rattle.engine_support.specs.Engines.{AnswersBoth, EndsByBoth};
+ghost use Rattle.engine_support.specs.Engines.{Ends};
 ghost use Rattle.engine_support.specs.Faults.{AnswersAs};
 ghost use Rattle.engine_support.specs.Runs.{Runs};
-ghost use Rattle.engine_support.specs.Tests.{HasNoTest};
+ghost use Rattle.engine_support.specs.Inputs.{IsRefused};
+ghost use Rattle.engine_support.specs.Tests.{tests};
 ghost use Rattle.engine_support.specs.inner.Making.{FindsUpToReads, text_and_value};
 ghost use Rattle.view_engines.specs.Chart.{IsChart, IsChartAnswer, drawing};
 ghost use Rattle.litmus.specs.declared.litmus_test.TheConstants.{MAX_LOCATIONS};
@@ -105,10 +106,9 @@ fn made<const B: usize, const M: usize, F: Read, S: Read>(
     requires capacity { B ≤ 64 }
     requires words { MAX_LOCATIONS ≤ M }
     requires size { M ≤ 65536 }
-    ensures made { FindsUpToReads
-        (AnswersBoth (IsChartAnswer B M (drawing style selection)) (F.remaining file.old) (S.remaining schedule.old))
+    ensures made { FindsUpToReads (IsChartAnswer B M (drawing style selection) (F.remaining file.old) (S.remaining schedule.old))
         text_and_value result }
-    ensures unread { HasNoTest (F.remaining file.old) → schedule.new ≡ schedule.old }
+    ensures unread { IsRefused tests (F.remaining file.old) → schedule.new ≡ schedule.old }
 {
     let (test, heading) = read_headed(alloc, file)?;
     let said = read_schedule(alloc, schedule)?;
@@ -136,9 +136,9 @@ pub fn chart_engine<const B: usize, const M: usize, F: Read, S: Read, W: Write>(
     requires capacity { B ≤ 64 }
     requires words { MAX_LOCATIONS ≤ M }
     requires size { M ≤ 65536 }
-    ensures ends { EndsByBoth (IsChartAnswer B M (drawing style selection)) result (F.remaining file.old)
-        (S.remaining schedule.old) W.contents writer.old writer.new }
-    ensures unread { HasNoTest (F.remaining file.old) → schedule.new ≡ schedule.old }
+    ensures ends { Ends (IsChartAnswer B M (drawing style selection) (F.remaining file.old) (S.remaining schedule.old)) result
+        W.contents writer.old writer.new }
+    ensures unread { IsRefused tests (F.remaining file.old) → schedule.new ≡ schedule.old }
 {
     end_with(
         made::<B, M, F, S>(alloc, style, selection, file, schedule),

@@ -5,9 +5,9 @@ ghost use Rattle.litmus_reader.specs.Reading.{content_of};
 ghost use Rattle.litmus_reader.specs.Grammar.{IsTestOf};
 ghost use Rattle.litmus_reader.specs.Headings.{IsHeading, heading_of};
 ghost use Rattle.engine_support.specs.Faults.{Answers};
-ghost use Rattle.engine_support.specs.Tests.{test_of, HasNoTest};
-ghost use Rattle.engine_support.specs.inner.Making.{FindsByUpToReads};
-ghost use Rattle.view_engines.specs.inner.Headings.{IsReadAsHeaded};
+ghost use Rattle.engine_support.specs.Inputs.{IsRefused, Reads};
+ghost use Rattle.engine_support.specs.Tests.{test_of, tests, tests_with};
+ghost use Rattle.engine_support.specs.inner.Making.{FindsUpToReads};
 
 use engine_support::fault::Fault;
 use engine_support::input::read_text;
@@ -33,8 +33,8 @@ pub fn headed_of_text(alloc: Global, text: &str) -> Result<(Test, Heading), Faul
 
 /// The test and the heading of the input that a reader gives.
 pub fn read_headed<R: Read>(alloc: Global, reader: &mut R) -> Result<(Test, Heading), Fault>
-    ensures read { FindsByUpToReads IsReadAsHeaded (λ read. (read.0, heading_of read.1)) (R.remaining reader.old) result }
-    ensures refused { HasNoTest (R.remaining reader.old) → IsErr result }
+    ensures read { FindsUpToReads (Reads (tests_with IsHeading) (R.remaining reader.old)) (λ read. (read.0, heading_of read.1)) result }
+    ensures refused { IsRefused tests (R.remaining reader.old) → IsErr result }
 {
     let text = read_text(alloc, reader)?;
     headed_of_text(alloc, &text)

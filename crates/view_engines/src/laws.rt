@@ -1,6 +1,6 @@
 //! Laws of what the commands answer.
 
-ghost use Rattle.std.specs.Prelude.{◌≡◌, ℕ, List, All, Result};
+ghost use Rattle.std.specs.Prelude.{◌≡◌, ℕ, List, All, Result, Some};
 ghost use Rattle.litmus.specs.LitmusTests.{LitmusTest};
 ghost use Rattle.litmus_reader.specs.Grammar.{IsTestOf};
 ghost use Rattle.litmus_reader.specs.Headings.{HeadingOf};
@@ -24,7 +24,7 @@ pub fn shrinks_alike()
     ensures run { (B M : ℕ) (test : LitmusTest) (said : ScheduleValue) (a b : Result Output Refusal)
         → IsShrink B M test said a → IsShrink B M test said b → AreAlike a b }
     ensures inputs { (B M : ℕ) (file schedule : List ℕ) (a b : Result Output Refusal)
-        → IsShrinkAnswer B M file schedule a → IsShrinkAnswer B M file schedule b → AreOfOneKind a b }
+        → IsShrinkAnswer B M (Some file) (Some schedule) a → IsShrinkAnswer B M (Some file) (Some schedule) b → AreOfOneKind a b }
 {}
 
 /// Two charts of one input are one text, or refusals of one number. Of a refused litmus text it isn't said
@@ -32,7 +32,7 @@ pub fn shrinks_alike()
 #[tactic(auto, using(crate::proofs::ChartLaws::charts_alike))]
 pub fn one_chart()
     ensures { (B M : ℕ) (draws : Drawing) (file schedule : List ℕ) (a b : Result Output Refusal)
-        → IsChartAnswer B M draws file schedule a → IsChartAnswer B M draws file schedule b → AreOneAnswer a b }
+        → IsChartAnswer B M draws (Some file) (Some schedule) a → IsChartAnswer B M draws (Some file) (Some schedule) b → AreOneAnswer a b }
 {}
 
 /// In the chart of a text's test, of all rows or without some, no text of a row stands on another text or on a
@@ -59,5 +59,6 @@ pub fn columns_stand_still()
 /// Two answers of `show` to one input are one text, or refusals of one number. Of a refused litmus text it isn't
 /// said on which line its first fault stands. It does nothing.
 pub fn one_show()
-    ensures { (form : Form) (file : List ℕ) (a b : Result Output Refusal) → IsShowAnswer form file a → IsShowAnswer form file b → AreOneAnswer a b }
+    ensures { (form : Form) (file : List ℕ) (a b : Result Output Refusal) → IsShowAnswer form (Some file) a → IsShowAnswer form (Some file) b
+        → AreOneAnswer a b }
 {}

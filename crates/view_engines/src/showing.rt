@@ -1,12 +1,12 @@
 //! The command `show`: a litmus text in, what its test is out.
 
-ghost use Rattle.std.specs.Prelude.{◌≡◌, ◌≤◌, length};
+ghost use Rattle.std.specs.Prelude.{◌≡◌, ◌≤◌, Some, length};
 ghost use Rattle.std.specs.Str.{IsUtf8};
 ghost use Rattle.litmus_reader.specs.Grammar.{IsTestOf};
 ghost use Rattle.litmus_reader.specs.Headings.{IsHeading, heading_of};
-ghost use Rattle.engine_support.specs.Engines.{EndsBy};
+ghost use Rattle.engine_support.specs.Engines.{Ends};
 ghost use Rattle.engine_support.specs.Faults.{AnswersAs};
-ghost use Rattle.engine_support.specs.inner.Making.{FindsByUpToReads, text_and_value};
+ghost use Rattle.engine_support.specs.inner.Making.{FindsUpToReads, text_and_value};
 ghost use Rattle.engine_support.specs.declared.input.TheConstants.{INPUT_BYTES};
 ghost use Rattle.view_engines.specs.declared.showing.Form.TheVariants.{Table};
 ghost use Rattle.view_engines.specs.Show.{IsShow, IsShowAnswer, IsSteps};
@@ -85,7 +85,7 @@ fn shown(
 
 /// What is to be written for a text.
 fn shown_of_text(alloc: Global, form: Form, text: &str) -> Result<(String, ()), Fault>
-    ensures { length text.now ≤ INPUT_BYTES → IsUtf8 text.now → AnswersAs (IsShowAnswer form text.now) text_and_value result }
+    ensures { length text.now ≤ INPUT_BYTES → IsUtf8 text.now → AnswersAs (IsShowAnswer form (Some text.now)) text_and_value result }
 {
     let (test, heading) = headed_of_text(alloc, text)?;
     shown(alloc, form, text, &test, &heading)
@@ -93,7 +93,7 @@ fn shown_of_text(alloc: Global, form: Form, text: &str) -> Result<(String, ()), 
 
 /// What is to be written for the input that a reader gives.
 fn made<R: Read>(alloc: Global, form: Form, reader: &mut R) -> Result<(String, ()), Fault>
-    ensures { FindsByUpToReads (IsShowAnswer form) text_and_value (R.remaining reader.old) result }
+    ensures { FindsUpToReads (IsShowAnswer form (R.remaining reader.old)) text_and_value result }
 {
     let text = read_text(alloc, reader)?;
     shown_of_text(alloc, form, &text)
@@ -111,7 +111,7 @@ pub fn show_engine<R: Read, W: Write>(
     file: &mut R,
     writer: &mut W,
 ) -> Result<(), Fault>
-    ensures { EndsBy (IsShowAnswer form) result (R.remaining file.old) W.contents writer.old writer.new }
+    ensures { Ends (IsShowAnswer form (R.remaining file.old)) result W.contents writer.old writer.new }
 {
     end_with(made(alloc, form, file), writer)
 }

@@ -2,8 +2,9 @@
 //! nothing can be left out.
 
 ghost use Rattle.std.specs.Prelude.{◌≡◌, ◌≤◌};
-ghost use Rattle.engine_support.specs.Engines.{EndsByBoth};
-ghost use Rattle.engine_support.specs.Tests.{HasNoTest};
+ghost use Rattle.engine_support.specs.Engines.{Ends};
+ghost use Rattle.engine_support.specs.Inputs.{IsRefused};
+ghost use Rattle.engine_support.specs.Tests.{tests};
 ghost use Rattle.view_engines.specs.Shrink.{IsShrink, IsShrinkAnswer, fault_of_shrink};
 ghost use Rattle.litmus.specs.declared.litmus_test.TheConstants.{MAX_LOCATIONS};
 
@@ -68,8 +69,8 @@ pub fn shrink_engine<const B: usize, const M: usize, F: Read, S: Read, W: Write>
     requires capacity { B ≤ 64 }
     requires words { MAX_LOCATIONS ≤ M }
     requires size { M ≤ 65536 }
-    ensures ends { EndsByBoth (IsShrinkAnswer B M) result (F.remaining file.old) (S.remaining schedule.old) W.contents writer.old writer.new }
-    ensures unread { HasNoTest (F.remaining file.old) → schedule.new ≡ schedule.old }
+    ensures ends { Ends (IsShrinkAnswer B M (F.remaining file.old) (S.remaining schedule.old)) result W.contents writer.old writer.new }
+    ensures unread { IsRefused tests (F.remaining file.old) → schedule.new ≡ schedule.old }
 {
     schedule_engine::<Shrink, B, M, F, S, W>(alloc, file, schedule, writer)
 }

@@ -1,2 +1,2 @@
 pub mod Buffered
-pub mod Endings
+pub mod Exits

@@ -1,16 +1,16 @@
 //! How the program fails.
 
-ghost use Rattle.std.specs.Prelude.{◌≡◌};
-ghost use Rattle.ztso.specs.Failures.{engine_status, failure_of, found_status, own_failure, own_status, ring_status, status_of};
+ghost use Rattle.std.specs.Prelude.{◌≡◌, ◌≤◌, IfOk};
+ghost use Rattle.ztso.specs.Failures.{done_exit, failure_of, found_exit, good_exit, status_of, verdict_exit};
 ghost use Rattle.ztso.specs.declared.failure.Failure.TheVariants.{Engine};
 ghost use Rattle.engine_support.specs.declared.fault.Fault.TheVariants.{NoMemory};
 
 use command_line::CommandLineError;
-use engine_support::fault::{Fault, Refusal};
+use engine_support::fault::Fault;
 use finding::Found;
+use litmus::Verdict;
 use std::alloc::AllocError;
 use thiserror::Error;
-use ztso_engines::programs::{OwnFault, Role};
 
 /// Why the program ends without having done a job. Its text is what stands after `ztso: ` on
 /// standard error.
@@ -28,9 +28,6 @@ pub enum Failure {
     /// A search was cut after this many states, and none of them is one that it looked for.
     #[error("cut at {states} states")]
     Cut { states: u32 },
-    /// The assembly of a channel's program is refused.
-    #[error("{refusal} of the {role}")]
-    Program { role: Role, refusal: Refusal },
 }
 
 impl Failure {
@@ -42,7 +39,6 @@ impl Failure {
             Failure::BadCommandLine => 2,
             Failure::Engine(fault) => fault.status(),
             Failure::AllSeen { .. } => 1,
-            Failure::Program { .. } => 2,
             Failure::Cut { .. } => 5,
         }
     }
@@ -67,57 +63,52 @@ impl From<CommandLineError> for Failure {
     }
 }
 
-impl Failure {
-    /// The exit status of an engine that ended well.
-    pub fn after_engine(ended: Result<u8, Fault>) -> Result<u8, Failure>
-        ensures { result ≡ engine_status ended }
-    {
-        match ended {
-            Ok(status) => Ok(status),
-            Err(fault) => Err(Failure::Engine(fault)),
-        }
-    }
+impl From<Fault> for Failure {
+    ghost from_gives = { λ fault failure. failure ≡ Engine fault };
 
-    /// The exit status after a search: it fails where nothing was found.
-    pub fn after_search(ended: Result<Found, Fault>) -> Result<u8, Failure>
-        ensures { result ≡ found_status ended }
-    {
-        match ended {
-            Ok(Found::Shown) => Ok(0),
-            Ok(Found::AllSeen { states }) => Err(Failure::AllSeen { states }),
-            Ok(Found::Cut { states }) => Err(Failure::Cut { states }),
-            Err(fault) => Err(Failure::Engine(fault)),
-        }
+    fn from(fault: Fault) -> Failure {
+        Failure::Engine(fault)
     }
+}
 
-    /// The exit status after runs of a channel over a user's programs: 0 where all are clean, else 1.
-    pub fn after_ring(ended: Result<bool, OwnFault>) -> Result<u8, Failure>
-        ensures { result ≡ ring_status ended }
-    {
-        match ended {
-            Ok(true) => Ok(0),
-            Ok(false) => Ok(1),
-            Err(fault) => Err(Failure::of_own(fault)),
-        }
+/// The exit status of a job that has no other outcome than its output.
+pub fn after(ended: Result<(), Fault>) -> Result<u8, Failure>
+    ensures ended { result ≡ done_exit ended }
+    ensures status { IfOk result (λ status. status ≤ 1) }
+{
+    ended?;
+    Ok(0)
+}
+
+/// The exit status after a verdict.
+pub fn after_run(ended: Result<Verdict, Fault>) -> Result<u8, Failure>
+    ensures ended { result ≡ verdict_exit ended }
+    ensures status { IfOk result (λ status. status ≤ 1) }
+{
+    match ended? {
+        Verdict::Holds => Ok(0),
+        Verdict::Fails => Ok(1),
+        Verdict::Unfinished => Ok(1),
     }
+}
 
-    /// The exit status after a run of a channel over a user's programs.
-    pub fn after_own(ended: Result<(), OwnFault>) -> Result<u8, Failure>
-        ensures { result ≡ own_status ended }
-    {
-        match ended {
-            Ok(()) => Ok(0),
-            Err(fault) => Err(Failure::of_own(fault)),
-        }
-    }
+/// The exit status after runs that show what the test asks or don't, after records none of which was
+/// refused or some were, and after runs of a channel that are all clean or not.
+pub fn after_runs(ended: Result<bool, Fault>) -> Result<u8, Failure>
+    ensures ended { result ≡ good_exit ended }
+    ensures status { IfOk result (λ status. status ≤ 1) }
+{
+    if ended? { Ok(0) } else { Ok(1) }
+}
 
-    /// The failure of a command on a user's programs.
-    fn of_own(fault: OwnFault) -> Failure
-        ensures { result ≡ own_failure fault }
-    {
-        match fault {
-            OwnFault::Program { role, refusal } => Failure::Program { role, refusal },
-            OwnFault::Other(fault) => Failure::Engine(fault),
-        }
+/// The exit status after a search: it fails where nothing was found.
+pub fn after_search(ended: Result<Found, Fault>) -> Result<u8, Failure>
+    ensures ended { result ≡ found_exit ended }
+    ensures status { IfOk result (λ status. status ≤ 1) }
+{
+    match ended? {
+        Found::Shown => Ok(0),
+        Found::AllSeen { states } => Err(Failure::AllSeen { states }),
+        Found::Cut { states } => Err(Failure::Cut { states }),
     }
 }

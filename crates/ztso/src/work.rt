@@ -1,29 +1,30 @@
 //! Which engine does a job.
 
-ghost use Rattle.std.specs.Prelude.{◌≡◌, ◌⊎◌, ℕ, ◌≤◌, ◌*◌, List, [], max, Option, IfOk};
+ghost use Rattle.std.specs.Prelude.{◌≡◌, ◌⊎◌, ℕ, ◌≤◌, ◌*◌, List, [], max, IfOk, Ok};
+ghost use Rattle.std.specs.Io.KnownBytes.{Appends};
 ghost use Rattle.ztso.specs.declared.work.TheConstants.{WORDS};
-ghost use Rattle.ztso.specs.Work.{DoesOwn, DoesRing, drawn_runs};
-ghost use Rattle.ztso.specs.Work.{DoesCode, DoesFind, DoesMachine, DoesThreads, IsRefusal, LeavesCommands, LeavesFront};
-ghost use Rattle.ztso.specs.Work.{LeavesReports, LeavesSecond, WithStatus, done_status, drawn_from, ended_with};
-ghost use Rattle.ztso.specs.Work.{form_of, good_status, stores_of, tables_of, verdict_status};
+ghost use Rattle.command_line.specs.declared.job.Capacity.{Capacity};
+ghost use Rattle.command_line.specs.declared.job.Command.TheVariants.{Code, Machine};
+ghost use Rattle.ztso.specs.Work.{Does, LeavesCommands, LeavesFourth, LeavesSecond, LeavesThird, OfBytes};
+ghost use Rattle.ztso.specs.Work.{capacity_of as stated_capacity, drawn_from, drawn_runs, form_of, stores_of, tables_of};
 ghost use Rattle.recorder.specs.Drawing.{left_after};
 ghost use Rattle.poll_close.specs.Places.{layout_of};
 ghost use Rattle.ztso_engines.specs.Channels.{IsChannelAnswer};
-ghost use Rattle.engine_support.specs.Engines.{AnswersBoth, Ends, EndsBy, EndsByBoth, OfInput};
-ghost use Rattle.engine_support.specs.Schedules.{HasNoSchedule};
-ghost use Rattle.checking.specs.Checking.{IsCheckAnswer};
+ghost use Rattle.engine_support.specs.Engines.{Ends};
+ghost use Rattle.engine_support.specs.Inputs.{IsRefused};
+ghost use Rattle.engine_support.specs.Schedules.{schedules};
+ghost use Rattle.engine_support.specs.Tests.{tests};
+ghost use Rattle.checking.specs.Checking.{IsCheckAnswer, IsCheckFront};
 ghost use Rattle.finding.specs.Find.{IsFindAnswer};
-ghost use Rattle.debugger.specs.Transcripts.{EndsInteractive, IsDebugAnswer, OnRefused};
-ghost use Rattle.engine_support.specs.Tests.{HasNoTest};
+ghost use Rattle.debugger.specs.Transcripts.{EndsInteractive, IsDebugAnswer, IsDebugFront, IsDebugSome, OnRefused, OnStopped, OnUnwritten};
 ghost use Rattle.tries.specs.Outcomes.{IsTryAnswer};
-ghost use Rattle.ztso_engines.specs.Threads.{IsThreadsAnswer};
-ghost use Rattle.ztso_engines.specs.OwnChannels.{EndsOwn};
-ghost use Rattle.ztso_engines.specs.Programs.{HasNoProgram};
-ghost use Rattle.ztso_engines.specs.Rings.{EndsRing};
+ghost use Rattle.engine_support.specs.declared.fault.Role.TheVariants.{Sender, Receiver};
+ghost use Rattle.ztso_engines.specs.Programs.{programs};
+ghost use Rattle.ztso_engines.specs.Rings.{IsRingAnswer};
 
-use crate::failure::Failure;
+use crate::failure::{Failure, after, after_run, after_runs, after_search};
 use checking::check_engine;
-use command_line::job::{Capacity, CodeCommand, MachineCommand, Ring};
+use command_line::job::{Capacity, CodeCommand, Command, MachineCommand, Ring};
 use debugger::debug::debug_engine;
 use engine_support::fault::Fault;
 use fastforward::FastForward;
@@ -31,7 +32,6 @@ use finding::{Found, SearchProgress, find_engine};
 use jumping::Runs;
 use lamport_cached::LamportCached;
 use lamport_ring::Lamport;
-use litmus::Verdict;
 use poll_close::BlockPlace;
 use rand_core::SeedableRng;
 use rand_pcg::Lcg64Xsh32;
@@ -49,7 +49,6 @@ use ztso_engines::channel::channel_engine;
 use ztso_engines::dis::dis_engine;
 use ztso_engines::moving::move_engine;
 use ztso_engines::own_channel::own_channel_engine;
-use ztso_engines::programs::OwnFault;
 use ztso_engines::replay::replay_engine;
 use ztso_engines::ring::ring_engine;
 use ztso_engines::run::run_engine;
@@ -59,34 +58,15 @@ use ztso_engines::threads::threads_engine;
 /// The words of the program's memory.
 pub const WORDS: usize = 4096;
 
-/// The exit status after a verdict.
-fn after_run(ended: Result<Verdict, Fault>) -> Result<u8, Fault>
-    ensures ended { result ≡ ended_with verdict_status ended }
-    ensures status { IfOk result (λ status. status ≤ 1) }
-{
-    match ended? {
-        Verdict::Holds => Ok(0),
-        Verdict::Fails => Ok(1),
-        Verdict::Unfinished => Ok(1),
-    }
-}
-
-/// The exit status after runs that show what the test asks or don't, and after records none of which was
-/// refused or some were.
-fn after_runs(ended: Result<bool, Fault>) -> Result<u8, Fault>
-    ensures ended { result ≡ ended_with good_status ended }
-    ensures status { IfOk result (λ status. status ≤ 1) }
-{
-    if ended? { Ok(0) } else { Ok(1) }
-}
-
-/// The exit status of a job that has no other outcome than its output.
-fn after(ended: Result<(), Fault>) -> Result<u8, Fault>
-    ensures ended { result ≡ ended_with done_status ended }
-    ensures status { IfOk result (λ status. status ≤ 1) }
-{
-    ended?;
-    Ok(0)
+/// What a job reads and writes: its inputs, in the order in which they are read, a user's commands, and the output.
+#[derive(Drop)]
+pub struct Streams<I, C, W> {
+    pub first: I,
+    pub second: I,
+    pub third: I,
+    pub fourth: I,
+    pub commands: C,
+    pub writer: W,
 }
 
 /// Walks along a schedule's run at a user's commands.
@@ -99,14 +79,14 @@ fn debug<const B: usize, F: Read, S: Read, C: Read, W: Write>(
 ) -> Result<(), Fault>
     requires some_capacity { 1 ≤ B }
     requires capacity { B ≤ 64 }
-    ensures ends { EndsInteractive
-        (AnswersBoth (IsDebugAnswer B WORDS (C.remaining commands.old)) (F.remaining file.old)
-        (S.remaining schedule.old)) result W.contents writer.old writer.new }
-    ensures unread { HasNoTest (F.remaining file.old) → schedule.new ≡ schedule.old }
+    ensures ends { EndsInteractive (IsDebugAnswer B WORDS (C.remaining commands.old) (F.remaining file.old) (S.remaining schedule.old)) result
+        W.contents writer.old writer.new }
+    ensures unread { IsRefused tests (F.remaining file.old) → schedule.new ≡ schedule.old }
     ensures unasked { OnRefused result (commands.new ≡ commands.old) }
-    ensures left { LeavesFront B
-        (record { first = F.remaining file.old; second = S.remaining schedule.old; commands = C.remaining commands.old })
-        result W.contents writer.old writer.new }
+    ensures left { OnStopped result ((out : List ℕ) × Appends (W.contents writer.old) (W.contents writer.new) out
+        × ((out ≡ []) ⊎ IsDebugFront B WORDS (C.remaining commands.old) (F.remaining file.old) (S.remaining schedule.old) (Ok (out, tt)))) }
+    ensures unwritten { OnUnwritten result ((out : List ℕ)
+        × IsDebugSome B WORDS (C.remaining commands.old) (F.remaining file.old) (S.remaining schedule.old) (Ok (out, tt))) }
 {
     let Ok(mut commands) = BufReader::new(alloc, commands) else {
         return Err(Fault::NoMemory);
@@ -126,13 +106,12 @@ fn check<const B: usize, F: Read, S: Read, W: Write>(
 ) -> Result<bool, Fault>
     requires some_capacity { 1 ≤ B }
     requires capacity { B ≤ 64 }
-    ensures ends { EndsInteractive
-        (λ answer. OfInput (F.remaining file.old) (λ bytes. IsCheckAnswer B WORDS (S.remaining records.old) bytes answer))
-        result W.contents writer.old writer.new }
-    ensures unread { IsRefusal result → HasNoTest (F.remaining file.old) → records.new ≡ records.old }
-    ensures left { (commands : Option (List ℕ)) → LeavesReports B
-        (record { first = F.remaining file.old; second = S.remaining records.old; commands = commands })
-        result W.contents writer.old writer.new }
+    ensures ends { EndsInteractive (IsCheckAnswer B WORDS (S.remaining records.old) (F.remaining file.old)) result
+        W.contents writer.old writer.new }
+    ensures unread { OnRefused result (IsRefused tests (F.remaining file.old) → records.new ≡ records.old) }
+    ensures left { OnStopped result ((out : List ℕ) × Appends (W.contents writer.old) (W.contents writer.new) out
+        × ((out ≡ []) ⊎ IsCheckFront B WORDS (S.remaining records.old) (F.remaining file.old) (Ok out))) }
+    ensures unwritten { OnUnwritten result ((out : List ℕ) × IsCheckFront B WORDS (S.remaining records.old) (F.remaining file.old) (Ok out)) }
 {
     let Ok(mut records) = BufReader::new(alloc, records) else {
         return Err(Fault::NoMemory);
@@ -155,9 +134,9 @@ fn try_drawn<const B: usize, F: Read, W: Write, T: Threads + Sync, P: Progress>(
 ) -> Result<bool, Fault>
     requires some_capacity { 1 ≤ B }
     requires capacity { B ≤ 64 }
-    ensures { EndsBy
-        (IsTryAnswer B WORDS (left_after (runs.skip * runs.length) (drawn_from seed)) runs.number runs.length) result
-        (F.remaining file.old) W.contents writer.old writer.new }
+    ensures { Ends (OfBytes (F.remaining file.old)
+        (IsTryAnswer B WORDS (left_after (runs.skip * runs.length) (drawn_from seed)) runs.number runs.length)) result
+        W.contents writer.old writer.new }
 {
     let generator = Lcg64Xsh32::seed_from_u64(seed);
     try_engine::<B, WORDS, _, _, _, _, _>(rt, alloc, file, &generator, runs, progress, writer)
@@ -176,9 +155,9 @@ fn run_rings<const B: usize, S: Read, L: Read, W: Write>(
 ) -> Result<(), Fault>
     requires some_capacity { 1 ≤ B }
     requires capacity { B ≤ 64 }
-    ensures ends { EndsByBoth (IsChannelAnswer (tables_of kind) B WORDS (layout_of place []) finish) result
-        (S.remaining schedule.old) (L.remaining lists.old) W.contents writer.old writer.new }
-    ensures unread { HasNoSchedule (S.remaining schedule.old) → lists.new ≡ lists.old }
+    ensures ends { Ends (IsChannelAnswer (tables_of kind) B WORDS (layout_of place []) finish
+        (S.remaining schedule.old) (L.remaining lists.old)) result W.contents writer.old writer.new }
+    ensures unread { IsRefused schedules (S.remaining schedule.old) → lists.new ≡ lists.old }
 {
     match kind {
         Ring::Lamport => channel_engine::<Lamport, B, WORDS, _, _, _>(
@@ -200,26 +179,103 @@ fn form_of(steps: bool) -> Form
     if steps { Form::Steps } else { Form::Table }
 }
 
-/// Does a command on a machine whose harts' buffers hold `B` stores.
-fn do_buffered<const B: usize, F: Read, S: Read, C: Read, W: Write, T: Threads + Sync, P: Progress>(
+/// Looks for a schedule that shows what a litmus test asks about, over buffers of `B` stores.
+fn find<const B: usize, F: Read, W: Write, P: SearchProgress>(
+    alloc: Global,
+    states: u32,
+    file: &mut F,
+    progress: &mut P,
+    writer: &mut W,
+) -> Result<Found, Fault>
+    requires some_capacity { 1 ≤ B }
+    requires capacity { B ≤ 64 }
+    ensures { Ends (OfBytes (F.remaining file.old) (IsFindAnswer B WORDS (max states 1))) result W.contents writer.old writer.new }
+{
+    find_engine::<B, WORDS, _, _, _>(alloc, file, states.max(1), progress, writer)
+}
+
+/// Runs a channel over two programs by schedules that are drawn from a generator of this seed, with buffers of `B`
+/// stores. The jobs are threads; it has no leave to wait for anything else.
+fn run_own_ring<const B: usize, S: Read, R: Read, L: Read, W: Write, T: Threads + Sync>(
+    rt: &T,
+    alloc: Global,
+    seed: u64,
+    runs: Runs,
+    place: BlockPlace,
+    sender: &mut S,
+    receiver: &mut R,
+    lists: &mut L,
+    writer: &mut W,
+) -> Result<bool, Fault>
+    requires some_capacity { 1 ≤ B }
+    requires capacity { B ≤ 64 }
+    ensures ends { Ends (IsRingAnswer (drawn_runs B seed runs place) (S.remaining sender.old) (R.remaining receiver.old) (L.remaining lists.old))
+        result W.contents writer.old writer.new }
+    ensures unread { IsRefused (programs Sender) (S.remaining sender.old) → receiver.new ≡ receiver.old }
+    ensures unread_lists { IsRefused (programs Sender) (S.remaining sender.old) ⊎ IsRefused (programs Receiver) (R.remaining receiver.old)
+        → lists.new ≡ lists.old }
+{
+    let generator = Lcg64Xsh32::seed_from_u64(seed);
+    ring_engine::<B, WORDS, _, _, _, _, _, _>(
+        rt, alloc, place, sender, receiver, lists, &generator, runs, writer,
+    )
+}
+
+/// Does a command on code: reads its input, and then writes what it answers.
+fn do_code<I: Read, C: Read, W: Write>(
+    alloc: Global,
+    command: CodeCommand,
+    streams: &mut Streams<I, C, W>,
+) -> Result<u8, Failure>
+    ensures does { (B : ℕ) → Does B (Code command) result (record {
+      first = I.remaining streams.old.first;
+      second = I.remaining streams.old.second;
+      third = I.remaining streams.old.third;
+      fourth = I.remaining streams.old.fourth;
+      commands = C.remaining streams.old.commands;
+    }) W.contents streams.old.writer streams.new.writer }
+    ensures kept { (streams.new.second ≡ streams.old.second) × (streams.new.third ≡ streams.old.third) × (streams.new.fourth ≡ streams.old.fourth) }
+    ensures unasked { streams.new.commands ≡ streams.old.commands }
+    ensures status { IfOk result (λ status. status ≤ 1) }
+{
+    match command {
+        CodeCommand::Asm => after(asm_engine(alloc, &mut streams.first, &mut streams.writer)),
+        CodeCommand::Dis => after(dis_engine(alloc, &mut streams.first, &mut streams.writer)),
+    }
+}
+
+/// Does a command on a machine whose harts' buffers hold `B` stores: reads its inputs, and then writes what it answers.
+/// The debugger and `check` write as they read. `progress` gets the reports of runs that are tried. Their jobs are threads;
+/// it has no leave to wait for anything else.
+fn do_machine<const B: usize, T: Threads + Sync, I: Read, C: Read, W: Write, P: Progress>(
     rt: &T,
     alloc: Global,
     command: MachineCommand,
-    first: &mut F,
-    second: &mut S,
-    commands: &mut C,
+    streams: &mut Streams<I, C, W>,
     progress: &mut P,
-    writer: &mut W,
-) -> Result<u8, Fault>
+) -> Result<u8, Failure>
     requires some_capacity { 1 ≤ B }
     requires capacity { B ≤ 64 }
-    ensures does { DoesMachine B command result
-        (record { first = F.remaining first.old; second = S.remaining second.old; commands = C.remaining commands.old })
-        W.contents writer.old writer.new }
-    ensures unread { LeavesSecond command result (F.remaining first.old) → second.new ≡ second.old }
-    ensures unasked { LeavesCommands command result → commands.new ≡ commands.old }
+    ensures does { (capacity : Capacity) → Does B (Machine command capacity) result (record {
+      first = I.remaining streams.old.first;
+      second = I.remaining streams.old.second;
+      third = I.remaining streams.old.third;
+      fourth = I.remaining streams.old.fourth;
+      commands = C.remaining streams.old.commands;
+    }) W.contents streams.old.writer streams.new.writer }
+    ensures unread { (capacity : Capacity) → LeavesSecond (Machine command capacity) result (I.remaining streams.old.first)
+        → streams.new.second ≡ streams.old.second }
+    ensures kept { (streams.new.third ≡ streams.old.third) × (streams.new.fourth ≡ streams.old.fourth) }
+    ensures unasked { (capacity : Capacity) → LeavesCommands (Machine command capacity) result → streams.new.commands ≡ streams.old.commands }
     ensures status { IfOk result (λ status. status ≤ 1) }
 {
+    let Streams {
+        first,
+        second,
+        commands,
+        writer,
+        ..
+    } = streams;
     match command {
         MachineCommand::Steps => after(steps_engine::<B, WORDS, _, _>(alloc, first, writer)),
         MachineCommand::Run => {
@@ -255,240 +311,130 @@ fn do_buffered<const B: usize, F: Read, S: Read, C: Read, W: Write, T: Threads +
     }
 }
 
-/// Does a command on code: reads its input, and then writes what it answers. It answers the exit status.
-pub fn do_code<F: Read, W: Write>(
-    alloc: Global,
-    command: CodeCommand,
-    input: &mut F,
-    writer: &mut W,
-) -> Result<u8, Fault>
-    ensures does { DoesCode command result (F.remaining input.old) W.contents writer.old writer.new }
+/// Does a command, over buffers of `B` stores if there is a machine. It may wait, for the lock and for the threads of
+/// `threads`.
+fn do_buffered<const B: usize, R, I: Read, C: Read, W: Write, P: Progress, Q: SearchProgress>(
+    rt: &R,
+    command: Command,
+    streams: &mut Streams<I, C, W>,
+    progress: &mut P,
+    search: &mut Q,
+) -> Result<u8, Failure>
+where
+    R: AllocGlobal + Threads + Wait + Sync,
+    requires some_capacity { 1 ≤ B }
+    requires capacity { B ≤ 64 }
+    ensures does { Does B command result (record {
+      first = I.remaining streams.old.first;
+      second = I.remaining streams.old.second;
+      third = I.remaining streams.old.third;
+      fourth = I.remaining streams.old.fourth;
+      commands = C.remaining streams.old.commands;
+    }) W.contents streams.old.writer streams.new.writer }
+    ensures unread { LeavesSecond command result (I.remaining streams.old.first) → streams.new.second ≡ streams.old.second }
+    ensures unread_third { LeavesThird command (I.remaining streams.old.first) (I.remaining streams.old.second) → streams.new.third ≡ streams.old.third }
+    ensures unread_fourth { LeavesFourth command (I.remaining streams.old.first) (I.remaining streams.old.second) (I.remaining streams.old.third)
+        → streams.new.fourth ≡ streams.old.fourth }
+    ensures unasked { LeavesCommands command result → streams.new.commands ≡ streams.old.commands }
     ensures status { IfOk result (λ status. status ≤ 1) }
+{
+    let alloc = rt.alloc();
+    match command {
+        Command::Code(command) => do_code(alloc, command, streams),
+        Command::Machine { command, .. } => {
+            do_machine::<B, _, _, _, _, _>(rt, alloc, command, streams, progress)
+        }
+        Command::Find { states, .. } => after_search(find::<B, _, _, _>(
+            alloc,
+            states,
+            &mut streams.first,
+            search,
+            &mut streams.writer,
+        )),
+        Command::Threads { turns, .. } => after_run(threads_engine::<B, WORDS, _, _, _>(
+            rt,
+            alloc,
+            &mut streams.first,
+            turns,
+            &mut streams.writer,
+        )),
+        Command::Own { place, .. } => after(own_channel_engine::<B, WORDS, _, _, _, _, _>(
+            alloc,
+            place,
+            &mut streams.first,
+            &mut streams.second,
+            &mut streams.third,
+            &mut streams.fourth,
+            &mut streams.writer,
+        )),
+        Command::Ring {
+            seed,
+            runs,
+            place,
+            ..
+        } => after_runs(run_own_ring::<B, _, _, _, _, _>(
+            rt,
+            alloc,
+            seed,
+            runs,
+            place,
+            &mut streams.first,
+            &mut streams.second,
+            &mut streams.third,
+            &mut streams.writer,
+        )),
+    }
+}
+
+/// How many stores the buffers of a command's machine hold. A command on code has no machine.
+fn capacity_of(command: Command) -> Capacity
+    ensures { result ≡ stated_capacity command }
 {
     match command {
-        CodeCommand::Asm => after(asm_engine(alloc, input, writer)),
-        CodeCommand::Dis => after(dis_engine(alloc, input, writer)),
+        Command::Code(_) => Capacity::One,
+        Command::Machine { capacity, .. }
+        | Command::Find { capacity, .. }
+        | Command::Threads { capacity, .. }
+        | Command::Own { capacity, .. }
+        | Command::Ring { capacity, .. } => capacity,
     }
 }
 
-/// Does a command on a machine: reads its inputs, and then writes what it answers. It answers the exit status:
-/// 0, but 1 where the verdict is that the test fails or is unfinished, the runs that were tried don't show
-/// what the test asks, or a record was refused.
-///
-/// `first` is what the command reads first, and `second` what it reads after that, if it has two inputs and
-/// the first one was accepted. `commands` is what a user types to the debugger, which writes as it reads.
-/// `progress` gets the reports of runs that are tried. Their jobs are threads; it has no leave to wait for
-/// anything else.
-pub fn do_machine<F: Read, S: Read, C: Read, W: Write, T: Threads + Sync, P: Progress>(
-    rt: &T,
-    alloc: Global,
-    command: MachineCommand,
-    capacity: Capacity,
-    first: &mut F,
-    second: &mut S,
-    commands: &mut C,
+/// Does a command on these streams: reads its inputs in their order, each after an accepted one before it, and a user's
+/// commands, and writes what it answers. It answers the exit status: 0, but 1 where the verdict is that the test fails or
+/// is unfinished, the runs that were tried don't show what the test asks, a record was refused, or a run of a channel isn't
+/// clean. `progress` gets the reports of runs that are tried, and `search` those of a search.
+pub fn do_command<R, I: Read, C: Read, W: Write, P: Progress, Q: SearchProgress>(
+    rt: &R,
+    command: Command,
+    streams: &mut Streams<I, C, W>,
     progress: &mut P,
-    writer: &mut W,
-) -> Result<u8, Fault>
-    ensures does { DoesMachine (stores_of capacity) command result
-        (record { first = F.remaining first.old; second = S.remaining second.old; commands = C.remaining commands.old })
-        W.contents writer.old writer.new }
-    ensures unread { LeavesSecond command result (F.remaining first.old) → second.new ≡ second.old }
-    ensures unasked { LeavesCommands command result → commands.new ≡ commands.old }
+    search: &mut Q,
+) -> Result<u8, Failure>
+where
+    R: AllocGlobal + Threads + Wait + Sync,
+    ensures does { Does (stores_of (stated_capacity command)) command result (record {
+      first = I.remaining streams.old.first;
+      second = I.remaining streams.old.second;
+      third = I.remaining streams.old.third;
+      fourth = I.remaining streams.old.fourth;
+      commands = C.remaining streams.old.commands;
+    }) W.contents streams.old.writer streams.new.writer }
+    ensures unread { LeavesSecond command result (I.remaining streams.old.first) → streams.new.second ≡ streams.old.second }
+    ensures unread_third { LeavesThird command (I.remaining streams.old.first) (I.remaining streams.old.second) → streams.new.third ≡ streams.old.third }
+    ensures unread_fourth { LeavesFourth command (I.remaining streams.old.first) (I.remaining streams.old.second) (I.remaining streams.old.third)
+        → streams.new.fourth ≡ streams.old.fourth }
+    ensures unasked { LeavesCommands command result → streams.new.commands ≡ streams.old.commands }
     ensures status { IfOk result (λ status. status ≤ 1) }
 {
-    match capacity {
-        Capacity::One => do_buffered::<1, _, _, _, _, _, _>(
-            rt, alloc, command, first, second, commands, progress, writer,
-        ),
-        Capacity::Two => do_buffered::<2, _, _, _, _, _, _>(
-            rt, alloc, command, first, second, commands, progress, writer,
-        ),
-        Capacity::Four => do_buffered::<4, _, _, _, _, _, _>(
-            rt, alloc, command, first, second, commands, progress, writer,
-        ),
-        Capacity::Sixteen => do_buffered::<16, _, _, _, _, _, _>(
-            rt, alloc, command, first, second, commands, progress, writer,
-        ),
+    match capacity_of(command) {
+        Capacity::One => do_buffered::<1, _, _, _, _, _, _>(rt, command, streams, progress, search),
+        Capacity::Two => do_buffered::<2, _, _, _, _, _, _>(rt, command, streams, progress, search),
+        Capacity::Four => {
+            do_buffered::<4, _, _, _, _, _, _>(rt, command, streams, progress, search)
+        }
+        Capacity::Sixteen => {
+            do_buffered::<16, _, _, _, _, _, _>(rt, command, streams, progress, search)
+        }
     }
-}
-
-/// Looks for a schedule that shows what a litmus test asks about, over buffers of `B` stores.
-fn find<const B: usize, F: Read, W: Write, P: SearchProgress>(
-    alloc: Global,
-    states: u32,
-    file: &mut F,
-    progress: &mut P,
-    writer: &mut W,
-) -> Result<Found, Fault>
-    requires some_capacity { 1 ≤ B }
-    requires capacity { B ≤ 64 }
-    ensures { EndsBy (IsFindAnswer B WORDS (max states 1)) result (F.remaining file.old) W.contents writer.old writer.new }
-{
-    find_engine::<B, WORDS, _, _, _>(alloc, file, states.max(1), progress, writer)
-}
-
-/// Looks for a schedule that shows what a litmus test asks about, among at most `states` states, of which the
-/// opening's is one in any case: reads the test, and writes the schedule. It answers the exit status 0, or
-/// the failure to find one. `progress` gets the reports of the search.
-pub fn do_find<F: Read, W: Write, P: SearchProgress>(
-    alloc: Global,
-    states: u32,
-    capacity: Capacity,
-    file: &mut F,
-    progress: &mut P,
-    writer: &mut W,
-) -> Result<u8, Failure>
-    ensures does { DoesFind states capacity result (F.remaining file.old) W.contents writer.old writer.new }
-    ensures status { IfOk result (λ status. status ≤ 1) }
-{
-    Failure::after_search(match capacity {
-        Capacity::One => find::<1, _, _, _>(alloc, states, file, progress, writer),
-        Capacity::Two => find::<2, _, _, _>(alloc, states, file, progress, writer),
-        Capacity::Four => find::<4, _, _, _>(alloc, states, file, progress, writer),
-        Capacity::Sixteen => find::<16, _, _, _>(alloc, states, file, progress, writer),
-    })
-}
-
-/// Runs a litmus test with a thread for each hart and each lander: reads it, writes the schedule, the
-/// state text and the verdict of one run, and answers the exit status, which is 0 where the verdict is
-/// that the test holds, else 1. It may wait, for the lock and for the threads.
-pub fn do_threads<F: Read, W: Write, T: Threads + Wait + Sync>(
-    rt: &T,
-    alloc: Global,
-    turns: u32,
-    capacity: Capacity,
-    file: &mut F,
-    writer: &mut W,
-) -> Result<u8, Fault>
-    ensures does { DoesThreads turns capacity result (F.remaining file.old) W.contents writer.old writer.new }
-    ensures status { IfOk result (λ status. status ≤ 1) }
-{
-    match capacity {
-        Capacity::One => run_threads::<1, _, _, _>(rt, alloc, turns, file, writer),
-        Capacity::Two => run_threads::<2, _, _, _>(rt, alloc, turns, file, writer),
-        Capacity::Four => run_threads::<4, _, _, _>(rt, alloc, turns, file, writer),
-        Capacity::Sixteen => run_threads::<16, _, _, _>(rt, alloc, turns, file, writer),
-    }
-}
-
-/// Runs a litmus test on threads, with buffers of `B` stores.
-fn run_threads<const B: usize, F: Read, W: Write, T: Threads + Wait + Sync>(
-    rt: &T,
-    alloc: Global,
-    turns: u32,
-    file: &mut F,
-    writer: &mut W,
-) -> Result<u8, Fault>
-    requires some_capacity { 1 ≤ B }
-    requires capacity { B ≤ 64 }
-    ensures ends { Ends (WithStatus verdict_status
-        (λ answer. OfInput (F.remaining file.old) (λ bytes. IsThreadsAnswer B WORDS turns bytes answer))) result
-        W.contents writer.old writer.new }
-    ensures status { IfOk result (λ status. status ≤ 1) }
-{
-    after_run(threads_engine::<B, WORDS, _, _, _>(rt, alloc, file, turns, writer))
-}
-
-/// Runs a channel over two programs by schedules that are drawn from a generator of this seed, with buffers of `B`
-/// stores.
-fn run_own_ring<const B: usize, S: Read, R: Read, L: Read, W: Write, T: Threads + Sync>(
-    rt: &T,
-    alloc: Global,
-    seed: u64,
-    runs: Runs,
-    place: BlockPlace,
-    sender: &mut S,
-    receiver: &mut R,
-    lists: &mut L,
-    writer: &mut W,
-) -> Result<bool, OwnFault>
-    requires some_capacity { 1 ≤ B }
-    requires capacity { B ≤ 64 }
-    ensures ends { EndsRing (drawn_runs B seed runs place) result (S.remaining sender.old) (R.remaining receiver.old) (L.remaining lists.old)
-        W.contents writer.old writer.new }
-    ensures unread { HasNoProgram (S.remaining sender.old) → receiver.new ≡ receiver.old }
-    ensures unread_lists { HasNoProgram (S.remaining sender.old) ⊎ HasNoProgram (R.remaining receiver.old) → lists.new ≡ lists.old }
-{
-    let generator = Lcg64Xsh32::seed_from_u64(seed);
-    ring_engine::<B, WORDS, _, _, _, _, _, _>(
-        rt, alloc, place, sender, receiver, lists, &generator, runs, writer,
-    )
-}
-
-/// Runs a channel over two programs by drawn schedules and judges each run: reads the sender's program, the receiver's
-/// and the senders' lists, and writes what is told of the runs. It answers the exit status: 0 where all are clean, else
-/// 1. The jobs are threads; it has no leave to wait for anything else.
-pub fn do_ring<S: Read, R: Read, L: Read, W: Write, T: Threads + Sync>(
-    rt: &T,
-    alloc: Global,
-    seed: u64,
-    runs: Runs,
-    place: BlockPlace,
-    capacity: Capacity,
-    sender: &mut S,
-    receiver: &mut R,
-    lists: &mut L,
-    writer: &mut W,
-) -> Result<u8, Failure>
-    ensures does { DoesRing seed runs place capacity result (S.remaining sender.old) (R.remaining receiver.old) (L.remaining lists.old)
-        W.contents writer.old writer.new }
-    ensures unread { HasNoProgram (S.remaining sender.old) → receiver.new ≡ receiver.old }
-    ensures unread_lists { HasNoProgram (S.remaining sender.old) ⊎ HasNoProgram (R.remaining receiver.old) → lists.new ≡ lists.old }
-    ensures status { IfOk result (λ status. status ≤ 1) }
-{
-    Failure::after_ring(match capacity {
-        Capacity::One => run_own_ring::<1, _, _, _, _, _>(
-            rt, alloc, seed, runs, place, sender, receiver, lists, writer,
-        ),
-        Capacity::Two => run_own_ring::<2, _, _, _, _, _>(
-            rt, alloc, seed, runs, place, sender, receiver, lists, writer,
-        ),
-        Capacity::Four => run_own_ring::<4, _, _, _, _, _>(
-            rt, alloc, seed, runs, place, sender, receiver, lists, writer,
-        ),
-        Capacity::Sixteen => run_own_ring::<16, _, _, _, _, _>(
-            rt, alloc, seed, runs, place, sender, receiver, lists, writer,
-        ),
-    })
-}
-
-/// Runs a channel over two programs by a schedule, and writes what the receiver reports: reads the sender's program, the
-/// receiver's, the schedule and the senders' lists. It answers the exit status 0.
-pub fn do_own<S: Read, R: Read, C: Read, L: Read, W: Write>(
-    alloc: Global,
-    place: BlockPlace,
-    capacity: Capacity,
-    sender: &mut S,
-    receiver: &mut R,
-    schedule: &mut C,
-    lists: &mut L,
-    writer: &mut W,
-) -> Result<u8, Failure>
-    ensures does { DoesOwn place capacity result (record {
-      sender = S.remaining sender.old;
-      receiver = R.remaining receiver.old;
-      schedule = C.remaining schedule.old;
-      lists = L.remaining lists.old;
-    }) W.contents writer.old writer.new }
-    ensures unread { HasNoProgram (S.remaining sender.old) → receiver.new ≡ receiver.old }
-    ensures unread_others { HasNoProgram (S.remaining sender.old) ⊎ HasNoProgram (R.remaining receiver.old)
-        → (schedule.new ≡ schedule.old) × (lists.new ≡ lists.old) }
-    ensures unread_lists { HasNoSchedule (C.remaining schedule.old) → lists.new ≡ lists.old }
-    ensures status { IfOk result (λ status. status ≤ 1) }
-{
-    Failure::after_own(match capacity {
-        Capacity::One => own_channel_engine::<1, WORDS, _, _, _, _, _>(
-            alloc, place, sender, receiver, schedule, lists, writer,
-        ),
-        Capacity::Two => own_channel_engine::<2, WORDS, _, _, _, _, _>(
-            alloc, place, sender, receiver, schedule, lists, writer,
-        ),
-        Capacity::Four => own_channel_engine::<4, WORDS, _, _, _, _, _>(
-            alloc, place, sender, receiver, schedule, lists, writer,
-        ),
-        Capacity::Sixteen => own_channel_engine::<16, WORDS, _, _, _, _, _>(
-            alloc, place, sender, receiver, schedule, lists, writer,
-        ),
-    })
 }

@@ -1,16 +1,12 @@
--- What answers a schedule and lists of words.
-use Rattle.std.proofs.Common.{◌≡◌, ◌⊎◌, inl, inr, ℕ, Bool, true, false, List, [], refl, sym, subst, ◌∙◌, Result, Ok, Err}
-use Rattle.std.specs.Prelude.{Option, Some, None}
+-- What a schedule and lists of words give.
+use Rattle.std.proofs.Common.{◌≡◌, ◌⊎◌, inl, inr, ℕ, Bool, List, [], refl, sym, subst, ◌∙◌, Result, Ok, Err}
+use Rattle.std.specs.Prelude.{IsErrAnd}
 use Rattle.hart.specs.declared.need.Report.{Report}
 use Rattle.step_machine.specs.History.{OpeningValue, History}
 use Rattle.step_machine.specs.Runs.{Run}
-use Rattle.step_machine.specs.declared.events.Event.{Event}
-use Rattle.recorder.specs.Versions.{ScheduleValue}
-use Rattle.recorder.specs.Versions.ScheduleValue.{plain, recorded}
-use Rattle.recorder.specs.declared.replaying.CheckError.{CheckError}
-use Rattle.recorder.specs.declared.replaying.CheckError.TheVariants as check
-use Rattle.recorder.specs.Replaying.{IsRunRecord, DiffersAt, Differs}
-use Rattle.recorder.specs.Records.{Step, events_in}
+use Rattle.step_machine.specs.Entries.{reported}
+use Rattle.recorder.specs.Versions.{ScheduleValue, events_said}
+use Rattle.poll_close.specs.Layout.{Layout}
 use Rattle.poll_close.specs.Laws.{AcceptedAt, Ring, opening_over}
 use Rattle.poll_close.specs.Places.{layout_of}
 use Rattle.poll_close.specs.Refusals.{RefusesAt}
@@ -21,17 +17,12 @@ use Rattle.poll_close.specs.declared.place.BlockPlace.{BlockPlace}
 use Rattle.engine_support.specs.declared.fault.Fault.{Fault}
 use Rattle.engine_support.specs.declared.fault.Fault.TheVariants.{NoMemory, Refused}
 use Rattle.engine_support.specs.declared.fault.Refusal.{Refusal}
-use Rattle.engine_support.specs.Engines.{Output, OfInput, AnswersBoth}
 use Rattle.engine_support.specs.Faults.{AnswersAs}
-use Rattle.engine_support.specs.Runs.{fault_of_check}
-use Rattle.engine_support.specs.Schedules.{IsNoSchedule}
-use Rattle.ztso_engines.specs.Channels.{fault_from, IsUnfilled, IsDelivery, IsReported, IsUnreported, IsChannelAnswer, Reported}
-use Rattle.ztso_engines.specs.Channels.IsChannelAnswer.{no_schedule, no_lists, unreported, delivered}
-use Rattle.engine_support.specs.inner.Making.{FindsUpToReads, FindsByUpToReads}
-use Rattle.engine_support.specs.inner.Inputs.{IsReadAsSchedule}
-use Rattle.ztso_engines.specs.inner.Inputs.{IsReadAsLists}
-use Rattle.ztso_engines.specs.inner.Reporting.{Reports}
-use Rattle.engine_support.proofs.Endings.{answered_by, handed_on, weaker}
+use Rattle.engine_support.specs.Runs.{Runs}
+use Rattle.engine_support.proofs.RunLaws.{runs_events}
+use Rattle.engine_support.proofs.ScheduleLaws.{stopped_by}
+use Rattle.ztso_engines.specs.Channels.{fault_from, IsUnfilled, IsReported, IsUnreported, Reported}
+use Rattle.ztso_engines.specs.OwnChannels.{IsOwnReported}
 
 -- ---- what a schedule and lists give
 
@@ -56,96 +47,30 @@ module _ (ring : Ring) (B M : ℕ) (place : BlockPlace) (lists : List (List ℕ)
             (refuse is.0 (inl (record { why = because; unfilled = is.2; refuses = refuses; is_fault = is.1 })))
       ]
 
-  -- where a record differs
-  pub differs : (finish : Bool) {X : Type 0} (view : X → List Report) (steps : List Step) (o : OpeningValue) (error : CheckError) (fault : Fault)
-      → o ≡ opening_over ring lists (layout_of place []) → AcceptedAt ring M lists (layout_of place []) → fault ≡ fault_of_check error
-      → Differs (DiffersAt B M o steps) error → AnswersAs (Reports ring B M (layout_of place []) finish (recorded steps) lists) view (Err fault)
-  differs finish view steps o check.NoMemory fault is within holds other = rw holds tt
-  differs finish view steps o (check.Differs event) fault is within holds other =
-      rw holds (inr (record { within = within; differs = (event, subst (λ (s : OpeningValue). DiffersAt B M s steps event) is other, refl) }))
+-- ---- what runs from its opening
 
-  -- what is reported of events alone comes of their run
-  ran : (finish : Bool) (events : List Event) (reports : List Report) → Reported finish ring B M lists (layout_of place []) events reports
-      → (history : History) × Run B M (opening_over ring lists (layout_of place [])) events history
-  ran false events reports is = (is.history, is.run)
-  ran true events reports is = (is.middle, is.run)
+module _ (ring : Ring) (B M : ℕ) (l : Layout) (said : ScheduleValue) (lists : List (List ℕ)) (o : OpeningValue) (is : o ≡ opening_over ring lists l)
+    (within : AcceptedAt ring M lists l) where
+  runs_there : (a : Result History Refusal) → Runs B M o said a → Runs B M (opening_over ring lists l) said a
+  runs_there a = subst (λ (p : OpeningValue). Runs B M p said a) is
 
-  pub events_reported : (finish : Bool) (events : List Event) (reports : List Report) → AcceptedAt ring M lists (layout_of place [])
-      → Reported finish ring B M lists (layout_of place []) events reports
-      → IsReported ring B M (layout_of place []) finish (plain events) lists reports
-  events_reported finish events reports within is = record { within = within; ran = ran finish events reports is; delivers = is }
+  -- a record that differs is refused as such
+  pub differs_as : {A X Y : Type 0} (IsAnswer : Result A Refusal → Type 0) (view : X → History) (seen : Y → A) (result : Result Y Fault) (fault : Fault)
+      → ((r : Refusal) → IsUnreported ring B M l said lists r → IsAnswer (Err r)) → IsErrAnd result (λ e. e ≡ fault)
+      → AnswersAs (Runs B M o said) view (Err fault) → AnswersAs IsAnswer seen result
+  differs_as IsAnswer view seen result fault more =
+      stopped_by (Runs B M o said) IsAnswer view seen result fault
+      (λ r differs. more r (inr (record { within = within; differs = runs_there (Err r) differs })))
 
-  -- and of a record, of the run in which it was checked
-  pub steps_reported : (finish : Bool) (steps : List Step) (o : OpeningValue) (t : History) (reports : List Report)
-      → ((p : OpeningValue) → IsRunRecord B M p steps t → Run B M p (events_in steps) t) → o ≡ opening_over ring lists (layout_of place [])
-      → AcceptedAt ring M lists (layout_of place []) → IsRunRecord B M o steps t
-      → (Run B M (opening_over ring lists (layout_of place [])) (events_in steps) t
-      → Reported finish ring B M lists (layout_of place []) (events_in steps) reports)
-      → IsReported ring B M (layout_of place []) finish (recorded steps) lists reports
-  steps_reported finish steps o t reports runs is within made delivers =
-      let checked = subst (λ (p : OpeningValue). IsRunRecord B M p steps t) is made in
-      record { within = within; ran = (t, checked); delivers = delivers (runs _ checked) }
+  -- what is reported comes of the run
+  pub run_reported : (finish : Bool) (t : History) (reports : List Report) → Runs B M o said (Ok t)
+      → (Run B M (opening_over ring lists l) (events_said said) t → Reported finish ring B M lists l (events_said said) reports)
+      → IsReported ring B M l finish said lists reports
+  run_reported finish t reports ran delivers =
+      let here = runs_there (Ok t) ran in
+      record { within = within; ran = (t, here); delivers = delivers (runs_events B M (opening_over ring lists l) said t here) }
 
--- ---- what answers both
-
-module _ (ring : Ring) (B M : ℕ) (place : BlockPlace) (finish : Bool) (first second : Option (List ℕ)) where
-  abbrev IsAnswer : List ℕ → List ℕ → Result Output Refusal → Type 0
-  IsAnswer = IsChannelAnswer ring B M (layout_of place []) finish
-
-  abbrev Answers : Result Output Refusal → Type 0
-  Answers = AnswersBoth IsAnswer first second
-
-  abbrev ReadsSchedule : ScheduleValue → Type 0
-  ReadsSchedule said = OfInput first (λ bytes. IsReadAsSchedule bytes (Ok said))
-
-  abbrev ReadsLists : List (List ℕ) → Type 0
-  ReadsLists lists = OfInput second (λ bytes. IsReadAsLists bytes (Ok lists))
-
-  abbrev GivesReports : ScheduleValue → List (List ℕ) → Result (List Report) Refusal → Type 0
-  GivesReports = Reports ring B M (layout_of place []) finish
-
-  -- both were read, and there are reports
-  pub answers_delivered : (said : ScheduleValue) (lists : List (List ℕ)) (answer : Output) → ReadsSchedule said → ReadsLists lists
-      → IsDelivery ring B M (layout_of place []) finish said lists answer → Answers (Ok answer)
-  answers_delivered said lists answer schedule input is =
-      weaker first _ _ (λ text says. weaker second _ _ (λ words holds. delivered said lists answer says holds is) input) schedule
-
-  -- or there are none
-  answers_unreported : (said : ScheduleValue) (lists : List (List ℕ)) (refusal : Refusal) → ReadsSchedule said → ReadsLists lists
-      → IsUnreported ring B M (layout_of place []) said lists refusal → Answers (Err refusal)
-  answers_unreported said lists refusal schedule input none =
-      weaker first _ _ (λ text says. weaker second _ _ (λ words holds. unreported said lists refusal says holds none) input) schedule
-
-  -- the schedule is refused, whatever the second input is
-  answers_no_schedule : (refusal : Refusal) → OfInput first (λ bytes. IsNoSchedule bytes refusal) → Answers (Err refusal)
-  answers_no_schedule refusal none = weaker first _ _ (λ text bad. any second text bad) none
-    where
-      any : (known : Option (List ℕ)) (text : List ℕ) → IsNoSchedule text refusal → OfInput known (λ words. IsAnswer text words (Err refusal))
-      any None text bad = ([], no_schedule refusal bad)
-      any (Some words) text bad = no_schedule refusal bad
-
-  answers_no_lists : (said : ScheduleValue) (refusal : Refusal) → ReadsSchedule said → OfInput second (λ bytes. IsReadAsLists bytes (Err refusal))
-      → Answers (Err refusal)
-  answers_no_lists said refusal schedule none =
-      weaker first _ _ (λ text says. weaker second _ _ (λ words bad. no_lists said refusal says bad) none) schedule
-
-  -- ---- faults on the way
-
-  module _ {X : Type 0} (seen : X → Output) (result : Result X Fault) (fault : Fault) (is : result ≡ Err fault) where
-    pub schedule_fault : {Y : Type 0} (view : Y → ScheduleValue) → FindsByUpToReads IsReadAsSchedule view first (Err fault) → FindsUpToReads Answers seen result
-    schedule_fault view = handed_on (λ (a : Result ScheduleValue Refusal). OfInput first (λ bytes. IsReadAsSchedule bytes a))
-        Answers view seen result fault answers_no_schedule is
-
-    pub lists_fault : {Y : Type 0} (view : Y → List (List ℕ)) (said : ScheduleValue) → ReadsSchedule said
-        → FindsByUpToReads IsReadAsLists view second (Err fault)
-        → FindsUpToReads Answers seen result
-    lists_fault view said schedule =
-        handed_on (λ (a : Result (List (List ℕ)) Refusal). OfInput second (λ bytes. IsReadAsLists bytes a)) Answers view seen result fault
-        (λ r. answers_no_lists said r schedule) is
-
-    pub reports_fault : {Y : Type 0} (view : Y → List Report) (said : ScheduleValue) (lists given : List (List ℕ)) → ReadsSchedule said → ReadsLists lists
-        → given ≡ lists → AnswersAs (GivesReports said given) view (Err fault) → FindsUpToReads Answers seen result
-    reports_fault view said lists given schedule input same answers =
-        handed_on (GivesReports said lists) Answers view seen result fault (λ r. answers_unreported said lists r schedule input) is
-        (answered_by (GivesReports said given) (GivesReports said lists) view (Err fault)
-        (λ answer. subst (λ (ls : List (List ℕ)). GivesReports said ls answer) same) answers)
+  -- and all of it, of a user's own channel
+  pub own_reported : (t : History) (reports : List Report) → Runs B M o said (Ok t) → reports ≡ reported 0 t.entries
+      → IsOwnReported ring B M l said lists reports
+  own_reported t reports ran are = record { within = within; history = t; ran = runs_there (Ok t) ran; reports_are = are }

@@ -7,12 +7,11 @@ pub mod Answered
 pub mod HexTexts
 pub mod CodeTexts
 mod ListTexts
+pub mod ProgramLaws
 pub mod OneAnswer
 pub mod OneChannel
 pub mod ChannelLaws
-pub mod ProgramLaws
 pub mod RingLaws
-pub mod OwnLaws
 pub mod OneOwn
 pub mod OneRing
 pub mod SeatsComplete

@@ -1,14 +1,14 @@
 -- What answers `channel` is one answer.
-use Rattle.std.proofs.Common.{◌≡◌, ℕ, zero, suc, ◌%◌, ◌≤◌, ◌<◌, inl, inr, Bool, false, List, [], ◌∷◌, All, length}
+use Rattle.std.proofs.Common.{◌≡◌, ℕ, zero, suc, ◌%◌, ◌≤◌, ◌<◌, inl, inr, Bool, true, false, List, [], ◌∷◌, All, length}
 use Rattle.std.proofs.Common.{Result, Ok, Err, refl, sym, ap, ap₂, ◌∙◌, subst, arith}
 use Rattle.std.specs.List.{flat_map}
-use Rattle.std.specs.Prelude.{slice_index}
+use Rattle.std.specs.Prelude.{Some, slice_index}
 use Rattle.std.proofs.lemmas.Bool.{cases_eq}
 use Rattle.std.proofs.lemmas.List.{get_or-take, length-take-le}
 use Rattle.step_machine.specs.History.{History, at_opening}
 use Rattle.step_machine.specs.Entries.{reported}
 use Rattle.step_machine.proofs.Running.{run-one}
-use Rattle.recorder.specs.Versions.{ScheduleValue, Says, events_said}
+use Rattle.recorder.specs.Versions.{ScheduleValue, events_said}
 use Rattle.poll_close.specs.Layout.{Layout, block_size}
 use Rattle.poll_close.specs.Laws.{AreWords, Ring, AcceptedAt, opening_over}
 use Rattle.poll_close.specs.Refusals.{HasRing, HasPlace, FitsAt, IsBeyond, RefusesAt, ZeroAt, ZeroWordAt}
@@ -19,19 +19,15 @@ use Rattle.engine_support.specs.declared.fault.Fault.TheVariants as fault
 use Rattle.engine_support.specs.declared.fault.Position.{Position}
 use Rattle.engine_support.specs.declared.fault.Position.TheVariants.{Nowhere, Word}
 use Rattle.engine_support.specs.declared.fault.Refusal.{Refusal}
-use Rattle.engine_support.specs.Engines.{Output, Accepted, AreAlike, decoded}
+use Rattle.engine_support.specs.Engines.{Output, AreAlike}
 use Rattle.engine_support.specs.Runs.{Runs}
-use Rattle.engine_support.specs.Schedules.{schedule_of}
+use Rattle.engine_support.specs.Schedules.{schedules}
 use Rattle.engine_support.proofs.RunLaws.{one_difference, runs_or_differs}
-use Rattle.recorder.proofs.HeadLaws.{one_said}
-use Rattle.ztso_engines.specs.Lists.{SaysLists, lists_at}
-use Rattle.ztso_engines.specs.Channels.{HasNoChannel, IsUnfilled, IsChannelAnswer, IsDelivery, IsNoLists, IsUnreported, fault_from, report_line}
-use Rattle.ztso_engines.specs.Channels.IsChannelAnswer.{no_schedule, no_lists, unreported, delivered}
-use Rattle.ztso_engines.proofs.ListTexts.{lists_read, one_lists}
-use Rattle.engine_support.proofs.OneInput.{same_output, one_refusal, said-or_refusal, value_or_refusal}
-
-pub lists_or_refusal : (input : List ℕ) (lists : List (List ℕ)) (r : Refusal) → Accepted SaysLists input lists → IsNoLists input r → ⊥
-lists_or_refusal input lists r = value_or_refusal lists_at SaysLists input lists r (lists_read input lists)
+use Rattle.ztso_engines.specs.Lists.{list_texts}
+use Rattle.ztso_engines.specs.Channels.{HasNoChannel, IsUnfilled, IsChannelAnswer, IsChannelRun, IsDelivery, IsUnreported, fault_from, report_line}
+use Rattle.ztso_engines.proofs.ListTexts.{one_list_text}
+use Rattle.engine_support.proofs.InputLaws.{alike_after, one_after, one_schedule}
+use Rattle.engine_support.proofs.OneInput.{same_output}
 
 -- ---- the first word that is 0
 
@@ -208,52 +204,8 @@ module _ (ring : Ring) (B M : ℕ) (l : Layout) (said : ScheduleValue) (lists : 
   no_reason finish a r is =
       ran_or_reason is.is_reported.ran.0 r is.is_reported.within is.is_reported.ran.1
 
--- a text has one value
-module _ (P : ScheduleValue → List (List ℕ) → Type 0) (schedule input : List ℕ) where
-  read_again : (said also : ScheduleValue) (lists words : List (List ℕ)) → Accepted Says schedule said → Accepted Says schedule also
-      → Accepted SaysLists input lists → Accepted SaysLists input words → P also words → P said lists
-  read_again said also lists words is other tells holds p =
-      subst (λ (s : ScheduleValue). P s lists) (one_said schedule also said other.value_is is.value_is)
-      (subst (λ (ls : List (List ℕ)). P also ls) (one_lists input words lists holds.value_is tells.value_is) p)
-
-module _ (ring : Ring) (B M : ℕ) (l : Layout) (finish : Bool) (schedule input : List ℕ) where
-  abbrev IsAnswer : Result Output Refusal → Type 0
-  IsAnswer = IsChannelAnswer ring B M l finish schedule input
-
-  delivered_or_refused : (a : Output) (s : Refusal) → IsAnswer (Ok a) → IsAnswer (Err s) → ⊥
-  delivered_or_refused a s (delivered said lists given is reads tells) (no_schedule r none) = said-or_refusal schedule said s is none
-  delivered_or_refused a s (delivered said lists given is reads tells) (no_lists also r other none) =
-      lists_or_refusal input lists s reads none
-  delivered_or_refused a s (delivered said lists given is reads tells) (unreported also words r other says none) =
-      no_reason ring B M l said lists finish a s tells
-      (read_again (λ x ls. IsUnreported ring B M l x ls s) schedule input said also lists words is other reads says none)
-
-  one_refused : (r s : Refusal) → IsAnswer (Err r) → IsAnswer (Err s) → r ≡ s
-  one_refused r s (no_schedule x none) (no_schedule y other) = one_refusal (decoded schedule_of schedule) r s none other
-  one_refused r s (no_schedule x none) (no_lists said y is more) = absurd (said-or_refusal schedule said r is none)
-  one_refused r s (no_schedule x none) (unreported said lists y is reads more) = absurd (said-or_refusal schedule said r is none)
-  one_refused r s (no_lists said x is more) (no_schedule y none) = absurd (said-or_refusal schedule said s is none)
-  one_refused r s (unreported said lists x is reads more) (no_schedule y none) = absurd (said-or_refusal schedule said s is none)
-  one_refused r s (no_lists said x is none) (no_lists also y other more) = one_refusal (decoded lists_at input) r s none more
-  one_refused r s (no_lists said x is none) (unreported also words y other says more) = absurd (lists_or_refusal input words r says none)
-  one_refused r s (unreported said lists x is reads more) (no_lists also y other none) = absurd (lists_or_refusal input lists s reads none)
-  one_refused r s (unreported said lists x is reads none) (unreported also words y other says more) =
-      one_reason ring B M l said lists r s none
-      (read_again (λ t ls. IsUnreported ring B M l t ls s) schedule input said also lists words is other reads says more)
-
-  pub alike_channel : (a b : Result Output Refusal) → IsAnswer a → IsAnswer b → AreAlike a b
-  alike_channel (Ok a) (Ok b) is other = tt
-  alike_channel (Ok a) (Err s) is other = delivered_or_refused a s is other
-  alike_channel (Err r) (Ok b) is other = delivered_or_refused b r other is
-  alike_channel (Err r) (Err s) is other = one_refused r s is other
-
-module _ (ring : Ring) (B M : ℕ) (l : Layout) (schedule input : List ℕ) where
-  abbrev IsUnfinished : Result Output Refusal → Type 0
-  IsUnfinished = IsChannelAnswer ring B M l false schedule input
-
-  one_delivery : (said : ScheduleValue) (lists : List (List ℕ)) (a b : Output)
-      → IsDelivery ring B M l false said lists a → IsDelivery ring B M l false said lists b → a ≡ b
-  one_delivery said lists a b is other =
+  one_delivery : (a b : Output) → IsDelivery ring B M l false said lists a → IsDelivery ring B M l false said lists b → a ≡ b
+  one_delivery a b is other =
       let first = is.is_reported.delivers in
       let second = other.is_reported.delivers in
       let histories : first.history ≡ second.history = run-one B M (at_opening (opening_over ring lists l)) (events_said said)
@@ -261,10 +213,27 @@ module _ (ring : Ring) (B M : ℕ) (l : Layout) (schedule input : List ℕ) wher
       same_output a b (is.text
       ∙ ap (flat_map report_line) (first.answer ∙ ap (λ (h : History). reported 0 h.entries) histories ∙ sym second.answer) ∙ sym other.text)
 
-  pub one_channel : (a b : Result Output Refusal) → IsUnfinished a → IsUnfinished b → a ≡ b
-  one_channel (Ok a) (Ok b) (delivered said lists given is reads tells) (delivered also words other says holds more) =
-      ap (λ (out : Output). Ok out) (one_delivery said lists a b tells
-      (read_again (λ t ls. IsDelivery ring B M l false t ls b) schedule input said also lists words is says reads holds more))
-  one_channel (Ok a) (Err s) is other = absurd (delivered_or_refused ring B M l false schedule input a s is other)
-  one_channel (Err r) (Ok b) is other = absurd (delivered_or_refused ring B M l false schedule input b r other is)
-  one_channel (Err r) (Err s) is other = ap (λ (x : Refusal). Err x) (one_refused ring B M l false schedule input r s is other)
+  alike_run : (finish : Bool) (a b : Result Output Refusal) → IsChannelRun ring B M l finish said lists a → IsChannelRun ring B M l finish said lists b
+      → AreAlike a b
+  alike_run finish (Ok a) (Ok b) is other = tt
+  alike_run finish (Ok a) (Err s) is none = no_reason finish a s is none
+  alike_run finish (Err r) (Ok b) none is = no_reason finish b r is none
+  alike_run finish (Err r) (Err s) none other = one_reason r s none other
+
+  one_channel_run : (a b : Result Output Refusal) → IsChannelRun ring B M l false said lists a → IsChannelRun ring B M l false said lists b → a ≡ b
+  one_channel_run (Ok a) (Ok b) is other = ap (λ (out : Output). Ok out) (one_delivery a b is other)
+  one_channel_run (Ok a) (Err s) is none = absurd (no_reason false a s is none)
+  one_channel_run (Err r) (Ok b) none is = absurd (no_reason false b r is none)
+  one_channel_run (Err r) (Err s) none other = ap (λ (x : Refusal). Err x) (one_reason r s none other)
+
+module _ (ring : Ring) (B M : ℕ) (l : Layout) (schedule input : List ℕ) where
+  abbrev IsAnswer : (finish : Bool) → Result Output Refusal → Type 0
+  IsAnswer finish = IsChannelAnswer ring B M l finish (Some schedule) (Some input)
+
+  pub alike_channel : (a b : Result Output Refusal) → IsAnswer true a → IsAnswer true b → AreAlike a b
+  alike_channel = alike_after schedules (λ r s. r ≡ s) one_schedule AreAlike (λ r s e. e) schedule _ (λ said.
+      alike_after list_texts (λ r s. r ≡ s) one_list_text AreAlike (λ r s e. e) input _ (λ lists. alike_run ring B M l said lists true))
+
+  pub one_channel : (a b : Result Output Refusal) → IsAnswer false a → IsAnswer false b → a ≡ b
+  one_channel = one_after schedules one_schedule schedule _ (λ said. one_after list_texts one_list_text input _
+      (λ lists. one_channel_run ring B M l said lists))

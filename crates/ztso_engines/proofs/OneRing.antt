@@ -1,5 +1,5 @@
 -- What answers `ring` is one answer where all runs are clean, and where they aren't each answer tells of that.
-use Rattle.std.proofs.Common.{◌≡◌, ℕ, zero, suc, ◌+◌, ◌<◌, Bool, true, false, List, [], ◌∷◌, ◌++◌, All, length, Result, Ok}
+use Rattle.std.proofs.Common.{◌≡◌, ℕ, zero, suc, ◌+◌, ◌<◌, Bool, true, false, List, [], ◌∷◌, ◌++◌, All, length, Result, Ok, Err}
 use Rattle.std.proofs.Common.{refl, sym, ap, ap₂, subst, ◌∙◌, arith}
 use Rattle.std.specs.Prelude.{Option, Some, None, codes}
 use Rattle.std.specs.Fmt.{decimal}
@@ -9,30 +9,29 @@ use Rattle.step_machine.specs.History.{History, OpeningValue, at_opening}
 use Rattle.step_machine.specs.Runs.{Run}
 use Rattle.step_machine.proofs.Running.{run-one}
 use Rattle.recorder.specs.Drawing.{schedule_drawn}
-use Rattle.assembler.proofs.OneCode as assembler
 use Rattle.poll_close.specs.Breaches.{first_breach}
-use Rattle.poll_close.specs.Laws.{Ring, opening_over}
+use Rattle.poll_close.specs.Laws.{opening_over}
 use Rattle.poll_close.specs.Layout.{Layout}
 use Rattle.poll_close.specs.Places.{layout_of}
 use Rattle.poll_close.specs.declared.clean.Breach.{Breach}
 use Rattle.poll_close.specs.declared.place.BlockPlace.{BlockPlace}
 use Rattle.poll_close.proofs.BreachLaws.{first_law}
 use Rattle.engine_support.specs.declared.fault.Refusal.{Refusal}
-use Rattle.engine_support.specs.Engines.{decoded}
-use Rattle.engine_support.proofs.OneInput.{one_refusal}
+use Rattle.engine_support.specs.declared.fault.Role.TheVariants.{Sender, Receiver}
+use Rattle.engine_support.specs.Inputs.{After, Format}
+use Rattle.engine_support.proofs.InputLaws.{IsOne, alike_after}
 use Rattle.ring_trials.specs.Answers.{IsTold, IsToldClean, clean_text, sender_line, sender_lines}
 use Rattle.ring_trials.specs.Own.{ring_of, lists_of, layout_from, start_of}
 use Rattle.ring_trials.specs.Trials.{AreAllClean, AreRuns, AreTotals, IsFirstUnclean, IsRunOf, KeepsAll, closed_in, most_of, schedule_of}
 use Rattle.ring_trials.specs.declared.own.Own.{Own}
 use Rattle.ring_trials.specs.declared.runs.Total.{Total}
-use Rattle.ztso_engines.specs.Channels.{HasNoChannel}
-use Rattle.ztso_engines.specs.Lists.{lists_at}
-use Rattle.ztso_engines.specs.Rings.{AreAlikeRuns, Draws, IsOwn, IsRingAnswer, runs_of}
-use Rattle.ztso_engines.specs.Rings.IsRingAnswer.{no_programs, no_lists, no_channel, told}
-use Rattle.ztso_engines.specs.declared.programs.Role.{Role}
-use Rattle.ztso_engines.proofs.ListTexts.{one_lists}
-use Rattle.ztso_engines.proofs.OneChannel.{channel_or_refusal, lists_or_refusal, one_channel_refusal}
-use Rattle.ztso_engines.proofs.OneOwn.{one_no_programs, programs_or_none}
+use Rattle.ztso_engines.specs.Lists.{list_texts}
+use Rattle.ztso_engines.specs.OwnChannels.{ring_over}
+use Rattle.ztso_engines.specs.Programs.{programs}
+use Rattle.ztso_engines.specs.Rings.{AreAlikeRuns, AreDrawn, Draws, IsOwn, IsRingAnswer, runs_of}
+use Rattle.ztso_engines.proofs.ListTexts.{one_list_text}
+use Rattle.ztso_engines.proofs.OneChannel.{channel_or_refusal, one_channel_refusal}
+use Rattle.ztso_engines.proofs.ProgramLaws.{one_program}
 
 -- ---- the lines of totals
 
@@ -139,60 +138,31 @@ told_alike d own also rings lists layouts (a, false) (b, false) is other = tt
 
 -- ---- the answer
 
-module _ (d : Draws) (sender receiver input : List ℕ) where
-  abbrev IsAnswer : Option Role → Result (List ℕ × Bool) Refusal → Type 0
-  IsAnswer = IsRingAnswer d sender receiver input
-
-  abbrev Alike : (v w : Option Role) (a b : Result (List ℕ × Bool) Refusal) → Type 0
-  Alike v w a b = (v ≡ w) × AreAlikeRuns a b
-
-  module _ (own also : Own) (is : IsOwn d.place sender receiver input own) (other : IsOwn d.place sender receiver input also) where
+module _ (d : Draws) (sends receives : List ℕ) (ls : List (List ℕ)) where
+  module _ (own also : Own) (is : IsOwn d.place sends receives ls own) (other : IsOwn d.place sends receives ls also) where
     same_rings : ring_of own ≡ ring_of also
-    same_rings =
-        ap₂ (λ (s r : List ℕ). record { sender = s; receiver = r; least = 1 })
-        (assembler.one_code sender own.sender.items also.sender.items is.sends.value_is other.sends.value_is)
-        (assembler.one_code receiver own.receiver.items also.receiver.items is.receives.value_is other.receives.value_is)
-
-    same_lists : lists_of own ≡ lists_of also
-    same_lists = one_lists input (lists_of own) (lists_of also) is.carries.value_is other.carries.value_is
+    same_rings = ap₂ ring_over (is.sends_are ∙ sym other.sends_are) (is.receives_are ∙ sym other.receives_are)
 
     same_layouts : layout_from own ≡ layout_from also
     same_layouts = ap (λ (p : BlockPlace). layout_of p []) (is.lies ∙ sym other.lies)
 
-    -- what holds of the one's words holds of the other's
-    moved : (P : Ring → List (List ℕ) → Layout → Type 0) → P (ring_of also) (lists_of also) (layout_from also)
-        → P (ring_of own) (lists_of own) (layout_from own)
-    moved P holds =
-        subst (λ (r : Ring). P r (lists_of own) (layout_from own)) (sym same_rings)
-        (subst (λ (ls : List (List ℕ)). P (ring_of also) ls (layout_from own)) (sym same_lists)
-        (subst (λ (l : Layout). P (ring_of also) (lists_of also) l) (sym same_layouts) holds))
+    same_told : (a b : List ℕ × Bool) → IsTold (runs_of d own) d.runs a → IsTold (runs_of d also) d.runs b → AreAlikeRuns (Ok a) (Ok b)
+    same_told = told_alike d own also same_rings (is.lists_are ∙ sym other.lists_are) same_layouts
 
-    refused_too : (r : Refusal) → HasNoChannel (ring_of also) d.M (layout_from also) (lists_of also) r
-        → HasNoChannel (ring_of own) d.M (layout_from own) (lists_of own) r
-    refused_too r none = moved (λ ring ls l. HasNoChannel ring d.M l ls r) none
+  one_drawn : (a b : Result (List ℕ × Bool) Refusal) → AreDrawn d sends receives ls a → AreDrawn d sends receives ls b → AreAlikeRuns a b
+  one_drawn (Ok a) (Ok b) is other = same_told is.own other.own is.is_own other.is_own a b is.told other.told
+  one_drawn (Ok (a, true)) (Err s) is none = channel_or_refusal (ring_over sends receives) d.M (layout_of d.place []) ls s is.within none
+  one_drawn (Ok (a, false)) (Err s) is none = channel_or_refusal (ring_over sends receives) d.M (layout_of d.place []) ls s is.within none
+  one_drawn (Err r) (Ok b) none is = channel_or_refusal (ring_over sends receives) d.M (layout_of d.place []) ls r is.within none
+  one_drawn (Err r) (Err s) none other = one_channel_refusal (ring_over sends receives) d.M (layout_of d.place []) ls r s none other
 
-  pub one_ring : (v w : Option Role) (a b : Result (List ℕ × Bool) Refusal) → IsAnswer v a → IsAnswer w b → Alike v w a b
-  one_ring v w a b (no_programs x r none) (no_programs y s other) = one_no_programs sender receiver x y r s none other
-  one_ring v w a b (no_programs x r none) (no_lists s1 r1 s is also bad) = absurd (programs_or_none sender receiver s1 r1 x r is also none)
-  one_ring v w a b (no_programs x r none) (no_channel own s is bad) =
-      absurd (programs_or_none sender receiver own.sender.items own.receiver.items x r is.sends is.receives none)
-  one_ring v w a b (no_programs x r none) (told own out is within tells) =
-      absurd (programs_or_none sender receiver own.sender.items own.receiver.items x r is.sends is.receives none)
-  one_ring v w a b (no_lists s1 r1 s is also bad) (no_programs x r none) = absurd (programs_or_none sender receiver s1 r1 x r is also none)
-  one_ring v w a b (no_channel own s is bad) (no_programs x r none) =
-      absurd (programs_or_none sender receiver own.sender.items own.receiver.items x r is.sends is.receives none)
-  one_ring v w a b (told own out is within tells) (no_programs x r none) =
-      absurd (programs_or_none sender receiver own.sender.items own.receiver.items x r is.sends is.receives none)
-  one_ring v w a b (no_lists s1 r1 r is also bad) (no_lists s2 r2 s given too other) = (refl, one_refusal (decoded lists_at input) r s bad other)
-  one_ring v w a b (no_lists s1 r1 r is also bad) (no_channel own s given other) = absurd (lists_or_refusal input (lists_of own) r given.carries bad)
-  one_ring v w a b (no_lists s1 r1 r is also bad) (told own out given within tells) = absurd (lists_or_refusal input (lists_of own) r given.carries bad)
-  one_ring v w a b (no_channel own s given other) (no_lists s1 r1 r is also bad) = absurd (lists_or_refusal input (lists_of own) r given.carries bad)
-  one_ring v w a b (told own out given within tells) (no_lists s1 r1 r is also bad) = absurd (lists_or_refusal input (lists_of own) r given.carries bad)
-  one_ring v w a b (no_channel own r is bad) (no_channel also s other none) =
-      (refl, one_channel_refusal (ring_of own) d.M (layout_from own) (lists_of own) r s bad (refused_too own also is other s none))
-  one_ring v w a b (no_channel own r is bad) (told also out other within tells) =
-      absurd (channel_or_refusal (ring_of also) d.M (layout_from also) (lists_of also) r within (refused_too also own other is r bad))
-  one_ring v w a b (told own out is within tells) (no_channel also s other none) =
-      absurd (channel_or_refusal (ring_of own) d.M (layout_from own) (lists_of own) s within (refused_too own also is other s none))
-  one_ring v w a b (told own out is within tells) (told also out2 other here reports) =
-      (refl, told_alike d own also (same_rings own also is other) (same_lists own also is other) (same_layouts own also is other) out out2 tells reports)
+pub one_ring : (d : Draws) (sender receiver input : List ℕ) (a b : Result (List ℕ × Bool) Refusal)
+    → IsRingAnswer d (Some sender) (Some receiver) (Some input) a → IsRingAnswer d (Some sender) (Some receiver) (Some input) b → AreAlikeRuns a b
+one_ring d sender receiver input =
+    after (programs Sender) (one_program Sender) sender _ (λ sends. after (programs Receiver) (one_program Receiver) receiver _
+    (λ receives. after list_texts one_list_text input _ (λ ls. one_drawn d sends receives ls)))
+  where
+    after : {V : Type 0} (form : Format V) (is : IsOne form (λ r s. r ≡ s)) (bytes : List ℕ) (Next : V → Result (List ℕ × Bool) Refusal → Type 0)
+        → ((v : V) (a b : Result (List ℕ × Bool) Refusal) → Next v a → Next v b → AreAlikeRuns a b)
+        → (a b : Result (List ℕ × Bool) Refusal) → After form (Some bytes) Next a → After form (Some bytes) Next b → AreAlikeRuns a b
+    after form is = alike_after form (λ r s. r ≡ s) is AreAlikeRuns (λ r s e. e)

@@ -1,5 +1,5 @@
 -- The command `asm`: the words of an assembly text, a line each.
-use Rattle.std.specs.Prelude.{ℕ, ◌≡◌, List, ◌∷◌, [], ◌++◌, Option, Result}
+use Rattle.std.specs.Prelude.{ℕ, ◌≡◌, List, ◌∷◌, [], ◌++◌, IsOkAnd, Option, Result}
 use Rattle.std.specs.List.{flat_map}
 use Rattle.texts.specs.Numbers.{hex_word}
 use Rattle.texts.specs.Results.{map_err}
@@ -9,7 +9,8 @@ use Rattle.assembler.specs.Program.{IsCode}
 use Rattle.assembler.specs.Faults.{asm_number, Refusal as AsmRefusal}
 use Rattle.engine_support.specs.declared.fault.Refusal.{Refusal}
 use Rattle.engine_support.specs.Faults.{refused_at}
-use Rattle.engine_support.specs.Engines.{ByValue, Output}
+use Rattle.engine_support.specs.Engines.{Output}
+use Rattle.engine_support.specs.Inputs.{After, Format, format}
 
 -- a fault of an assembly text, refused by its number at its line
 abbrev pub refused_program : {V : Type 0} → Result V AsmRefusal → Result V Refusal
@@ -23,6 +24,10 @@ asm_at text = refused_program (assembled text)
 abbrev pub hex_line : ℕ → List ℕ
 hex_line word = hex_word word ++ 10 ∷ []
 
+-- inputs that are assembly texts, with the words of their code
+abbrev pub assembly_texts : Format (List ℕ)
+assembly_texts = format IsCode asm_at
+
 -- What answers an input: the lines of the words that it is assembled to.
-abbrev pub IsAsmAnswer : List ℕ → Result Output Refusal → Type 0
-IsAsmAnswer = ByValue IsCode asm_at (λ words answer. answer.0 ≡ flat_map hex_line words)
+abbrev pub IsAsmAnswer : (input : Option (List ℕ)) → Result Output Refusal → Type 0
+IsAsmAnswer input = After assembly_texts input (λ words given. IsOkAnd given (λ answer. answer.0 ≡ flat_map hex_line words))

@@ -1,12 +1,12 @@
 -- The command `channel`: a schedule and the senders' lists in, what the receiver reports out.
-use Rattle.std.specs.Prelude.{ℕ, ◌≡◌, ◌⊎◌, Bool, true, false, List, [], ◌∷◌, ◌++◌, Result, Ok, Err, codes}
+use Rattle.std.specs.Prelude.{ℕ, ◌≡◌, ◌⊎◌, Bool, true, false, List, [], ◌∷◌, ◌++◌, Option, Result, Ok, Err, codes}
 use Rattle.std.specs.Fmt.{decimal}
 use Rattle.std.specs.List.{flat_map}
 use Rattle.hart.specs.declared.need.Report.{Report}
 use Rattle.hart.specs.declared.need.Report.TheVariants as report
 use Rattle.step_machine.specs.declared.events.Event.{Event}
 use Rattle.step_machine.specs.History.{History}
-use Rattle.recorder.specs.Versions.{ScheduleValue, Says, events_said}
+use Rattle.recorder.specs.Versions.{ScheduleValue, events_said}
 use Rattle.poll_close.specs.Layout.{Layout}
 use Rattle.poll_close.specs.Laws.{Ring, AcceptedAt as IsWithin, opening_over}
 use Rattle.poll_close.specs.Delivery.{DeliversOver, DeliversWholeOver}
@@ -18,10 +18,11 @@ use Rattle.engine_support.specs.declared.fault.Fault.{Fault}
 use Rattle.engine_support.specs.declared.fault.Fault.TheVariants as fault
 use Rattle.engine_support.specs.declared.fault.Position.TheVariants as place
 use Rattle.engine_support.specs.declared.fault.Refusal.{Refusal}
-use Rattle.engine_support.specs.Engines.{Output, Accepted, decoded}
-use Rattle.engine_support.specs.Schedules.{IsNoSchedule}
+use Rattle.engine_support.specs.Engines.{Output}
 use Rattle.engine_support.specs.Runs.{Runs}
-use Rattle.ztso_engines.specs.Lists.{SaysLists, lists_at}
+use Rattle.engine_support.specs.Inputs.{After}
+use Rattle.engine_support.specs.Schedules.{schedules}
+use Rattle.ztso_engines.specs.Lists.{list_texts}
 
 -- `took I W` or `closed I`, and a line end
 abbrev pub report_line : Report → List ℕ
@@ -74,17 +75,13 @@ pub record IsOtherRun (ring : Ring) (B M : ℕ) (l : Layout) (said : ScheduleVal
 abbrev pub IsUnreported : (ring : Ring) (B M : ℕ) (l : Layout) (said : ScheduleValue) (lists : List (List ℕ)) → Refusal → Type 0
 IsUnreported ring B M l said lists refusal = HasNoChannel ring M l lists refusal ⊎ IsOtherRun ring B M l said lists refusal
 
--- The input says no lists, for this reason.
-abbrev pub IsNoLists : List ℕ → Refusal → Type 0
-IsNoLists input refusal = decoded lists_at input ≡ Err refusal
+-- what a schedule writes over these lists, or why nothing
+abbrev pub IsChannelRun : Ring → (B M : ℕ) → Layout → (finish : Bool) → ScheduleValue → List (List ℕ) → Result Output Refusal → Type 0
+IsChannelRun ring B M l finish said lists (Ok answer) = IsDelivery ring B M l finish said lists answer
+IsChannelRun ring B M l finish said lists (Err refusal) = IsUnreported ring B M l said lists refusal
 
--- What answers a schedule of either version and lists. The schedule is judged first, then the text of lists,
--- then the lists and the place, and then a record.
-pub data IsChannelAnswer (ring : Ring) (B M : ℕ) (l : Layout) (finish : Bool) (schedule input : List ℕ) : Result Output Refusal → Type 0 where
-  no_schedule : (refusal : Refusal) → IsNoSchedule schedule refusal → IsChannelAnswer ring B M l finish schedule input (Err refusal)
-  no_lists : (said : ScheduleValue) (refusal : Refusal) → Accepted Says schedule said → IsNoLists input refusal
-      → IsChannelAnswer ring B M l finish schedule input (Err refusal)
-  unreported : (said : ScheduleValue) (lists : List (List ℕ)) (refusal : Refusal) → Accepted Says schedule said → Accepted SaysLists input lists
-      → IsUnreported ring B M l said lists refusal → IsChannelAnswer ring B M l finish schedule input (Err refusal)
-  delivered : (said : ScheduleValue) (lists : List (List ℕ)) (answer : Output) → Accepted Says schedule said → Accepted SaysLists input lists
-      → IsDelivery ring B M l finish said lists answer → IsChannelAnswer ring B M l finish schedule input (Ok answer)
+-- What answers a schedule of either version and lists. They are judged in the order in which they are read, then the lists
+-- and the place, and then a record.
+abbrev pub IsChannelAnswer : Ring → (B M : ℕ) → Layout → (finish : Bool) → (schedule input : Option (List ℕ)) → Result Output Refusal → Type 0
+IsChannelAnswer ring B M l finish schedule input =
+    After schedules schedule (λ said. After list_texts input (IsChannelRun ring B M l finish said))

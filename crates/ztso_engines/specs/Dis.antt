@@ -1,5 +1,5 @@
 -- The command `dis`: the instructions of words in hex, a line each.
-use Rattle.std.specs.Prelude.{ℕ, ◌≡◌, ◌+◌, List, [], ◌∷◌, ◌++◌, Option, Some, None, Result, Ok, codes}
+use Rattle.std.specs.Prelude.{ℕ, ◌≡◌, ◌+◌, List, [], ◌∷◌, ◌++◌, IsOkAnd, Option, Some, None, Result, Ok, codes}
 use Rattle.std.specs.List.{AllZip, flat_map}
 use Rattle.std.specs.Str.Lines.{lines}
 use Rattle.texts.specs.Numbers.{IsHexWord}
@@ -12,7 +12,8 @@ use Rattle.engine_support.specs.declared.fault.Refusal.{Refusal}
 use Rattle.texts.specs.Cutting.{tokens}
 use Rattle.engine_support.specs.LineFaults.{at_line}
 use Rattle.ztso_engines.specs.Code.{code_at}
-use Rattle.engine_support.specs.Engines.{ByValue, Output}
+use Rattle.engine_support.specs.Engines.{Output}
+use Rattle.engine_support.specs.Inputs.{After, Format, format}
 
 -- The text says these instruction words: each word of its lines is 8 hex digits that say the next one.
 abbrev pub SaysCode : List ℕ → List ℕ → Type 0
@@ -38,6 +39,10 @@ meant_text (Some instr) = text_of instr
 abbrev pub instr_line : ℕ → List ℕ
 instr_line word = meant_text (meaning word) ++ 10 ∷ []
 
+-- inputs that are instruction words
+abbrev pub code_texts : Format (List ℕ)
+code_texts = format SaysCode dis_at
+
 -- What answers an input: the lines of what its words mean.
-abbrev pub IsDisAnswer : List ℕ → Result Output Refusal → Type 0
-IsDisAnswer = ByValue SaysCode dis_at (λ code answer. answer.0 ≡ flat_map instr_line code)
+abbrev pub IsDisAnswer : (input : Option (List ℕ)) → Result Output Refusal → Type 0
+IsDisAnswer input = After code_texts input (λ code given. IsOkAnd given (λ answer. answer.0 ≡ flat_map instr_line code))

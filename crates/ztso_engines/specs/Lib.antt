@@ -12,6 +12,6 @@ pub mod inner
 pub mod Lists
 pub mod Channels
 pub mod Programs
-pub mod Rings
 pub mod OwnChannels
+pub mod Rings
 pub mod Threads

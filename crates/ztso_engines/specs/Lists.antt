@@ -7,6 +7,7 @@ use Rattle.texts.specs.Pieces.{pieces}
 use Rattle.texts.specs.declared.pieces.Separators.TheVariants.{Spaces}
 use Rattle.texts.specs.Formats.{each, each_at}
 use Rattle.engine_support.specs.declared.fault.Refusal.{Refusal}
+use Rattle.engine_support.specs.Inputs.{Format, format}
 use Rattle.engine_support.specs.LineFaults.{or_bad, at_line}
 use Rattle.texts.specs.Numbers.{SaysWord}
 
@@ -37,3 +38,7 @@ lists_of_lines number lines = each_at (λ place line. at_line place (list_of lin
 -- the lists that a text says, or its first fault
 unfoldable pub lists_at : List ℕ → Result (List (List ℕ)) Refusal
 lists_at text = lists_of_lines 1 (lines text)
+
+-- inputs that are lists
+abbrev pub list_texts : Format (List (List ℕ))
+list_texts = format SaysLists lists_at

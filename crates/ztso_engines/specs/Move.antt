@@ -1,5 +1,5 @@
 -- The command `move`: a schedule of either version as a text of version 2, with each event's outcome in the run.
-use Rattle.std.specs.Prelude.{ℕ, ◌≡◌, List, Result, Ok, Err}
+use Rattle.std.specs.Prelude.{ℕ, ◌≡◌, List, Option, Result, Ok, Err}
 use Rattle.litmus.specs.LitmusTests.{LitmusTest}
 use Rattle.recorder.specs.Records.{Step, IsRecordOf, record_text}
 use Rattle.recorder.specs.Versions.{ScheduleValue}
@@ -16,5 +16,5 @@ IsMoved B M test said (Err refusal) = Records B M test.opening said (Err refusal
 
 -- What answers a litmus text and a schedule of either version. A record is refused at the first event whose
 -- outcome isn't the run's.
-abbrev pub IsMoveAnswer : (B M : ℕ) → (file schedule : List ℕ) → Result Output Refusal → Type 0
+abbrev pub IsMoveAnswer : (B M : ℕ) → (file schedule : Option (List ℕ)) → Result Output Refusal → Type 0
 IsMoveAnswer B M = BySchedule (IsMoved B M)

@@ -1,5 +1,5 @@
 -- The command `run`: the state text of a test's run, and the verdict on it.
-use Rattle.std.specs.Prelude.{ℕ, ◌≡◌, List, [], ◌∷◌, ◌++◌, Result, codes}
+use Rattle.std.specs.Prelude.{ℕ, ◌≡◌, List, [], ◌∷◌, ◌++◌, Option, Result, codes}
 use Rattle.step_machine.specs.History.{History}
 use Rattle.litmus.specs.LitmusTests.{LitmusTest}
 use Rattle.litmus.specs.Verdicts.{IsVerdict}
@@ -21,5 +21,5 @@ pub record IsJudged (M : ℕ) (test : LitmusTest) (history : History) (answer : 
 
 -- What answers a litmus text and a schedule of either version. A record is refused at the first event whose
 -- outcome isn't the run's.
-abbrev pub IsRunAnswer : (B M : ℕ) → (file schedule : List ℕ) → Result (List ℕ × Verdict) Refusal → Type 0
+abbrev pub IsRunAnswer : (B M : ℕ) → (file schedule : Option (List ℕ)) → Result (List ℕ × Verdict) Refusal → Type 0
 IsRunAnswer B M = ByRun B M (IsJudged M)

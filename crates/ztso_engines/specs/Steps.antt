@@ -1,5 +1,5 @@
 -- The command `steps`: the state text of a run.
-use Rattle.std.specs.Prelude.{ℕ, ◌≡◌, List, Result}
+use Rattle.std.specs.Prelude.{ℕ, ◌≡◌, List, IsOkAnd, Option, Result}
 use Rattle.step_machine.specs.History.{History}
 use Rattle.step_machine.specs.Runs.{Run}
 use Rattle.engine_support.specs.declared.fault.Refusal.{Refusal}
@@ -7,7 +7,8 @@ use Rattle.ztso_engines.specs.ScriptValue.{ScriptValue, opening_of}
 use Rattle.ztso_engines.specs.StepsText.{Describes}
 use Rattle.ztso_engines.specs.StepsReading.{script_at}
 use Rattle.engine_support.specs.StateText.{shown}
-use Rattle.engine_support.specs.Engines.{ByValue, Output}
+use Rattle.engine_support.specs.Engines.{Output}
+use Rattle.engine_support.specs.Inputs.{After, Format, format}
 
 -- the state text of the history that the events make of the opening, over store buffers of B pairs and
 -- a memory of M words
@@ -16,6 +17,10 @@ pub record IsStateText (B M : ℕ) (script : ScriptValue) (out : List ℕ) : Typ
   pub ran : Run B M (opening_of script) script.events history
   pub is_shown : out ≡ shown M history
 
+-- inputs that are steps texts, for a memory of M words
+abbrev pub steps_texts : (M : ℕ) → Format ScriptValue
+steps_texts M = format (Describes M) (script_at M)
+
 -- What answers an input: the state text of what it tells.
-abbrev pub IsStepsAnswer : (B M : ℕ) → List ℕ → Result Output Refusal → Type 0
-IsStepsAnswer B M = ByValue (Describes M) (script_at M) (λ script answer. IsStateText B M script answer.0)
+abbrev pub IsStepsAnswer : (B M : ℕ) → (input : Option (List ℕ)) → Result Output Refusal → Type 0
+IsStepsAnswer B M input = After (steps_texts M) input (λ script given. IsOkAnd given (λ answer. IsStateText B M script answer.0))

@@ -1,6 +1,6 @@
 -- The command `threads`: the schedule of a run that threads made, in canonical form, its state text and
 -- its verdict.
-use Rattle.std.specs.Prelude.{ℕ, ◌≡◌, ◌≤◌, ◌<◌, ◌⊎◌, List, ◌++◌, length, map, Result, Ok, Err}
+use Rattle.std.specs.Prelude.{ℕ, ◌≡◌, ◌≤◌, ◌<◌, ◌⊎◌, List, ◌++◌, length, map, Option, Result, Ok, Err}
 use Rattle.step_machine.specs.History.{History}
 use Rattle.step_machine.specs.Runs.{Run, event_of}
 use Rattle.step_machine.specs.declared.events.Event.{Event}
@@ -17,7 +17,8 @@ use Rattle.engine_support.specs.declared.fault.Fault.{Fault}
 use Rattle.engine_support.specs.declared.fault.Fault.TheVariants.{NoMemory, Refused}
 use Rattle.engine_support.specs.declared.fault.Refusal.{Refusal}
 use Rattle.engine_support.specs.declared.fault.Position.TheVariants.{Nowhere}
-use Rattle.engine_support.specs.Tests.{ByTest}
+use Rattle.engine_support.specs.Inputs.{After}
+use Rattle.engine_support.specs.Tests.{tests}
 use Rattle.engine_support.specs.declared.input.TheConstants.{INPUT_BYTES}
 use Rattle.ztso_engines.specs.Run.{IsJudged}
 
@@ -70,5 +71,5 @@ IsThreadsGiven B M n test (Ok answer) = IsThreadsRun B M n test answer
 IsThreadsGiven B M n test (Err refusal) = (refusal.place ≡ Nowhere) × RefusesThreads B M n test refusal.number
 
 -- what answers a test after at most n turns of each thread
-abbrev pub IsThreadsAnswer : ℕ → ℕ → ℕ → List ℕ → Result (List ℕ × Verdict) Refusal → Type 0
-IsThreadsAnswer B M n file answer = ByTest (IsThreadsGiven B M n) file answer
+abbrev pub IsThreadsAnswer : (B M n : ℕ) → (file : Option (List ℕ)) → Result (List ℕ × Verdict) Refusal → Type 0
+IsThreadsAnswer B M n file = After tests file (IsThreadsGiven B M n)

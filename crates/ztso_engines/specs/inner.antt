@@ -1,4 +1,2 @@
 -- What serves the proofs alone, where a private contract names it.
-pub mod Inputs
 pub mod Reporting
-pub mod ReadPrograms

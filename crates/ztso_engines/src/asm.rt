@@ -1,16 +1,15 @@
 //! The command `asm`: an assembly text in, its words out.
 
-ghost use Rattle.std.specs.Prelude.{◌≡◌, ◌++◌, List, map, IfOk, OnOk};
+ghost use Rattle.std.specs.Prelude.{◌≡◌, ◌++◌, map, IfOk, OnOk};
 ghost use Rattle.std.specs.List.{flat_map};
 ghost use Rattle.std.specs.String.{string_bytes};
 ghost use Rattle.rv_decode.specs.Meaning.{meaning};
-ghost use Rattle.rv_decode.specs.declared.instruction.Instr.{Instr};
-ghost use Rattle.assembler.specs.Drafts.{AllPlain};
-ghost use Rattle.assembler.specs.Program.{IsProgram, AreWordsOf};
+ghost use Rattle.assembler.specs.Program.{IsCode};
 ghost use Rattle.engine_support.specs.Faults.{Answers};
-ghost use Rattle.engine_support.specs.Engines.{EndsBy};
-ghost use Rattle.ztso_engines.specs.Asm.{asm_at, hex_line, IsAsmAnswer};
-ghost use Rattle.engine_support.specs.inner.Making.{FindsByUpToReads, text_and_value};
+ghost use Rattle.engine_support.specs.Engines.{Ends};
+ghost use Rattle.engine_support.specs.Inputs.{Reads};
+ghost use Rattle.ztso_engines.specs.Asm.{asm_at, assembly_texts, hex_line, IsAsmAnswer};
+ghost use Rattle.engine_support.specs.inner.Making.{FindsUpToReads, text_and_value};
 
 use crate::programs::words_fit;
 use assembler::assemble;
@@ -22,12 +21,21 @@ use std::io::{Read, Write};
 
 /// The words of a text.
 #[tactic(auto, unfolding(crate::specs::Asm::asm_at))]
-pub(crate) fn code_of(alloc: Global, text: &str) -> Result<Vec<u32>, Fault>
-    ensures found { IfOk result (λ code. (instrs : List Instr) × IsProgram text.now instrs × AreWordsOf code.items instrs) }
+fn code_of(alloc: Global, text: &str) -> Result<Vec<u32>, Fault>
+    ensures code { IfOk result (λ code. IsCode text.now code.items) }
     ensures exact { Answers (λ code. map meaning code.items) result (asm_at text.now) }
-    ensures plain { IfOk result (λ code. AllPlain code.items) }
 {
-    Ok(assemble(alloc, text)?)
+    let code = assemble(alloc, text)?;
+    words_fit(&code);
+    Ok(code)
+}
+
+/// The words of the input that a reader gives.
+fn read_code<R: Read>(alloc: Global, reader: &mut R) -> Result<Vec<u32>, Fault>
+    ensures { FindsUpToReads (Reads assembly_texts (R.remaining reader.old)) (λ code. code.items) result }
+{
+    let text = read_text(alloc, reader)?;
+    code_of(alloc, &text)
 }
 
 #[tactic(auto, using(texts::proofs::HexWords::eight_digits))]
@@ -49,11 +57,9 @@ fn code_text(alloc: Global, code: &[u32]) -> Result<String, AllocError>
 
 /// What is to be written for the input that a reader gives.
 fn made<R: Read>(alloc: Global, reader: &mut R) -> Result<(String, ()), Fault>
-    ensures { FindsByUpToReads IsAsmAnswer text_and_value (R.remaining reader.old) result }
+    ensures { FindsUpToReads (IsAsmAnswer (R.remaining reader.old)) text_and_value result }
 {
-    let text = read_text(alloc, reader)?;
-    let code = code_of(alloc, &text)?;
-    words_fit(&code);
+    let code = read_code(alloc, reader)?;
     let lines = code_text(alloc, &code)?;
     Ok((lines, ()))
 }
@@ -67,7 +73,7 @@ pub fn asm_engine<R: Read, W: Write>(
     reader: &mut R,
     writer: &mut W,
 ) -> Result<(), Fault>
-    ensures { EndsBy IsAsmAnswer result (R.remaining reader.old) W.contents writer.old writer.new }
+    ensures { Ends (IsAsmAnswer (R.remaining reader.old)) result W.contents writer.old writer.new }
 {
     end_with(made(alloc, reader), writer)
 }

@@ -1,34 +1,31 @@
 //! The command `channel`: a schedule and the senders' lists in, what the receiver reports out.
 
-ghost use Rattle.std.specs.Prelude.{◌≡◌, ◌≤◌, ◌++◌, [], IfErr, IfOk, OnOk, map};
+ghost use Rattle.std.specs.Prelude.{◌≡◌, ◌≤◌, ◌++◌, [], IfOk, OnOk, map};
 ghost use Rattle.std.specs.List.{flat_map};
 ghost use Rattle.std.specs.String.{string_bytes};
-ghost use Rattle.engine_support.specs.Engines.{AnswersBoth, EndsByBoth};
+ghost use Rattle.engine_support.specs.Engines.{Ends};
 ghost use Rattle.engine_support.specs.Faults.{AnswersAs};
-ghost use Rattle.poll_close.specs.Laws.{AcceptedAt};
 ghost use Rattle.poll_close.specs.Places.{layout_of};
-ghost use Rattle.poll_close.specs.Refusals.{RefusesAt};
 ghost use Rattle.recorder.specs.Versions.{said_of};
-ghost use Rattle.recorder.specs.Versions.ScheduleValue.{recorded};
-ghost use Rattle.ztso_engines.specs.Channels.{report_line, fault_from, Reported, IsChannelAnswer};
-ghost use Rattle.engine_support.specs.Schedules.{HasNoSchedule};
+ghost use Rattle.ztso_engines.specs.Channels.{report_line, fault_from, IsChannelAnswer};
+ghost use Rattle.engine_support.specs.Inputs.{IsRefused};
+ghost use Rattle.engine_support.specs.Schedules.{schedules};
 ghost use Rattle.engine_support.specs.inner.Making.{FindsUpToReads, text_and_value};
 ghost use Rattle.ztso_engines.specs.inner.Reporting.{Reports};
 
 use crate::lists::read_lists;
 use engine_support::fault::{Fault, Position};
 use engine_support::output::end_with;
+use engine_support::running::{machine_after, state_after};
 use engine_support::schedule::read_schedule;
 use hart::need::Report;
 use poll_close::plans::Finish;
 use poll_close::{
-    BlockPlace, Refused, RefusedAt, deliver_at, deliver_whole_at, laws_of_channels, opening_at,
-    reports_of, whole_reports_of,
+    BlockPlace, Refused, RefusedAt, laws_of_channels, opening_at, reports_of, whole_reports_of,
 };
-use recorder::{Schedule, check_record, records_are_runs, replay_checked};
+use recorder::Schedule;
 use std::alloc::{AllocError, Global};
 use std::io::{Read, Write};
-use step_machine::{Event, Outcome};
 
 /// Why there is no channel, as a fault.
 pub(crate) fn channel_fault(why: RefusedAt) -> Fault
@@ -64,62 +61,9 @@ pub(crate) fn reports_text(alloc: Global, reports: &[Report]) -> Result<String, 
     Ok(text)
 }
 
-/// What the receiver reports when these events run, and then a plan if the channel is to be finished. All
-/// memory opens as 0.
-fn reports_of_events<K: Finish<B, M>, const B: usize, const M: usize>(
-    alloc: Global,
-    place: BlockPlace,
-    finish: bool,
-    lists: &[Vec<u32>],
-    events: &[Event],
-) -> Result<Vec<Report>, RefusedAt>
-    requires some_capacity { 1 ≤ B }
-    requires capacity { B ≤ 64 }
-    requires some_word { 1 ≤ M }
-    requires size { M ≤ 65536 }
-    ensures reported { IfOk result (λ r. Reported finish K.RingKind.ring B M (map (λ v. v.items) lists.now) (layout_of place []) events.now r.items) }
-    ensures accepted { OnOk result (AcceptedAt K.RingKind.ring M (map (λ v. v.items) lists.now) (layout_of place [])) }
-    ensures refused { IfErr result (λ e. RefusesAt K.RingKind.ring M (map (λ v. v.items) lists.now) (layout_of place []) e) }
-{
-    if finish {
-        deliver_whole_at::<K, B, M>(alloc, lists, place, &[], events)
-    } else {
-        deliver_at::<K, B, M>(alloc, lists, place, &[], events)
-    }
-}
-
-/// What the receiver reports when the steps of a record run, and then a plan if the channel is to be finished. A
-/// record is refused at the first event whose outcome isn't the run's. It runs once; a history is kept only
-/// for a plan, whose end is counted by it.
-fn reports_of_steps<K: Finish<B, M>, const B: usize, const M: usize>(
-    alloc: Global,
-    place: BlockPlace,
-    finish: bool,
-    lists: &[Vec<u32>],
-    steps: &[(Event, Outcome)],
-) -> Result<Vec<Report>, Fault>
-    requires some_capacity { 1 ≤ B }
-    requires capacity { B ≤ 64 }
-    requires some_word { 1 ≤ M }
-    requires size { M ≤ 65536 }
-    ensures { AnswersAs (Reports K.RingKind.ring B M (layout_of place []) finish (recorded steps.now) (map (λ v. v.items) lists.now)) (λ r. r.items) result }
-{
-    laws_of_channels::<K>();
-    records_are_runs();
-    let opening = match opening_at::<K>(alloc, lists, place, &[], M) {
-        Ok(opening) => opening,
-        Err(why) => return Err(channel_fault(why)),
-    };
-    if finish {
-        let mut machine = replay_checked::<B, M>(alloc, opening, steps)?;
-        Ok(whole_reports_of::<K, B, M>(alloc, &mut machine)?)
-    } else {
-        let machine = check_record::<B, M>(alloc, &opening, steps)?;
-        Ok(reports_of::<K, B, M>(alloc, &machine)?)
-    }
-}
-
-/// What the receiver reports when a schedule runs, and then a plan if the channel is to be finished.
+/// What the receiver reports when a schedule runs, and then a plan if the channel is to be finished. All memory opens
+/// as 0. A record is refused at the first event whose outcome isn't the run's. A history is kept only for a plan, whose
+/// end is counted by it.
 fn reports_of_schedule<K: Finish<B, M>, const B: usize, const M: usize>(
     alloc: Global,
     place: BlockPlace,
@@ -133,16 +77,17 @@ fn reports_of_schedule<K: Finish<B, M>, const B: usize, const M: usize>(
     requires size { M ≤ 65536 }
     ensures { AnswersAs (Reports K.RingKind.ring B M (layout_of place []) finish (said_of said) (map (λ v. v.items) lists.now)) (λ r. r.items) result }
 {
-    match said {
-        Schedule::Plain(events) => {
-            match reports_of_events::<K, B, M>(alloc, place, finish, lists, &events) {
-                Ok(reports) => Ok(reports),
-                Err(why) => Err(channel_fault(why)),
-            }
-        }
-        Schedule::Record(steps) => {
-            reports_of_steps::<K, B, M>(alloc, place, finish, lists, &steps)
-        }
+    laws_of_channels::<K>();
+    let opening = match opening_at::<K>(alloc, lists, place, &[], M) {
+        Ok(opening) => opening,
+        Err(why) => return Err(channel_fault(why)),
+    };
+    if finish {
+        let mut machine = machine_after::<B, M>(alloc, opening, said)?;
+        Ok(whole_reports_of::<K, B, M>(alloc, &mut machine)?)
+    } else {
+        let machine = state_after::<B, M>(alloc, &opening, said)?;
+        Ok(reports_of::<K, B, M>(alloc, &machine)?)
     }
 }
 
@@ -158,9 +103,9 @@ fn made<K: Finish<B, M>, const B: usize, const M: usize, S: Read, L: Read>(
     requires capacity { B ≤ 64 }
     requires some_word { 1 ≤ M }
     requires size { M ≤ 65536 }
-    ensures made { FindsUpToReads (AnswersBoth (IsChannelAnswer K.RingKind.ring B M (layout_of place []) finish)
+    ensures made { FindsUpToReads (IsChannelAnswer K.RingKind.ring B M (layout_of place []) finish
         (S.remaining schedule.old) (L.remaining input.old)) text_and_value result }
-    ensures unread { HasNoSchedule (S.remaining schedule.old) → input.new ≡ input.old }
+    ensures unread { IsRefused schedules (S.remaining schedule.old) → input.new ≡ input.old }
 {
     let said = read_schedule(alloc, schedule)?;
     let lists = read_lists(alloc, input)?;
@@ -196,9 +141,9 @@ pub fn channel_engine<K: Finish<B, M>, const B: usize, const M: usize, S: Read, 
     requires capacity { B ≤ 64 }
     requires some_word { 1 ≤ M }
     requires size { M ≤ 65536 }
-    ensures ends { EndsByBoth (IsChannelAnswer K.RingKind.ring B M (layout_of place []) finish) result
-        (S.remaining schedule.old) (L.remaining input.old) W.contents writer.old writer.new }
-    ensures unread { HasNoSchedule (S.remaining schedule.old) → input.new ≡ input.old }
+    ensures ends { Ends (IsChannelAnswer K.RingKind.ring B M (layout_of place []) finish
+        (S.remaining schedule.old) (L.remaining input.old)) result W.contents writer.old writer.new }
+    ensures unread { IsRefused schedules (S.remaining schedule.old) → input.new ≡ input.old }
 {
     end_with(
         made::<K, B, M, S, L>(alloc, place, finish, schedule, input),

@@ -5,12 +5,13 @@ ghost use Rattle.std.specs.List.{flat_map};
 ghost use Rattle.std.specs.String.{string_bytes};
 ghost use Rattle.rv_decode.specs.Meaning.{meaning};
 ghost use Rattle.engine_support.specs.Faults.{Answers};
-ghost use Rattle.engine_support.specs.Engines.{EndsBy};
+ghost use Rattle.engine_support.specs.Engines.{Ends};
+ghost use Rattle.engine_support.specs.Inputs.{Reads};
 ghost use Rattle.texts.specs.Cutting.{tokens};
 ghost use Rattle.engine_support.specs.LineFaults.{at_line as line_at};
 ghost use Rattle.ztso_engines.specs.Code.{code_at};
-ghost use Rattle.ztso_engines.specs.Dis.{dis_at, meant_text, instr_line, IsDisAnswer};
-ghost use Rattle.engine_support.specs.inner.Making.{FindsByUpToReads, text_and_value};
+ghost use Rattle.ztso_engines.specs.Dis.{code_texts, dis_at, meant_text, instr_line, IsDisAnswer};
+ghost use Rattle.engine_support.specs.inner.Making.{FindsUpToReads, text_and_value};
 
 use crate::code::code_of;
 use assembler::write_instr;
@@ -50,6 +51,14 @@ fn code_of_text(alloc: Global, text: &[u8]) -> Result<Vec<u32>, Fault>
     Ok(all)
 }
 
+/// The instruction words of the input that a reader gives.
+fn read_code<R: Read>(alloc: Global, reader: &mut R) -> Result<Vec<u32>, Fault>
+    ensures { FindsUpToReads (Reads code_texts (R.remaining reader.old)) (λ code. code.items) result }
+{
+    let text = read_text(alloc, reader)?;
+    code_of_text(alloc, text.as_bytes())
+}
+
 /// Appends what a word means.
 fn push_meant(out: &mut String, word: u32) -> Result<(), AllocError>
     ensures { OnOk result (string_bytes out.new ≡ string_bytes out.old ++ meant_text (meaning word)) }
@@ -79,10 +88,9 @@ fn code_text(alloc: Global, code: &[u32]) -> Result<String, AllocError>
 
 /// What is to be written for the input that a reader gives.
 fn made<R: Read>(alloc: Global, reader: &mut R) -> Result<(String, ()), Fault>
-    ensures { FindsByUpToReads IsDisAnswer text_and_value (R.remaining reader.old) result }
+    ensures { FindsUpToReads (IsDisAnswer (R.remaining reader.old)) text_and_value result }
 {
-    let text = read_text(alloc, reader)?;
-    let code = code_of_text(alloc, text.as_bytes())?;
+    let code = read_code(alloc, reader)?;
     let lines = code_text(alloc, &code)?;
     Ok((lines, ()))
 }
@@ -98,7 +106,7 @@ pub fn dis_engine<R: Read, W: Write>(
     reader: &mut R,
     writer: &mut W,
 ) -> Result<(), Fault>
-    ensures { EndsBy IsDisAnswer result (R.remaining reader.old) W.contents writer.old writer.new }
+    ensures { Ends (IsDisAnswer (R.remaining reader.old)) result W.contents writer.old writer.new }
 {
     end_with(made(alloc, reader), writer)
 }

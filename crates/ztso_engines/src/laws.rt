@@ -28,7 +28,6 @@ ghost use Rattle.tries.specs.Outcomes.{IsTryAnswer};
 ghost use Rattle.ztso_engines.specs.Channels.{IsChannelAnswer};
 ghost use Rattle.ztso_engines.specs.OwnChannels.{IsOwnAnswer};
 ghost use Rattle.ztso_engines.specs.Rings.{AreAlikeRuns, Draws, IsRingAnswer};
-ghost use Rattle.ztso_engines.specs.declared.programs.Role.{Role};
 
 /// A steps text stands for at most one script, and reading it from the top finds that; an input is not
 /// refused exactly where it is a text within the limit that describes one. It does nothing.
@@ -69,33 +68,34 @@ pub fn laws_of_list_texts()
 /// What a command answers is one function of what it reads: the output with the exit status's value, or a
 /// refusal with its place. Of a refused litmus text it isn't said on which line its first fault stands, so
 /// for the commands that read one the number of the refusal is one. Of `channel --finish` it isn't said
-/// which plan runs: there both answers are outputs, or one refusal. Of `channel own` and `ring` it is part of the answer
-/// whose program is refused. Where a run of `ring` isn't clean, it isn't said which schedule is written of it: there both
-/// answers tell of such a run. It does nothing.
+/// which plan runs: there both answers are outputs, or one refusal. Where a run of `ring` isn't clean, it isn't said
+/// which schedule is written of it: there both answers tell of such a run. It does nothing.
 pub fn one_answer()
-    ensures steps { (B M : ℕ) (input : List ℕ) (a b : Result Output Refusal) → IsStepsAnswer B M input a → IsStepsAnswer B M input b → a ≡ b }
-    ensures asm { (input : List ℕ) (a b : Result Output Refusal) → IsAsmAnswer input a → IsAsmAnswer input b → a ≡ b }
-    ensures dis { (input : List ℕ) (a b : Result Output Refusal) → IsDisAnswer input a → IsDisAnswer input b → a ≡ b }
+    ensures steps { (B M : ℕ) (input : List ℕ) (a b : Result Output Refusal) → IsStepsAnswer B M (Some input) a → IsStepsAnswer B M (Some input) b → a ≡ b }
+    ensures asm { (input : List ℕ) (a b : Result Output Refusal) → IsAsmAnswer (Some input) a → IsAsmAnswer (Some input) b → a ≡ b }
+    ensures dis { (input : List ℕ) (a b : Result Output Refusal) → IsDisAnswer (Some input) a → IsDisAnswer (Some input) b → a ≡ b }
     ensures run { (B M : ℕ) (file schedule : List ℕ) (a b : Result (List ℕ × Verdict) Refusal)
-        → IsRunAnswer B M file schedule a → IsRunAnswer B M file schedule b → AreOneAnswer a b }
+        → IsRunAnswer B M (Some file) (Some schedule) a → IsRunAnswer B M (Some file) (Some schedule) b → AreOneAnswer a b }
     ensures replay { (B M : ℕ) (file schedule : List ℕ) (a b : Result Output Refusal)
-        → IsReplayAnswer B M file schedule a → IsReplayAnswer B M file schedule b → AreOneAnswer a b }
+        → IsReplayAnswer B M (Some file) (Some schedule) a → IsReplayAnswer B M (Some file) (Some schedule) b → AreOneAnswer a b }
     ensures moved { (B M : ℕ) (file schedule : List ℕ) (a b : Result Output Refusal)
-        → IsMoveAnswer B M file schedule a → IsMoveAnswer B M file schedule b → AreOneAnswer a b }
+        → IsMoveAnswer B M (Some file) (Some schedule) a → IsMoveAnswer B M (Some file) (Some schedule) b → AreOneAnswer a b }
     ensures debug { (B M : ℕ) (input file schedule : List ℕ) (a b : Result Output Refusal)
-        → IsDebugAnswer B M (Some input) file schedule a → IsDebugAnswer B M (Some input) file schedule b
+        → IsDebugAnswer B M (Some input) (Some file) (Some schedule) a → IsDebugAnswer B M (Some input) (Some file) (Some schedule) b
         → AreOneAnswer a b }
     ensures trials { (B M : ℕ) (stream : Stream) (runs size : ℕ) (file : List ℕ)
         (a b : Result (List ℕ × Bool) Refusal) → IsTryAnswer B M stream runs size file a
         → IsTryAnswer B M stream runs size file b → AreOneAnswer a b }
     ensures channel { (ring : Ring) (B M : ℕ) (l : Layout) (schedule input : List ℕ) (a b : Result Output Refusal)
-        → IsChannelAnswer ring B M l false schedule input a → IsChannelAnswer ring B M l false schedule input b
+        → IsChannelAnswer ring B M l false (Some schedule) (Some input) a → IsChannelAnswer ring B M l false (Some schedule) (Some input) b
         → a ≡ b }
-    ensures own { (B M : ℕ) (l : Layout) (sender receiver schedule input : List ℕ) (v w : Option Role) (a b : Result Output Refusal)
-        → IsOwnAnswer B M l sender receiver schedule input v a → IsOwnAnswer B M l sender receiver schedule input w b → (v ≡ w) × (a ≡ b) }
-    ensures ring { (d : Draws) (sender receiver input : List ℕ) (v w : Option Role) (a b : Result (List ℕ × Bool) Refusal)
-        → IsRingAnswer d sender receiver input v a → IsRingAnswer d sender receiver input w b → (v ≡ w) × AreAlikeRuns a b }
+    ensures own { (B M : ℕ) (l : Layout) (sender receiver schedule input : List ℕ) (a b : Result Output Refusal)
+        → IsOwnAnswer B M l (Some sender) (Some receiver) (Some schedule) (Some input) a
+        → IsOwnAnswer B M l (Some sender) (Some receiver) (Some schedule) (Some input) b → a ≡ b }
+    ensures ring { (d : Draws) (sender receiver input : List ℕ) (a b : Result (List ℕ × Bool) Refusal)
+        → IsRingAnswer d (Some sender) (Some receiver) (Some input) a → IsRingAnswer d (Some sender) (Some receiver) (Some input) b
+        → AreAlikeRuns a b }
     ensures finished { (ring : Ring) (B M : ℕ) (l : Layout) (schedule input : List ℕ)
-        (a b : Result Output Refusal) → IsChannelAnswer ring B M l true schedule input a
-        → IsChannelAnswer ring B M l true schedule input b → AreAlike a b }
+        (a b : Result Output Refusal) → IsChannelAnswer ring B M l true (Some schedule) (Some input) a
+        → IsChannelAnswer ring B M l true (Some schedule) (Some input) b → AreAlike a b }
 {}

@@ -4,9 +4,9 @@ ghost use Rattle.std.specs.Prelude.{map};
 ghost use Rattle.texts.specs.Results.{GivesUpToMemory, refusal_of};
 ghost use Rattle.engine_support.specs.Faults.{Answers};
 ghost use Rattle.engine_support.specs.LineFaults.{at_line as line_at};
-ghost use Rattle.ztso_engines.specs.Lists.{list_of as list_said, lists_at};
-ghost use Rattle.engine_support.specs.inner.Making.{FindsByUpToReads};
-ghost use Rattle.ztso_engines.specs.inner.Inputs.{IsReadAsLists};
+ghost use Rattle.ztso_engines.specs.Lists.{list_of as list_said, list_texts, lists_at};
+ghost use Rattle.engine_support.specs.Inputs.{Reads};
+ghost use Rattle.engine_support.specs.inner.Making.{FindsUpToReads};
 
 use engine_support::fault::{BAD, Fault, LineFault, at_line};
 use engine_support::input::read_text;
@@ -61,7 +61,7 @@ fn lists_of_text(alloc: Global, text: &[u8]) -> Result<Vec<Vec<u32>>, Fault>
 
 /// The lists of the input that a reader gives.
 pub fn read_lists<R: Read>(alloc: Global, reader: &mut R) -> Result<Vec<Vec<u32>>, Fault>
-    ensures { FindsByUpToReads IsReadAsLists (λ lists. map (λ list. list.items) lists.items) (R.remaining reader.old) result }
+    ensures { FindsUpToReads (Reads list_texts (R.remaining reader.old)) (λ lists. map (λ list. list.items) lists.items) result }
 {
     let text = read_text(alloc, reader)?;
     lists_of_text(alloc, text.as_bytes())

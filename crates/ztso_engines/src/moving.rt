@@ -1,8 +1,9 @@
 //! The command `move`: a litmus text and a schedule in, the schedule's text of version 2 out.
 
 ghost use Rattle.std.specs.Prelude.{◌≡◌, ◌≤◌};
-ghost use Rattle.engine_support.specs.Engines.{EndsByBoth};
-ghost use Rattle.engine_support.specs.Tests.{HasNoTest};
+ghost use Rattle.engine_support.specs.Engines.{Ends};
+ghost use Rattle.engine_support.specs.Inputs.{IsRefused};
+ghost use Rattle.engine_support.specs.Tests.{tests};
 ghost use Rattle.ztso_engines.specs.Move.{IsMoved, IsMoveAnswer};
 ghost use Rattle.litmus.specs.declared.litmus_test.TheConstants.{MAX_LOCATIONS};
 
@@ -45,8 +46,8 @@ pub fn move_engine<const B: usize, const M: usize, F: Read, S: Read, W: Write>(
     requires capacity { B ≤ 64 }
     requires words { MAX_LOCATIONS ≤ M }
     requires size { M ≤ 65536 }
-    ensures ends { EndsByBoth (IsMoveAnswer B M) result (F.remaining file.old) (S.remaining schedule.old) W.contents writer.old writer.new }
-    ensures unread { HasNoTest (F.remaining file.old) → schedule.new ≡ schedule.old }
+    ensures ends { Ends (IsMoveAnswer B M (F.remaining file.old) (S.remaining schedule.old)) result W.contents writer.old writer.new }
+    ensures unread { IsRefused tests (F.remaining file.old) → schedule.new ≡ schedule.old }
 {
     schedule_engine::<Move, B, M, F, S, W>(alloc, file, schedule, writer)
 }

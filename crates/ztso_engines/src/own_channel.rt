@@ -1,51 +1,33 @@
 //! The command `channel own`: two programs, a schedule and the senders' lists in, what the receiver reports out.
 
 ghost use Rattle.std.specs.Prelude.{◌≡◌, ◌≤◌, ◌⊎◌, []};
-ghost use Rattle.step_machine.specs.History.{FitsIn};
-ghost use Rattle.step_machine.specs.Standing.{RepresentsHistory};
 ghost use Rattle.recorder.specs.Versions.{said_of};
 ghost use Rattle.poll_close.specs.Laws.{AreShort};
 ghost use Rattle.poll_close.specs.Places.{layout_of};
-ghost use Rattle.engine_support.specs.Faults.{AnswersAs, AnswersBy};
-ghost use Rattle.engine_support.specs.Runs.{Runs};
-ghost use Rattle.engine_support.specs.Schedules.{HasNoSchedule};
-ghost use Rattle.engine_support.specs.inner.Making.{text_and_value};
+ghost use Rattle.engine_support.specs.Engines.{Ends};
+ghost use Rattle.engine_support.specs.Faults.{AnswersAs};
+ghost use Rattle.engine_support.specs.Inputs.{IsRefused};
+ghost use Rattle.engine_support.specs.Schedules.{schedules};
+ghost use Rattle.engine_support.specs.declared.fault.Role.TheVariants.{Sender, Receiver};
+ghost use Rattle.engine_support.specs.inner.Making.{FindsUpToReads, text_and_value};
 ghost use Rattle.ring_trials.specs.Own.{layout_from, lists_of, ring_of};
-ghost use Rattle.ztso_engines.specs.OwnChannels.{EndsOwn, IsOwnAnswer, OfFour};
-ghost use Rattle.ztso_engines.specs.Programs.{HasNoProgram};
-ghost use Rattle.ztso_engines.specs.inner.ReadPrograms.{FindsAs, OwnReports};
+ghost use Rattle.ztso_engines.specs.OwnChannels.{IsOwnAnswer};
+ghost use Rattle.ztso_engines.specs.Programs.{programs};
+ghost use Rattle.ztso_engines.specs.inner.Reporting.{OwnReports};
 
 use crate::channel::{channel_fault, reports_text};
 use crate::lists::read_lists;
-use crate::programs::{OwnFault, read_programs};
-use engine_support::fault::Fault;
+use crate::programs::read_program;
+use engine_support::fault::{Fault, Role};
 use engine_support::output::end_with;
+use engine_support::running::state_after;
 use engine_support::schedule::read_schedule;
 use hart::need::Report;
 use poll_close::BlockPlace;
-use recorder::{Schedule, check_record, replay_state};
+use recorder::Schedule;
 use ring_trials::own::{Own, open_own};
 use std::alloc::Global;
 use std::io::{Read, Write};
-use step_machine::{MachineState, Opening};
-
-/// The machine after the run of a schedule of either version. A record is checked as it runs: it is refused at the
-/// first event whose outcome isn't the run's.
-fn machine_after<const B: usize, const M: usize>(
-    alloc: Global,
-    opening: &Opening,
-    said: Schedule,
-) -> Result<MachineState<B, M>, Fault>
-    requires capacity { B ≤ 64 }
-    requires size { M ≤ 65536 }
-    requires fits { FitsIn M opening.now }
-    ensures { AnswersBy (Runs B M opening.now (said_of said)) (RepresentsHistory B M) result }
-{
-    match said {
-        Schedule::Plain(events) => Ok(replay_state(alloc, opening, &events)?),
-        Schedule::Record(steps) => Ok(check_record(alloc, opening, &steps)?),
-    }
-}
 
 /// What the receiver reports in the run of a schedule, or why there is no channel or no such run.
 fn reports_of_own<const B: usize, const M: usize>(
@@ -60,7 +42,7 @@ fn reports_of_own<const B: usize, const M: usize>(
 {
     match open_own(alloc, own, M) {
         Ok(opening) => {
-            let machine = machine_after::<B, M>(alloc, &opening, said)?;
+            let machine = state_after::<B, M>(alloc, &opening, said)?;
             Ok(Vec::from_slice(alloc, machine.reports(0))?)
         }
         Err(why) => Err(channel_fault(why)),
@@ -75,17 +57,18 @@ fn made<const B: usize, const M: usize, S: Read, R: Read, C: Read, L: Read>(
     receiver: &mut R,
     schedule: &mut C,
     lists: &mut L,
-) -> Result<(String, ()), OwnFault>
+) -> Result<(String, ()), Fault>
     requires capacity { B ≤ 64 }
     requires size { M ≤ 65536 }
-    ensures made { FindsAs (λ whose answer. OfFour (S.remaining sender.old) (R.remaining receiver.old) (C.remaining schedule.old)
-        (L.remaining lists.old) (λ a b c d. IsOwnAnswer B M (layout_of place []) a b c d whose answer)) text_and_value result }
-    ensures unread { HasNoProgram (S.remaining sender.old) → receiver.new ≡ receiver.old }
-    ensures unread_others { HasNoProgram (S.remaining sender.old) ⊎ HasNoProgram (R.remaining receiver.old)
+    ensures made { FindsUpToReads (IsOwnAnswer B M (layout_of place []) (S.remaining sender.old) (R.remaining receiver.old)
+        (C.remaining schedule.old) (L.remaining lists.old)) text_and_value result }
+    ensures unread { IsRefused (programs Sender) (S.remaining sender.old) → receiver.new ≡ receiver.old }
+    ensures unread_others { IsRefused (programs Sender) (S.remaining sender.old) ⊎ IsRefused (programs Receiver) (R.remaining receiver.old)
         → (schedule.new ≡ schedule.old) × (lists.new ≡ lists.old) }
-    ensures unread_lists { HasNoSchedule (C.remaining schedule.old) → lists.new ≡ lists.old }
+    ensures unread_lists { IsRefused schedules (C.remaining schedule.old) → lists.new ≡ lists.old }
 {
-    let (sender, receiver) = read_programs(alloc, sender, receiver)?;
+    let sender = read_program(alloc, Role::Sender, sender)?;
+    let receiver = read_program(alloc, Role::Receiver, receiver)?;
     let said = read_schedule(alloc, schedule)?;
     let lists = read_lists(alloc, lists)?;
     let own = Own {
@@ -123,16 +106,18 @@ pub fn own_channel_engine<
     schedule: &mut C,
     lists: &mut L,
     writer: &mut W,
-) -> Result<(), OwnFault>
+) -> Result<(), Fault>
     requires capacity { B ≤ 64 }
     requires size { M ≤ 65536 }
-    ensures ends { EndsOwn B M (layout_of place []) result (S.remaining sender.old) (R.remaining receiver.old) (C.remaining schedule.old)
-        (L.remaining lists.old) W.contents writer.old writer.new }
-    ensures unread { HasNoProgram (S.remaining sender.old) → receiver.new ≡ receiver.old }
-    ensures unread_others { HasNoProgram (S.remaining sender.old) ⊎ HasNoProgram (R.remaining receiver.old)
+    ensures ends { Ends (IsOwnAnswer B M (layout_of place []) (S.remaining sender.old) (R.remaining receiver.old) (C.remaining schedule.old)
+        (L.remaining lists.old)) result W.contents writer.old writer.new }
+    ensures unread { IsRefused (programs Sender) (S.remaining sender.old) → receiver.new ≡ receiver.old }
+    ensures unread_others { IsRefused (programs Sender) (S.remaining sender.old) ⊎ IsRefused (programs Receiver) (R.remaining receiver.old)
         → (schedule.new ≡ schedule.old) × (lists.new ≡ lists.old) }
-    ensures unread_lists { HasNoSchedule (C.remaining schedule.old) → lists.new ≡ lists.old }
+    ensures unread_lists { IsRefused schedules (C.remaining schedule.old) → lists.new ≡ lists.old }
 {
-    let answered = made::<B, M, S, R, C, L>(alloc, place, sender, receiver, schedule, lists)?;
-    Ok(end_with(Ok(answered), writer)?)
+    end_with(
+        made::<B, M, S, R, C, L>(alloc, place, sender, receiver, schedule, lists),
+        writer,
+    )
 }

@@ -1,14 +1,17 @@
 //! The command `ring`: two programs and the senders' lists in, totals of drawn runs of their channel or a short unclean one out.
 
 ghost use Rattle.std.specs.Prelude.{◌≡◌, ◌≤◌, ◌⊎◌};
-ghost use Rattle.engine_support.specs.inner.Making.{text_and_value};
-ghost use Rattle.ztso_engines.specs.Programs.{HasNoProgram};
-ghost use Rattle.ztso_engines.specs.Rings.{EndsRing, IsRingAnswer, OfInputs, draws};
-ghost use Rattle.ztso_engines.specs.inner.ReadPrograms.{FindsAs};
+ghost use Rattle.engine_support.specs.declared.fault.Role.TheVariants.{Sender, Receiver};
+ghost use Rattle.engine_support.specs.Engines.{Ends};
+ghost use Rattle.engine_support.specs.inner.Making.{FindsUpToReads, text_and_value};
+ghost use Rattle.engine_support.specs.Inputs.{IsRefused};
+ghost use Rattle.ztso_engines.specs.Programs.{programs};
+ghost use Rattle.ztso_engines.specs.Rings.{IsRingAnswer, draws};
 
 use crate::channel::channel_fault;
 use crate::lists::read_lists;
-use crate::programs::{OwnFault, read_programs};
+use crate::programs::read_program;
+use engine_support::fault::{Fault, Role};
 use engine_support::output::end_with;
 use jumping::{Jump, Runs};
 use poll_close::BlockPlace;
@@ -36,17 +39,19 @@ fn made<
     lists: &mut L,
     generator: &G,
     runs: Runs,
-) -> Result<(String, bool), OwnFault>
+) -> Result<(String, bool), Fault>
     requires some_capacity { 1 ≤ B }
     requires capacity { B ≤ 64 }
     requires some_word { 1 ≤ M }
     requires size { M ≤ 65536 }
-    ensures made { FindsAs (λ whose answer. OfInputs (S.remaining sender.old) (R.remaining receiver.old) (L.remaining lists.old) (λ a b c.
-        IsRingAnswer (draws B M place (G.Rng.stream generator.now) runs) a b c whose answer)) text_and_value result }
-    ensures unread { HasNoProgram (S.remaining sender.old) → receiver.new ≡ receiver.old }
-    ensures unread_lists { HasNoProgram (S.remaining sender.old) ⊎ HasNoProgram (R.remaining receiver.old) → lists.new ≡ lists.old }
+    ensures made { FindsUpToReads (IsRingAnswer (draws B M place (G.Rng.stream generator.now) runs)
+        (S.remaining sender.old) (R.remaining receiver.old) (L.remaining lists.old)) text_and_value result }
+    ensures unread { IsRefused (programs Sender) (S.remaining sender.old) → receiver.new ≡ receiver.old }
+    ensures unread_lists { IsRefused (programs Sender) (S.remaining sender.old) ⊎ IsRefused (programs Receiver) (R.remaining receiver.old)
+        → lists.new ≡ lists.old }
 {
-    let (sender, receiver) = read_programs(alloc, sender, receiver)?;
+    let sender = read_program(alloc, Role::Sender, sender)?;
+    let receiver = read_program(alloc, Role::Receiver, receiver)?;
     let lists = read_lists(alloc, lists)?;
     let own = Own {
         sender,
@@ -56,7 +61,7 @@ fn made<
     };
     match told::<B, M, G, T>(rt, alloc, &own, generator, runs) {
         Ok(answered) => Ok(answered),
-        Err(why) => Err(OwnFault::Other(channel_fault(why))),
+        Err(why) => Err(channel_fault(why)),
     }
 }
 
@@ -93,18 +98,19 @@ pub fn ring_engine<
     generator: &G,
     runs: Runs,
     writer: &mut W,
-) -> Result<bool, OwnFault>
+) -> Result<bool, Fault>
     requires some_capacity { 1 ≤ B }
     requires capacity { B ≤ 64 }
     requires some_word { 1 ≤ M }
     requires size { M ≤ 65536 }
-    ensures ends { EndsRing (draws B M place (G.Rng.stream generator.now) runs) result
-        (S.remaining sender.old) (R.remaining receiver.old) (L.remaining lists.old) W.contents writer.old writer.new }
-    ensures unread { HasNoProgram (S.remaining sender.old) → receiver.new ≡ receiver.old }
-    ensures unread_lists { HasNoProgram (S.remaining sender.old) ⊎ HasNoProgram (R.remaining receiver.old) → lists.new ≡ lists.old }
+    ensures ends { Ends (IsRingAnswer (draws B M place (G.Rng.stream generator.now) runs)
+        (S.remaining sender.old) (R.remaining receiver.old) (L.remaining lists.old)) result W.contents writer.old writer.new }
+    ensures unread { IsRefused (programs Sender) (S.remaining sender.old) → receiver.new ≡ receiver.old }
+    ensures unread_lists { IsRefused (programs Sender) (S.remaining sender.old) ⊎ IsRefused (programs Receiver) (R.remaining receiver.old)
+        → lists.new ≡ lists.old }
 {
-    let answered = made::<B, M, S, R, L, G, T>(
-        rt, alloc, place, sender, receiver, lists, generator, runs,
-    )?;
-    Ok(end_with(Ok(answered), writer)?)
+    end_with(
+        made::<B, M, S, R, L, G, T>(rt, alloc, place, sender, receiver, lists, generator, runs),
+        writer,
+    )
 }

@@ -3,9 +3,10 @@
 ghost use Rattle.std.specs.Prelude.{◌≡◌, ◌≤◌, ◌++◌, length, IfOk, OnOk};
 ghost use Rattle.std.specs.String.{string_bytes};
 ghost use Rattle.step_machine.specs.Standing.{ForEachHistory};
-ghost use Rattle.engine_support.specs.Engines.{EndsByBoth};
+ghost use Rattle.engine_support.specs.Engines.{Ends};
 ghost use Rattle.engine_support.specs.Histories.{AnswersRun};
-ghost use Rattle.engine_support.specs.Tests.{HasNoTest};
+ghost use Rattle.engine_support.specs.Inputs.{IsRefused};
+ghost use Rattle.engine_support.specs.Tests.{tests};
 ghost use Rattle.ztso_engines.specs.Run.{verdict_line, IsJudged, IsRunAnswer};
 ghost use Rattle.engine_support.specs.inner.Making.{text_and_value};
 ghost use Rattle.litmus.specs.declared.litmus_test.TheConstants.{MAX_LOCATIONS};
@@ -81,8 +82,8 @@ pub fn run_engine<const B: usize, const M: usize, F: Read, S: Read, W: Write>(
     requires capacity { B ≤ 64 }
     requires words { MAX_LOCATIONS ≤ M }
     requires size { M ≤ 65536 }
-    ensures ends { EndsByBoth (IsRunAnswer B M) result (F.remaining file.old) (S.remaining schedule.old) W.contents writer.old writer.new }
-    ensures unread { HasNoTest (F.remaining file.old) → schedule.new ≡ schedule.old }
+    ensures ends { Ends (IsRunAnswer B M (F.remaining file.old) (S.remaining schedule.old)) result W.contents writer.old writer.new }
+    ensures unread { IsRefused tests (F.remaining file.old) → schedule.new ≡ schedule.old }
 {
     schedule_engine::<Run, B, M, F, S, W>(alloc, file, schedule, writer)
 }

@@ -3,10 +3,11 @@
 ghost use Rattle.std.specs.Prelude.{◌≤◌, IfOk};
 ghost use Rattle.std.specs.String.{string_bytes};
 ghost use Rattle.step_machine.specs.History.{FitsIn};
-ghost use Rattle.engine_support.specs.Engines.{EndsBy};
+ghost use Rattle.engine_support.specs.Engines.{Ends};
 ghost use Rattle.ztso_engines.specs.ScriptValue.{script_value, opening_of};
-ghost use Rattle.ztso_engines.specs.Steps.{IsStateText, IsStepsAnswer};
-ghost use Rattle.engine_support.specs.inner.Making.{FindsByUpToReads, text_and_value};
+ghost use Rattle.engine_support.specs.Inputs.{Reads};
+ghost use Rattle.ztso_engines.specs.Steps.{IsStateText, IsStepsAnswer, steps_texts};
+ghost use Rattle.engine_support.specs.inner.Making.{FindsUpToReads, text_and_value};
 
 use crate::steps::script::{Script, read_script};
 use engine_support::fault::Fault;
@@ -42,6 +43,17 @@ fn script_text<const B: usize, const M: usize>(
     state_text(alloc, &machine)
 }
 
+/// The script of the input that a reader gives.
+fn read_steps<const M: usize, R: Read>(alloc: Global, reader: &mut R) -> Result<Script, Fault>
+    requires some_word { 1 ≤ M }
+    requires size { M ≤ 65536 }
+    ensures read { FindsUpToReads (Reads (steps_texts M) (R.remaining reader.old)) script_value result }
+    ensures fits { IfOk result (λ script. FitsIn M (opening_of (script_value script))) }
+{
+    let input = read_text(alloc, reader)?;
+    read_script::<M>(alloc, input.as_bytes())
+}
+
 /// What is to be written for the input that a reader gives. The input is let go before the run.
 fn made<const B: usize, const M: usize, R: Read>(
     alloc: Global,
@@ -51,11 +63,9 @@ fn made<const B: usize, const M: usize, R: Read>(
     requires capacity { B ≤ 64 }
     requires some_word { 1 ≤ M }
     requires size { M ≤ 65536 }
-    ensures { FindsByUpToReads (IsStepsAnswer B M) text_and_value (R.remaining reader.old) result }
+    ensures { FindsUpToReads (IsStepsAnswer B M (R.remaining reader.old)) text_and_value result }
 {
-    let input = read_text(alloc, reader)?;
-    let script = read_script::<M>(alloc, input.as_bytes())?;
-    drop(input);
+    let script = read_steps::<M, R>(alloc, reader)?;
     let text = script_text::<B, M>(alloc, script)?;
     Ok((text, ()))
 }
@@ -74,7 +84,7 @@ pub fn steps_engine<const B: usize, const M: usize, R: Read, W: Write>(
     requires capacity { B ≤ 64 }
     requires some_word { 1 ≤ M }
     requires size { M ≤ 65536 }
-    ensures { EndsBy (IsStepsAnswer B M) result (R.remaining reader.old) W.contents writer.old writer.new }
+    ensures { Ends (IsStepsAnswer B M (R.remaining reader.old)) result W.contents writer.old writer.new }
 {
     end_with(made::<B, M, R>(alloc, reader), writer)
 }

@@ -4,11 +4,11 @@
 ghost use Rattle.std.specs.Prelude.{ℕ, ◌≡◌, ◌<◌, ◌≤◌, ◌⊎◌, Err, IfErr, length};
 ghost use Rattle.hart_threads.specs.GettingOn.{AllGetOn, AtMost};
 ghost use Rattle.hart_threads.specs.Records.{IsRecord};
-ghost use Rattle.engine_support.specs.Engines.{EndsBy};
+ghost use Rattle.engine_support.specs.Engines.{Ends};
 ghost use Rattle.engine_support.specs.Faults.{AnswersAs, too_large};
 ghost use Rattle.engine_support.specs.declared.fault.Fault.TheVariants.{NoMemory, Refused};
 ghost use Rattle.ztso_engines.specs.Threads.{fault_of_threads, IsThreadsGiven, IsThreadsAnswer};
-ghost use Rattle.engine_support.specs.inner.Making.{FindsByUpToReads, text_and_value};
+ghost use Rattle.engine_support.specs.inner.Making.{FindsUpToReads, text_and_value};
 ghost use Rattle.step_machine.specs.declared.opening.TheConstants.{MAX_HARTS};
 ghost use Rattle.litmus.specs.declared.litmus_test.TheConstants.{MAX_LOCATIONS};
 ghost use Rattle.recorder.specs.declared.reading.TheConstants.{MAX_EVENTS};
@@ -99,7 +99,7 @@ fn made<const B: usize, const M: usize, R: Read, T: Threads + Wait + Sync>(
     requires capacity { B ≤ 64 }
     requires words { MAX_LOCATIONS ≤ M }
     requires size { M ≤ 65536 }
-    ensures { FindsByUpToReads (IsThreadsAnswer B M turns) text_and_value (R.remaining file.old) result }
+    ensures { FindsUpToReads (IsThreadsAnswer B M turns (R.remaining file.old)) text_and_value result }
 {
     let test = read_test(alloc, file)?;
     answer::<B, M, T>(rt, alloc, &test, turns)
@@ -125,7 +125,7 @@ pub fn threads_engine<const B: usize, const M: usize, R: Read, W: Write, T: Thre
     requires capacity { B ≤ 64 }
     requires words { MAX_LOCATIONS ≤ M }
     requires size { M ≤ 65536 }
-    ensures { EndsBy (IsThreadsAnswer B M turns) result (R.remaining file.old) W.contents writer.old writer.new }
+    ensures { Ends (IsThreadsAnswer B M turns (R.remaining file.old)) result W.contents writer.old writer.new }
 {
     end_with(made::<B, M, R, T>(rt, alloc, file, turns), writer)
 }

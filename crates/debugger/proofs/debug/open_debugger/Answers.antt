@@ -1,4 +1,3 @@
-use Rattle.std.proofs.Common.{refl}
 use Rattle.engine_support.proofs.Endings.{is_handed}
 use Rattle.recorder.specs.Versions.{said_of}
 use Rattle.engine_support.specs.Histories.{AnswersEvents}
@@ -15,4 +14,4 @@ returns-in_err-test-clause-debugger g c =
 pub returns-clause-debugger : goal.returns-clause-debugger
 returns-clause-debugger g c =
     made_of_read _ _ (AnswersEvents IsAtStart) (λ (debugger : DebuggerState). debugger) c.debugger_along.result c.in_ok-test.test
-    (said_of c.in_ok-test.said) _ refl c.in_ok-test.ensures.read c.debugger_along.ensures
+    (said_of c.in_ok-test.said) c.in_ok-test.ensures.read c.debugger_along.ensures

@@ -4,7 +4,6 @@ use Rattle.litmus_reader.specs.Headings.{heading_of}
 use Rattle.recorder.specs.Versions.{said_of}
 use Rattle.engine_support.specs.Runs.{Runs}
 use Rattle.engine_support.specs.inner.Making.{text_and_value}
-use Rattle.engine_support.proofs.Endings.{is_handed}
 use Rattle.engine_support.proofs.RunLaws.{opening_stays}
 use Rattle.engine_support.proofs.ScheduleLaws.{stopped_by}
 use Rattle.view_engines.specs.Chart.{IsChart, differs, drawing}
@@ -22,4 +21,4 @@ returns-in_err-machine g c =
     let said = said_of c.args.schedule in
     stopped_by (Runs g.row.B g.row.M q.opening said) (IsChart g.row.B g.row.M (drawing c.args.style c.args.selection) (heading_of c.args.heading.now) q said)
     (λ (machine : HistoryWithRoom). machine.history) text_and_value c.from_residual.result c.in_err-machine.field-0.0
-    (λ refusal differ. differs refusal differ) (is_handed c.from_residual.result _ c.from_residual.ensures.1) c.in_err-machine.ensures.ran
+    (λ refusal differ. differs refusal differ) c.from_residual.ensures.1 c.in_err-machine.ensures.ran

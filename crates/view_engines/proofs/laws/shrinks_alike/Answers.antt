@@ -4,7 +4,7 @@ use Rattle.recorder.specs.Versions.{ScheduleValue}
 use Rattle.engine_support.specs.declared.fault.Refusal.{Refusal}
 use Rattle.engine_support.specs.Engines.{Output}
 use Rattle.view_engines.specs.Shrink.{AreOfOneKind, IsShrink}
-use Rattle.engine_support.proofs.OneInput.{alike_by_schedule}
+use Rattle.engine_support.proofs.InputLaws.{alike_by_schedule}
 use Rattle.view_engines.proofs.ShrinkLaws.{alike_run, of_one_kind}
 use Rattle.view_engines.proofs.laws.shrinks_alike.Goals as goal
 

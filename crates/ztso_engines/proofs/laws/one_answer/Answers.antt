@@ -1,4 +1,3 @@
-use Rattle.std.proofs.Common.{true}
 use Rattle.ztso_engines.proofs.OneAnswer as one
 use Rattle.ztso_engines.proofs.OneChannel.{one_channel, alike_channel}
 use Rattle.ztso_engines.proofs.OneOwn.{one_own}
@@ -33,7 +32,7 @@ pub returns-clause-channel : goal.returns-clause-channel
 returns-clause-channel c = one_channel
 
 pub returns-clause-finished : goal.returns-clause-finished
-returns-clause-finished c ring B M l = alike_channel ring B M l true
+returns-clause-finished c = alike_channel
 
 pub returns-clause-own : goal.returns-clause-own
 returns-clause-own c = one_own

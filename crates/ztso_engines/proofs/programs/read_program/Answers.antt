@@ -1,21 +1,21 @@
-use Rattle.std.proofs.Common.{ℕ}
-use Rattle.std.specs.Global.{Global, Vec}
-use Rattle.std.specs.declared.string.String.{String}
+use Rattle.std.proofs.Common.{◌≡◌, ℕ, map}
+use Rattle.std.specs.Global.{Vec}
 use Rattle.std.specs.String.{string_bytes}
-use Rattle.ztso_engines.proofs.ProgramLaws.{is_passed, no_program_no_code, no_text_read, text_assembled}
+use Rattle.rv_decode.specs.Meaning.{meaning}
+use Rattle.assembler.specs.Program.{IsCode}
+use Rattle.engine_support.proofs.InputLaws.{refused_no_answer}
+use Rattle.engine_support.proofs.TextInputs.{format_read}
+use Rattle.ztso_engines.specs.Programs.{program_at, programs}
+use Rattle.ztso_engines.proofs.ProgramLaws.{one_program}
 use Rattle.ztso_engines.proofs.programs.read_program.Goals as goal
-
-pub returns-in_err-text-clause-program : goal.returns-in_err-text-clause-program
-returns-in_err-text-clause-program g c =
-    no_text_read c.args.role _ (λ (text : String Global). string_bytes text) (λ (code : Vec ℕ). code.items) c.from_residual.result c.in_err-text.field-0.0
-    (is_passed c.from_residual.result _ c.from_residual.ensures.1) c.in_err-text.ensures.text
 
 pub returns-clause-program : goal.returns-clause-program
 returns-clause-program g c =
-    text_assembled c.args.role _ (λ (code : Vec ℕ). code.items) (string_bytes c.in_ok-text.text) c.code_of_program.result c.in_ok-text.ensures.text
-    (rw c.deref.ensures at c.code_of_program.ensures.code)
+    format_read IsCode (program_at c.args.role) (λ (code : Vec ℕ). code.items) (λ (code : Vec ℕ). map meaning code.items) _
+    (string_bytes c.in_ok-text.text) c.code_of_program.result c.in_ok-text.ensures.text
+    (rw c.deref.ensures at c.code_of_program.ensures.code) (rw c.deref.ensures at c.code_of_program.ensures.exact)
 
 pub returns-clause-refused : goal.returns-clause-refused
-returns-clause-refused g c = no_program_no_code c.args.role _ (λ (code : Vec ℕ). code.items) c.code_of_program.result
-    (text_assembled c.args.role _ (λ (code : Vec ℕ). code.items) (string_bytes c.in_ok-text.text) c.code_of_program.result c.in_ok-text.ensures.text
-    (rw c.deref.ensures at c.code_of_program.ensures.code))
+returns-clause-refused g c =
+    refused_no_answer (programs c.args.role) (λ r s. r ≡ s) (one_program c.args.role) _ (λ (code : Vec ℕ). code.items) c.code_of_program.result
+    (returns-clause-program g c)

@@ -1,12 +1,14 @@
-use Rattle.std.specs.String.{string_bytes}
-use Rattle.engine_support.proofs.TextInputs.{answered_value}
+use Rattle.engine_support.specs.Inputs.After.{read}
+use Rattle.engine_support.specs.inner.Making.{text_and_value}
+use Rattle.engine_support.proofs.InputLaws.{refused_after}
 use Rattle.ztso_engines.specs.ScriptValue.{script_value}
-use Rattle.ztso_engines.specs.Steps.{IsStateText}
-use Rattle.ztso_engines.specs.StepsText.{Describes}
+use Rattle.ztso_engines.specs.Steps.{steps_texts}
 use Rattle.ztso_engines.proofs.steps.made.Goals as goal
 
+pub returns-in_err-script : goal.returns-in_err-script
+returns-in_err-script g c =
+    refused_after (steps_texts g.row.M) _ _ script_value text_and_value c.from_residual.result c.in_err-script.field-0.0
+    c.from_residual.ensures.1 c.in_err-script.ensures.read
+
 pub returns : goal.returns
-returns g c =
-    answered_value (Describes g.row.M) (λ script answer. IsStateText g.row.B g.row.M script answer.0) _ (string_bytes c.in_ok-input.input)
-    (script_value c.in_ok-script.script) (string_bytes c.in_ok-text.text, tt) c.in_ok-input.ensures.text
-    (rw c.as_bytes.ensures.value at c.in_ok-script.ensures.found) c.in_ok-text.ensures
+returns g c = read (script_value c.in_ok-script.script) _ c.in_ok-script.ensures.read c.in_ok-text.ensures

@@ -1,24 +1,22 @@
 use Rattle.std.proofs.Common.{◌∙◌, ap, arith}
-use Rattle.std.proofs.lemmas.Result.{err_from_is_err_and}
 use Rattle.step_machine.specs.History.{HistoryWithRoom}
 use Rattle.recorder.specs.Versions.{events_said, said_of}
 use Rattle.recorder.specs.Writing.{canon}
 use Rattle.engine_support.specs.Runs.{Runs}
 use Rattle.engine_support.specs.inner.Making.{text_and_value}
-use Rattle.engine_support.proofs.RunLaws.{opening_stays}
+use Rattle.engine_support.proofs.RunLaws.{opening_stays, runs_events}
 use Rattle.engine_support.proofs.ScheduleLaws.{stopped_by}
 use Rattle.view_engines.specs.Shrink.{IsShrink, differs}
 use Rattle.view_engines.proofs.PartLimits.{part_OfHarts, part_few}
-use Rattle.view_engines.proofs.ShrinkLaws.{not_shrunk, runs_events}
+use Rattle.view_engines.proofs.ShrinkLaws.{not_shrunk}
 use Rattle.view_engines.proofs.shrinking.ShrinkScheduleCommand.answer.Goals as goal
 
 pub returns-in_err-machine : goal.returns-in_err-machine
 returns-in_err-machine g c =
-    let p = err_from_is_err_and c.from_residual.result c.from_residual.ensures.1 in
     let said = said_of c.args.said in
     stopped_by (Runs g.row.B g.row.M c.args.test.now.opening said) (IsShrink g.row.B g.row.M c.args.test.now said)
     (λ (machine : HistoryWithRoom). machine.history) text_and_value c.from_residual.result c.in_err-machine.field-0.0
-    (λ refusal differ. differs refusal differ) (rw p.2 at p.1) c.in_err-machine.ensures.ran
+    (λ refusal differ. differs refusal differ) c.from_residual.ensures.1 c.in_err-machine.ensures.ran
 
 pub shrink_run-requires : goal.shrink_run-requires
 shrink_run-requires g c =

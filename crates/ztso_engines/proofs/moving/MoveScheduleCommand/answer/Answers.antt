@@ -1,7 +1,6 @@
 use Rattle.std.proofs.Common.{◌≤◌, length, sym, ap, subst, arith}
 use Rattle.std.proofs.lemmas.List.{length-map}
 use Rattle.std.specs.Global.{Vec}
-use Rattle.engine_support.proofs.Endings.{is_handed}
 use Rattle.recorder.specs.Records.{Step}
 use Rattle.recorder.specs.Schedule.{OfHarts}
 use Rattle.recorder.specs.Versions.{said_of}
@@ -26,5 +25,5 @@ pub returns-in_err-steps : goal.returns-in_err-steps
 returns-in_err-steps g c =
     stopped_by (Records g.row.B g.row.M c.args.test.now.opening (said_of c.args.said)) (IsMoved g.row.B g.row.M c.args.test.now (said_of c.args.said))
     (λ (steps : Vec Step). steps.items) text_and_value c.from_residual.result c.in_err-steps.field-0.0
-    (λ refusal differs. differs) (is_handed c.from_residual.result _ c.from_residual.ensures.1)
+    (λ refusal differs. differs) c.from_residual.ensures.1
     c.in_err-steps.ensures

@@ -1,6 +1,5 @@
 use Rattle.std.proofs.Common.{ap, ◌∙◌}
 use Rattle.std.specs.List.{flat_map}
-use Rattle.engine_support.proofs.Endings.{is_handed}
 use Rattle.step_machine.specs.History.{HistoryWithRoom}
 use Rattle.recorder.specs.Outcomes.{entry_line}
 use Rattle.recorder.specs.Versions.{said_of}
@@ -22,5 +21,5 @@ pub returns-in_err-machine : goal.returns-in_err-machine
 returns-in_err-machine g c =
     stopped_by (Runs g.row.B g.row.M c.args.test.now.opening (said_of c.args.said)) (AnswersRun g.row.B g.row.M IsReplay c.args.test.now (said_of c.args.said))
     (λ (machine : HistoryWithRoom). machine.history) text_and_value c.from_residual.result c.in_err-machine.field-0.0
-    (λ refusal differs. differs) (is_handed c.from_residual.result _ c.from_residual.ensures.1)
+    (λ refusal differs. differs) c.from_residual.ensures.1
     c.in_err-machine.ensures.ran

@@ -1,4 +1,3 @@
-use Rattle.engine_support.proofs.Endings.{is_handed}
 use Rattle.step_machine.specs.History.{History}
 use Rattle.recorder.specs.Versions.{said_of}
 use Rattle.engine_support.specs.Histories.{AnswersRun}
@@ -18,5 +17,5 @@ returns-in_err-machine g c =
     stopped_by (Runs g.row.B g.row.M c.args.test.now.opening (said_of c.args.said))
     (AnswersRun g.row.B g.row.M (IsJudged g.row.M) c.args.test.now (said_of c.args.said))
     (λ (t : History). t) text_and_value c.from_residual.result c.in_err-machine.field-0.0
-    (λ refusal differs. differs) (is_handed c.from_residual.result _ c.from_residual.ensures.1)
+    (λ refusal differs. differs) c.from_residual.ensures.1
     c.in_err-machine.ensures.ran
