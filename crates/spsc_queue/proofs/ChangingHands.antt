@@ -10,12 +10,11 @@ use Rattle.spsc_queue.specs.Protocol.{ReceiverState, idle, asked, waiting, holdi
 use Rattle.spsc_queue.specs.Laws.{FollowsSpscProtocol}
 use Rattle.spsc_queue.specs.Calls.{SpscQueue, the_receiver, moved_on, ring_of, buffer, is_sender_in_call, is_receiver_in_call, sent_words, received_words}
 use Rattle.spsc_queue.specs.Calls.{UsesAsSpscQueue}
-use Rattle.spsc_queue.proofs.Spread.{spread, sent_store, freed_store}
+use Rattle.spsc_queue.proofs.Spread.{spread, sent_store}
 use Rattle.spsc_queue.proofs.Rows.{Earlier}
 use Rattle.spsc_queue.proofs.PastRows.{length-spread}
-use Rattle.spsc_queue.proofs.FastForwardInvariant as fastforwards
-use Rattle.spsc_queue.proofs.FastForwardInvariant.{cleared_store}
-use Rattle.spsc_queue.proofs.Invariants.{Holds, earlier}
+use Rattle.spsc_queue.proofs.Invariant.{freed, there, their_store, their_landed, they_made, Theirs, ReceivingIs, Invariant}
+use Rattle.spsc_queue.proofs.Invariants.{earlier}
 use Rattle.spsc_queue.proofs.Runs.{invariant-of}
 use Rattle.spsc_queue.proofs.Outline.{IsWhole}
 use Rattle.spsc_queue.proofs.Calls.{calls_follow}
@@ -24,13 +23,19 @@ use Rattle.spsc_queue.proofs.CallLaws.{idle_words, idle_sent, idle_received}
 none_left : (f : ℕ → Write) (i n : ℕ) (ws : List Write) → ws ≡ spread f i n → ws ≡ [] → n ≡ 0
 none_left f i n ws is none = sym (length-spread f i n) ∙ ap length (sym is ∙ none)
 
-whole-counts : (r : RingBuffer) (L : ℕ → ℕ) (taken consumed n : ℕ) (p : ReceiverState) → IsWhole p → fastforwards.ReceivingIs r L taken consumed n p
+whole-counts : (K : Kind) (r : RingBuffer) (L : ℕ → ℕ) (taken consumed n : ℕ) (p : ReceiverState) → IsWhole p → ReceivingIs K r L taken consumed n p
     → taken ≡ consumed
-whole-counts r L taken consumed n idle whole is = is
-whole-counts r L taken consumed n (asked u) whole is = is.0
-whole-counts r L taken consumed n (waiting u) whole is = absurd is
-whole-counts r L taken consumed n (holding u w) whole is = is.0
-whole-counts r L taken consumed n (cleared u) whole is = absurd whole
+whole-counts K r L taken consumed n idle whole is = is
+whole-counts K r L taken consumed n (asked u) whole is = is.0
+whole-counts K r L taken consumed n (waiting u) whole is = is.0
+whole-counts K r L taken consumed n (holding u w) whole is = is.0
+whole-counts K r L taken consumed n (cleared u) whole is = absurd whole
+
+-- where all that it made has landed, so have its zeros and tails
+all_landed : (K : Kind) (n m z t : ℕ) → Theirs K n m z t → n ≡ m → their_landed K z t ≡ they_made K n m → (freed K z t ≡ n) × (t ≡ n)
+all_landed lamport n m z t is level all = (omega (arith, is.0, all), omega (arith, is.0, all))
+all_landed fastforward n m z t is level all =
+    (omega (arith, level, all, is.slots_stored, is.heads_published), omega (arith, level, all, is.slots_stored, is.heads_published))
 
 -- the words of the block where all words are taken and no store to it is pending
 record IsQuiet (k : Kind) (r : RingBuffer) (o : OpeningValue) (es : List Entry) (n : ℕ) : Type 0 where
@@ -38,32 +43,22 @@ record IsQuiet (k : Kind) (r : RingBuffer) (o : OpeningValue) (es : List Entry) 
   tail : memory_word o es r.tail ≡ offset r n
   slots : k ≡ fastforward → (j : ℕ) → j < r.size → memory_word o es (slot r (n + j)) ≡ 0
 
-quiet : (k : Kind) (r : RingBuffer) (L : ℕ → ℕ) (c : Earlier) (o : OpeningValue) (es : List Entry) (s : ProtocolState) → Holds k r L c o es s
+quiet : (k : Kind) (r : RingBuffer) (L : ℕ → ℕ) (c : Earlier) (o : OpeningValue) (es : List Entry) (s : ProtocolState) → Invariant k r L c o es s
     → s.stored ≡ s.published → s.taken ≡ s.stored → IsWhole s.receiving → ((h : ℕ) → writes_to r (pending h es) ≡ []) → IsQuiet k r o es s.stored
-quiet lamport r L c o es s inv level all whole none =
+quiet k r L c o es s inv level all whole none =
+    let z : ℕ = inv.landed.cleared in
+    let t : ℕ = inv.landed.tails in
     let unsent = none_left (sent_store r L) (inv.landed.slots + inv.landed.heads) inv.buffers.unsent (writes_to r (pending r.sender es))
     inv.buffers.rows.mine (none r.sender) in
-    let unread = none_left (freed_store r) inv.landed.tails inv.buffers.unread (writes_to r (pending r.receiver es))
+    let unread = none_left (their_store k r) (their_landed k z t) inv.buffers.unread (writes_to r (pending r.receiver es))
     inv.buffers.rows.theirs (none r.receiver) in
+    let landed = all_landed k s.taken s.consumed z t inv.order.theirs
+    (whole-counts k r L s.taken s.consumed (there k inv.landed.slots inv.landed.heads) s.receiving whole inv.receiving)
+    (omega (arith, unread, inv.buffers.theirs_count)) in
     record {
       head = inv.words.head ∙ ap (offset r) (omega (arith, unsent, level, inv.buffers.mine_count, inv.order.mine.slots_stored, inv.order.mine.heads_published));
-      tail = inv.words.tail ∙ ap (offset r) (omega (arith, unread, all, inv.level, inv.buffers.theirs_count));
-      slots = λ kind. cc;
-    }
-quiet fastforward r L c o es s inv level all whole none =
-    let unsent = none_left (sent_store r L) (inv.landed.slots + inv.landed.heads) inv.buffers.unsent (writes_to r (pending r.sender es))
-    inv.buffers.rows.mine (none r.sender) in
-    let unread = none_left (cleared_store r) (inv.landed.cleared + inv.landed.tails) inv.buffers.unread (writes_to r (pending r.receiver es))
-    inv.buffers.rows.theirs (none r.receiver) in
-    let same = whole-counts r L s.taken s.consumed inv.landed.slots s.receiving whole inv.receiving in
-    let cleared : (inv.landed.cleared ≡ s.stored) × (inv.landed.tails ≡ s.stored) = (
-      omega (arith, unread, all, same, inv.buffers.theirs_count, inv.order.theirs.slots_stored, inv.order.theirs.heads_published),
-      omega (arith, unread, all, same, inv.buffers.theirs_count, inv.order.theirs.slots_stored, inv.order.theirs.heads_published),
-    ) in
-    record {
-      head = inv.words.head ∙ ap (offset r) (omega (arith, unsent, level, inv.buffers.mine_count, inv.order.mine.slots_stored, inv.order.mine.heads_published));
-      tail = inv.words.tail ∙ ap (offset r) cleared.1;
-      slots = λ kind j below. inv.words.free (s.stored + j) (omega (arith, inv.order.mine.slots_stored)) (omega (arith, below, cleared.0));
+      tail = inv.words.tail ∙ ap (offset r) (omega (arith, landed.1, all));
+      slots = λ kind j below. inv.words.free kind (s.stored + j) (omega (arith, inv.order.mine.slots_stored)) (omega (arith, below, landed.0, all));
     }
 
 pub changes_hands : (B M : ℕ) (o : OpeningValue) (q : SpscQueue) (before es : List Entry) → UsesAsSpscQueue B M o q before es

@@ -1,17 +1,44 @@
--- What holds of Lamport's block, of the pending stores to it and of both parties after every run that keeps the protocol.
-use Rattle.std.proofs.Common.{ℕ, zero, suc, ◌+◌, ◌<◌, ◌≤◌, ◌≡◌, List, [], ◌∷◌, ◌++◌, arith}
+-- What holds of the block, of the pending stores to it and of both parties after every run that keeps the protocol.
+use Rattle.std.proofs.Common.{ℕ, zero, suc, ◌+◌, ◌<◌, ◌≤◌, ◌≡◌, ◌≢◌, List, [], ◌∷◌, ◌++◌, sym, arith}
+use Rattle.memory.specs.declared.writes.Write.{Write}
 use Rattle.step_machine.specs.declared.events.Entry.{Entry}
 use Rattle.step_machine.specs.History.{OpeningValue}
 use Rattle.step_machine.specs.Entries.{memory_word}
-use Rattle.spsc_queue.specs.RingBuffers.{RingBuffer, offset, slot}
+use Rattle.spsc_queue.specs.RingBuffers.{Kind, lamport, fastforward, RingBuffer, IsRingBuffer, offset, slot}
 use Rattle.spsc_queue.specs.Protocol.{SenderState, resting, placed, roomy, filled, ReceiverState, idle, asked, waiting, holding, cleared, ProtocolState}
 use Rattle.spsc_queue.proofs.Spread.{sent_store, freed_store}
 use Rattle.spsc_queue.proofs.Rows.{Earlier, Rows, RowOrder}
 
--- how many of the block's stores have landed: words in their slots, heads, tails
+-- FastForward's receiver's row is the sender's of another ring: its index is the tail, its words are 0
+abbrev pub turned : RingBuffer → RingBuffer
+turned r = record r { head = r.tail; tail = r.head }
+
+pub turned_is : (r : RingBuffer) → IsRingBuffer r → IsRingBuffer (turned r)
+turned_is r is = record {
+  parties = is.parties;
+  some_slots = is.some_slots;
+  head = record { above = is.tail.above; below = is.tail.below; aligned = is.tail.aligned };
+  tail = record { above = is.head.above; below = is.head.below; aligned = is.head.aligned };
+  slots_above = is.slots_above;
+  slots_below = is.slots_below;
+  slots_aligned = is.slots_aligned;
+  apart = λ e. is.apart (sym e);
+  head_apart = is.tail_apart;
+  tail_apart = is.head_apart;
+  small = is.small;
+}
+
+abbrev pub zeros : ℕ → ℕ
+zeros j = 0
+
+abbrev pub cleared_store : RingBuffer → ℕ → Write
+cleared_store r p = sent_store (turned r) zeros p
+
+-- how many of the block's stores have landed: words in their slots, heads, FastForward's zeros, tails
 pub record Landed : Type 0 where
   pub slots : ℕ
   pub heads : ℕ
+  pub cleared : ℕ
   pub tails : ℕ
 
 -- the first n words of L
@@ -19,51 +46,85 @@ abbrev pub firsts : (ℕ → ℕ) → ℕ → List ℕ
 firsts L zero = []
 firsts L (suc n) = firsts L n ++ L n ∷ []
 
-pub record Order (r : RingBuffer) (stored published consumed : ℕ) (d : Landed) : Type 0 where
-  pub mine : RowOrder stored published d.slots d.heads
-  pub consumed_heads : consumed ≤ d.heads
-  pub landed_consumed : d.tails ≤ consumed
-  pub room : stored + 1 ≤ d.tails + r.size
+-- ---- in what the kinds differ: how many slots stay free, how many slots are freed in memory, how many words are there in memory
 
--- the words of the block: its slots hold the words that landed and that no tail in memory has passed
-pub record Words (r : RingBuffer) (L : ℕ → ℕ) (d : Landed) (word : ℕ → ℕ) : Type 0 where
+abbrev pub spare : Kind → ℕ
+spare lamport = 1
+spare fastforward = 0
+
+abbrev pub freed : Kind → (cleared tails : ℕ) → ℕ
+freed lamport z t = t
+freed fastforward z t = z
+
+abbrev pub there : Kind → (slots heads : ℕ) → ℕ
+there lamport n h = h
+there fastforward n h = n
+
+-- the receiver's row, how many of its stores have landed and how many it made, and in which order
+abbrev pub their_store : Kind → RingBuffer → ℕ → Write
+their_store lamport r p = freed_store r p
+their_store fastforward r p = cleared_store r p
+
+abbrev pub their_landed : Kind → (cleared tails : ℕ) → ℕ
+their_landed lamport z t = t
+their_landed fastforward z t = z + t
+
+abbrev pub they_made : Kind → (taken consumed : ℕ) → ℕ
+they_made lamport n m = m
+they_made fastforward n m = n + m
+
+abbrev pub Theirs : Kind → (taken consumed cleared tails : ℕ) → Type 0
+Theirs lamport n m z t = (n ≡ m) × (t ≤ m)
+Theirs fastforward n m z t = RowOrder n m z t
+
+-- ---- the invariant
+
+pub record Order (K : Kind) (r : RingBuffer) (stored published taken consumed : ℕ) (d : Landed) : Type 0 where
+  pub mine : RowOrder stored published d.slots d.heads
+  pub theirs : Theirs K taken consumed d.cleared d.tails
+  pub taken_there : taken ≤ there K d.slots d.heads
+  pub room : stored + spare K ≤ freed K d.cleared d.tails + r.size
+
+-- the words of the block: its slots hold the words that landed and that aren't freed in memory, and FastForward's else 0
+pub record Words (K : Kind) (r : RingBuffer) (L : ℕ → ℕ) (d : Landed) (word : ℕ → ℕ) : Type 0 where
   pub head : word r.head ≡ offset r d.heads
   pub tail : word r.tail ≡ offset r d.tails
-  pub slots : (j : ℕ) → d.tails ≤ j → j < d.slots → word (slot r j) ≡ L j
+  pub full : (j : ℕ) → freed K d.cleared d.tails ≤ j → j < d.slots → word (slot r j) ≡ L j
+  pub free : K ≡ fastforward → (j : ℕ) → d.slots ≤ j → j < freed K d.cleared d.tails + r.size → word (slot r j) ≡ 0
 
--- what the sender of either kind knows, where n slots have been freed in memory and this many stay free
+-- what the sender knows, where n slots have been freed in memory and this many stay free
 abbrev pub SendingIs : (spare : ℕ) → RingBuffer → (stored published n : ℕ) → SenderState → Type 0
 SendingIs spare r stored published n resting = stored ≡ published
 SendingIs spare r stored published n (placed u) = (stored ≡ published) × (u ≡ offset r published)
 SendingIs spare r stored published n (roomy u) = (stored ≡ published) × (u ≡ offset r published) × (stored + 1 + spare ≤ n + r.size)
 SendingIs spare r stored published n (filled u) = (stored ≡ published + 1) × (u ≡ offset r published)
 
--- what the receiver knows, where h heads have landed
-abbrev pub ReceivingIs : RingBuffer → (ℕ → ℕ) → (tails h : ℕ) → ReceiverState → Type 0
-ReceivingIs r L tails h idle = Unit {0}
-ReceivingIs r L tails h (asked u) = u ≡ offset r tails
-ReceivingIs r L tails h (waiting u) = (u ≡ offset r tails) × (tails < h)
-ReceivingIs r L tails h (holding u w) = (u ≡ offset r tails) × (tails < h) × (w ≡ L tails)
-ReceivingIs r L tails h (cleared u) = ⊥
+-- what the receiver knows, where n words are there in memory
+abbrev pub ReceivingIs : Kind → RingBuffer → (ℕ → ℕ) → (taken consumed n : ℕ) → ReceiverState → Type 0
+ReceivingIs K r L taken consumed n idle = taken ≡ consumed
+ReceivingIs K r L taken consumed n (asked u) = (taken ≡ consumed) × (u ≡ offset r consumed)
+ReceivingIs K r L taken consumed n (waiting u) = (taken ≡ consumed) × (u ≡ offset r consumed) × (taken < n) × (K ≡ lamport)
+ReceivingIs K r L taken consumed n (holding u w) = (taken ≡ consumed) × (u ≡ offset r consumed) × (taken < n) × (w ≡ L taken)
+ReceivingIs K r L taken consumed n (cleared u) = (taken ≡ consumed + 1) × (u ≡ offset r consumed) × (K ≡ fastforward)
 
 -- the stores to the block: the sender's row and the receiver's, and how far each has come
-pub record Buffers (r : RingBuffer) (L : ℕ → ℕ) (c : Earlier) (es : List Entry) (stored published consumed : ℕ) (d : Landed) : Type 0 where
+pub record Buffers (K : Kind) (r : RingBuffer) (L : ℕ → ℕ) (c : Earlier) (es : List Entry) (stored published taken consumed : ℕ) (d : Landed) : Type 0 where
   pub unsent : ℕ
   pub unread : ℕ
-  pub rows : Rows r c (sent_store r L) (freed_store r) es (d.slots + d.heads) unsent d.tails unread
+  pub rows : Rows r c (sent_store r L) (their_store K r) es (d.slots + d.heads) unsent (their_landed K d.cleared d.tails) unread
   pub mine_count : unsent + (d.slots + d.heads) ≡ stored + published
-  pub theirs_count : unread + d.tails ≡ consumed
+  pub theirs_count : unread + their_landed K d.cleared d.tails ≡ they_made K taken consumed
 
-pub record Invariant (r : RingBuffer) (L : ℕ → ℕ) (c : Earlier) (o : OpeningValue) (es : List Entry) (s : ProtocolState) : Type 0 where
+pub record Invariant (K : Kind) (r : RingBuffer) (L : ℕ → ℕ) (c : Earlier) (o : OpeningValue) (es : List Entry) (s : ProtocolState) : Type 0 where
   pub landed : Landed
-  pub order : Order r s.stored s.published s.consumed landed
-  pub level : s.taken ≡ s.consumed
-  pub words : Words r L landed (memory_word o es)
-  pub sending : SendingIs 1 r s.stored s.published landed.tails s.sending
-  pub receiving : ReceivingIs r L s.consumed landed.heads s.receiving
-  pub buffers : Buffers r L c es s.stored s.published s.consumed landed
+  pub order : Order K r s.stored s.published s.taken s.consumed landed
+  pub words : Words K r L landed (memory_word o es)
+  pub nonzero : K ≡ fastforward → (j : ℕ) → j < s.stored → L j ≢ 0
+  pub sending : SendingIs (spare K) r s.stored s.published (freed K landed.cleared landed.tails) s.sending
+  pub receiving : ReceivingIs K r L s.taken s.consumed (there K landed.slots landed.heads) s.receiving
+  pub buffers : Buffers K r L c es s.stored s.published s.taken s.consumed landed
   pub sent : s.sent ≡ firsts L s.stored
-  pub received : s.received ≡ firsts L s.consumed
+  pub received : s.received ≡ firsts L s.taken
 
 pub sending-more : (spare : ℕ) (r : RingBuffer) (stored published n m : ℕ) (p : SenderState) → n ≤ m → SendingIs spare r stored published n p
     → SendingIs spare r stored published m p
@@ -72,9 +133,23 @@ sending-more spare r stored published n m (placed x) le h = h
 sending-more spare r stored published n m (roomy x) le h = (h.0, h.1, omega (arith, le, h.2))
 sending-more spare r stored published n m (filled x) le h = h
 
-pub receiving-more : (r : RingBuffer) (L : ℕ → ℕ) (tails h g : ℕ) (p : ReceiverState) → h ≤ g → ReceivingIs r L tails h p → ReceivingIs r L tails g p
-receiving-more r L tails h g idle le is = is
-receiving-more r L tails h g (asked u) le is = is
-receiving-more r L tails h g (waiting u) le is = (is.0, omega (arith, le, is.1))
-receiving-more r L tails h g (holding u w) le is = (is.0, omega (arith, le, is.1), is.2)
-receiving-more r L tails h g (cleared u) le is = is
+pub receiving-more : (K : Kind) (r : RingBuffer) (L : ℕ → ℕ) (taken consumed g h : ℕ) (p : ReceiverState) → g ≤ h
+    → ReceivingIs K r L taken consumed g p → ReceivingIs K r L taken consumed h p
+receiving-more K r L taken consumed g h idle le is = is
+receiving-more K r L taken consumed g h (asked u) le is = is
+receiving-more K r L taken consumed g h (waiting u) le is = (is.0, is.1, omega (arith, le, is.2), is.3)
+receiving-more K r L taken consumed g h (holding u w) le is = (is.0, is.1, omega (arith, le, is.2), is.3)
+receiving-more K r L taken consumed g h (cleared u) le is = is
+
+-- what is freed was taken, what is there is in its slot, and more is there where more has landed
+pub freed_taken : (K : Kind) (n m z t : ℕ) → Theirs K n m z t → freed K z t ≤ n
+freed_taken lamport n m z t is = omega (arith, is.0, is.1)
+freed_taken fastforward n m z t is = is.slots_stored
+
+pub there_slots : (K : Kind) {n h : ℕ} → h ≤ n → there K n h ≤ n
+there_slots lamport le = le
+there_slots fastforward le = omega arith
+
+pub there_more : (K : Kind) {n h n2 h2 : ℕ} → n ≤ n2 → h ≤ h2 → there K n h ≤ there K n2 h2
+there_more lamport le le2 = le2
+there_more fastforward le le2 = le

@@ -8,12 +8,13 @@ use Rattle.step_machine.specs.declared.events.Entry.{Entry}
 use Rattle.step_machine.specs.History.{OpeningValue}
 use Rattle.step_machine.specs.Access.{land, access_of}
 use Rattle.step_machine.specs.Entries.{hart_of, pending, memory_word, stores, lands}
-use Rattle.spsc_queue.specs.RingBuffers.{RingBuffer, IsRingBuffer, offset, slot}
+use Rattle.spsc_queue.specs.RingBuffers.{Kind, lamport, fastforward, RingBuffer, IsRingBuffer, IsWordIn, offset, slot}
 use Rattle.spsc_queue.specs.Protocol.{ProtocolState, sends, receives, passes, role_of}
-use Rattle.spsc_queue.proofs.Spread.{slot_apart, sent_store, freed_store, sent-slot, sent-head, slot_not_head, slot_not_tail, offset_low}
-use Rattle.spsc_queue.proofs.Rows.{slot-landed, head-landed, Earlier, Rows, Lands, hit, miss, landing}
-use Rattle.spsc_queue.proofs.Invariant.{Landed, Invariant, sending-more, receiving-more}
-use Rattle.spsc_queue.proofs.Loads.{slot_word, freed-whole}
+use Rattle.spsc_queue.proofs.Spread.{slot_apart, sent_store, sent-slot, sent-head, slot_not_head, slot_not_tail, offset_low}
+use Rattle.spsc_queue.proofs.Rows.{RowOrder, slot-landed, head-landed, Earlier, Rows, Lands, hit, miss, landing}
+use Rattle.spsc_queue.proofs.Invariant.{turned, zeros, Landed, spare, freed, there, their_store, their_landed, Theirs, Words, Invariant, sending-more}
+use Rattle.spsc_queue.proofs.Invariant.{receiving-more, freed_taken, there_slots, there_more}
+use Rattle.spsc_queue.proofs.Loads.{slot_word, slot_again}
 use Rattle.spsc_queue.proofs.Steps.{idles}
 
 -- whose entry it is
@@ -36,45 +37,65 @@ role-cases r h = at (h == r.sender) refl (h == r.receiver) refl
       ap (λ x. if x then sends else (if h == r.receiver then receives else passes)) one ∙ ap (λ x. if x then receives else passes) two,
     ))
 
-module _ (r : RingBuffer) (is : IsRingBuffer r) (L : ℕ → ℕ) (small : (j : ℕ) → L j < 2 ^ 32) (c : Earlier) (o : OpeningValue) (es : List Entry)
-    (s : ProtocolState) (inv : Invariant r L c o es s) (e : Entry) (even : (h : ℕ) → lands h es ≤ length (stores h es)) where
+module _ (K : Kind) (r : RingBuffer) (is : IsRingBuffer r) (L : ℕ → ℕ) (small : (j : ℕ) → L j < 2 ^ 32) (c : Earlier) (o : OpeningValue) (es : List Entry)
+    (s : ProtocolState) (inv : Invariant K r L c o es s) (e : Entry) where
   abbrev d : Landed
   d = inv.landed
 
   abbrev after : List Entry
   after = es ++ e ∷ []
 
-  -- the oldest store of a row has landed
+  -- at least this many words are stored
+  abbrev n_freed : ℕ
+  n_freed = freed K d.cleared d.tails
+
+  freed_slots : n_freed ≤ d.slots
+  freed_slots =
+      omega (arith, freed_taken K s.taken s.consumed d.cleared d.tails inv.order.theirs, inv.order.taken_there, there_slots K inv.order.mine.heads_slots)
+
   module _ (w : Write) (written : Lands r o es after w) where
+    -- a word that isn't written stays
+    same_at : (a : ℕ) → IsWordIn r a → IsWholeWord w → w.addr ≢ a → memory_word o after a ≡ memory_word o es a
+    same_at a word whole other = miss r o es after w a written word whole other
+
+    -- the oldest store of the sender's row has landed
     module _ (m : ℕ) (count : inv.buffers.unsent ≡ suc m)
-        (rows : Rows r c (sent_store r L) (freed_store r) after (suc (d.slots + d.heads)) m d.tails inv.buffers.unread) where
-      slot-lands : d.slots ≡ d.heads → w ≡ write (slot r d.slots) 4 (L d.slots) → Invariant r L c o after s
-      slot-lands level is_slot = record {
-        landed = record { slots = suc d.slots; heads = d.heads; tails = d.tails };
-        level = inv.level;
+        (rows : Rows r c (sent_store r L) (their_store K r) after (suc (d.slots + d.heads)) m (their_landed K d.cleared d.tails) inv.buffers.unread) where
+      mine-land : (n h : ℕ) → n + h ≡ suc (d.slots + d.heads) → d.slots ≤ n → d.heads ≤ h → RowOrder s.stored s.published n h
+          → Words K r L (record { slots = n; heads = h; cleared = d.cleared; tails = d.tails }) (memory_word o after) → Invariant K r L c o after s
+      mine-land n h one more_slots more_heads row words = record {
+        landed = record { slots = n; heads = h; cleared = d.cleared; tails = d.tails };
         order = record {
-          mine = slot-landed inv.order.mine level some;
-          consumed_heads = inv.order.consumed_heads;
-          landed_consumed = inv.order.landed_consumed;
+          mine = row;
+          theirs = inv.order.theirs;
+          taken_there = omega (arith, inv.order.taken_there, there_more K more_slots more_heads);
           room = inv.order.room;
         };
-        words = record {
-          head = miss r o es after w r.head written is.head whole (λ e. slot_not_head r is d.slots (sym place ∙ e)) ∙ inv.words.head;
-          tail = miss r o es after w r.tail written is.tail whole (λ e. slot_not_tail r is d.slots (sym place ∙ e)) ∙ inv.words.tail;
-          slots = slots;
-        };
+        words = words;
+        nonzero = inv.nonzero;
         sending = inv.sending;
-        receiving = inv.receiving;
+        receiving = receiving-more K r L s.taken s.consumed (there K d.slots d.heads) (there K n h) s.receiving
+            (there_more K more_slots more_heads) inv.receiving;
         buffers = record {
           unsent = m;
           unread = inv.buffers.unread;
-          rows = subst (λ i. Rows r c (sent_store r L) (freed_store r) after i m d.tails inv.buffers.unread) (omega arith) rows;
-          mine_count = omega (arith, inv.buffers.mine_count, count);
+          rows = subst (λ i. Rows r c (sent_store r L) (their_store K r) after i m (their_landed K d.cleared d.tails) inv.buffers.unread) (sym one) rows;
+          mine_count = omega (arith, inv.buffers.mine_count, count, one);
           theirs_count = inv.buffers.theirs_count;
         };
         sent = inv.sent;
         received = inv.received;
       }
+
+      slot-lands : d.slots ≡ d.heads → w ≡ write (slot r d.slots) 4 (L d.slots) → Invariant K r L c o after s
+      slot-lands level is_slot = mine-land (suc d.slots) d.heads (omega arith) (omega arith) (omega arith) (slot-landed inv.order.mine level some) (record {
+        head = same_at r.head is.head whole (λ e. slot_not_head r is d.slots (sym place ∙ e)) ∙ inv.words.head;
+        tail = same_at r.tail is.tail whole (λ e. slot_not_tail r is d.slots (sym place ∙ e)) ∙ inv.words.tail;
+        full = full;
+        free = λ kind j from below. same_at (slot r j) (slot_word r is j) whole
+            (λ same. slot_apart r is d.slots j (omega arith) (omega (arith, below, freed_slots)) (sym place ∙ same))
+            ∙ inv.words.free kind j (omega arith) below;
+      })
         where
           some : d.slots < s.stored
           some = omega (arith, inv.buffers.mine_count, count, level, inv.order.mine.published_stored)
@@ -85,45 +106,22 @@ module _ (r : RingBuffer) (is : IsRingBuffer r) (L : ℕ → ℕ) (small : (j : 
           whole : IsWholeWord w
           whole = subst IsWholeWord (sym is_slot) (record { whole = refl; aligned = (slot_word r is d.slots).aligned; small = small d.slots })
 
-          slots : (j : ℕ) → d.tails ≤ j → j < suc d.slots → memory_word o after (slot r j) ≡ L j
-          slots j from below = elim (cases_eq j d.slots) [
+          full : (j : ℕ) → n_freed ≤ j → j < suc d.slots → memory_word o after (slot r j) ≡ L j
+          full j from below = elim (cases_eq j d.slots) [
             | inl same ↦ hit r o es after w (slot r j) written (slot_word r is j) whole (place ∙ ap (slot r) (sym same))
                 ∙ ap (λ (x : Write). x.value) is_slot ∙ ap L (sym same)
-            | inr other ↦
-                miss r o es after w (slot r j) written (slot_word r is j) whole
-                (λ same.
-                slot_apart r is j d.slots (omega arith) (omega (arith, some, inv.order.room)) (sym same ∙ place))
-                ∙ inv.words.slots j from (omega arith)
+            | inr other ↦ same_at (slot r j) (slot_word r is j) whole
+                (λ same. slot_apart r is j d.slots (omega arith) (omega (arith, some, from, inv.order.room)) (sym same ∙ place))
+                ∙ inv.words.full j from (omega arith)
           ]
 
-      head-lands : d.slots ≡ d.heads + 1 → w ≡ write r.head 4 (offset r (d.heads + 1)) → Invariant r L c o after s
-      head-lands odd is_head = record {
-        landed = record { slots = d.slots; heads = suc d.heads; tails = d.tails };
-        level = inv.level;
-        order = record {
-          mine = head-landed inv.order.mine odd some;
-          consumed_heads = omega (arith, inv.order.consumed_heads);
-          landed_consumed = inv.order.landed_consumed;
-          room = inv.order.room;
-        };
-        words = record {
-          head = hit r o es after w r.head written is.head whole place ∙ ap (λ (x : Write). x.value) is_head ∙ ap (offset r) (omega arith);
-          tail = miss r o es after w r.tail written is.tail whole (λ e. is.apart (sym place ∙ e)) ∙ inv.words.tail;
-          slots = λ j from below. miss r o es after w (slot r j) written (slot_word r is j) whole (λ e. slot_not_head r is j (sym e ∙ place))
-              ∙ inv.words.slots j from below;
-        };
-        sending = inv.sending;
-        receiving = receiving-more r L s.consumed d.heads (suc d.heads) s.receiving (omega arith) inv.receiving;
-        buffers = record {
-          unsent = m;
-          unread = inv.buffers.unread;
-          rows = subst (λ i. Rows r c (sent_store r L) (freed_store r) after i m d.tails inv.buffers.unread) (omega arith) rows;
-          mine_count = omega (arith, inv.buffers.mine_count, count);
-          theirs_count = inv.buffers.theirs_count;
-        };
-        sent = inv.sent;
-        received = inv.received;
-      }
+      head-lands : d.slots ≡ d.heads + 1 → w ≡ write r.head 4 (offset r (d.heads + 1)) → Invariant K r L c o after s
+      head-lands odd is_head = mine-land d.slots (suc d.heads) (omega arith) (omega arith) (omega arith) (head-landed inv.order.mine odd some) (record {
+        head = hit r o es after w r.head written is.head whole place ∙ ap (λ (x : Write). x.value) is_head ∙ ap (offset r) (omega arith);
+        tail = same_at r.tail is.tail whole (λ e. is.apart (sym place ∙ e)) ∙ inv.words.tail;
+        full = λ j from below. same_at (slot r j) (slot_word r is j) whole (λ e. slot_not_head r is j (sym e ∙ place)) ∙ inv.words.full j from below;
+        free = λ kind j from below. same_at (slot r j) (slot_word r is j) whole (λ e. slot_not_head r is j (sym e ∙ place)) ∙ inv.words.free kind j from below;
+      })
         where
           some : d.heads < s.published
           some = omega (arith, inv.buffers.mine_count, count, odd, inv.order.mine.stored_published)
@@ -135,7 +133,7 @@ module _ (r : RingBuffer) (is : IsRingBuffer r) (L : ℕ → ℕ) (small : (j : 
           whole = subst IsWholeWord (sym is_head)
               (record { whole = refl; aligned = is.head.aligned; small = omega (arith, offset_low r is (d.heads + 1), is.small) })
 
-      sent-lands : w ≡ sent_store r L (d.slots + d.heads) → Invariant r L c o after s
+      pub sent-lands : w ≡ sent_store r L (d.slots + d.heads) → Invariant K r L c o after s
       sent-lands next = elim (cases_eq d.slots d.heads) [
         | inl level ↦ slot-lands level (next ∙ sent-slot r L (d.slots + d.heads) d.slots (omega (arith, level)))
         | inr other ↦
@@ -143,47 +141,115 @@ module _ (r : RingBuffer) (is : IsRingBuffer r) (L : ℕ → ℕ) (small : (j : 
             head-lands odd (next ∙ sent-head r L (d.slots + d.heads) d.heads (omega (arith, odd)))
       ]
 
-    tail-lands : (m : ℕ) → inv.buffers.unread ≡ suc m → w ≡ freed_store r d.tails
-        → Rows r c (sent_store r L) (freed_store r) after (d.slots + d.heads) inv.buffers.unsent (suc d.tails) m → Invariant r L c o after s
-    tail-lands m count next rows = record {
-      landed = record { slots = d.slots; heads = d.heads; tails = suc d.tails };
-      level = inv.level;
-      order = record {
-        mine = inv.order.mine;
-        consumed_heads = inv.order.consumed_heads;
-        landed_consumed = omega (arith, inv.buffers.theirs_count, count);
-        room = omega (arith, inv.order.room);
-      };
-      words = record {
-        head = miss r o es after w r.head written is.head whole (λ e. is.apart (sym e ∙ place)) ∙ inv.words.head;
-        tail = hit r o es after w r.tail written is.tail whole place ∙ ap (λ (x : Write). x.value) next ∙ ap (offset r) (omega arith);
-        slots = λ j from below. miss r o es after w (slot r j) written (slot_word r is j) whole (λ e. slot_not_tail r is j (sym e ∙ place))
-            ∙ inv.words.slots j (omega (arith, from)) below;
-      };
-      sending = sending-more 1 r s.stored s.published d.tails (suc d.tails) s.sending (omega arith) inv.sending;
-      receiving = inv.receiving;
-      buffers = record {
-        unsent = inv.buffers.unsent;
-        unread = m;
-        rows = rows;
-        mine_count = inv.buffers.mine_count;
-        theirs_count = omega (arith, inv.buffers.theirs_count, count);
-      };
-      sent = inv.sent;
-      received = inv.received;
-    }
-      where
-        place : w.addr ≡ r.tail
-        place = ap (λ (x : Write). x.addr) next
+    -- the oldest store of the receiver's row has landed
+    module _ (m : ℕ) (count : inv.buffers.unread ≡ suc m)
+        (rows : Rows r c (sent_store r L) (their_store K r) after (d.slots + d.heads) inv.buffers.unsent (suc (their_landed K d.cleared d.tails)) m) where
+      pub theirs-land : (z t : ℕ) → their_landed K z t ≡ suc (their_landed K d.cleared d.tails) → n_freed ≤ freed K z t → Theirs K s.taken s.consumed z t
+          → Words K r L (record { slots = d.slots; heads = d.heads; cleared = z; tails = t }) (memory_word o after) → Invariant K r L c o after s
+      theirs-land z t one more theirs words = record {
+        landed = record { slots = d.slots; heads = d.heads; cleared = z; tails = t };
+        order = record { mine = inv.order.mine; theirs = theirs; taken_there = inv.order.taken_there; room = omega (arith, more, inv.order.room) };
+        words = words;
+        nonzero = inv.nonzero;
+        sending = sending-more (spare K) r s.stored s.published n_freed (freed K z t) s.sending more inv.sending;
+        receiving = inv.receiving;
+        buffers = record {
+          unsent = inv.buffers.unsent;
+          unread = m;
+          rows = subst (λ i. Rows r c (sent_store r L) (their_store K r) after (d.slots + d.heads) inv.buffers.unsent i m) (sym one) rows;
+          mine_count = inv.buffers.mine_count;
+          theirs_count = omega (arith, inv.buffers.theirs_count, count, one);
+        };
+        sent = inv.sent;
+        received = inv.received;
+      }
 
-        whole : IsWholeWord w
-        whole = subst IsWholeWord (sym next) (freed-whole r is L small c o es s inv d.tails)
+      pub tail-lands : their_landed K d.cleared (suc d.tails) ≡ suc (their_landed K d.cleared d.tails) → n_freed ≤ freed K d.cleared (suc d.tails)
+          → (K ≡ fastforward → freed K d.cleared (suc d.tails) ≡ n_freed) → Theirs K s.taken s.consumed d.cleared (suc d.tails)
+          → w ≡ write r.tail 4 (offset r (d.tails + 1)) → Invariant K r L c o after s
+      tail-lands one more same_freed theirs is_tail = theirs-land d.cleared (suc d.tails) one more theirs (record {
+        head = same_at r.head is.head whole (λ e. is.apart (sym e ∙ place)) ∙ inv.words.head;
+        tail = hit r o es after w r.tail written is.tail whole place ∙ ap (λ (x : Write). x.value) is_tail ∙ ap (offset r) (omega arith);
+        full = λ j from below. stays_at j ∙ inv.words.full j (omega (arith, from, more)) below;
+        free = λ kind j from below. stays_at j ∙ inv.words.free kind j from (omega (arith, below, same_freed kind));
+      })
+        where
+          place : w.addr ≡ r.tail
+          place = ap (λ (x : Write). x.addr) is_tail
 
-  -- the oldest pending store of the entry's hart lands
-  pub lands-store : access_of e ≡ land → 0 < length (pending (hart_of e) es) → Invariant r L c o after s
-  lands-store does some = elim (landing r is o es e even c (sent_store r L) (freed_store r) (d.slots + d.heads) inv.buffers.unsent
-      d.tails inv.buffers.unread inv.buffers.rows does some) [
-        | inl block ↦ idles r is L c o es s inv e even block
-        | inr (inl l) ↦ sent-lands (sent_store r L (d.slots + d.heads)) l.3 l.0 l.1 l.2 refl
-        | inr (inr l) ↦ tail-lands (freed_store r d.tails) l.3 l.0 l.1 refl l.2
+          whole : IsWholeWord w
+          whole = subst IsWholeWord (sym is_tail)
+              (record { whole = refl; aligned = is.tail.aligned; small = omega (arith, offset_low r is (d.tails + 1), is.small) })
+
+          stays_at : (j : ℕ) → memory_word o after (slot r j) ≡ memory_word o es (slot r j)
+          stays_at j = same_at (slot r j) (slot_word r is j) whole (λ e. slot_not_tail r is j (sym e ∙ place))
+
+-- a 0 of FastForward's receiver
+module _ (r : RingBuffer) (is : IsRingBuffer r) (L : ℕ → ℕ) (small : (j : ℕ) → L j < 2 ^ 32) (c : Earlier) (o : OpeningValue) (es : List Entry)
+    (s : ProtocolState) (inv : Invariant fastforward r L c o es s) (e : Entry) (w : Write) (written : Lands r o es (es ++ e ∷ []) w) (m : ℕ)
+    (count : inv.buffers.unread ≡ suc m)
+    (rows : Rows r c (sent_store r L) (their_store fastforward r) (es ++ e ∷ []) (inv.landed.slots + inv.landed.heads) inv.buffers.unsent
+    (suc (inv.landed.cleared + inv.landed.tails)) m) where
+  zero-lands : inv.landed.cleared ≡ inv.landed.tails → w ≡ write (slot r inv.landed.cleared) 4 0 → Invariant fastforward r L c o (es ++ e ∷ []) s
+  zero-lands level is_zero = theirs-land fastforward r is L small c o es s inv e w written m count rows (suc z) inv.landed.tails (omega arith) (omega arith)
+      (slot-landed inv.order.theirs level some) (record {
+        head = same_at fastforward r is L small c o es s inv e w written r.head is.head whole (λ e. slot_not_head r is z (sym place ∙ e)) ∙ inv.words.head;
+        tail = same_at fastforward r is L small c o es s inv e w written r.tail is.tail whole (λ e. slot_not_tail r is z (sym place ∙ e)) ∙ inv.words.tail;
+        full = λ j from below. apart-from j (omega (arith, from)) (omega (arith, below, inv.order.mine.slots_stored, inv.order.room))
+            ∙ inv.words.full j (omega (arith, from)) below;
+        free = λ kind. free;
+      })
+    where
+      z : ℕ
+      z = inv.landed.cleared
+
+      some : inv.landed.cleared < s.taken
+      some = omega (arith, inv.buffers.theirs_count, count, level, inv.order.theirs.published_stored)
+
+      place : w.addr ≡ slot r inv.landed.cleared
+      place = ap (λ (x : Write). x.addr) is_zero
+
+      whole : IsWholeWord w
+      whole = subst IsWholeWord (sym is_zero) (record { whole = refl; aligned = (slot_word r is inv.landed.cleared).aligned; small = omega arith })
+
+      apart-from : (j : ℕ) → inv.landed.cleared < j → j < inv.landed.cleared + r.size
+          → memory_word o (es ++ e ∷ []) (slot r j) ≡ memory_word o es (slot r j)
+      apart-from j from below = same_at fastforward r is L small c o es s inv e w written (slot r j) (slot_word r is j) whole
+          (λ same. slot_apart r is inv.landed.cleared j from below (sym place ∙ same))
+
+      free : (j : ℕ) → inv.landed.slots ≤ j → j < suc inv.landed.cleared + r.size → memory_word o (es ++ e ∷ []) (slot r j) ≡ 0
+      free j from below = elim (cases_eq j (inv.landed.cleared + r.size)) [
+        | inl same ↦ hit r o es (es ++ e ∷ []) w (slot r j) written (slot_word r is j) whole (place ∙ sym (slot_again r is inv.landed.cleared j same))
+            ∙ ap (λ (x : Write). x.value) is_zero
+        | inr other ↦ apart-from j (omega (arith, from, some, inv.order.taken_there)) (omega arith) ∙ inv.words.free refl j from (omega arith)
       ]
+
+theirs-lands : (K : Kind) (r : RingBuffer) (is : IsRingBuffer r) (L : ℕ → ℕ) (small : (j : ℕ) → L j < 2 ^ 32) (c : Earlier) (o : OpeningValue) (es : List Entry)
+    (s : ProtocolState) (inv : Invariant K r L c o es s) (e : Entry) (w : Write) → Lands r o es (es ++ e ∷ []) w → (m : ℕ) → inv.buffers.unread ≡ suc m
+    → Rows r c (sent_store r L) (their_store K r) (es ++ e ∷ []) (inv.landed.slots + inv.landed.heads) inv.buffers.unsent
+    (suc (their_landed K inv.landed.cleared inv.landed.tails)) m
+    → w ≡ their_store K r (their_landed K inv.landed.cleared inv.landed.tails) → Invariant K r L c o (es ++ e ∷ []) s
+theirs-lands lamport r is L small c o es s inv e w written m count rows next =
+    tail-lands lamport r is L small c o es s inv e w written m count rows refl (omega arith) (λ kind. cc)
+    (inv.order.theirs.0, omega (arith, inv.buffers.theirs_count, count)) next
+theirs-lands fastforward r is L small c o es s inv e w written m count rows next = elim (cases_eq inv.landed.cleared inv.landed.tails) [
+  | inl level ↦ zero-lands r is L small c o es s inv e w written m count rows level
+      (next ∙ sent-slot (turned r) zeros (inv.landed.cleared + inv.landed.tails) inv.landed.cleared (omega (arith, level)))
+  | inr other ↦
+      let odd : inv.landed.cleared ≡ inv.landed.tails + 1 = omega (arith, other, inv.order.theirs.heads_slots, inv.order.theirs.slots_heads) in
+      tail-lands fastforward r is L small c o es s inv e w written m count rows (omega arith) (omega arith) (λ kind. refl)
+      (head-landed inv.order.theirs odd (omega (arith, inv.buffers.theirs_count, count, odd, inv.order.theirs.stored_published)))
+      (next ∙ sent-head (turned r) zeros (inv.landed.cleared + inv.landed.tails) inv.landed.tails (omega (arith, odd)))
+]
+
+-- the oldest pending store of the entry's hart lands
+pub lands-store : (K : Kind) (r : RingBuffer) (is : IsRingBuffer r) (L : ℕ → ℕ) (small : (j : ℕ) → L j < 2 ^ 32) (c : Earlier) (o : OpeningValue)
+    (es : List Entry) (s : ProtocolState) (inv : Invariant K r L c o es s) (e : Entry) → ((h : ℕ) → lands h es ≤ length (stores h es)) → access_of e ≡ land
+    → 0 < length (pending (hart_of e) es) → Invariant K r L c o (es ++ e ∷ []) s
+lands-store K r is L small c o es s inv e even does some =
+    elim (landing r is o es e even c (sent_store r L) (their_store K r) (inv.landed.slots + inv.landed.heads) inv.buffers.unsent
+    (their_landed K inv.landed.cleared inv.landed.tails) inv.buffers.unread inv.buffers.rows does some) [
+      | inl block ↦ idles K r is L c o es s inv e even block
+      | inr (inl l) ↦ sent-lands K r is L small c o es s inv e (sent_store r L (inv.landed.slots + inv.landed.heads)) l.3 l.0 l.1 l.2 refl
+      | inr (inr l) ↦ theirs-lands K r is L small c o es s inv e (their_store K r (their_landed K inv.landed.cleared inv.landed.tails)) l.3 l.0 l.1 l.2 refl
+    ]

@@ -7,11 +7,9 @@ pub mod PastRows
 pub mod Performed
 pub mod Invariant
 pub mod Loads
+pub mod FastForwardLoads
 pub mod Steps
 pub mod Landings
-pub mod FastForwardInvariant
-pub mod FastForwardSteps
-pub mod FastForwardLandings
 pub mod Invariants
 pub mod Runs
 pub mod Publication

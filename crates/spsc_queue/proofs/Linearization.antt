@@ -1,5 +1,6 @@
 -- A queue that looks empty or full is so, as far as stores have landed.
-use Rattle.std.proofs.Common.{ℕ, ◌+◌, ◌^◌, ◌<◌, ◌≤◌, ◌≡◌, ◌≢◌, not, true, false, inl, inr, List, [], ◌∷◌, ◌++◌, length, sym, ◌∙◌, ap, subst, arith, append-nil}
+use Rattle.std.proofs.Common.{ℕ, ◌+◌, ◌^◌, ◌<◌, ◌≤◌, ◌≡◌, ◌≢◌, not, true, false, inl, inr, List, [], ◌∷◌, ◌++◌, length, refl, sym, ◌∙◌, ap, subst, arith}
+use Rattle.std.proofs.Common.{append-nil}
 use Rattle.std.specs.Prelude.{slice_index}
 use Rattle.std.proofs.lemmas.Bool.{cases_lt, eqb-true, eq-eqb}
 use Rattle.step_machine.specs.declared.events.Entry.{Entry}
@@ -13,60 +14,59 @@ use Rattle.spsc_queue.specs.Protocol.{placed, asked, ProtocolState, at_start, pr
 use Rattle.spsc_queue.specs.Laws.{FollowsSpscProtocol, available_of, available_count}
 use Rattle.spsc_queue.proofs.Spread.{offset_apart, sent_store, freed_store}
 use Rattle.spsc_queue.proofs.Rows.{Earlier}
-use Rattle.spsc_queue.proofs.Invariant as lamports
-use Rattle.spsc_queue.proofs.Invariant.{SendingIs}
+use Rattle.spsc_queue.proofs.Invariant.{cleared_store, SendingIs, ReceivingIs, Invariant}
 use Rattle.spsc_queue.proofs.Loads.{next_offset, sender-tail, receiver-other}
-use Rattle.spsc_queue.proofs.FastForwardInvariant as fastforwards
-use Rattle.spsc_queue.proofs.FastForwardInvariant.{cleared_store, receiver-word, sender-free}
-use Rattle.spsc_queue.proofs.Invariants.{Holds, earlier}
+use Rattle.spsc_queue.proofs.FastForwardLoads.{receiver-word, sender-free}
+use Rattle.spsc_queue.proofs.Invariants.{earlier}
 use Rattle.spsc_queue.proofs.Runs.{invariant-of, protocol-small}
 use Rattle.spsc_queue.proofs.PastRows.{length-spread}
 
 module _ (r : RingBuffer) (is : IsRingBuffer r) (L : ℕ → ℕ) (small : (j : ℕ) → L j < 2 ^ 32) (c : Earlier) (o : OpeningValue) (es : List Entry)
     (T : ProtocolState) where
   -- the receiver sees no word: each that has landed and may be taken was received
-  empty : (k : Kind) → Holds k r L c o es T → (u v : ℕ) → v ≡ read o es r.receiver (word_at k r u) 4 → says_empty k u v ≡ true → T.receiving ≡ asked u
+  empty : (k : Kind) → Invariant k r L c o es T → (u v : ℕ) → v ≡ read o es r.receiver (word_at k r u) 4 → says_empty k u v ≡ true → T.receiving ≡ asked u
       → available_of k T ≤ T.taken + length (writes_to r (pending r.sender es))
   empty lamport inv u v found says was =
-      let known : u ≡ offset r T.consumed = subst (lamports.ReceivingIs r L T.consumed inv.landed.heads) was inv.receiving in
+      let known = subst (ReceivingIs lamport r L T.taken T.consumed inv.landed.heads) was inv.receiving in
       let head : v ≡ offset r inv.landed.heads = found ∙ receiver-other r is L small c o es T inv r.head is.head (λ q. is.apart (sym q)) ∙ inv.words.head in
       let same : T.consumed ≡ inv.landed.heads = elim (cases_lt T.consumed inv.landed.heads) [
         | inl less ↦ absurd (offset_apart r is T.consumed inv.landed.heads less
-            (omega (arith, inv.order.mine.heads_slots, inv.order.mine.slots_stored, inv.order.room, inv.order.landed_consumed))
-            (sym known ∙ sym (eqb-true v u says) ∙ head))
-        | inr more ↦ omega (arith, more, inv.order.consumed_heads)
+            (omega (arith, inv.order.mine.heads_slots, inv.order.mine.slots_stored, inv.order.room, inv.order.theirs.1))
+            (sym known.1 ∙ sym (eqb-true v u says) ∙ head))
+        | inr more ↦ omega (arith, more, known.0, inv.order.taken_there)
       ] in
       let left : length (writes_to r (pending r.sender es)) ≡ inv.buffers.unsent =
       ap length inv.buffers.rows.mine ∙ length-spread (sent_store r L) (inv.landed.slots + inv.landed.heads) inv.buffers.unsent in
-      omega (arith, same, left, inv.level, inv.buffers.mine_count, inv.order.mine.slots_stored, inv.order.mine.heads_published)
+      omega (arith, same, left, known.0, inv.buffers.mine_count, inv.order.mine.slots_stored, inv.order.mine.heads_published)
   empty fastforward inv u v found says was =
-      let known = subst (fastforwards.ReceivingIs r L T.taken T.consumed inv.landed.slots) was inv.receiving in
+      let known = subst (ReceivingIs fastforward r L T.taken T.consumed inv.landed.slots) was inv.receiving in
       let place : r.slots + u ≡ slot r T.taken = ap (λ x. r.slots + x) (known.1 ∙ ap (offset r) (sym known.0)) in
       let zero_read : 0 ≡ read o es r.receiver (slot r T.taken) 4 = sym (eqb-true v 0 says) ∙ found ∙ ap (λ a. read o es r.receiver a 4) place in
       let left : length (writes_to r (pending r.sender es)) ≡ inv.buffers.unsent =
       ap length inv.buffers.rows.mine ∙ length-spread (sent_store r L) (inv.landed.slots + inv.landed.heads) inv.buffers.unsent in
       let all : inv.landed.slots ≤ T.taken = elim (cases_lt T.taken inv.landed.slots) [
-        | inl less ↦ absurd (inv.nonzero T.taken (omega (arith, less, inv.order.mine.slots_stored))
+        | inl less ↦ absurd (inv.nonzero refl T.taken (omega (arith, less, inv.order.mine.slots_stored))
             (sym (receiver-word r is L small c o es T inv known.0 less) ∙ sym zero_read))
         | inr more ↦ more
       ] in
       omega (arith, all, left, inv.buffers.mine_count, inv.order.mine.heads_published)
 
   -- the sender sees no room: as many words as the queue holds are stored and not taken, or taken by stores that haven't landed
-  full : (k : Kind) → Holds k r L c o es T → (u v : ℕ) → v ≡ read o es r.sender (room_at k r u) 4 → says_full k r u v ≡ true → T.sending ≡ placed u
+  full : (k : Kind) → Invariant k r L c o es T → (u v : ℕ) → v ≡ read o es r.sender (room_at k r u) 4 → says_full k r u v ≡ true → T.sending ≡ placed u
       → T.taken + capacity_of k r.size ≤ T.stored + length (writes_to r (pending r.receiver es))
   full lamport inv u v found says was =
       let known : (T.stored ≡ T.published) × (u ≡ offset r T.published) = subst (SendingIs 1 r T.stored T.published inv.landed.tails) was inv.sending in
       let tail : next r u ≡ offset r inv.landed.tails = sym (eqb-true v (next r u) says) ∙ found ∙ sender-tail r is L small c o es T inv in
       let one : offset r inv.landed.tails ≡ offset r (T.published + 1) = sym tail ∙ next_offset r is u T.published known.1 in
-      let over : inv.landed.tails < T.published + 1 = omega (arith, inv.order.landed_consumed, inv.order.consumed_heads, inv.order.mine.heads_published) in
+      let over : inv.landed.tails < T.published + 1 =
+      omega (arith, inv.order.theirs.0, inv.order.theirs.1, inv.order.taken_there, inv.order.mine.heads_published) in
       let far : inv.landed.tails + r.size ≤ T.published + 1 = elim (cases_lt (T.published + 1) (inv.landed.tails + r.size)) [
         | inl less ↦ absurd (offset_apart r is inv.landed.tails (T.published + 1) over less one)
         | inr more ↦ more
       ] in
       let left : length (writes_to r (pending r.receiver es)) ≡ inv.buffers.unread =
       ap length inv.buffers.rows.theirs ∙ length-spread (freed_store r) inv.landed.tails inv.buffers.unread in
-      omega (arith, far, left, known.0, inv.level, inv.buffers.theirs_count, is.some_slots)
+      omega (arith, far, left, known.0, inv.order.theirs.0, inv.buffers.theirs_count, is.some_slots)
   full fastforward inv u v found says was =
       let known = subst (SendingIs 0 r T.stored T.published inv.landed.cleared) was inv.sending in
       let place : r.slots + u ≡ slot r T.stored = ap (λ x. r.slots + x) (known.1 ∙ ap (offset r) (sym known.0)) in
@@ -80,12 +80,12 @@ module _ (r : RingBuffer) (is : IsRingBuffer r) (L : ℕ → ℕ) (small : (j : 
       omega (arith, all, left, inv.buffers.theirs_count, inv.order.theirs.heads_published)
 
   -- and of Lamport's never more
-  never_fuller : (k : Kind) → Holds k r L c o es T → k ≡ lamport
+  never_fuller : (k : Kind) → Invariant k r L c o es T → k ≡ lamport
       → T.stored + length (writes_to r (pending r.receiver es)) ≤ T.taken + capacity_of k r.size
   never_fuller lamport inv is_lamport =
       let left : length (writes_to r (pending r.receiver es)) ≡ inv.buffers.unread =
       ap length inv.buffers.rows.theirs ∙ length-spread (freed_store r) inv.landed.tails inv.buffers.unread in
-      omega (arith, left, inv.level, inv.order.room, inv.buffers.theirs_count, is.some_slots)
+      omega (arith, left, inv.order.theirs.0, inv.order.room, inv.buffers.theirs_count, is.some_slots)
   never_fuller fastforward inv is_lamport = cc
 
 module _ (B : ℕ) (r : RingBuffer) (o : OpeningValue) (before es : List Entry) (e : Entry) (fs : List Entry)
@@ -99,7 +99,7 @@ module _ (B : ℕ) (r : RingBuffer) (o : OpeningValue) (before es : List Entry) 
   small : (j : ℕ) → L j < 2 ^ 32
   small = protocol-small r at_start (es ++ e ∷ fs) t.keeps (λ j. omega arith)
 
-  inv : Holds r.kind r L (earlier r before) o (before ++ es) T
+  inv : Invariant r.kind r L (earlier r before) o (before ++ es) T
   inv = invariant-of B r o before es (e ∷ fs) t
 
   -- what a load read

@@ -1,4 +1,4 @@
--- What a party knows after a load, whichever word it loads.
+-- What Lamport's parties know after a load, whichever word they load; and offsets of either kind.
 use Rattle.std.proofs.Common.{ℕ, ◌+◌, ◌*◌, ◌%◌, ◌^◌, ◌<◌, ◌≡◌, ◌≢◌, ◌==◌, Bool, true, false, if◌then◌else◌, List, refl, sym, ◌∙◌, ap, subst, arith}
 use Rattle.std.specs.Prelude.{All}
 use Rattle.std.proofs.lemmas.Bool.{eqb-true, eqb-false}
@@ -38,6 +38,9 @@ pub offset_again : (r : RingBuffer) (is : IsRingBuffer r) (j k : ℕ) → k ≡ 
 offset_again r is j k at =
     let on : r.start + k ≡ (r.start + j) + r.size = omega (arith, at) in ap (λ x. 4 * (x % r.size)) on ∙ ap (λ x. 4 * x) (add-mod_right (r.start + j) r.size)
 
+pub slot_again : (r : RingBuffer) (is : IsRingBuffer r) (j k : ℕ) → k ≡ j + r.size → slot r k ≡ slot r j
+slot_again r is j k at = ap (λ x. r.slots + x) (offset_again r is j k at)
+
 pub slot_word : (r : RingBuffer) (is : IsRingBuffer r) (j : ℕ) → IsWordIn r (slot r j)
 slot_word r is j = record {
   above = omega (arith, is.slots_above);
@@ -46,7 +49,7 @@ slot_word r is j = record {
 }
 
 module _ (r : RingBuffer) (is : IsRingBuffer r) (L : ℕ → ℕ) (small : (j : ℕ) → L j < 2 ^ 32) (c : Earlier) (o : OpeningValue) (es : List Entry)
-    (s : ProtocolState) (inv : Invariant r L c o es s) where
+    (s : ProtocolState) (inv : Invariant lamport r L c o es s) where
   abbrev d : Landed
   d = inv.landed
 
@@ -129,49 +132,50 @@ module _ (r : RingBuffer) (is : IsRingBuffer r) (L : ℕ → ℕ) (small : (j : 
   sending-load a v (filled u) is_read holds = holds
 
   -- the receiver's
-  looked : (a v : ℕ) (p : ReceiverState) → a ≢ r.tail → v ≡ read o es r.receiver a 4 → ReceivingIs r L s.consumed d.heads p
-      → ReceivingIs r L s.consumed d.heads (receive_look lamport r a v p)
-  looked a v idle other is_read holds = tt
+  looked : (a v : ℕ) (p : ReceiverState) → a ≢ r.tail → v ≡ read o es r.receiver a 4 → ReceivingIs lamport r L s.taken s.consumed d.heads p
+      → ReceivingIs lamport r L s.taken s.consumed d.heads (receive_look lamport r a v p)
+  looked a v idle other is_read holds = holds
   looked a v (asked u) other is_read holds = by (a == r.head) refl (v == u) refl
     where
       by : (b : Bool) → (a == r.head) ≡ b → (c : Bool) → (v == u) ≡ c
-          → ReceivingIs r L s.consumed d.heads (if b then (if c then asked u else waiting u) else asked u)
+          → ReceivingIs lamport r L s.taken s.consumed d.heads (if b then (if c then asked u else waiting u) else asked u)
       by true same false apart =
           let place : a ≡ r.head = eqb-true a r.head same in
           let head : v ≡ offset r d.heads = is_read ∙ ap (λ x. read o es r.receiver x 4) place
           ∙ receiver-other r.head is.head (λ e. is.apart (sym e)) ∙ inv.words.head in
           let far : v ≢ u = eqb-false v u apart in
-          let more : s.consumed ≢ d.heads = λ e. far (head ∙ ap (offset r) (sym e) ∙ sym holds) in
-          (holds, omega (arith, more, inv.order.consumed_heads))
+          let more : s.consumed ≢ d.heads = λ e. far (head ∙ ap (offset r) (sym e) ∙ sym holds.1) in
+          (holds.0, holds.1, omega (arith, more, holds.0, inv.order.taken_there), refl)
       by true same true x = holds
       by false y c x = holds
   looked a v (waiting u) other is_read holds = by (a == r.slots + u) refl
     where
-      by : (b : Bool) → (a == r.slots + u) ≡ b → ReceivingIs r L s.consumed d.heads (if b then holding u v else waiting u)
+      by : (b : Bool) → (a == r.slots + u) ≡ b → ReceivingIs lamport r L s.taken s.consumed d.heads (if b then holding u v else waiting u)
       by true same =
-          let place : a ≡ slot r s.consumed = eqb-true a (r.slots + u) same ∙ ap (λ x. r.slots + x) holds.0 in (
+          let place : a ≡ slot r s.consumed = eqb-true a (r.slots + u) same ∙ ap (λ x. r.slots + x) holds.1 in (
             holds.0,
             holds.1,
+            holds.2,
             is_read ∙ ap (λ x. read o es r.receiver x 4) place
                 ∙ receiver-other (slot r s.consumed) (slot_word r is s.consumed) (λ e. slot_not_tail r is s.consumed (sym e))
-                ∙ inv.words.slots s.consumed inv.order.landed_consumed (omega (arith, holds.1, inv.order.mine.heads_slots)),
+                ∙ inv.words.full s.consumed inv.order.theirs.1 (omega (arith, holds.0, holds.2, inv.order.mine.heads_slots)) ∙ ap L (sym holds.0),
           )
       by false apart = holds
   looked a v (holding u w) other is_read holds = holds
   looked a v (cleared u) other is_read holds = holds
 
-  loads-tail : (a v : ℕ) (p : ReceiverState) → v ≡ read o es r.receiver a 4 → ReceivingIs r L s.consumed d.heads p
-      → ReceivingIs r L s.consumed d.heads (if a == r.tail then asked v else receive_look lamport r a v p)
+  loads-tail : (a v : ℕ) (p : ReceiverState) → v ≡ read o es r.receiver a 4 → ReceivingIs lamport r L s.taken s.consumed d.heads p
+      → ReceivingIs lamport r L s.taken s.consumed d.heads (if a == r.tail then asked v else receive_look lamport r a v p)
   loads-tail a v p is_read holds = by (a == r.tail) refl
     where
-      by : (b : Bool) → (a == r.tail) ≡ b → ReceivingIs r L s.consumed d.heads (if b then asked v else receive_look lamport r a v p)
-      by true same = is_read ∙ ap (λ x. read o es r.receiver x 4) (eqb-true a r.tail same) ∙ receiver-tail
+      by : (b : Bool) → (a == r.tail) ≡ b → ReceivingIs lamport r L s.taken s.consumed d.heads (if b then asked v else receive_look lamport r a v p)
+      by true same = (inv.order.theirs.0, is_read ∙ ap (λ x. read o es r.receiver x 4) (eqb-true a r.tail same) ∙ receiver-tail)
       by false apart = looked a v p (eqb-false a r.tail apart) is_read holds
 
-  pub receiving-load : (a v : ℕ) (p : ReceiverState) → v ≡ read o es r.receiver a 4 → ReceivingIs r L s.consumed d.heads p
-      → ReceivingIs r L s.consumed d.heads (receive_load lamport r a v p)
+  pub receiving-load : (a v : ℕ) (p : ReceiverState) → v ≡ read o es r.receiver a 4 → ReceivingIs lamport r L s.taken s.consumed d.heads p
+      → ReceivingIs lamport r L s.taken s.consumed d.heads (receive_load lamport r a v p)
   receiving-load a v idle is_read holds = loads-tail a v idle is_read holds
   receiving-load a v (asked u) is_read holds = loads-tail a v (asked u) is_read holds
   receiving-load a v (waiting u) is_read holds = loads-tail a v (waiting u) is_read holds
   receiving-load a v (holding u w) is_read holds = loads-tail a v (holding u w) is_read holds
-  receiving-load a v (cleared u) is_read holds = absurd holds
+  receiving-load a v (cleared u) is_read holds = holds

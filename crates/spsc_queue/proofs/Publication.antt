@@ -8,30 +8,20 @@ use Rattle.spsc_queue.specs.RingBuffers.{Kind, lamport, fastforward, RingBuffer,
 use Rattle.spsc_queue.specs.Protocol.{SenderState, resting, placed, roomy, filled, ReceiverState, idle, asked, waiting, holding, cleared, ProtocolState}
 use Rattle.spsc_queue.specs.Protocol.{at_start, protocol_after}
 use Rattle.spsc_queue.specs.Laws.{FollowsSpscProtocol, available_of, available_count, known_count, known_by_state, ready_count, ready_by_state}
-use Rattle.spsc_queue.proofs.Spread.{sent_store, freed_store}
+use Rattle.spsc_queue.proofs.Spread.{sent_store}
 use Rattle.spsc_queue.proofs.Rows.{Earlier}
-use Rattle.spsc_queue.proofs.Invariant as lamports
-use Rattle.spsc_queue.proofs.Invariant.{SendingIs}
-use Rattle.spsc_queue.proofs.FastForwardInvariant as fastforwards
-use Rattle.spsc_queue.proofs.FastForwardInvariant.{cleared_store}
-use Rattle.spsc_queue.proofs.Invariants.{Holds, earlier}
+use Rattle.spsc_queue.proofs.Invariant.{spare, freed, there, their_store, their_landed, they_made, Theirs, SendingIs, ReceivingIs, Invariant}
+use Rattle.spsc_queue.proofs.Invariants.{spare_capacity, earlier}
 use Rattle.spsc_queue.proofs.PastRows.{sender-past, receiver-past}
 use Rattle.spsc_queue.proofs.Runs.{invariant-of}
 
-known_heads : (r : RingBuffer) (L : ℕ → ℕ) (tails h : ℕ) (p : ReceiverState) → tails ≤ h → lamports.ReceivingIs r L tails h p → tails + known_by_state p ≤ h
-known_heads r L tails h idle le is = omega (arith, le)
-known_heads r L tails h (asked u) le is = omega (arith, le)
-known_heads r L tails h (waiting u) le is = omega (arith, is.1)
-known_heads r L tails h (holding u w) le is = omega (arith, is.1)
-known_heads r L tails h (cleared u) le is = absurd is
-
-known_slots : (r : RingBuffer) (L : ℕ → ℕ) (taken consumed n : ℕ) (p : ReceiverState) → taken ≤ n → fastforwards.ReceivingIs r L taken consumed n p
+known_there : (K : Kind) (r : RingBuffer) (L : ℕ → ℕ) (taken consumed n : ℕ) (p : ReceiverState) → taken ≤ n → ReceivingIs K r L taken consumed n p
     → taken + known_by_state p ≤ n
-known_slots r L taken consumed n idle le is = omega (arith, le)
-known_slots r L taken consumed n (asked u) le is = omega (arith, le)
-known_slots r L taken consumed n (waiting u) le is = absurd is
-known_slots r L taken consumed n (holding u w) le is = omega (arith, is.2)
-known_slots r L taken consumed n (cleared u) le is = omega (arith, le)
+known_there K r L taken consumed n idle le is = omega (arith, le)
+known_there K r L taken consumed n (asked u) le is = omega (arith, le)
+known_there K r L taken consumed n (waiting u) le is = omega (arith, is.2)
+known_there K r L taken consumed n (holding u w) le is = omega (arith, is.2)
+known_there K r L taken consumed n (cleared u) le is = omega (arith, le)
 
 ready_freed : (spare : ℕ) (r : RingBuffer) (stored published n : ℕ) (p : SenderState) → stored + spare ≤ n + r.size → SendingIs spare r stored published n p
     → stored + ready_by_state p + spare ≤ n + r.size
@@ -40,43 +30,41 @@ ready_freed spare r stored published n (placed u) le is = omega (arith, le)
 ready_freed spare r stored published n (roomy u) le is = omega (arith, is.2)
 ready_freed spare r stored published n (filled u) le is = omega (arith, le)
 
-module _ (r : RingBuffer) (is : IsRingBuffer r) (L M : ℕ → ℕ) (c : Earlier) (o : OpeningValue) (before es fs : List Entry) (s z : ProtocolState) where
+-- where more words are there than were available, more of the sender's row has landed than it had made; and back
+more_landed : (K : Kind) (s : ProtocolState) (known n h : ℕ) → s.published ≤ s.stored → s.stored ≤ s.published + 1 → available_of K s < known
+    → known ≤ there K n h → h ≤ n → n ≤ h + 1 → s.stored + s.published < n + h
+more_landed lamport s known n h le most heard upto low near = omega (arith, most, heard, upto, low)
+more_landed fastforward s known n h le most heard upto low near = omega (arith, le, heard, upto, near)
+
+more_freed : (K : Kind) (n m z t n2 m2 z2 t2 : ℕ) → Theirs K n m z t → Theirs K n2 m2 z2 t2 → n < freed K z2 t2 → they_made K n m < their_landed K z2 t2
+more_freed lamport n m z t n2 m2 z2 t2 is later more = omega (arith, is.0, more)
+more_freed fastforward n m z t n2 m2 z2 t2 is later more = omega (arith, is.published_stored, later.slots_heads, more)
+
+module _ (k : Kind) (r : RingBuffer) (is : IsRingBuffer r) (L M : ℕ → ℕ) (c : Earlier) (o : OpeningValue) (before es fs : List Entry) (s z : ProtocolState)
+    (inv : Invariant k r L c o (before ++ es) s) (later : Invariant k r M c o (before ++ (es ++ fs)) z) where
   -- once the receiver knows of a word, all that the sender's hart stored before it made that word available has reached memory
-  sender-passed : (k : Kind) → Holds k r L c o (before ++ es) s → Holds k r M c o (before ++ (es ++ fs)) z → available_of k s < known_count z
-      → length (stores r.sender (before ++ es)) < lands r.sender (before ++ (es ++ fs))
-  sender-passed lamport inv later heard =
-      let known = known_heads r M z.consumed later.landed.heads z.receiving later.order.consumed_heads later.receiving in
-      sender-past r c (sent_store r L) (freed_store r) (sent_store r M) (freed_store r) (before ++ es) fs (before ++ (es ++ fs))
-      (inv.landed.slots + inv.landed.heads) inv.buffers.unsent inv.landed.tails inv.buffers.unread
-      (later.landed.slots + later.landed.heads) later.buffers.unsent later.landed.tails later.buffers.unread
-      (sym (append_assoc before es fs)) inv.buffers.rows later.buffers.rows
-      (omega (arith, heard, known, later.level, inv.buffers.mine_count, inv.order.mine.stored_published, later.order.mine.heads_slots))
-  sender-passed fastforward inv later heard =
-      let known = known_slots r M z.taken z.consumed later.landed.slots z.receiving later.order.taken_slots later.receiving in
-      sender-past r c (sent_store r L) (cleared_store r) (sent_store r M) (cleared_store r) (before ++ es) fs (before ++ (es ++ fs))
-      (inv.landed.slots + inv.landed.heads) inv.buffers.unsent (inv.landed.cleared + inv.landed.tails) inv.buffers.unread
-      (later.landed.slots + later.landed.heads) later.buffers.unsent (later.landed.cleared + later.landed.tails) later.buffers.unread
-      (sym (append_assoc before es fs)) inv.buffers.rows later.buffers.rows
-      (omega (arith, heard, known, inv.buffers.mine_count, inv.order.mine.published_stored, later.order.mine.slots_heads))
+  sender-passed : available_of k s < known_count z → length (stores r.sender (before ++ es)) < lands r.sender (before ++ (es ++ fs))
+  sender-passed heard =
+      let n : ℕ = there k later.landed.slots later.landed.heads in
+      let more = more_landed k s (known_count z) later.landed.slots later.landed.heads inv.order.mine.published_stored inv.order.mine.stored_published heard
+      (known_there k r M z.taken z.consumed n z.receiving later.order.taken_there later.receiving) later.order.mine.heads_slots later.order.mine.slots_heads in
+      sender-past r c (sent_store r L) (their_store k r) (sent_store r M) (their_store k r) (before ++ es) fs (before ++ (es ++ fs))
+      (inv.landed.slots + inv.landed.heads) inv.buffers.unsent (their_landed k inv.landed.cleared inv.landed.tails) inv.buffers.unread
+      (later.landed.slots + later.landed.heads) later.buffers.unsent (their_landed k later.landed.cleared later.landed.tails) later.buffers.unread
+      (sym (append_assoc before es fs)) inv.buffers.rows later.buffers.rows (omega (arith, more, inv.buffers.mine_count))
 
   -- once the sender has used a slot again, or is about to, all that the receiver's hart stored before it freed that slot has
   -- reached memory
-  receiver-passed : (k : Kind) → Holds k r L c o (before ++ es) s → Holds k r M c o (before ++ (es ++ fs)) z
-      → s.taken + capacity_of k r.size < ready_count z → length (stores r.receiver (before ++ es)) < lands r.receiver (before ++ (es ++ fs))
-  receiver-passed lamport inv later again =
-      let freed = ready_freed 1 r z.stored z.published later.landed.tails z.sending later.order.room later.sending in
-      receiver-past r c (sent_store r L) (freed_store r) (sent_store r M) (freed_store r) (before ++ es) fs (before ++ (es ++ fs))
-      (inv.landed.slots + inv.landed.heads) inv.buffers.unsent inv.landed.tails inv.buffers.unread
-      (later.landed.slots + later.landed.heads) later.buffers.unsent later.landed.tails later.buffers.unread
-      (sym (append_assoc before es fs)) inv.buffers.rows later.buffers.rows
-      (omega (arith, again, freed, inv.level, inv.buffers.theirs_count, is.some_slots))
-  receiver-passed fastforward inv later again =
-      let freed = ready_freed 0 r z.stored z.published later.landed.cleared z.sending (omega (arith, later.order.room)) later.sending in
-      receiver-past r c (sent_store r L) (cleared_store r) (sent_store r M) (cleared_store r) (before ++ es) fs (before ++ (es ++ fs))
-      (inv.landed.slots + inv.landed.heads) inv.buffers.unsent (inv.landed.cleared + inv.landed.tails) inv.buffers.unread
-      (later.landed.slots + later.landed.heads) later.buffers.unsent (later.landed.cleared + later.landed.tails) later.buffers.unread
-      (sym (append_assoc before es fs)) inv.buffers.rows later.buffers.rows
-      (omega (arith, again, freed, inv.buffers.theirs_count, inv.order.theirs.published_stored, later.order.theirs.slots_heads))
+  receiver-passed : s.taken + capacity_of k r.size < ready_count z → length (stores r.receiver (before ++ es)) < lands r.receiver (before ++ (es ++ fs))
+  receiver-passed again =
+      let n : ℕ = freed k later.landed.cleared later.landed.tails in
+      let ready : ready_count z + spare k ≤ n + r.size = ready_freed (spare k) r z.stored z.published n z.sending later.order.room later.sending in
+      let more = more_freed k s.taken s.consumed inv.landed.cleared inv.landed.tails z.taken z.consumed later.landed.cleared later.landed.tails
+      inv.order.theirs later.order.theirs (omega (arith, again, ready, spare_capacity k r.size is.some_slots)) in
+      receiver-past r c (sent_store r L) (their_store k r) (sent_store r M) (their_store k r) (before ++ es) fs (before ++ (es ++ fs))
+      (inv.landed.slots + inv.landed.heads) inv.buffers.unsent (their_landed k inv.landed.cleared inv.landed.tails) inv.buffers.unread
+      (later.landed.slots + later.landed.heads) later.buffers.unsent (their_landed k later.landed.cleared later.landed.tails) later.buffers.unread
+      (sym (append_assoc before es fs)) inv.buffers.rows later.buffers.rows (omega (arith, more, inv.buffers.theirs_count))
 
 module _ (B : ℕ) (r : RingBuffer) (o : OpeningValue) (before es fs : List Entry) (t : FollowsSpscProtocol B r o before (es ++ fs)) where
   abbrev L : ℕ → ℕ
@@ -85,18 +73,18 @@ module _ (B : ℕ) (r : RingBuffer) (o : OpeningValue) (before es fs : List Entr
   abbrev M : ℕ → ℕ
   M = slice_index (protocol_after r at_start ((es ++ fs) ++ [])).sent
 
-  inv : Holds r.kind r L (earlier r before) o (before ++ es) (protocol_after r at_start es)
+  inv : Invariant r.kind r L (earlier r before) o (before ++ es) (protocol_after r at_start es)
   inv = invariant-of B r o before es fs t
 
-  later : Holds r.kind r M (earlier r before) o (before ++ (es ++ fs)) (protocol_after r at_start (es ++ fs))
+  later : Invariant r.kind r M (earlier r before) o (before ++ (es ++ fs)) (protocol_after r at_start (es ++ fs))
   later = invariant-of B r o before (es ++ fs) [] (subst (FollowsSpscProtocol B r o before) (sym (append-nil (es ++ fs))) t)
 
   pub published : available_count r (protocol_after r at_start es) < known_count (protocol_after r at_start (es ++ fs))
       → length (stores r.sender (before ++ es)) < lands r.sender (before ++ (es ++ fs))
-  published heard = sender-passed r t.ring L M (earlier r before) o before es fs (protocol_after r at_start es) (protocol_after r at_start (es ++ fs)) r.kind
+  published heard = sender-passed r.kind r t.ring L M (earlier r before) o before es fs (protocol_after r at_start es) (protocol_after r at_start (es ++ fs))
       inv later heard
 
   pub returned : (protocol_after r at_start es).taken + capacity r < ready_count (protocol_after r at_start (es ++ fs))
       → length (stores r.receiver (before ++ es)) < lands r.receiver (before ++ (es ++ fs))
-  returned again = receiver-passed r t.ring L M (earlier r before) o before es fs (protocol_after r at_start es) (protocol_after r at_start (es ++ fs)) r.kind
+  returned again = receiver-passed r.kind r t.ring L M (earlier r before) o before es fs (protocol_after r at_start es) (protocol_after r at_start (es ++ fs))
       inv later again

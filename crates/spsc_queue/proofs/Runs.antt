@@ -19,12 +19,11 @@ use Rattle.spsc_queue.specs.Protocol.{at_start, Role, sends, receives, passes, r
 use Rattle.spsc_queue.specs.Protocol.{protocol_next, protocol_after, IsSenderStore, IsReceiverStore, KeepsProtocolBy, KeepsProtocol}
 use Rattle.spsc_queue.specs.Laws.{IsPrefix, FollowsSpscProtocol, available_count, available_words}
 use Rattle.spsc_queue.proofs.Rows.{Earlier, Stays, nothing-stays, load-stays, fence-stays, exchange-stays, off-stays}
-use Rattle.spsc_queue.proofs.Invariant.{firsts}
+use Rattle.spsc_queue.proofs.Invariant.{firsts, Invariant}
 use Rattle.spsc_queue.proofs.Loads.{slot_word}
-use Rattle.spsc_queue.proofs.Steps.{word_on}
-use Rattle.spsc_queue.proofs.Landings.{role-cases}
-use Rattle.spsc_queue.proofs.Invariants.{Holds, IsPlaced, Known, known, idles, sender-loads, receiver-loads, lands-store, sends-word, sends-head, takes-word}
-use Rattle.spsc_queue.proofs.Invariants.{frees, earlier, at_rest}
+use Rattle.spsc_queue.proofs.Steps.{word_on, idles, sends-word, sends-head, takes-word, frees}
+use Rattle.spsc_queue.proofs.Landings.{role-cases, lands-store}
+use Rattle.spsc_queue.proofs.Invariants.{IsPlaced, Known, known, sender-loads, receiver-loads, earlier, at_rest}
 
 pub length-firsts : (L : ℕ → ℕ) (n : ℕ) → length (firsts L n) ≡ n
 length-firsts L zero = refl
@@ -177,7 +176,7 @@ word_ahead F sent more v n size is =
     ∙ get_or-append_seam sent v more 0)
 
 module _ (B : ℕ) (r : RingBuffer) (is : IsRingBuffer r) (F : List ℕ) (small : AreSmall F) (c : Earlier) (o : OpeningValue) (es : List Entry) (s : ProtocolState)
-    (k : Kind) (inv : Holds k r (slice_index F) c o es s) (e : Entry) (even : (h : ℕ) → lands h es ≤ length (stores h es)) where
+    (k : Kind) (inv : Invariant k r (slice_index F) c o es s) (e : Entry) (even : (h : ℕ) → lands h es ≤ length (stores h es)) where
   abbrev L : ℕ → ℕ
   L = slice_index F
 
@@ -187,17 +186,17 @@ module _ (B : ℕ) (r : RingBuffer) (is : IsRingBuffer r) (F : List ℕ) (small 
   facts : Known k r L s
   facts = known r is L c o es s k inv
 
-  rests : Stays r o es after → Holds k r L c o after s
-  rests block = idles r is L c o es s e even k inv block
+  rests : Stays r o es after → Invariant k r L c o after s
+  rests block = idles k r is L c o es s inv e even block
 
   sender-stores : (w : Write) (p : SenderState) → access_of e ≡ store w → hart_of e ≡ r.sender → s.sending ≡ p → IsSenderStore k r p w
       → (more : List ℕ) × (F ≡ (if overlaps r w then send_store w p s else s).sent ++ more)
-      → Holds k r L c o after (if overlaps r w then send_store w p s else s)
+      → Invariant k r L c o after (if overlaps r w then send_store w p s else s)
   sender-stores w resting does mine at keeps ahead = absurd keeps
   sender-stores w (placed u) does mine at keeps ahead = absurd keeps
   sender-stores w (roomy u) does mine at keeps ahead =
-      subst (λ b. Holds k r L c o after (if b then send_store w (roomy u) s else s)) (sym on)
-      (sends-word r is L c o es s e even w does mine u k inv on at keeps.0 value keeps.2)
+      subst (λ b. Invariant k r L c o after (if b then send_store w (roomy u) s else s)) (sym on)
+      (sends-word k r is L c o es s inv e even w does on mine u at keeps.0 value keeps.2)
     where
       place : IsPlaced r s.stored s.published (roomy u)
       place = subst (IsPlaced r s.stored s.published) at facts.sending
@@ -211,24 +210,24 @@ module _ (B : ℕ) (r : RingBuffer) (is : IsRingBuffer r) (F : List ℕ) (small 
           (ahead.1 ∙ ap (λ b. (if b then send_store w (roomy u) s else s).sent ++ ahead.0) on)
   sender-stores w (filled u) does mine at keeps ahead =
       let on : overlaps r w ≡ true = word_on r w r.head is.head keeps.0 in
-      subst (λ b. Holds k r L c o after (if b then send_store w (filled u) s else s)) (sym on)
-      (sends-head r is L c o es s e even w does mine u k inv on at keeps.0 keeps.1)
+      subst (λ b. Invariant k r L c o after (if b then send_store w (filled u) s else s)) (sym on)
+      (sends-head k r is L c o es s inv e even w does on mine u at keeps.0 keeps.1)
 
   receiver-stores : (w : Write) (p : ReceiverState) → access_of e ≡ store w → hart_of e ≡ r.receiver → s.receiving ≡ p → IsReceiverStore k r p w
-      → Holds k r L c o after (if overlaps r w then receive_store k p s else s)
+      → Invariant k r L c o after (if overlaps r w then receive_store k p s else s)
   receiver-stores w idle does mine at keeps = absurd keeps
   receiver-stores w (asked u) does mine at keeps = absurd keeps
   receiver-stores w (waiting u) does mine at keeps = absurd keeps
   receiver-stores w (holding u v) does mine at keeps =
-      let one = takes-word r is L c o es s e even w does mine u k inv v at keeps in
-      subst (λ b. Holds k r L c o after (if b then receive_store k (holding u v) s else s)) (sym one.0) one.1
+      let one = takes-word k r is L c o es s inv e even w does mine u v at keeps in
+      subst (λ b. Invariant k r L c o after (if b then receive_store k (holding u v) s else s)) (sym one.0) one.1
   receiver-stores w (cleared u) does mine at keeps =
       let on : overlaps r w ≡ true = word_on r w r.tail is.tail keeps.0 in
-      subst (λ b. Holds k r L c o after (if b then receive_store k (cleared u) s else s)) (sym on)
-      (frees r is L c o es s e even w does mine u k inv on at keeps.0 keeps.1)
+      subst (λ b. Invariant k r L c o after (if b then receive_store k (cleared u) s else s)) (sym on)
+      (frees k r is L c o es s inv e even w does on mine u at keeps.0 keeps.1)
 
   loads-word : (a width v : ℕ) → access_of e ≡ load a width v → v ≡ read o es (hart_of e) a width → (role : Role) → role_of r (hart_of e) ≡ role
-      → Holds k r L c o after (next_by k r role s (load a width v))
+      → Invariant k r L c o after (next_by k r role s (load a width v))
   loads-word a width v does found role whose = at role whose (width == 4) refl
     where
       block : Stays r o es after
@@ -237,40 +236,40 @@ module _ (B : ℕ) (r : RingBuffer) (is : IsRingBuffer r) (F : List ℕ) (small 
       read_by : (h : ℕ) → hart_of e ≡ h → width ≡ 4 → v ≡ read o es h a 4
       read_by h mine whole = found ∙ ap (λ g. read o es g a width) mine ∙ ap (read o es h a) whole
 
-      at : (role : Role) → role_of r (hart_of e) ≡ role → (b : Bool) → (width == 4) ≡ b → Holds k r L c o after (next_by k r role s (load a width v))
+      at : (role : Role) → role_of r (hart_of e) ≡ role → (b : Bool) → (width == 4) ≡ b → Invariant k r L c o after (next_by k r role s (load a width v))
       at sends whose true whole =
-          subst (λ b. Holds k r L c o after (if b then record s { sending = send_load k r a v s.sending } else s)) (sym whole)
+          subst (λ b. Invariant k r L c o after (if b then record s { sending = send_load k r a v s.sending } else s)) (sym whole)
           (sender-loads r is L c o es s e even small k inv block a v (read_by r.sender (is_sender r (hart_of e) whose) (eqb-true width 4 whole)))
       at sends whose false part =
-          subst (λ b. Holds k r L c o after (if b then record s { sending = send_load k r a v s.sending } else s)) (sym part) (rests block)
+          subst (λ b. Invariant k r L c o after (if b then record s { sending = send_load k r a v s.sending } else s)) (sym part) (rests block)
       at receives whose true whole =
-          subst (λ b. Holds k r L c o after (if b then record s { receiving = receive_load k r a v s.receiving } else s)) (sym whole)
+          subst (λ b. Invariant k r L c o after (if b then record s { receiving = receive_load k r a v s.receiving } else s)) (sym whole)
           (receiver-loads r is L c o es s e even small k inv block a v (read_by r.receiver (is_receiver r (hart_of e) whose) (eqb-true width 4 whole)))
       at receives whose false part =
-          subst (λ b. Holds k r L c o after (if b then record s { receiving = receive_load k r a v s.receiving } else s)) (sym part) (rests block)
+          subst (λ b. Invariant k r L c o after (if b then record s { receiving = receive_load k r a v s.receiving } else s)) (sym part) (rests block)
       at passes whose b w = rests block
 
   stores-word : (w : Write) → access_of e ≡ store w → (role : Role) → role_of r (hart_of e) ≡ role → KeepsProtocolBy k r role s (store w)
-      → (more : List ℕ) × (F ≡ (next_by k r role s (store w)).sent ++ more) → Holds k r L c o after (next_by k r role s (store w))
+      → (more : List ℕ) × (F ≡ (next_by k r role s (store w)).sent ++ more) → Invariant k r L c o after (next_by k r role s (store w))
   stores-word w does sends whose (inl off) ahead =
-      subst (λ b. Holds k r L c o after (if b then send_store w s.sending s else s)) (sym off) (rests (off-stays r is o es e even w does off))
+      subst (λ b. Invariant k r L c o after (if b then send_store w s.sending s else s)) (sym off) (rests (off-stays r is o es e even w does off))
   stores-word w does sends whose (inr keeps) ahead = sender-stores w s.sending does (is_sender r (hart_of e) whose) refl keeps ahead
   stores-word w does receives whose (inl off) ahead =
-      subst (λ b. Holds k r L c o after (if b then receive_store k s.receiving s else s)) (sym off) (rests (off-stays r is o es e even w does off))
+      subst (λ b. Invariant k r L c o after (if b then receive_store k s.receiving s else s)) (sym off) (rests (off-stays r is o es e even w does off))
   stores-word w does receives whose (inr keeps) ahead = receiver-stores w s.receiving does (is_receiver r (hart_of e) whose) refl keeps
   stores-word w does passes whose off ahead = rests (off-stays r is o es e even w does off)
 
   -- an access that changes nothing of either party
-  others : (role : Role) (x : Access) → next_by k r sends s x ≡ s → next_by k r receives s x ≡ s → Holds k r L c o after s
-      → Holds k r L c o after (next_by k r role s x)
-  others sends x one two holds = subst (Holds k r L c o after) (sym one) holds
-  others receives x one two holds = subst (Holds k r L c o after) (sym two) holds
+  others : (role : Role) (x : Access) → next_by k r sends s x ≡ s → next_by k r receives s x ≡ s → Invariant k r L c o after s
+      → Invariant k r L c o after (next_by k r role s x)
+  others sends x one two holds = subst (Invariant k r L c o after) (sym one) holds
+  others receives x one two holds = subst (Invariant k r L c o after) (sym two) holds
   others passes x one two holds = holds
 
   -- any access, of any role
   acts : (x : Access) → access_of e ≡ x → (role : Role) → role_of r (hart_of e) ≡ role → KeepsProtocolBy k r role s x
       → AllowedBy B (pending (hart_of e) es) (read o es (hart_of e)) x
-      → (more : List ℕ) × (F ≡ (next_by k r role s x).sent ++ more) → Holds k r L c o after (next_by k r role s x)
+      → (more : List ℕ) × (F ≡ (next_by k r role s x).sent ++ more) → Invariant k r L c o after (next_by k r role s x)
   acts nothing does role whose keeps allowed ahead = others role nothing refl refl (rests (nothing-stays r is o es e even does))
   acts (load a width v) does role whose keeps allowed ahead = loads-word a width v does allowed role whose
   acts (store w) does role whose keeps allowed ahead = stores-word w does role whose keeps ahead
@@ -282,27 +281,27 @@ module _ (B : ℕ) (r : RingBuffer) (is : IsRingBuffer r) (F : List ℕ) (small 
       off receives keeps = keeps
       off passes keeps = keeps
   acts (fence full) does role whose keeps allowed ahead = others role (fence full) refl refl (rests (fence-stays r is o es e even full does))
-  acts land does role whose keeps allowed ahead = others role land refl refl (lands-store r is L c o es s e even small k inv does allowed)
+  acts land does role whose keeps allowed ahead = others role land refl refl (lands-store k r is L small c o es s inv e even does allowed)
 
 -- ---- whole runs
 
 holds-after : (B : ℕ) (r : RingBuffer) (is : IsRingBuffer r) (F : List ℕ) (small : AreSmall F) (c : Earlier) (o : OpeningValue) (before : List Entry)
     (s : ProtocolState) (es : List Entry)
-    → Holds r.kind r (slice_index F) c o before s → Legal B (history_of o before) → LegalAfter B o before es → KeepsProtocol r s es
-    → (more : List ℕ) × (F ≡ (protocol_after r s es).sent ++ more) → Holds r.kind r (slice_index F) c o (before ++ es) (protocol_after r s es)
-holds-after B r is F small c o before s [] inv legal later keeps ahead = subst (λ xs. Holds r.kind r (slice_index F) c o xs s) (sym (append-nil before)) inv
+    → Invariant r.kind r (slice_index F) c o before s → Legal B (history_of o before) → LegalAfter B o before es → KeepsProtocol r s es
+    → (more : List ℕ) × (F ≡ (protocol_after r s es).sent ++ more) → Invariant r.kind r (slice_index F) c o (before ++ es) (protocol_after r s es)
+holds-after B r is F small c o before s [] inv legal later keeps ahead = subst (λ xs. Invariant r.kind r (slice_index F) c o xs s) (sym (append-nil before)) inv
 holds-after B r is F small c o before s (e ∷ es) inv legal later keeps ahead =
     let grown = protocol-grows r (protocol_next r s e) es in
-    let one : Holds r.kind r (slice_index F) c o (before ++ e ∷ []) (protocol_next r s e) =
+    let one : Invariant r.kind r (slice_index F) c o (before ++ e ∷ []) (protocol_next r s e) =
     acts B r is F small c o before s r.kind inv e (λ h. balanced B (history_of o before) h legal) (access_of e) refl (role_of r (hart_of e)) refl keeps.0
     later.0 (grown.0 ++ ahead.0, ahead.1 ∙ ap (λ xs. xs ++ ahead.0) grown.1 ∙ append_assoc (protocol_next r s e).sent grown.0 ahead.0) in
-    subst (λ xs. Holds r.kind r (slice_index F) c o xs (protocol_after r (protocol_next r s e) es)) (append_assoc before (e ∷ []) es)
+    subst (λ xs. Invariant r.kind r (slice_index F) c o xs (protocol_after r (protocol_next r s e) es)) (append_assoc before (e ∷ []) es)
     (holds-after B r is F small c o (before ++ e ∷ []) (protocol_next r s e) es one
     (LegalAfter-append B o [] before (e ∷ []) legal (later.0, tt)) later.1 keeps.1 ahead)
 
 -- the law of the invariant: of every run that keeps the protocol, and each of its beginnings, by the words of the whole
 pub invariant-of : (B : ℕ) (r : RingBuffer) (o : OpeningValue) (before es fs : List Entry) → FollowsSpscProtocol B r o before (es ++ fs)
-    → Holds r.kind r (slice_index (protocol_after r at_start (es ++ fs)).sent) (earlier r before) o (before ++ es) (protocol_after r at_start es)
+    → Invariant r.kind r (slice_index (protocol_after r at_start (es ++ fs)).sent) (earlier r before) o (before ++ es) (protocol_after r at_start es)
 invariant-of B r o before es fs t =
     holds-after B r t.ring F small (earlier r before) o before at_start es (at_rest r.kind r t.ring (slice_index F) o before t.rest refl)
     (LegalAfter-front B o [] before (es ++ fs) t.legal)

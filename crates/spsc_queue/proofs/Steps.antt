@@ -1,5 +1,6 @@
 -- Each store of a party keeps the invariant, and so does what leaves the block.
-use Rattle.std.proofs.Common.{ℕ, suc, ◌+◌, ◌≤◌, ◌≡◌, true, List, [], ◌∷◌, ◌++◌, length, sym, ◌∙◌, ap, subst, arith}
+use Rattle.std.proofs.Common.{ℕ, suc, ◌+◌, ◌≤◌, ◌<◌, ◌≡◌, ◌≢◌, inl, inr, true, List, [], ◌∷◌, ◌++◌, length, refl, sym, ◌∙◌, ap, subst, arith}
+use Rattle.std.proofs.lemmas.Bool.{cases_eq}
 use Rattle.std.proofs.lemmas.Bool.Decides.{nat_tests}
 use Rattle.memory.specs.declared.writes.Write.{Write}
 use Rattle.memory.specs.Writes.{write}
@@ -7,11 +8,13 @@ use Rattle.step_machine.specs.declared.events.Entry.{Entry}
 use Rattle.step_machine.specs.History.{OpeningValue}
 use Rattle.step_machine.specs.Access.{store, access_of}
 use Rattle.step_machine.specs.Entries.{hart_of, memory_word, stores, lands}
-use Rattle.spsc_queue.specs.RingBuffers.{RingBuffer, IsRingBuffer, IsWordIn, offset, slot, next, overlaps}
-use Rattle.spsc_queue.specs.Protocol.{SenderState, resting, roomy, filled, ReceiverState, idle, holding, ProtocolState, IsWordAt}
+use Rattle.spsc_queue.specs.RingBuffers.{Kind, lamport, fastforward, RingBuffer, IsRingBuffer, IsWordIn, offset, slot, next, overlaps}
+use Rattle.spsc_queue.specs.Protocol.{SenderState, resting, roomy, filled, ReceiverState, idle, holding, cleared, ProtocolState, send_store, receive_store}
+use Rattle.spsc_queue.specs.Protocol.{IsWordAt, IsSendable, IsTaking}
 use Rattle.spsc_queue.proofs.Spread.{sent_store, freed_store, sent-slot, sent-head}
-use Rattle.spsc_queue.proofs.Rows.{row-stores, row-publishes, Earlier, Stays, rows-stay, words-stay, sender-stores, receiver-stores}
-use Rattle.spsc_queue.proofs.Invariant.{Landed, Words, firsts, SendingIs, ReceivingIs, Invariant}
+use Rattle.spsc_queue.proofs.Rows.{row-stores, row-publishes, RowOrder, Earlier, Stays, rows-stay, words-stay, sender-stores, receiver-stores}
+use Rattle.spsc_queue.proofs.Invariant.{turned, zeros, cleared_store, Landed, firsts, spare, freed, there, their_store, their_landed, they_made, Theirs, Words}
+use Rattle.spsc_queue.proofs.Invariant.{SendingIs, ReceivingIs, Invariant}
 use Rattle.spsc_queue.proofs.Loads.{next_offset, slot_word}
 
 -- the write of a word, by its parts
@@ -22,38 +25,43 @@ write-is w a v is value = ap (λ x. write x w.width w.value) is.place ∙ ap (λ
 pub word_on : (r : RingBuffer) (w : Write) (a : ℕ) → IsWordIn r a → IsWordAt w a → overlaps r w ≡ true
 word_on r w a word is = grind (arith, nat_tests, word.above, word.below, is.place, is.width)
 
--- where the words of the block stay
-words-same : (r : RingBuffer) (is : IsRingBuffer r) (L : ℕ → ℕ) (d : Landed) (old new : ℕ → ℕ) → ((a : ℕ) → IsWordIn r a → new a ≡ old a)
-    → Words r L d old → Words r L d new
-words-same r is L d old new same words = record {
-  head = same r.head is.head ∙ words.head;
-  tail = same r.tail is.tail ∙ words.tail;
-  slots = λ j from below. same (slot r j) (slot_word r is j) ∙ words.slots j from below;
-}
+-- a word that may be sent isn't 0 where that matters
+some_word : (K : Kind) (w : ℕ) → IsSendable K w → K ≡ fastforward → w ≢ 0
+some_word lamport w some is = cc
+some_word fastforward w some is = some
 
-module _ (r : RingBuffer) (is : IsRingBuffer r) (L : ℕ → ℕ) (c : Earlier) (o : OpeningValue) (es : List Entry) (s : ProtocolState)
-    (inv : Invariant r L c o es s) (e : Entry) (even : (h : ℕ) → lands h es ≤ length (stores h es)) where
+module _ (K : Kind) (r : RingBuffer) (is : IsRingBuffer r) (L : ℕ → ℕ) (c : Earlier) (o : OpeningValue) (es : List Entry) (s : ProtocolState)
+    (inv : Invariant K r L c o es s) (e : Entry) (even : (h : ℕ) → lands h es ≤ length (stores h es)) where
   abbrev d : Landed
   d = inv.landed
 
   abbrev after : List Entry
   after = es ++ e ∷ []
 
+  -- where the words of the block stay
+  words-same : ((a : ℕ) → IsWordIn r a → memory_word o after a ≡ memory_word o es a) → Words K r L d (memory_word o after)
+  words-same same = record {
+    head = same r.head is.head ∙ inv.words.head;
+    tail = same r.tail is.tail ∙ inv.words.tail;
+    full = λ j from below. same (slot r j) (slot_word r is j) ∙ inv.words.full j from below;
+    free = λ kind j from below. same (slot r j) (slot_word r is j) ∙ inv.words.free kind j from below;
+  }
+
   -- the block stays, and so do the stores to it: what a party knows may change
-  pub stays : (p : SenderState) (q : ReceiverState) → Stays r o es after
-      → SendingIs 1 r s.stored s.published d.tails p → ReceivingIs r L s.consumed d.heads q
-      → Invariant r L c o after (record s { sending = p; receiving = q })
+  pub stays : (p : SenderState) (q : ReceiverState) → Stays r o es after → SendingIs (spare K) r s.stored s.published (freed K d.cleared d.tails) p
+      → ReceivingIs K r L s.taken s.consumed (there K d.slots d.heads) q → Invariant K r L c o after (record s { sending = p; receiving = q })
   stays p q block sending receiving = record {
     landed = d;
-    level = inv.level;
     order = inv.order;
-    words = words-same r is L d (memory_word o es) (memory_word o after) block.words inv.words;
+    words = words-same block.words;
+    nonzero = inv.nonzero;
     sending = sending;
     receiving = receiving;
     buffers = record {
       unsent = inv.buffers.unsent;
       unread = inv.buffers.unread;
-      rows = rows-stay r c (sent_store r L) (freed_store r) o es after (d.slots + d.heads) inv.buffers.unsent d.tails inv.buffers.unread inv.buffers.rows block;
+      rows = rows-stay r c (sent_store r L) (their_store K r) o es after (d.slots + d.heads) inv.buffers.unsent (their_landed K d.cleared d.tails)
+          inv.buffers.unread inv.buffers.rows block;
       mine_count = inv.buffers.mine_count;
       theirs_count = inv.buffers.theirs_count;
     };
@@ -61,45 +69,54 @@ module _ (r : RingBuffer) (is : IsRingBuffer r) (L : ℕ → ℕ) (c : Earlier) 
     received = inv.received;
   }
 
-  pub idles : Stays r o es after → Invariant r L c o after s
+  pub idles : Stays r o es after → Invariant K r L c o after s
   idles block = stays s.sending s.receiving block inv.sending inv.receiving
 
   module _ (w : Write) (does : access_of e ≡ store w) (on : overlaps r w ≡ true) where
-    words : Words r L d (memory_word o after)
-    words = words-same r is L d (memory_word o es) (memory_word o after) (λ a word. words-stay r is o es e even w does a) inv.words
+    words : Words K r L d (memory_word o after)
+    words = words-same (λ a word. words-stay r is o es e even w does a)
 
-    -- the sender's two stores
-    pub sends-word : hart_of e ≡ r.sender → (u : ℕ) → s.sending ≡ roomy u → IsWordAt w (r.slots + u) → w.value ≡ L s.stored
-        → Invariant r L c o after (record s { sending = filled u; stored = s.stored + 1; sent = s.sent ++ w.value ∷ [] })
-    sends-word mine u at word value = record {
+    -- the sender's next store, after which it stored n words and m heads
+    sends-one : hart_of e ≡ r.sender → w ≡ sent_store r L ((d.slots + d.heads) + inv.buffers.unsent) → (p : SenderState) (n m : ℕ) (got : List ℕ)
+        → n + m ≡ s.stored + s.published + 1 → RowOrder n m d.slots d.heads → n + spare K ≤ freed K d.cleared d.tails + r.size
+        → (K ≡ fastforward → (j : ℕ) → j < n → L j ≢ 0) → SendingIs (spare K) r n m (freed K d.cleared d.tails) p → got ≡ firsts L n
+        → Invariant K r L c o after (record s { sending = p; stored = n; published = m; sent = got })
+    sends-one mine is_next p n m got one row room nonzero sending sent = record {
       landed = d;
-      level = inv.level;
-      order = record {
-        mine = row-stores inv.order.mine known.0;
-        consumed_heads = inv.order.consumed_heads;
-        landed_consumed = inv.order.landed_consumed;
-        room = omega (arith, known.2);
-      };
+      order = record { mine = row; theirs = inv.order.theirs; taken_there = inv.order.taken_there; room = room };
       words = words;
-      sending = (omega (arith, known.0), known.1);
+      nonzero = nonzero;
+      sending = sending;
       receiving = inv.receiving;
       buffers = record {
         unsent = suc inv.buffers.unsent;
         unread = inv.buffers.unread;
-        rows = sender-stores r is o es e even w does on c (sent_store r L) (freed_store r) (d.slots + d.heads) inv.buffers.unsent d.tails inv.buffers.unread
-            inv.buffers.rows mine is_next;
-        mine_count = omega (arith, inv.buffers.mine_count);
+        rows = sender-stores r is o es e even w does on c (sent_store r L) (their_store K r) (d.slots + d.heads) inv.buffers.unsent
+            (their_landed K d.cleared d.tails) inv.buffers.unread inv.buffers.rows mine is_next;
+        mine_count = omega (arith, inv.buffers.mine_count, one);
         theirs_count = inv.buffers.theirs_count;
       };
-      sent = ap (λ ws. ws ++ w.value ∷ []) inv.sent ∙ ap (λ v. firsts L s.stored ++ v ∷ []) value ∙ ap (firsts L) one_more;
+      sent = sent;
       received = inv.received;
     }
+
+    pub sends-word : hart_of e ≡ r.sender → (u : ℕ) → s.sending ≡ roomy u → IsWordAt w (r.slots + u) → w.value ≡ L s.stored → IsSendable K w.value
+        → Invariant K r L c o after (send_store w (roomy u) s)
+    sends-word mine u at word value some = sends-one mine is_next (filled u) (s.stored + 1) s.published (s.sent ++ w.value ∷ []) (omega arith)
+        (row-stores inv.order.mine known.0) known.2 nonzero (omega (arith, known.0), known.1)
+        (ap (λ ws. ws ++ w.value ∷ []) inv.sent ∙ ap (λ v. firsts L s.stored ++ v ∷ []) value ∙ ap (firsts L) one_more)
       where
-        known : SendingIs 1 r s.stored s.published d.tails (roomy u)
-        known = subst (SendingIs 1 r s.stored s.published d.tails) at inv.sending
+        known : SendingIs (spare K) r s.stored s.published (freed K d.cleared d.tails) (roomy u)
+        known = subst (SendingIs (spare K) r s.stored s.published (freed K d.cleared d.tails)) at inv.sending
 
         one_more : suc s.stored ≡ s.stored + 1
         one_more = omega arith
+
+        nonzero : K ≡ fastforward → (j : ℕ) → j < s.stored + 1 → L j ≢ 0
+        nonzero kind j below = elim (cases_eq j s.stored) [
+          | inl same ↦ λ none. some_word K w.value some kind (value ∙ ap L (sym same) ∙ none)
+          | inr other ↦ inv.nonzero kind j (omega arith)
+        ]
 
         is_next : w ≡ sent_store r L ((d.slots + d.heads) + inv.buffers.unsent)
         is_next = write-is w (slot r s.stored) (L s.stored)
@@ -107,71 +124,91 @@ module _ (r : RingBuffer) (is : IsRingBuffer r) (L : ℕ → ℕ) (c : Earlier) 
             ∙ sym (sent-slot r L ((d.slots + d.heads) + inv.buffers.unsent) s.stored (omega (arith, inv.buffers.mine_count, known.0)))
 
     pub sends-head : hart_of e ≡ r.sender → (u : ℕ) → s.sending ≡ filled u → IsWordAt w r.head → w.value ≡ next r u
-        → Invariant r L c o after (record s { sending = resting; published = s.published + 1 })
-    sends-head mine u at word value = record {
-      landed = d;
-      level = inv.level;
-      order = record {
-        mine = row-publishes inv.order.mine known.0;
-        consumed_heads = inv.order.consumed_heads;
-        landed_consumed = inv.order.landed_consumed;
-        room = inv.order.room;
-      };
-      words = words;
-      sending = known.0;
-      receiving = inv.receiving;
-      buffers = record {
-        unsent = suc inv.buffers.unsent;
-        unread = inv.buffers.unread;
-        rows = sender-stores r is o es e even w does on c (sent_store r L) (freed_store r) (d.slots + d.heads) inv.buffers.unsent d.tails inv.buffers.unread
-            inv.buffers.rows mine is_next;
-        mine_count = omega (arith, inv.buffers.mine_count);
-        theirs_count = inv.buffers.theirs_count;
-      };
-      sent = inv.sent;
-      received = inv.received;
-    }
+        → Invariant K r L c o after (send_store w (filled u) s)
+    sends-head mine u at word value = sends-one mine is_next resting s.stored (s.published + 1) s.sent (omega arith) (row-publishes inv.order.mine known.0)
+        inv.order.room inv.nonzero known.0 inv.sent
       where
-        known : SendingIs 1 r s.stored s.published d.tails (filled u)
-        known = subst (SendingIs 1 r s.stored s.published d.tails) at inv.sending
+        known : SendingIs (spare K) r s.stored s.published (freed K d.cleared d.tails) (filled u)
+        known = subst (SendingIs (spare K) r s.stored s.published (freed K d.cleared d.tails)) at inv.sending
 
         is_next : w ≡ sent_store r L ((d.slots + d.heads) + inv.buffers.unsent)
         is_next = write-is w r.head (offset r (s.published + 1)) word (value ∙ next_offset r is u s.published known.1)
             ∙ sym (sent-head r L ((d.slots + d.heads) + inv.buffers.unsent) s.published (omega (arith, inv.buffers.mine_count, known.0)))
 
-    -- the receiver's
-    pub frees : hart_of e ≡ r.receiver → (u v : ℕ) → s.receiving ≡ holding u v → IsWordAt w r.tail → w.value ≡ next r u
-        → Invariant r L c o after (record s { receiving = idle; taken = s.taken + 1; consumed = s.consumed + 1; received = s.received ++ v ∷ [] })
-    frees mine u v at word value = record {
+    -- the receiver's next store, after which it took n words and stored m tails
+    takes-one : hart_of e ≡ r.receiver → w ≡ their_store K r (their_landed K d.cleared d.tails + inv.buffers.unread) → (q : ReceiverState) (n m : ℕ)
+        (got : List ℕ) → they_made K n m ≡ they_made K s.taken s.consumed + 1 → Theirs K n m d.cleared d.tails → n ≤ there K d.slots d.heads
+        → ReceivingIs K r L n m (there K d.slots d.heads) q → got ≡ firsts L n
+        → Invariant K r L c o after (record s { receiving = q; taken = n; consumed = m; received = got })
+    takes-one mine is_next q n m got one theirs taken_there receiving received = record {
       landed = d;
-      level = omega (arith, inv.level);
-      order = record {
-        mine = inv.order.mine;
-        consumed_heads = omega (arith, known.1);
-        landed_consumed = omega (arith, inv.order.landed_consumed);
-        room = inv.order.room;
-      };
+      order = record { mine = inv.order.mine; theirs = theirs; taken_there = taken_there; room = inv.order.room };
       words = words;
+      nonzero = inv.nonzero;
       sending = inv.sending;
-      receiving = tt;
+      receiving = receiving;
       buffers = record {
         unsent = inv.buffers.unsent;
         unread = suc inv.buffers.unread;
-        rows = receiver-stores r is o es e even w does on c (sent_store r L) (freed_store r) (d.slots + d.heads) inv.buffers.unsent d.tails inv.buffers.unread
-            inv.buffers.rows mine is_next;
+        rows = receiver-stores r is o es e even w does on c (sent_store r L) (their_store K r) (d.slots + d.heads) inv.buffers.unsent
+            (their_landed K d.cleared d.tails) inv.buffers.unread inv.buffers.rows mine is_next;
         mine_count = inv.buffers.mine_count;
-        theirs_count = omega (arith, inv.buffers.theirs_count);
+        theirs_count = omega (arith, inv.buffers.theirs_count, one);
       };
       sent = inv.sent;
-      received = ap (λ ws. ws ++ v ∷ []) inv.received ∙ ap (λ x. firsts L s.consumed ++ x ∷ []) known.2 ∙ ap (firsts L) one_more;
+      received = received;
     }
-      where
-        known : ReceivingIs r L s.consumed d.heads (holding u v)
-        known = subst (ReceivingIs r L s.consumed d.heads) at inv.receiving
 
-        one_more : suc s.consumed ≡ s.consumed + 1
-        one_more = omega arith
+    -- the words received, with the one that it holds
+    one_received : (u v : ℕ) → ReceivingIs K r L s.taken s.consumed (there K d.slots d.heads) (holding u v) → s.received ++ v ∷ [] ≡ firsts L (s.taken + 1)
+    one_received u v known =
+        let one_more : suc s.taken ≡ s.taken + 1 = omega arith in
+        ap (λ ws. ws ++ v ∷ []) inv.received ∙ ap (λ x. firsts L s.taken ++ x ∷ []) known.3 ∙ ap (firsts L) one_more
 
-        is_next : w ≡ freed_store r (d.tails + inv.buffers.unread)
-        is_next = write-is w r.tail (offset r (s.consumed + 1)) word (value ∙ next_offset r is u s.consumed known.0)
-            ∙ ap (λ j. write r.tail 4 (offset r (j + 1))) (omega (arith, inv.buffers.theirs_count))
+-- ---- what a receiver that holds a word stores first: Lamport's the tail, FastForward's a 0 into the slot
+
+pub takes-word : (K : Kind) (r : RingBuffer) (is : IsRingBuffer r) (L : ℕ → ℕ) (c : Earlier) (o : OpeningValue) (es : List Entry) (s : ProtocolState)
+    (inv : Invariant K r L c o es s) (e : Entry) (even : (h : ℕ) → lands h es ≤ length (stores h es)) (w : Write) → access_of e ≡ store w
+    → hart_of e ≡ r.receiver → (u v : ℕ) → s.receiving ≡ holding u v → IsTaking K r u w
+    → (overlaps r w ≡ true) × Invariant K r L c o (es ++ e ∷ []) (receive_store K (holding u v) s)
+takes-word lamport r is L c o es s inv e even w does mine u v at keeps =
+    let known = subst (ReceivingIs lamport r L s.taken s.consumed inv.landed.heads) at inv.receiving in
+    let on : overlaps r w ≡ true = word_on r w r.tail is.tail keeps.0 in
+    let is_next : w ≡ freed_store r (inv.landed.tails + inv.buffers.unread) =
+    write-is w r.tail (offset r (s.consumed + 1)) keeps.0 (keeps.1 ∙ next_offset r is u s.consumed known.1)
+    ∙ ap (λ j. write r.tail 4 (offset r (j + 1))) (omega (arith, inv.buffers.theirs_count)) in (
+      on,
+      takes-one lamport r is L c o es s inv e even w does on mine is_next idle (s.taken + 1) (s.consumed + 1) (s.received ++ v ∷ []) (omega arith)
+          (omega (arith, known.0), omega (arith, inv.order.theirs.1)) (omega (arith, known.2)) (omega (arith, known.0))
+          (one_received lamport r is L c o es s inv e even w does on u v known),
+    )
+takes-word fastforward r is L c o es s inv e even w does mine u v at keeps =
+    let known = subst (ReceivingIs fastforward r L s.taken s.consumed inv.landed.slots) at inv.receiving in
+    let word : IsWordAt w (slot r s.consumed) = record { place = keeps.0.place ∙ ap (λ x. r.slots + x) known.1; width = keeps.0.width } in
+    let on : overlaps r w ≡ true = word_on r w (slot r s.consumed) (slot_word r is s.consumed) word in
+    let is_next : w ≡ cleared_store r ((inv.landed.cleared + inv.landed.tails) + inv.buffers.unread) =
+    write-is w (slot r s.consumed) 0 word keeps.1 ∙ ap (λ j. write (slot r j) 4 0) (sym known.0)
+    ∙ sym (sent-slot (turned r) zeros ((inv.landed.cleared + inv.landed.tails) + inv.buffers.unread) s.taken
+    (omega (arith, inv.buffers.theirs_count, known.0))) in (
+      on,
+      takes-one fastforward r is L c o es s inv e even w does on mine is_next (cleared u) (s.taken + 1) s.consumed (s.received ++ v ∷ []) (omega arith)
+          (row-stores inv.order.theirs known.0) (omega (arith, known.2)) (omega (arith, known.0), known.1, refl)
+          (one_received fastforward r is L c o es s inv e even w does on u v known),
+    )
+
+-- and then FastForward's the tail
+pub frees : (K : Kind) (r : RingBuffer) (is : IsRingBuffer r) (L : ℕ → ℕ) (c : Earlier) (o : OpeningValue) (es : List Entry) (s : ProtocolState)
+    (inv : Invariant K r L c o es s) (e : Entry) (even : (h : ℕ) → lands h es ≤ length (stores h es)) (w : Write) → access_of e ≡ store w
+    → overlaps r w ≡ true → hart_of e ≡ r.receiver → (u : ℕ) → s.receiving ≡ cleared u → IsWordAt w r.tail → w.value ≡ next r u
+    → Invariant K r L c o (es ++ e ∷ []) (receive_store K (cleared u) s)
+frees lamport r is L c o es s inv e even w does on mine u at word value =
+    let known = subst (ReceivingIs lamport r L s.taken s.consumed inv.landed.heads) at inv.receiving in
+    absurd (let no : lamport ≡ fastforward = known.2 in cc)
+frees fastforward r is L c o es s inv e even w does on mine u at word value =
+    let known = subst (ReceivingIs fastforward r L s.taken s.consumed inv.landed.slots) at inv.receiving in
+    let is_next : w ≡ cleared_store r ((inv.landed.cleared + inv.landed.tails) + inv.buffers.unread) =
+    write-is w r.tail (offset r (s.consumed + 1)) word (value ∙ next_offset r is u s.consumed known.1)
+    ∙ sym (sent-head (turned r) zeros ((inv.landed.cleared + inv.landed.tails) + inv.buffers.unread) s.consumed
+    (omega (arith, inv.buffers.theirs_count, known.0))) in
+    takes-one fastforward r is L c o es s inv e even w does on mine is_next idle s.taken (s.consumed + 1) s.received (omega arith)
+    (row-publishes inv.order.theirs known.0) inv.order.taken_there known.0 inv.received

@@ -1,4 +1,4 @@
--- What holds of FastForward's block, of the stores to it and of both parties after every run that keeps its protocol.
+-- What FastForward's parties know after a load, whichever word they load.
 use Rattle.std.proofs.Common.{ℕ, zero, suc, ◌+◌, ◌*◌, ◌/◌, ◌%◌, ◌^◌, ◌<◌, ◌≤◌, ◌≡◌, ◌≢◌, ◌==◌, ◌⊎◌, inl, inr, not, Bool, true, false, if◌then◌else◌, List, refl}
 use Rattle.std.proofs.Common.{sym, ◌∙◌, ap, subst, arith}
 use Rattle.std.specs.Prelude.{All}
@@ -9,92 +9,15 @@ use Rattle.memory.specs.Writes.{write, IsWholeWord}
 use Rattle.step_machine.specs.declared.events.Entry.{Entry}
 use Rattle.step_machine.specs.History.{OpeningValue}
 use Rattle.step_machine.specs.Entries.{pending, memory_word, read}
-use Rattle.spsc_queue.specs.RingBuffers.{fastforward, RingBuffer, IsRingBuffer, offset, slot, writes_to}
+use Rattle.spsc_queue.specs.RingBuffers.{lamport, fastforward, RingBuffer, IsRingBuffer, offset, slot, writes_to}
 use Rattle.spsc_queue.specs.Protocol.{SenderState, resting, placed, roomy, filled, ReceiverState, idle, asked, waiting, holding, cleared, ProtocolState}
 use Rattle.spsc_queue.specs.Protocol.{send_look, send_load, receive_look, receive_load}
 use Rattle.spsc_queue.proofs.Words.{seen}
 use Rattle.spsc_queue.proofs.Spread.{slot_apart, spread, spread-all, sent_store, sent-slot, sent-head, seen-heads, sent-whole, slot_not_head}
 use Rattle.spsc_queue.proofs.Effects.{reads-word}
-use Rattle.spsc_queue.proofs.Rows.{Earlier, Rows, RowOrder}
-use Rattle.spsc_queue.proofs.Invariant.{firsts, SendingIs}
-use Rattle.spsc_queue.proofs.Loads.{offset_again, slot_word}
-
--- the receiver's row is the sender's of another ring: its index is the tail, its words are 0
-abbrev pub turned : RingBuffer → RingBuffer
-turned r = record r { head = r.tail; tail = r.head }
-
-pub turned_is : (r : RingBuffer) → IsRingBuffer r → IsRingBuffer (turned r)
-turned_is r is = record {
-  parties = is.parties;
-  some_slots = is.some_slots;
-  head = record { above = is.tail.above; below = is.tail.below; aligned = is.tail.aligned };
-  tail = record { above = is.head.above; below = is.head.below; aligned = is.head.aligned };
-  slots_above = is.slots_above;
-  slots_below = is.slots_below;
-  slots_aligned = is.slots_aligned;
-  apart = λ e. is.apart (sym e);
-  head_apart = is.tail_apart;
-  tail_apart = is.head_apart;
-  small = is.small;
-}
-
-abbrev pub zeros : ℕ → ℕ
-zeros j = 0
-
-abbrev pub cleared_store : RingBuffer → ℕ → Write
-cleared_store r p = sent_store (turned r) zeros p
-
-pub record Landed : Type 0 where
-  pub slots : ℕ
-  pub heads : ℕ
-  pub cleared : ℕ
-  pub tails : ℕ
-
-pub record Order (r : RingBuffer) (stored published taken consumed : ℕ) (d : Landed) : Type 0 where
-  pub mine : RowOrder stored published d.slots d.heads
-  pub theirs : RowOrder taken consumed d.cleared d.tails
-  pub taken_slots : taken ≤ d.slots
-  pub room : stored ≤ d.cleared + r.size
-
-pub record Words (r : RingBuffer) (L : ℕ → ℕ) (d : Landed) (word : ℕ → ℕ) : Type 0 where
-  pub head : word r.head ≡ offset r d.heads
-  pub tail : word r.tail ≡ offset r d.tails
-  pub full : (j : ℕ) → d.cleared ≤ j → j < d.slots → word (slot r j) ≡ L j
-  pub free : (j : ℕ) → d.slots ≤ j → j < d.cleared + r.size → word (slot r j) ≡ 0
-
-abbrev pub ReceivingIs : RingBuffer → (ℕ → ℕ) → (taken consumed slots : ℕ) → ReceiverState → Type 0
-ReceivingIs r L taken consumed slots idle = taken ≡ consumed
-ReceivingIs r L taken consumed slots (asked u) = (taken ≡ consumed) × (u ≡ offset r consumed)
-ReceivingIs r L taken consumed slots (waiting u) = ⊥
-ReceivingIs r L taken consumed slots (holding u w) = (taken ≡ consumed) × (u ≡ offset r consumed) × (taken < slots) × (w ≡ L taken)
-ReceivingIs r L taken consumed slots (cleared u) = (taken ≡ consumed + 1) × (u ≡ offset r consumed)
-
--- the stores to the block: the sender's row and the receiver's, and how far each has come
-pub record Buffers (r : RingBuffer) (L : ℕ → ℕ) (c : Earlier) (es : List Entry) (stored published taken consumed : ℕ) (d : Landed) : Type 0 where
-  pub unsent : ℕ
-  pub unread : ℕ
-  pub rows : Rows r c (sent_store r L) (cleared_store r) es (d.slots + d.heads) unsent (d.cleared + d.tails) unread
-  pub mine_count : unsent + (d.slots + d.heads) ≡ stored + published
-  pub theirs_count : unread + (d.cleared + d.tails) ≡ taken + consumed
-
-pub record Invariant (r : RingBuffer) (L : ℕ → ℕ) (c : Earlier) (o : OpeningValue) (es : List Entry) (s : ProtocolState) : Type 0 where
-  pub landed : Landed
-  pub order : Order r s.stored s.published s.taken s.consumed landed
-  pub words : Words r L landed (memory_word o es)
-  pub nonzero : (j : ℕ) → j < s.stored → L j ≢ 0
-  pub sending : SendingIs 0 r s.stored s.published landed.cleared s.sending
-  pub receiving : ReceivingIs r L s.taken s.consumed landed.slots s.receiving
-  pub buffers : Buffers r L c es s.stored s.published s.taken s.consumed landed
-  pub sent : s.sent ≡ firsts L s.stored
-  pub received : s.received ≡ firsts L s.taken
-
-pub receiving-more : (r : RingBuffer) (L : ℕ → ℕ) (taken consumed g h : ℕ) (p : ReceiverState) → g ≤ h
-    → ReceivingIs r L taken consumed g p → ReceivingIs r L taken consumed h p
-receiving-more r L taken consumed g h idle le is = is
-receiving-more r L taken consumed g h (asked u) le is = is
-receiving-more r L taken consumed g h (waiting u) le is = is
-receiving-more r L taken consumed g h (holding u w) le is = (is.0, is.1, omega (arith, le, is.2), is.3)
-receiving-more r L taken consumed g h (cleared u) le is = is
+use Rattle.spsc_queue.proofs.Rows.{Earlier}
+use Rattle.spsc_queue.proofs.Invariant.{turned, turned_is, zeros, cleared_store, Landed, SendingIs, ReceivingIs, Invariant}
+use Rattle.spsc_queue.proofs.Loads.{slot_again, slot_word}
 
 -- ---- what a word is after a part of a row
 
@@ -135,13 +58,10 @@ row_apart r is L p J near = at (cases_eq (p % 2) 0)
         let place : (sent_store r L p).addr ≡ r.head = ap (λ (w : Write). w.addr) (sent-head r L p (p / 2) (omega (arith, odd))) in
         slot_not_head r is J (sym same ∙ place)
 
-pub slot_again : (r : RingBuffer) (is : IsRingBuffer r) (j k : ℕ) → k ≡ j + r.size → slot r k ≡ slot r j
-slot_again r is j k at = ap (λ x. r.slots + x) (offset_again r is j k at)
-
 -- ---- what each party reads
 
 module _ (r : RingBuffer) (is : IsRingBuffer r) (L : ℕ → ℕ) (small : (j : ℕ) → L j < 2 ^ 32) (c : Earlier) (o : OpeningValue) (es : List Entry)
-    (s : ProtocolState) (inv : Invariant r L c o es s) where
+    (s : ProtocolState) (inv : Invariant fastforward r L c o es s) where
   abbrev d : Landed
   d = inv.landed
 
@@ -189,7 +109,7 @@ module _ (r : RingBuffer) (is : IsRingBuffer r) (L : ℕ → ℕ) (small : (j : 
           )))
           ∙ ap (memory_word o es) (slot_again r is d.cleared s.stored full) ∙ inv.words.full d.cleared (omega arith) landed
       at (inr none) =
-          let same : d.cleared ≡ d.slots = omega (arith, none, inv.order.theirs.slots_stored, inv.order.taken_slots) in
+          let same : d.cleared ≡ d.slots = omega (arith, none, inv.order.theirs.slots_stored, inv.order.taken_there) in
           last-there (slot r s.stored) (L d.cleared) (memory_word o es (slot r s.stored)) (sent_store r L) (d.slots + d.heads) inv.buffers.unsent
           (2 * d.cleared) (omega (arith, same, inv.order.mine.heads_slots)) (omega (arith, same, level, full, is.some_slots, inv.buffers.mine_count))
           (sent-slot r L (2 * d.cleared) d.cleared refl ∙ ap (λ a. write a 4 (L d.cleared)) (sym (slot_again r is d.cleared s.stored full)))
@@ -204,9 +124,9 @@ module _ (r : RingBuffer) (is : IsRingBuffer r) (L : ℕ → ℕ) (small : (j : 
       ∙ none-there (slot r s.stored) (memory_word o es (slot r s.stored)) (sent_store r L) (d.slots + d.heads) inv.buffers.unsent
       (λ p from below. row_apart r is L p s.stored (λ even. (
         omega (arith, below, even, level, inv.buffers.mine_count),
-        omega (arith, from, even, room, inv.order.theirs.slots_stored, inv.order.taken_slots, inv.order.mine.heads_slots, inv.order.mine.slots_heads),
+        omega (arith, from, even, room, inv.order.theirs.slots_stored, inv.order.taken_there, inv.order.mine.heads_slots, inv.order.mine.slots_heads),
       )))
-      ∙ inv.words.free s.stored inv.order.mine.slots_stored room
+      ∙ inv.words.free refl s.stored inv.order.mine.slots_stored room
 
   -- what the receiver reads in its slot
   slot-reads : read o es r.receiver (slot r s.taken) 4
@@ -235,9 +155,9 @@ module _ (r : RingBuffer) (is : IsRingBuffer r) (L : ℕ → ℕ) (small : (j : 
       at : (s.taken < d.cleared + r.size) ⊎ (d.cleared + r.size ≤ s.taken) → (s.taken < d.slots) ⊎ (d.slots ≤ s.taken)
           → (read o es r.receiver (slot r s.taken) 4 ≡ 0) ⊎ ((s.taken < d.slots) × (read o es r.receiver (slot r s.taken) 4 ≡ L s.taken))
       at (inl near) (inl landed) = inr (landed, receiver-word level landed)
-      at (inl near) (inr none) = inl (slot-near level near ∙ inv.words.free s.taken none near)
+      at (inl near) (inr none) = inl (slot-near level near ∙ inv.words.free refl s.taken none near)
       at (inr far) c =
-          let full : s.taken ≡ d.cleared + r.size = omega (arith, far, inv.order.taken_slots, inv.order.mine.slots_stored, inv.order.room) in
+          let full : s.taken ≡ d.cleared + r.size = omega (arith, far, inv.order.taken_there, inv.order.mine.slots_stored, inv.order.room) in
           inl (slot-reads ∙ last-there (slot r s.taken) 0 (memory_word o es (slot r s.taken)) (cleared_store r) (d.cleared + d.tails) inv.buffers.unread
           (2 * d.cleared) (omega (arith, inv.order.theirs.heads_slots)) (omega (arith, level, full, is.some_slots, inv.buffers.theirs_count))
           (sent-slot (turned r) zeros (2 * d.cleared) d.cleared refl ∙ ap (λ a. write a 4 0) (sym (slot_again r is d.cleared s.taken full)))
@@ -257,7 +177,7 @@ module _ (r : RingBuffer) (is : IsRingBuffer r) (L : ℕ → ℕ) (small : (j : 
           let place : a ≡ slot r s.stored = eqb-true a (r.slots + u) here ∙ ap (λ x. r.slots + x) (holds.1 ∙ ap (offset r) (sym holds.0)) in
           let none : read o es r.sender (slot r s.stored) 4 ≡ 0 = ap (λ x. read o es r.sender x 4) (sym place) ∙ sym is_read ∙ eqb-true v 0 zero_read in
           let other : s.stored ≢ d.cleared + r.size =
-          λ full. inv.nonzero d.cleared (omega (arith, full, is.some_slots)) (sym (sender-full holds.0 full) ∙ none) in
+          λ full. inv.nonzero refl d.cleared (omega (arith, full, is.some_slots)) (sym (sender-full holds.0 full) ∙ none) in
           (holds.0, holds.1, omega (arith, other, inv.order.room))
       by true here false some = holds
       by false there c is_c = holds
@@ -280,13 +200,13 @@ module _ (r : RingBuffer) (is : IsRingBuffer r) (L : ℕ → ℕ) (small : (j : 
   sending-load a v (roomy u) is_read holds = send-head a v (roomy u) holds.0 is_read (send-looked a v (roomy u) is_read holds)
   sending-load a v (filled u) is_read holds = holds
 
-  take-looked : (a v : ℕ) (p : ReceiverState) → v ≡ read o es r.receiver a 4 → ReceivingIs r L s.taken s.consumed d.slots p
-      → ReceivingIs r L s.taken s.consumed d.slots (receive_look fastforward r a v p)
+  take-looked : (a v : ℕ) (p : ReceiverState) → v ≡ read o es r.receiver a 4 → ReceivingIs fastforward r L s.taken s.consumed d.slots p
+      → ReceivingIs fastforward r L s.taken s.consumed d.slots (receive_look fastforward r a v p)
   take-looked a v idle is_read holds = holds
   take-looked a v (asked u) is_read holds = by (a == r.slots + u) refl (v == 0) refl
     where
       by : (b : Bool) → (a == r.slots + u) ≡ b → (c : Bool) → (v == 0) ≡ c
-          → ReceivingIs r L s.taken s.consumed d.slots (if b then (if c then asked u else holding u v) else asked u)
+          → ReceivingIs fastforward r L s.taken s.consumed d.slots (if b then (if c then asked u else holding u v) else asked u)
       by true here true zero_read = holds
       by true here false some =
           let place : a ≡ slot r s.taken = eqb-true a (r.slots + u) here ∙ ap (λ x. r.slots + x) (holds.1 ∙ ap (offset r) (sym holds.0)) in
@@ -296,23 +216,23 @@ module _ (r : RingBuffer) (is : IsRingBuffer r) (L : ℕ → ℕ) (small : (j : 
             | inr word ↦ (holds.0, holds.1, word.0, found ∙ word.1)
           ]
       by false there c is_c = holds
-  take-looked a v (waiting u) is_read holds = absurd holds
+  take-looked a v (waiting u) is_read holds = absurd (let no : fastforward ≡ lamport = holds.3 in cc)
   take-looked a v (holding u w) is_read holds = holds
   take-looked a v (cleared u) is_read holds = holds
 
   take-tail : (a v : ℕ) (p : ReceiverState) → s.taken ≡ s.consumed → v ≡ read o es r.receiver a 4
-      → ReceivingIs r L s.taken s.consumed d.slots (receive_look fastforward r a v p)
-      → ReceivingIs r L s.taken s.consumed d.slots (if a == r.tail then asked v else receive_look fastforward r a v p)
+      → ReceivingIs fastforward r L s.taken s.consumed d.slots (receive_look fastforward r a v p)
+      → ReceivingIs fastforward r L s.taken s.consumed d.slots (if a == r.tail then asked v else receive_look fastforward r a v p)
   take-tail a v p level is_read holds = by (a == r.tail) refl
     where
-      by : (b : Bool) → (a == r.tail) ≡ b → ReceivingIs r L s.taken s.consumed d.slots (if b then asked v else receive_look fastforward r a v p)
+      by : (b : Bool) → (a == r.tail) ≡ b → ReceivingIs fastforward r L s.taken s.consumed d.slots (if b then asked v else receive_look fastforward r a v p)
       by true same = (level, is_read ∙ ap (λ x. read o es r.receiver x 4) (eqb-true a r.tail same) ∙ receiver-tail)
       by false apart = holds
 
-  pub receiving-load : (a v : ℕ) (p : ReceiverState) → v ≡ read o es r.receiver a 4 → ReceivingIs r L s.taken s.consumed d.slots p
-      → ReceivingIs r L s.taken s.consumed d.slots (receive_load fastforward r a v p)
+  pub receiving-load : (a v : ℕ) (p : ReceiverState) → v ≡ read o es r.receiver a 4 → ReceivingIs fastforward r L s.taken s.consumed d.slots p
+      → ReceivingIs fastforward r L s.taken s.consumed d.slots (receive_load fastforward r a v p)
   receiving-load a v idle is_read holds = take-tail a v idle holds is_read (take-looked a v idle is_read holds)
   receiving-load a v (asked u) is_read holds = take-tail a v (asked u) holds.0 is_read (take-looked a v (asked u) is_read holds)
-  receiving-load a v (waiting u) is_read holds = absurd holds
+  receiving-load a v (waiting u) is_read holds = absurd (let no : fastforward ≡ lamport = holds.3 in cc)
   receiving-load a v (holding u w) is_read holds = take-tail a v (holding u w) holds.0 is_read (take-looked a v (holding u w) is_read holds)
   receiving-load a v (cleared u) is_read holds = holds
