@@ -1,0 +1,6 @@
+mod Places
+mod Noting
+mod Sound
+mod Drawn
+mod Pieces
+mod Exact

@@ -1,0 +1,183 @@
+-- A run with no debt keeps what callers owe.
+use Rattle.std.proofs.Common.{not, ℕ, ◌≡◌, ◌≢◌, ◌==◌, ◌*◌, ◌||◌, Bool, true, false, List, [], ◌∷◌, ◌++◌, Option, Some, None}
+use Rattle.std.proofs.Common.{arith, refl, sym, ap, subst, ◌∙◌, append_assoc, append-nil, eq-eqb}
+use Rattle.std.specs.Prelude.{if◌then◌else◌, option_map, slice_index}
+use Rattle.std.specs.Option.{option_or}
+use Rattle.std.proofs.lemmas.Bool.{ne_eqb}
+use Rattle.memory.specs.declared.writes.Write.{Write}
+use Rattle.memory.specs.Writes.{write}
+use Rattle.hart.specs.State.{HartState}
+use Rattle.hart.specs.Steps.{advanced}
+use Rattle.step_machine.specs.declared.events.Entry.{Entry}
+use Rattle.step_machine.specs.Access.{Access, nothing, load, store, exchange, fence, land, access_of}
+use Rattle.step_machine.specs.History.{OpeningValue, history_of}
+use Rattle.step_machine.specs.Entries.{hart_of, is_land}
+use Rattle.step_machine.specs.Paths.{value_of, state_of}
+use Rattle.step_machine.specs.Legal.{WellFormed}
+use Rattle.step_machine.proofs.Follows.{advance_by, state_of-mine}
+use Rattle.spsc_queue.specs.RingBuffers.{Kind, lamport, fastforward, RingBuffer, overlaps}
+use Rattle.spsc_queue.specs.Protocol.{WritesNothingTo}
+use Rattle.spsc_queue.specs.Calls.{Block, SpscQueue, Party, the_sender, the_receiver, buffer, enters, is_sender_in_call, is_receiver_in_call, MayPass}
+use Rattle.spsc_queue.specs.Calls.{HasArguments, PartyOwes, CallerObligation, UsesAsSpscQueue}
+use Rattle.spsc_queue.proofs.OwnEntries.{land_is}
+use Rattle.callers.specs.Queues.{spsc_of, IsLocated}
+use Rattle.callers.specs.declared.queue.Located.{Located}
+use Rattle.spsc_queue.specs.Obligations.{may_pass, has_arguments}
+use Rattle.callers.specs.Debts.{is_in_its_call, met_by, written_at, arguments_debt, entering_debt, party_debt, pc_in}
+use Rattle.callers.specs.Debts.{idle_debt, debt_of, debt_after, first_debt}
+use Rattle.callers.specs.declared.debts.Debt.TheVariants as debt
+
+-- ---- what owes nothing
+
+neither : {A : Type 0} → (a b : Option A) → option_or a b ≡ None → (a ≡ None) × (b ≡ None)
+neither None b is = (refl, is)
+neither (Some x) b is = absurd (cc)
+
+unmapped : {A C : Type 0} → (f : A → C) (x : Option A) → option_map f x ≡ None → x ≡ None
+unmapped f None is = refl
+unmapped f (Some x) is = absurd (cc)
+
+not_met : (r : RingBuffer) (w : Write) → met_by r w ≡ None → overlaps r w ≡ false
+not_met r w is = by (overlaps r w) refl
+  where
+    by : (b : Bool) → overlaps r w ≡ b → overlaps r w ≡ false
+    by false apart = apart
+    by true meets = let some : Some w.addr ≡ None = sym (ap (λ b. if b then Some w.addr else None) meets) ∙ is in absurd (cc)
+
+writes_nothing : (r : RingBuffer) (x : Access) → written_at r x ≡ None → WritesNothingTo r x
+writes_nothing r (store w) is = not_met r w is
+writes_nothing r (exchange a old new) is = not_met r (write a 4 new) is
+writes_nothing r nothing is = tt
+writes_nothing r (load a width v) is = tt
+writes_nothing r (fence full) is = tt
+writes_nothing r land is = tt
+
+arguments_right : (p : Party) (h n : ℕ) (k : Block) (z : HartState) → arguments_debt p h n k z ≡ None → has_arguments p n k z ≡ true
+arguments_right p h n k z is = by (slice_index z.registers 12 == 4 * k.size) refl (has_arguments p n k z) refl
+  where
+    by : (a : Bool) → (slice_index z.registers 12 == 4 * k.size) ≡ a → (b : Bool) → has_arguments p n k z ≡ b → has_arguments p n k z ≡ true
+    by a bytes true given = given
+    by true bytes false given =
+        let some : Some (debt.PassedReturn h (slice_index z.registers 1)) ≡ None =
+        sym (ap (λ b. if true then (if b then None else Some (debt.PassedReturn h (slice_index z.registers 1)))
+        else Some (debt.PassedBytes h (slice_index z.registers 12))) given)
+        ∙ sym (ap (λ a. if a then (if has_arguments p n k z then None else Some (debt.PassedReturn h (slice_index z.registers 1)))
+        else Some (debt.PassedBytes h (slice_index z.registers 12))) bytes) ∙ is in absurd (cc)
+    by false bytes false given =
+        let some : Some (debt.PassedBytes h (slice_index z.registers 12)) ≡ None =
+        sym (ap (λ a. if a then (if has_arguments p n k z then None else Some (debt.PassedReturn h (slice_index z.registers 1)))
+        else Some (debt.PassedBytes h (slice_index z.registers 12))) bytes) ∙ is in absurd (cc)
+
+passes_is : (p : Party) (K : Kind) (w : ℕ) → may_pass p K w ≡ true → MayPass p K w
+passes_is the_sender lamport w is = tt
+passes_is the_sender fastforward w is = λ none. (let no : false ≡ true = sym (ap not (eq-eqb w 0 none)) ∙ is in cc)
+passes_is the_receiver K w is = tt
+
+arguments_are : (p : Party) (n : ℕ) (k : Block) (s : HartState) → has_arguments p n k s ≡ true → HasArguments p n k s
+arguments_are p n k s is = grind (arith, is, passes_is)
+
+enters_right : (p : Party) (h n : ℕ) (k : Block) (z : HartState) → entering_debt p h n k (Some z) ≡ None → enters n k z ≡ true → HasArguments p n k z
+enters_right p h n k z is on = arguments_are p n k z (arguments_right p h n k z
+    (sym (ap (λ b. if b then arguments_debt p h n k z else None) on) ∙ is))
+
+-- ---- an entry without a debt keeps what is owed
+
+module _ (M : ℕ) (o : OpeningValue) (q : SpscQueue) (done : List Entry) (e : Entry) (free : debt_of M o q done e ≡ None) where
+  -- what an entry of a hart that is in no call owes, which is nothing
+  idle_free : is_land e ≡ false → is_in_its_call M o q done (hart_of e) ≡ false
+      → idle_debt q e (state_of M (history_of o done) (hart_of e)) (state_of M (history_of o (done ++ e ∷ [])) (hart_of e)) ≡ None
+  idle_free act idle =
+      sym (ap (λ b. if b || is_in_its_call M o q done (hart_of e) then None
+      else idle_debt q e (state_of M (history_of o done) (hart_of e)) (state_of M (history_of o (done ++ e ∷ [])) (hart_of e))) act
+      ∙ ap (λ b. if b then None
+      else idle_debt q e (state_of M (history_of o done) (hart_of e)) (state_of M (history_of o (done ++ e ∷ [])) (hart_of e))) idle) ∙ free
+
+  parts : is_land e ≡ false → is_in_its_call M o q done (hart_of e) ≡ false
+      → WritesNothingTo (buffer q) (access_of e) × (party_debt q (hart_of e) (state_of M (history_of o (done ++ e ∷ [])) (hart_of e)) ≡ None)
+  parts act idle =
+      let both = neither (option_map (debt.Wrote (hart_of e) (pc_in (state_of M (history_of o done) (hart_of e)))) (written_at (buffer q) (access_of e)))
+      (party_debt q (hart_of e) (state_of M (history_of o (done ++ e ∷ [])) (hart_of e))) (idle_free act idle) in (
+        writes_nothing (buffer q) (access_of e)
+            (unmapped (debt.Wrote (hart_of e) (pc_in (state_of M (history_of o done) (hart_of e)))) (written_at (buffer q) (access_of e)) both.0),
+        both.1,
+      )
+
+  next_is : (s : HartState) → is_land e ≡ false → state_of M (history_of o done) (hart_of e) ≡ Some s
+      → state_of M (history_of o (done ++ e ∷ [])) (hart_of e) ≡ Some (advanced s (value_of e))
+  next_is s act at = state_of-mine M (history_of o done) (hart_of e) e refl act ∙ ap (option_map (advance_by e)) at
+
+  sender_owes : PartyOwes M o q the_sender [] done e
+  sender_owes mine act s at idle =
+      let call : is_in_its_call M o q done (hart_of e) ≡ false =
+      ap (λ b. if b then is_sender_in_call M o q [] done else (if hart_of e == q.receiver then is_receiver_in_call M o q [] done else false))
+      (eq-eqb (hart_of e) q.sender mine) ∙ idle in
+      let one = parts act call in
+      let entering : entering_debt the_sender (hart_of e) q.send_line q.block (Some (advanced s (value_of e))) ≡ None =
+      sym (ap (λ z. entering_debt the_sender (hart_of e) q.send_line q.block z)
+      (next_is s act (subst (λ (h : ℕ). state_of M (history_of o done) h ≡ Some s) (sym mine) at)))
+      ∙ sym (ap (λ b. if b then entering_debt the_sender (hart_of e) q.send_line q.block (state_of M (history_of o (done ++ e ∷ [])) (hart_of e))
+      else (if hart_of e == q.receiver then entering_debt the_receiver (hart_of e) q.receive_line q.block
+      (state_of M (history_of o (done ++ e ∷ []))
+      (hart_of e)) else None))
+      (eq-eqb (hart_of e) q.sender mine)) ∙ one.1 in
+      (one.0, enters_right the_sender (hart_of e) q.send_line q.block (advanced s (value_of e)) entering)
+
+  receiver_owes : q.sender ≢ q.receiver → PartyOwes M o q the_receiver [] done e
+  receiver_owes apart mine act s at idle =
+      let no_sender : (hart_of e == q.sender) ≡ false = ne_eqb (hart_of e) q.sender (λ same. apart (sym same ∙ mine)) in
+      let call : is_in_its_call M o q done (hart_of e) ≡ false =
+      ap (λ b. if b then is_sender_in_call M o q [] done else (if hart_of e == q.receiver then is_receiver_in_call M o q [] done else false)) no_sender
+      ∙ ap (λ b. if b then is_receiver_in_call M o q [] done else false) (eq-eqb (hart_of e) q.receiver mine) ∙ idle in
+      let one = parts act call in
+      let entering : entering_debt the_receiver (hart_of e) q.receive_line q.block (Some (advanced s (value_of e))) ≡ None =
+      sym (ap (λ z. entering_debt the_receiver (hart_of e) q.receive_line q.block z)
+      (next_is s act (subst (λ (h : ℕ). state_of M (history_of o done) h ≡ Some s) (sym mine) at)))
+      ∙ sym (ap (λ b. if b then entering_debt the_sender (hart_of e) q.send_line q.block (state_of M (history_of o (done ++ e ∷ [])) (hart_of e))
+      else (if hart_of e == q.receiver then entering_debt the_receiver (hart_of e) q.receive_line q.block
+      (state_of M (history_of o (done ++ e ∷ []))
+      (hart_of e)) else None))
+      no_sender
+      ∙ ap (λ b. if b then entering_debt the_receiver (hart_of e) q.receive_line q.block (state_of M (history_of o (done ++ e ∷ [])) (hart_of e)) else None)
+      (eq-eqb (hart_of e) q.receiver mine)) ∙ one.1 in
+      (one.0, enters_right the_receiver (hart_of e) q.receive_line q.block (advanced s (value_of e)) entering)
+
+  others_owe : hart_of e ≢ q.sender → hart_of e ≢ q.receiver → WritesNothingTo (buffer q) (access_of e)
+  others_owe not_sender not_receiver = by (is_land e) refl
+    where
+      idle : is_in_its_call M o q done (hart_of e) ≡ false
+      idle = ap (λ b. if b then is_sender_in_call M o q [] done else (if hart_of e == q.receiver then is_receiver_in_call M o q [] done else false))
+          (ne_eqb (hart_of e) q.sender not_sender)
+          ∙ ap (λ b. if b then is_receiver_in_call M o q [] done else false) (ne_eqb (hart_of e) q.receiver not_receiver)
+
+      by : (b : Bool) → is_land e ≡ b → WritesNothingTo (buffer q) (access_of e)
+      by false act = (parts act idle).0
+      by true lands = subst (WritesNothingTo (buffer q)) (sym (land_is (access_of e) lands)) tt
+
+  owes_nothing : q.sender ≢ q.receiver → CallerObligation M o q [] done e
+  owes_nothing apart = record { sender = sender_owes; receiver = receiver_owes apart; others = others_owe }
+
+-- ---- and so does each entry of a run without one
+
+one_free : (M : ℕ) (o : OpeningValue) (q : SpscQueue) (front done : List Entry) (e : Entry) (more : List Entry)
+    → debt_after M o q front (done ++ e ∷ more) ≡ None → debt_of M o q (front ++ done) e ≡ None
+one_free M o q front [] e more free =
+    ap (λ ds. debt_of M o q ds e) (append-nil front) ∙ (neither (debt_of M o q front e) (debt_after M o q (front ++ e ∷ []) more) free).0
+one_free M o q front (d ∷ done) e more free =
+    ap (λ ds. debt_of M o q ds e) (sym (append_assoc front (d ∷ []) done))
+    ∙ one_free M o q (front ++ d ∷ []) done e more (neither (debt_of M o q front d) (debt_after M o q (front ++ d ∷ []) (done ++ e ∷ more)) free).1
+
+-- a run from an opening at which the queue can be used keeps all if it has no debt
+pub keeps_all : (B M : ℕ) (o : OpeningValue) (l : Located) (es : List Entry) → IsLocated M o l.queue l → WellFormed B M (history_of o es)
+    → first_debt M o (spsc_of l) es ≡ None → UsesAsSpscQueue B M o (spsc_of l) [] es
+keeps_all B M o l es located run free = record {
+  shares = record {
+    block = located.block;
+    parties = located.parties;
+    run = run;
+    rest = located.rest;
+    sends = located.sends.here;
+    receives = located.receives.here;
+  };
+  owed = λ done e more is. owes_nothing M o (spsc_of l) done e
+      (one_free M o (spsc_of l) [] done e more (ap (first_debt M o (spsc_of l)) (sym is) ∙ free)) located.parties;
+}

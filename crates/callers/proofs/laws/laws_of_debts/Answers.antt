@@ -1,0 +1,10 @@
+use Rattle.callers.specs.Queues.{spsc_of}
+use Rattle.callers.proofs.Sound.{keeps_all}
+use Rattle.callers.proofs.Exact.{none_owed}
+use Rattle.callers.proofs.laws.laws_of_debts.Goals as goal
+
+pub returns-clause-kept : goal.returns-clause-kept
+returns-clause-kept c = λ B M o l es located run free. keeps_all B M o l es located run free
+
+pub returns-clause-none : goal.returns-clause-none
+returns-clause-none c = λ B M o l es uses. none_owed B M o (spsc_of l) es uses

@@ -1,0 +1,68 @@
+-- The answer of many runs: that all keep what callers owe, or a debt and a short schedule of a run that has it.
+use Rattle.std.specs.Prelude.{ℕ, ◌≡◌, ◌<◌, ◌⊎◌, Bool, true, false, List, [], ◌∷◌, ◌++◌, codes}
+use Rattle.std.specs.Fmt.{decimal}
+use Rattle.rand_core.specs.Stream.{Stream}
+use Rattle.step_machine.specs.declared.events.Event.{Event}
+use Rattle.step_machine.specs.History.{OpeningValue}
+use Rattle.recorder.specs.Writing.{canon}
+use Rattle.callers.specs.Queues.{IsLocated}
+use Rattle.callers.specs.Debts.{IsOpeningDebt}
+use Rattle.callers.specs.Runs.{CallSource, call_source, call_schedule, AreKept, IsFirstOwing, IsMadeShort}
+use Rattle.callers.specs.declared.debts.Debt.{Debt}
+use Rattle.callers.specs.declared.debts.Debt.TheVariants as debt
+use Rattle.callers.specs.declared.queue.Queue.{Queue}
+use Rattle.callers.specs.declared.queue.Located.{Located}
+
+-- the debt in words
+abbrev pub debt_text : Debt → List ℕ
+debt_text debt.NoBlock = codes "the block isn't aligned to 4 bytes, has no slot, or ends past the memory"
+debt_text (debt.OneParty h) = codes "hart " ++ decimal h ++ codes " both sends and receives"
+debt_text (debt.NoSend h) = codes "hart " ++ decimal h ++ codes " has no try_send in its code"
+debt_text (debt.NoReceive h) = codes "hart " ++ decimal h ++ codes " has no try_receive in its code"
+debt_text (debt.NotEmpty a w) = codes "the index at " ++ decimal a ++ codes " opens as " ++ decimal w ++ codes " and not as 0"
+debt_text (debt.Wrote h pc a) =
+    codes "hart " ++ decimal h ++ codes " wrote to the block at " ++ decimal a ++ codes " outside of a call, at pc " ++ decimal pc
+debt_text (debt.PassedBytes h bytes) = codes "hart " ++ decimal h ++ codes " called with a2 = " ++ decimal bytes ++ codes ", not the bytes of the slots"
+debt_text (debt.PassedReturn h back) = codes "hart " ++ decimal h ++ codes " called with ra = " ++ decimal back ++ codes ", no place to return to"
+
+abbrev pub debt_line : Debt → List ℕ
+debt_line d = debt_text d ++ 10 ∷ []
+
+abbrev pub kept_text : (runs : ℕ) → List ℕ
+kept_text runs = codes "kept " ++ decimal runs ++ codes " runs" ++ 10 ∷ []
+
+-- all runs keep what callers owe
+pub record IsToldKept (s : CallSource) (runs : ℕ) (text : List ℕ) : Type 0 where
+  pub kept : AreKept s runs
+  pub text_is : text ≡ kept_text runs
+
+-- the first run that owes something, made short, and what it owes first
+pub record IsToldOwing (s : CallSource) (runs : ℕ) (text : List ℕ) : Type 0 where
+  pub number : ℕ
+  pub within : number < runs
+  pub debt : Debt
+  pub first : IsFirstOwing s number debt
+  pub part : List Event
+  pub shortened : IsMadeShort s.B s.M s.opening s.located debt (call_schedule s number) part
+  pub text_is : text ≡ canon part ++ debt_line debt
+
+-- something is owed at the opening already, which a schedule of no events shows
+pub record IsToldAtOnce (M : ℕ) (o : OpeningValue) (queue : Queue) (text : List ℕ) : Type 0 where
+  pub debt : Debt
+  pub owes : IsOpeningDebt M o queue debt
+  pub text_is : text ≡ canon [] ++ debt_line debt
+
+-- the text for this number of runs, and whether all keep what callers owe
+abbrev pub IsCallersToldOf : CallSource → (runs : ℕ) → List ℕ × Bool → Type 0
+IsCallersToldOf s runs (text, true) = IsToldKept s runs text
+IsCallersToldOf s runs (text, false) = IsToldOwing s runs text
+
+-- the same where the functions are first looked for
+pub record IsToldLocated (B M : ℕ) (o : OpeningValue) (queue : Queue) (stream : Stream) (runs size : ℕ) (told : List ℕ × Bool) : Type 0 where
+  pub located : Located
+  pub usable : IsLocated M o queue located
+  pub told_of : IsCallersToldOf (call_source B M o located stream size) runs told
+
+abbrev pub IsCallersTold : (B M : ℕ) → OpeningValue → Queue → Stream → (runs size : ℕ) → List ℕ × Bool → Type 0
+IsCallersTold B M o queue stream runs size (text, true) = IsToldLocated B M o queue stream runs size (text, true)
+IsCallersTold B M o queue stream runs size (text, false) = IsToldAtOnce M o queue text ⊎ IsToldLocated B M o queue stream runs size (text, false)

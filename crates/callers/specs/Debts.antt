@@ -1,0 +1,94 @@
+-- What callers owe and don't keep: where the queue begins, and the first such debt among the entries of a run.
+use Rattle.std.specs.Prelude.{ℕ, ◌≡◌, ◌≢◌, ◌⊎◌, ◌+◌, ◌*◌, ◌==◌, ◌||◌, Bool, false, if◌then◌else◌, List, [], ◌∷◌, ◌++◌, Option, None, Some}
+use Rattle.std.specs.Prelude.{option_map, slice_index}
+use Rattle.std.specs.Option.{option_or}
+use Rattle.memory.specs.declared.writes.Write.{Write}
+use Rattle.memory.specs.Writes.{write}
+use Rattle.hart.specs.State.{HartState}
+use Rattle.step_machine.specs.declared.events.Entry.{Entry}
+use Rattle.step_machine.specs.Access.{Access, store, exchange, access_of}
+use Rattle.step_machine.specs.History.{OpeningValue, history_of}
+use Rattle.step_machine.specs.Entries.{hart_of, is_land, memory_word}
+use Rattle.step_machine.specs.Paths.{state_of}
+use Rattle.spsc_queue.specs.RingBuffers.{RingBuffer, overlaps}
+use Rattle.spsc_queue.specs.Listings.{try_send, try_receive}
+use Rattle.spsc_queue.specs.Calls.{Block, SpscQueue, Party, the_sender, the_receiver, IsBlock, buffer, enters, is_sender_in_call, is_receiver_in_call}
+use Rattle.spsc_queue.specs.Obligations.{has_arguments}
+use Rattle.callers.specs.Queues.{block_of, HasNoCopy}
+use Rattle.callers.specs.declared.queue.Queue.{Queue}
+use Rattle.callers.specs.declared.debts.Debt.{Debt}
+use Rattle.callers.specs.declared.debts.Debt.TheVariants as debt
+
+-- ---- where the queue begins
+
+-- the address is that of an index of the block
+abbrev pub IsIndex : Queue → (a : ℕ) → Type 0
+IsIndex q a = (a ≡ q.base) ⊎ (a ≡ q.base + 64)
+
+-- this is owed at the opening: what the debt says of it is so
+abbrev pub IsOpeningDebt : (M : ℕ) → OpeningValue → Queue → Debt → Type 0
+IsOpeningDebt M o q debt.NoBlock = IsBlock M (block_of q) → ⊥
+IsOpeningDebt M o q (debt.OneParty h) = (h ≡ q.sender) × (h ≡ q.receiver)
+IsOpeningDebt M o q (debt.NoSend h) = (h ≡ q.sender) × HasNoCopy o h try_send
+IsOpeningDebt M o q (debt.NoReceive h) = (h ≡ q.receiver) × HasNoCopy o h try_receive
+IsOpeningDebt M o q (debt.NotEmpty a w) = IsIndex q a × (memory_word o [] a ≡ w) × (w ≢ 0)
+IsOpeningDebt M o q (debt.Wrote h pc a) = ⊥
+IsOpeningDebt M o q (debt.PassedBytes h bytes) = ⊥
+IsOpeningDebt M o q (debt.PassedReturn h back) = ⊥
+
+-- ---- from then on
+
+-- whether hart h is in a call of its function for this queue, after these entries
+abbrev pub is_in_its_call : (M : ℕ) → OpeningValue → SpscQueue → List Entry → (h : ℕ) → Bool
+is_in_its_call M o q es h =
+    if h == q.sender then is_sender_in_call M o q [] es else (if h == q.receiver then is_receiver_in_call M o q [] es else false)
+
+-- where a write begins that meets the block
+abbrev pub met_by : RingBuffer → Write → Option ℕ
+met_by r w = if overlaps r w then Some w.addr else None
+
+-- where an access writes that writes to the block
+abbrev pub written_at : RingBuffer → Access → Option ℕ
+written_at r (store w) = met_by r w
+written_at r (exchange a old new) = met_by r (write a 4 new)
+written_at r other = None
+
+-- of hart h that enters a party's function, which begins at line n, in this state: it passes another a2 than the bytes of
+-- the slots, or an ra that is no return address
+abbrev pub arguments_debt : Party → (h n : ℕ) → Block → HartState → Option Debt
+arguments_debt p h n k z = if slice_index z.registers 12 == 4 * k.size
+    then (if has_arguments p n k z then None else Some (debt.PassedReturn h (slice_index z.registers 1)))
+    else Some (debt.PassedBytes h (slice_index z.registers 12))
+
+-- of hart h that stands in this state
+abbrev pub entering_debt : Party → (h n : ℕ) → Block → Option HartState → Option Debt
+entering_debt p h n k None = None
+entering_debt p h n k (Some z) = if enters n k z then arguments_debt p h n k z else None
+
+-- the same of whichever party the hart is
+abbrev pub party_debt : SpscQueue → (h : ℕ) → Option HartState → Option Debt
+party_debt q h z = if h == q.sender then entering_debt the_sender h q.send_line q.block z
+    else (if h == q.receiver then entering_debt the_receiver h q.receive_line q.block z else None)
+
+abbrev pub pc_in : Option HartState → ℕ
+pc_in None = 0
+pc_in (Some s) = s.pc
+
+-- of a hart that is in no call, and goes by this entry from one state to the next: it writes to the block, or enters its
+-- function with other arguments than it owes
+abbrev pub idle_debt : SpscQueue → Entry → (before after : Option HartState) → Option Debt
+idle_debt q e before after = option_or (option_map (debt.Wrote (hart_of e) (pc_in before)) (written_at (buffer q) (access_of e)))
+    (party_debt q (hart_of e) after)
+
+-- what is owed at entry e, which comes after these entries. A landing owes nothing, nor does a hart within its call
+abbrev pub debt_of : (M : ℕ) → OpeningValue → SpscQueue → (front : List Entry) → Entry → Option Debt
+debt_of M o q front e = if is_land e || is_in_its_call M o q front (hart_of e) then None
+    else idle_debt q e (state_of M (history_of o front) (hart_of e)) (state_of M (history_of o (front ++ e ∷ [])) (hart_of e))
+
+-- the first debt among entries, after the entries before them
+abbrev pub debt_after : (M : ℕ) → OpeningValue → SpscQueue → (front es : List Entry) → Option Debt
+debt_after M o q front [] = None
+debt_after M o q front (e ∷ es) = option_or (debt_of M o q front e) (debt_after M o q (front ++ e ∷ []) es)
+
+abbrev pub first_debt : (M : ℕ) → OpeningValue → SpscQueue → List Entry → Option Debt
+first_debt M o q es = debt_after M o q [] es

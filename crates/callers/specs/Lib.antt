@@ -1,0 +1,5 @@
+pub mod Queues
+pub mod Debts
+pub mod Runs
+pub mod Answers
+pub mod inner

@@ -1,0 +1,57 @@
+-- Runs of code that calls a queue's functions, by schedules that a generator draws.
+use Rattle.std.specs.Prelude.{ℕ, ◌≡◌, ◌<◌, List, [], length, Some}
+use Rattle.rand_core.specs.Stream.{Stream}
+use Rattle.step_machine.specs.declared.events.Event.{Event}
+use Rattle.step_machine.specs.History.{OpeningValue, History}
+use Rattle.step_machine.specs.Runs.{Run}
+use Rattle.recorder.specs.Drawing.{schedule_drawn}
+use Rattle.shrink.specs.Shrinking.{IsPartOf, without}
+use Rattle.spsc_queue.specs.Calls.{UsesAsSpscQueue}
+use Rattle.callers.specs.Queues.{spsc_of}
+use Rattle.callers.specs.Debts.{first_debt}
+use Rattle.callers.specs.declared.debts.Debt.{Debt}
+use Rattle.callers.specs.declared.queue.Located.{Located}
+
+-- Where runs come from: buffers of B stores and a memory of M words, the opening, the queue, the stream that draws the
+-- schedules, and how many events each schedule has.
+pub record CallSource : Type 0 where
+  pub B : ℕ
+  pub M : ℕ
+  pub opening : OpeningValue
+  pub located : Located
+  pub stream : Stream
+  pub size : ℕ
+
+abbrev pub call_source : (B M : ℕ) → OpeningValue → Located → Stream → (size : ℕ) → CallSource
+call_source B M o l stream size = record { B = B; M = M; opening = o; located = l; stream = stream; size = size }
+
+-- the schedule of this number, from 0
+abbrev pub call_schedule : CallSource → (number : ℕ) → List Event
+call_schedule s number = schedule_drawn (length s.opening.harts) s.size s.stream number
+
+-- a run of these events whose callers keep what they owe, so that the queue's theorem holds of it
+pub record KeepsOwed (B M : ℕ) (o : OpeningValue) (l : Located) (events : List Event) : Type 0 where
+  pub history : History
+  pub run : Run B M o events history
+  pub uses : UsesAsSpscQueue B M o (spsc_of l) [] history.entries
+
+-- the runs before this number keep all
+abbrev pub AreKept : CallSource → (number : ℕ) → Type 0
+AreKept s number = (i : ℕ) → i < number → KeepsOwed s.B s.M s.opening s.located (call_schedule s i)
+
+-- the first debt of a run of these events is this one
+pub record Owes (B M : ℕ) (o : OpeningValue) (l : Located) (events : List Event) (debt : Debt) : Type 0 where
+  pub history : History
+  pub run : Run B M o events history
+  pub first : first_debt M o (spsc_of l) history.entries ≡ Some debt
+
+-- the run of this number is the first one that owes something, and this is its first debt
+pub record IsFirstOwing (s : CallSource) (number : ℕ) (debt : Debt) : Type 0 where
+  pub before : AreKept s number
+  pub owes : Owes s.B s.M s.opening s.located (call_schedule s number) debt
+
+-- the answer is a part of the given events that owes the same first; without any one event it doesn't
+pub record IsMadeShort (B M : ℕ) (o : OpeningValue) (l : Located) (debt : Debt) (given answer : List Event) : Type 0 where
+  pub part : IsPartOf answer given
+  pub owes : Owes B M o l answer debt
+  pub minimal : (i : ℕ) → i < length answer → Owes B M o l (without i 1 answer) debt → ⊥

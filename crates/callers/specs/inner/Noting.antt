@@ -1,0 +1,54 @@
+-- What is noted of a run as its entries come.
+use Rattle.std.specs.Prelude.{ℕ, ◌≡◌, ◌^◌, ◌<◌, ◌==◌, Bool, false, if◌then◌else◌, List, [], slice_index, Option, None, Some}
+use Rattle.std.specs.Option.{option_or}
+use Rattle.hart.specs.State.{HartState}
+use Rattle.step_machine.specs.declared.events.Entry.{Entry}
+use Rattle.step_machine.specs.declared.events.Event.{Event}
+use Rattle.step_machine.specs.declared.events.Outcome.{Outcome}
+use Rattle.step_machine.specs.History.{OpeningValue, History}
+use Rattle.step_machine.specs.Entries.{hart_of}
+use Rattle.step_machine.specs.Runs.{Happens}
+use Rattle.spsc_queue.specs.Calls.{SpscQueue, is_in_call_after, is_sender_in_call, is_receiver_in_call}
+use Rattle.callers.specs.Queues.{spsc_of}
+use Rattle.callers.specs.Debts.{first_debt, idle_debt}
+use Rattle.callers.specs.declared.queue.Located.{Located}
+use Rattle.callers.specs.declared.debts.Debt.{Debt}
+use Rattle.callers.specs.declared.judging.CallState.{CallState}
+use Rattle.callers.specs.declared.judging.Notes.{Notes}
+
+-- what a call depends on in this state of a hart
+pub record IsCallState (s : HartState) (c : CallState) : Type 0 where
+  pub pc : s.pc ≡ c.pc
+  pub back : slice_index s.registers 1 ≡ c.back
+  pub block : slice_index s.registers 10 ≡ c.block
+  pub bytes : slice_index s.registers 12 ≡ c.bytes
+  pub back_is_word : slice_index s.registers 1 < 2 ^ 32
+  pub word : slice_index s.registers 11 < 2 ^ 32
+
+-- what is noted after these entries: the first debt, if there is one, and whether each party is in a call
+pub record AreCallNotes (M : ℕ) (o : OpeningValue) (q : SpscQueue) (es : List Entry) (notes : Notes) : Type 0 where
+  pub found : notes.found ≡ first_debt M o q es
+  pub sending : notes.sending ≡ is_sender_in_call M o q [] es
+  pub receiving : notes.receiving ≡ is_receiver_in_call M o q [] es
+
+-- whether a hart is in its call, by what is noted
+abbrev pub noted_call : SpscQueue → Notes → (h : ℕ) → Bool
+noted_call q notes h = if h == q.sender then notes.sending else (if h == q.receiver then notes.receiving else false)
+
+-- what is owed first with an entry more, by which its hart goes from state s to state z
+abbrev pub found_by : SpscQueue → Notes → Entry → (s z : HartState) → Option Debt
+found_by q notes e s z = option_or notes.found (if noted_call q notes (hart_of e) then None else idle_debt q e (Some s) (Some z))
+
+-- what is noted then
+abbrev pub notes_by : SpscQueue → Notes → Entry → (s z : HartState) → Notes
+notes_by q notes e s z = record {
+  found = found_by q notes e s z;
+  sending = if hart_of e == q.sender then is_in_call_after q.send_line q.block notes.sending s z else notes.sending;
+  receiving = if hart_of e == q.receiver then is_in_call_after q.receive_line q.block notes.receiving s z else notes.receiving;
+}
+
+-- an event made a history of this one, and what was noted of this one became what is noted of the new one
+pub record IsEventNoted (B M : ℕ) (l : Located) (ev : Event) (t : History) (notes : Notes) (u : History) (new : Notes) : Type 0 where
+  pub outcome : Outcome
+  pub happens : Happens B M t ev outcome u
+  pub noted : AreCallNotes M t.opening (spsc_of l) t.entries notes → AreCallNotes M t.opening (spsc_of l) u.entries new

@@ -1,0 +1,316 @@
+//! One run, judged as its entries come.
+
+ghost use Rattle.std.specs.Prelude.{◌≡◌, ◌<◌, ◌==◌, ◌+◌, ◌*◌, ◌||◌, if◌then◌else◌, Some, IfOk, OnOk, length};
+ghost use Rattle.memory.specs.Writes.{write};
+ghost use Rattle.hart.specs.State.{HartState};
+ghost use Rattle.step_machine.specs.declared.events.Event.TheVariants.{Act};
+ghost use Rattle.step_machine.specs.Access.{access_of};
+ghost use Rattle.step_machine.specs.Paths.{state_of};
+ghost use Rattle.step_machine.specs.Runs.{Run};
+ghost use Rattle.spsc_queue.specs.Calls.{the_sender, the_receiver, buffer, enters, is_in_call_after};
+ghost use Rattle.callers.specs.Queues.{block_of, spsc_of};
+ghost use Rattle.callers.specs.Debts.{first_debt, idle_debt, met_by, party_debt, pc_in, written_at, arguments_debt, entering_debt};
+ghost use Rattle.callers.specs.inner.Noting.{IsCallState, IsEventNoted, found_by, notes_by, noted_call};
+
+use crate::debts::Debt;
+use crate::queue::Located;
+use std::alloc::AllocError;
+use step_machine::{Entry, Event, Machine, Outcome};
+
+/// Of a hart's state what its calls depend on: where it goes on, and its registers ra, a0 and a2.
+#[derive(Clone, Copy)]
+pub struct CallState {
+    pub pc: u32,
+    pub back: u32,
+    pub block: u32,
+    pub bytes: u32,
+}
+
+/// What is noted of a run: its first debt, if there is one, and whether each party is in a call.
+#[derive(Clone, Copy)]
+pub struct Notes {
+    pub found: Option<Debt>,
+    pub sending: bool,
+    pub receiving: bool,
+}
+
+/// What calls depend on in the hart's state.
+fn call_state<const B: usize, const M: usize>(machine: &Machine<B, M>, hart: u32) -> CallState
+    requires { hart < length machine.now.history.opening.harts }
+    ensures { (s : HartState) × (state_of M machine.now.history hart ≡ Some s) × IsCallState s result }
+{
+    // a1 is read to know that it holds a word, which a caller owes
+    let _word = machine.register(hart, 11);
+    CallState {
+        pc: machine.pc(hart),
+        back: machine.register(hart, 1),
+        block: machine.register(hart, 10),
+        bytes: machine.register(hart, 12),
+    }
+}
+
+/// The address of a write of `width` bytes, if it meets the block.
+fn met_by(located: Located, address: u32, width: u32) -> Option<u32>
+    ensures { result ≡ met_by (buffer (spsc_of located)) (write address width 0) }
+{
+    let first = u64::from(located.queue.base);
+    let end = first + 128 + 4 * u64::from(located.queue.slots);
+    let after = u64::from(address) + u64::from(width);
+    if u64::from(address) < end && first < after {
+        Some(address)
+    } else {
+        None
+    }
+}
+
+/// Where an entry writes that writes to the block.
+fn written_at(located: Located, entry: Entry) -> Option<u32>
+    ensures { result ≡ written_at (buffer (spsc_of located)) (access_of entry) }
+{
+    match entry {
+        Entry::Store { addr, width, .. } => met_by(located, addr, width),
+        Entry::Amo { addr, .. } => met_by(located, addr, 4),
+        _ => None,
+    }
+}
+
+/// Whether a hart that stands so enters the function at this line for the block.
+fn enters(located: Located, line: u32, at: CallState) -> bool
+    ensures { (s : HartState) → IsCallState s at → result ≡ enters line (block_of located.queue) s }
+{
+    u64::from(at.pc) == 4 * u64::from(line) && at.block == located.queue.base
+}
+
+/// Whether the instruction at `pc` is one of the returns of the function at this line.
+fn returns_at(line: u32, pc: u32) -> bool
+    ensures { result ≡ (pc == 4 * (line + 10)) || (pc == 4 * (line + 12)) }
+{
+    let start = 4 * u64::from(line);
+    u64::from(pc) == start + 40 || u64::from(pc) == start + 48
+}
+
+/// Whether a hart is in a call of the function at this line after it went on from `pc`.
+fn is_in_call_after(located: Located, line: u32, calling: bool, pc: u32, after: CallState) -> bool
+    ensures { (s z : HartState) → s.pc ≡ pc → IsCallState z after
+        → result ≡ is_in_call_after line (block_of located.queue) calling s z }
+{
+    if calling && !returns_at(line, pc) {
+        true
+    } else {
+        enters(located, line, after)
+    }
+}
+
+/// What a hart owes that enters the function at this line so, be it the sender's or the receiver's.
+fn arguments_debt(located: Located, hart: u32, line: u32, at: CallState) -> Option<Debt>
+    ensures sender { (s : HartState) → IsCallState s at → result ≡ arguments_debt the_sender hart line (block_of located.queue) s }
+    ensures receiver { (s : HartState) → IsCallState s at → result ≡ arguments_debt the_receiver hart line (block_of located.queue) s }
+{
+    if u64::from(at.bytes) != 4 * u64::from(located.queue.slots) {
+        return Some(Debt::PassedBytes {
+            hart,
+            bytes: at.bytes,
+        });
+    }
+    let target = at.back / 2 * 2;
+    if u64::from(target) != 4 * u64::from(line) && target % 4 == 0 {
+        None
+    } else {
+        Some(Debt::PassedReturn {
+            hart,
+            back: at.back,
+        })
+    }
+}
+
+/// What it owes if it enters.
+fn entering_debt(located: Located, hart: u32, line: u32, at: CallState) -> Option<Debt>
+    ensures sender { (s : HartState) → IsCallState s at → result ≡ entering_debt the_sender hart line (block_of located.queue) (Some s) }
+    ensures receiver { (s : HartState) → IsCallState s at → result ≡ entering_debt the_receiver hart line (block_of located.queue) (Some s) }
+{
+    if enters(located, line, at) {
+        arguments_debt(located, hart, line, at)
+    } else {
+        None
+    }
+}
+
+/// What a hart owes that stands so, whichever party it is.
+fn party_debt(located: Located, hart: u32, at: CallState) -> Option<Debt>
+    ensures { (s : HartState) → IsCallState s at → result ≡ party_debt (spsc_of located) hart (Some s) }
+{
+    if hart == located.queue.sender {
+        entering_debt(located, hart, located.send_line, at)
+    } else if hart == located.queue.receiver {
+        entering_debt(located, hart, located.receive_line, at)
+    } else {
+        None
+    }
+}
+
+/// What a hart owes by an entry of its own, where it is in no call: it was at `pc`, and stands so after it.
+fn idle_debt(located: Located, pc: u32, after: CallState, entry: Entry) -> Option<Debt>
+    ensures { (s z : HartState) → s.pc ≡ pc → IsCallState z after → result ≡ idle_debt (spsc_of located) entry (Some s) (Some z) }
+{
+    let hart = entry.hart();
+    match written_at(located, entry) {
+        Some(address) => Some(Debt::Wrote { hart, pc, address }),
+        None => party_debt(located, hart, after),
+    }
+}
+
+/// Whether the hart is in a call, by what is noted.
+fn is_in_its_call(located: Located, notes: Notes, hart: u32) -> bool
+    ensures { result ≡ noted_call (spsc_of located) notes hart }
+{
+    if hart == located.queue.sender {
+        notes.sending
+    } else if hart == located.queue.receiver {
+        notes.receiving
+    } else {
+        false
+    }
+}
+
+/// What is owed first, with an entry by which a hart went on from `pc`.
+fn found_after(
+    located: Located,
+    notes: Notes,
+    pc: u32,
+    after: CallState,
+    entry: Entry,
+) -> Option<Debt>
+    ensures { (s z : HartState) → s.pc ≡ pc → IsCallState z after → result ≡ found_by (spsc_of located) notes entry s z }
+{
+    if notes.found.is_some() {
+        return notes.found;
+    }
+    if is_in_its_call(located, notes, entry.hart()) {
+        None
+    } else {
+        idle_debt(located, pc, after, entry)
+    }
+}
+
+/// Whether a hart that may be this party is in a call, after it went on from `pc`.
+fn party_after(
+    located: Located,
+    is_party: bool,
+    line: u32,
+    calling: bool,
+    pc: u32,
+    after: CallState,
+) -> bool
+    ensures { (s z : HartState) → s.pc ≡ pc → IsCallState z after
+        → result ≡ (if is_party then is_in_call_after line (block_of located.queue) calling s z else calling) }
+{
+    if is_party {
+        is_in_call_after(located, line, calling, pc, after)
+    } else {
+        calling
+    }
+}
+
+/// Takes in what a hart did by an instruction: it went on from `pc`, and stands so after it.
+fn note_entry(located: Located, notes: Notes, pc: u32, after: CallState, entry: Entry) -> Notes
+    ensures { (s z : HartState) → s.pc ≡ pc → IsCallState z after → result ≡ notes_by (spsc_of located) notes entry s z }
+{
+    let hart = entry.hart();
+    let Located {
+        queue,
+        send_line,
+        receive_line,
+    } = located;
+    let Notes {
+        sending,
+        receiving,
+        ..
+    } = notes;
+    Notes {
+        found: found_after(located, notes, pc, after, entry),
+        sending: party_after(located, hart == queue.sender, send_line, sending, pc, after),
+        receiving: party_after(
+            located,
+            hart == queue.receiver,
+            receive_line,
+            receiving,
+            pc,
+            after,
+        ),
+    }
+}
+
+/// Where the hart goes on, and 0 if there is no such hart.
+fn pc_of<const B: usize, const M: usize>(machine: &Machine<B, M>, hart: u32) -> u32
+    ensures { result ≡ pc_in (state_of M machine.now.history hart) }
+{
+    if hart < machine.harts() {
+        machine.pc(hart)
+    } else {
+        0
+    }
+}
+
+/// Lets a hart act, and takes in what it did.
+fn note_act<const B: usize, const M: usize>(
+    located: Located,
+    machine: &mut Machine<B, M>,
+    notes: Notes,
+    hart: u32,
+) -> Result<Notes, AllocError>
+    ensures noted { IfOk result (λ new. IsEventNoted B M located (Act hart) machine.old.history notes machine.new.history new) }
+    ensures opening { machine.new.history.opening ≡ machine.old.history.opening }
+{
+    let pc = pc_of(machine, hart);
+    match machine.step(Event::Act(hart))? {
+        Outcome::Did(entry) => {
+            let after = call_state(machine, hart);
+            Ok(note_entry(located, notes, pc, after, entry))
+        }
+        Outcome::Waited => Ok(notes),
+        Outcome::NothingToLand => Ok(notes),
+        Outcome::Over => Ok(notes),
+        Outcome::NoHart => Ok(notes),
+    }
+}
+
+/// Lets an event happen, and takes in what it did.
+fn note_event<const B: usize, const M: usize>(
+    located: Located,
+    machine: &mut Machine<B, M>,
+    notes: Notes,
+    event: Event,
+) -> Result<Notes, AllocError>
+    ensures noted { IfOk result (λ new. IsEventNoted B M located event machine.old.history notes machine.new.history new) }
+    ensures opening { machine.new.history.opening ≡ machine.old.history.opening }
+{
+    match event {
+        Event::Act(hart) => note_act(located, machine, notes, hart),
+        Event::Land(_) => {
+            machine.step(event)?;
+            Ok(notes)
+        }
+    }
+}
+
+/// What the run of these events owes first, if it owes something. The machine ends at its end, whatever it did before.
+pub(crate) fn judge<const B: usize, const M: usize>(
+    located: Located,
+    machine: &mut Machine<B, M>,
+    events: &[Event],
+) -> Result<Option<Debt>, AllocError>
+    ensures run { OnOk result (Run B M machine.old.history.opening events.now machine.new.history) }
+    ensures debt { IfOk result (λ found. found ≡ first_debt M machine.old.history.opening (spsc_of located) machine.new.history.entries) }
+    ensures opening { machine.new.history.opening ≡ machine.old.history.opening }
+{
+    machine.restart();
+    let mut notes = Notes {
+        found: None,
+        sending: false,
+        receiving: false,
+    };
+    for event in events {
+        notes = note_event(located, machine, notes, *event)?;
+    }
+    Ok(notes.found)
+}

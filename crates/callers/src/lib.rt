@@ -1,0 +1,23 @@
+//! Runs of code that calls the functions of a queue of one sender and one receiver (`spsc_queue`), by drawn schedules,
+//! and what its callers owe.
+//!
+//! The contract: [`told`] states what it answers of the runs that the generator's words draw (`specs/Answers.antt`): that
+//! the queue's theorem holds of each, or the first debt (`specs/Debts.antt`) with a short schedule of a run that has it.
+//! This crate judges nothing that callers receive, and claims nothing of other runs.
+
+#![tactic(auto)]
+
+pub mod debts;
+pub mod judging;
+pub mod laws;
+mod locating;
+pub mod queue;
+pub mod runs;
+mod shortening;
+pub mod telling;
+mod wording;
+
+pub use debts::Debt;
+pub use laws::laws_of_debts;
+pub use queue::Queue;
+pub use telling::told;

@@ -1,0 +1,79 @@
+//! The texts of what is told.
+
+ghost use Rattle.std.specs.Prelude.{◌≡◌, ◌++◌, IfOk, OnOk};
+ghost use Rattle.std.specs.String.{string_bytes};
+ghost use Rattle.recorder.specs.Writing.{canon};
+ghost use Rattle.callers.specs.Answers.{debt_text, debt_line, kept_text};
+
+use crate::debts::Debt;
+use recorder::{push_tokens, write_schedule};
+use std::alloc::{AllocError, Global};
+use step_machine::Event;
+
+fn push_debt(out: &mut String, debt: Debt) -> Result<(), AllocError>
+    ensures { OnOk result (string_bytes out.new ≡ string_bytes out.old ++ debt_text debt) }
+{
+    match debt {
+        Debt::NoBlock => out.push_str(
+            "the block isn't aligned to 4 bytes, has no slot, or ends past the memory",
+        ),
+        Debt::OneParty { hart } => write!(out, "hart {hart} both sends and receives"),
+        Debt::NoSend { hart } => write!(out, "hart {hart} has no try_send in its code"),
+        Debt::NoReceive { hart } => write!(out, "hart {hart} has no try_receive in its code"),
+        Debt::NotEmpty { address, word } => {
+            write!(out, "the index at {address} opens as {word} and not as 0")
+        }
+        Debt::Wrote { hart, pc, address } => write!(
+            out,
+            "hart {hart} wrote to the block at {address} outside of a call, at pc {pc}"
+        ),
+        Debt::PassedBytes { hart, bytes } => write!(
+            out,
+            "hart {hart} called with a2 = {bytes}, not the bytes of the slots"
+        ),
+        Debt::PassedReturn { hart, back } => {
+            write!(
+                out,
+                "hart {hart} called with ra = {back}, no place to return to"
+            )
+        }
+    }
+}
+
+fn push_debt_line(out: &mut String, debt: Debt) -> Result<(), AllocError>
+    ensures { OnOk result (string_bytes out.new ≡ string_bytes out.old ++ debt_line debt) }
+{
+    push_debt(out, debt)?;
+    out.push_str("\n")
+}
+
+/// The schedule of these events, however many they are.
+fn schedule_text(alloc: Global, events: &[Event]) -> Result<String, AllocError>
+    ensures { IfOk result (λ text. string_bytes text ≡ canon events.now) }
+{
+    // a schedule of no events is its head line
+    let mut text = write_schedule(alloc, &[])?;
+    if !events.is_empty() {
+        push_tokens(&mut text, events)?;
+        text.push_str("\n")?;
+    }
+    Ok(text)
+}
+
+/// The text of these events as a schedule, and of what their run owes.
+pub(crate) fn owing_text(alloc: Global, events: &[Event], debt: Debt) -> Result<String, AllocError>
+    ensures { IfOk result (λ text. string_bytes text ≡ canon events.now ++ debt_line debt) }
+{
+    let mut text = schedule_text(alloc, events)?;
+    push_debt_line(&mut text, debt)?;
+    Ok(text)
+}
+
+/// The text of this number of runs, all of which keep what callers owe.
+pub(crate) fn kept_text(alloc: Global, runs: u32) -> Result<String, AllocError>
+    ensures { IfOk result (λ text. string_bytes text ≡ kept_text runs) }
+{
+    let mut out = String::new(alloc);
+    writeln!(out, "kept {runs} runs")?;
+    Ok(out)
+}
