@@ -67,7 +67,8 @@ def assembled(path, compiler):
     compiler's word."""
     source, compiler = c_source.read(text_of(path), path.name), compilers.Compiler(compiler)
     with tempfile.TemporaryDirectory() as folder:
-        program = c_tests.compiled(source, c_tests.results_of(source), compiler, [], [path.parent], folder)
+        program = c_tests.compiled(source, c_tests.results_of(source), compiler, [],
+                                   [path.parent, c_command.QUEUES], c_command.FUNCTIONS, folder)
         functions, raw = objects.functions_of(program), raw_words(program)
     for instruction in (each for code in functions.values() for each in code):
         if instruction.name not in (*columns.JUMPS, "jalr"):

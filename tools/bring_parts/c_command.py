@@ -9,6 +9,9 @@ from bring_parts import ROOT, Refused, c_source, c_tests, columns, compilers, te
 
 # the mappings, each of which includes this one at its end
 MAPPINGS, BASE = ROOT / "examples/mappings", "mapping.h"
+# the folder of queue.h, and the functions that it declares
+QUEUES = ROOT / "examples/bare-metal"
+FUNCTIONS = QUEUES / "functions.S"
 LONGEST = 44
 
 
@@ -61,8 +64,8 @@ def made(file, way):
     told = [f"tools/from-c {shlex.quote(Path(file).name)} {way.words()}", compiler.version(),
             " ".join([*compiler.flags, *way.flags])]
     # a mapping of one's own finds what it includes
-    folders = [Path(file).resolve().parent, *[MAPPINGS] * bool(way.mapping)]
-    return c_tests.litmus_text(source, compiler, flags, folders, way.fences, note, told)
+    folders = [Path(file).resolve().parent, *[MAPPINGS] * bool(way.mapping), QUEUES]
+    return c_tests.litmus_text(source, compiler, flags, folders, FUNCTIONS, way.fences, note, told)
 
 
 def noted(source, lines):

@@ -6,7 +6,7 @@ import textwrap
 from collections import Counter
 from pathlib import Path
 
-from bring_parts import MOST, Refused, columns, fields, objects, texts
+from bring_parts import MOST, Refused, columns, fields, objects, queues, texts
 from bring_parts.compilers import HERE
 
 # where a local's last value is kept for the condition
@@ -93,19 +93,22 @@ def storage_of(source):
     return "".join(lines)
 
 
-def compiled(source, results, compiler, flags, folders, folder):
-    """The program that the compiler makes of a source."""
+def compiled(source, results, compiler, flags, folders, functions, folder):
+    """The program that the compiler makes of a source, with the functions of this assembly that it calls."""
     text, module = Path(folder, "c", source.file), Path(folder, "module")
     text.parent.mkdir()
     text.write_text(c_text(source, results))
     compiler.compile(text, module, flags, folders)
-    modules, needed = [module], objects.missing(module)
-    if needed and set(needed) <= SUPPORT:
+    modules, needed, given = [module], objects.missing(module), queues.names_in(functions)
+    if strange := set(needed) - SUPPORT - given:
+        raise Refused("; ".join(undefined(name, place) for name, place in needed.items() if name in strange))
+    if SUPPORT & set(needed):
         modules.append(Path(folder, "support"))
         # or the compiler makes a call of memcpy of memcpy's own loop
-        compiler.compile(HERE / "support.c", modules[1], ["-fno-builtin", "-ffunction-sections"], [])
-    elif needed:
-        raise Refused("; ".join(undefined(name, place) for name, place in needed.items() if name not in SUPPORT))
+        compiler.compile(HERE / "support.c", modules[-1], ["-fno-builtin", "-ffunction-sections"], [])
+    if given & set(needed):
+        modules.append(Path(folder, "functions"))
+        compiler.assemble(functions, modules[-1])
     return objects.linked(modules, folder)
 
 
@@ -237,19 +240,21 @@ def comment_of(lines, results):
     return "(* " + "\n   ".join(parts) + " *)"
 
 
-def litmus_text(source, compiler, flags, folders, fences, note, told):
-    """The litmus text of a source. `note()` gives what writes the comments beside a hart's instructions, if there are
-    to be any; `told` are the lines that say how the text was made."""
+def litmus_text(source, compiler, flags, folders, assembly, fences, note, told):
+    """The litmus text of a source, linked with the functions of this assembly that it calls. `note()` gives what writes the
+    comments beside a hart's instructions, if there are to be any; `told` are the lines that say how the text was made."""
     results = results_of(source)
     with tempfile.TemporaryDirectory() as folder:
-        program = compiled(source, results, compiler, flags, folders, folder)
-        words = Words(objects.data_of(program, folder), objects.symbols(program), fields.types_of(program).parts_of)
+        program = compiled(source, results, compiler, flags, folders, assembly, folder)
+        symbols, parts_of = objects.symbols(program), fields.types_of(program).parts_of
+        words = Words(objects.data_of(program, folder), symbols, parts_of)
         functions = objects.functions_of(program)
     words.open(source.words)
     made = [columns.column(hart, functions, fences, note and note()) for hart in range(len(source.functions))]
     openings = [opening(hart, source, column, words) for hart, column in enumerate(made)]
     if len(words.names) > LOCATIONS:
         raise Refused(f"{len(words.names)} words of data and stacks: ztso has names for {LOCATIONS}")
+    told = [*told, *queues.lines(symbols, parts_of, [columns.called(f"P{hart}", functions) for hart in range(len(made))])]
     init = ["{", *words.items(), *filter(None, openings), "}"]
     text = "\n".join([f"RISCV {source.name}", comment_of(told, results), *init, *table(made),
                       condition(source, results, words)]) + "\n"

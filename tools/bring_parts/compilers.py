@@ -43,6 +43,11 @@ class Compiler:
         words = [*self.words, *self.flags, *flags, *include, "-c", "-o", module, "-x", "c", source]
         output(words, {"TMPDIR": str(Path(module).parent)})
 
+    @staticmethod
+    def assemble(source, module):
+        """Assembles a file of RV32I."""
+        output([binutil("as"), "-march=rv32i", "-mabi=ilp32", "-g", "-o", module, source])
+
 
 def binutil(name):
     """The command of binutils with that name."""
