@@ -8,7 +8,13 @@
 #![tactic(auto)]
 
 mod compact;
+pub mod keys;
 pub mod laws;
+pub mod layout;
 mod numbered;
+mod parts;
 
+pub use keys::{Draft, Keys};
+pub use layout::Layout;
 pub use numbered::States;
+pub use parts::Parts;

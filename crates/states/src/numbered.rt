@@ -1,11 +1,9 @@
 //! Numbers of states, in the order in which they are met first.
 
-ghost use Rattle.std.specs.Prelude.{◌≡◌, ◌+◌, ◌<◌, ◌≤◌, [], length, IfOk, OnOk, OnErr, All};
-ghost use Rattle.states.specs.inner.Compact.{bytes_of, words_in, IsCompact};
+ghost use Rattle.std.specs.Prelude.{◌≡◌, ◌+◌, ◌<◌, ◌≤◌, [], length, IfOk, OnOk, OnErr};
 ghost use Rattle.step_machine.specs.Positions.{packed, IsSoundMachine};
 
-use crate::compact::{push_bytes, push_words};
-use indexmap::IndexSet;
+use crate::parts::Parts;
 use std::alloc::{AllocError, Global};
 use std::marker::Model;
 use step_machine::MachineState;
@@ -14,38 +12,17 @@ use step_machine::MachineState;
 /// list of their positions, each packed as words.
 #[derive(Drop)]
 pub struct States<const B: usize, const M: usize> {
-    /// Each position's words as bytes.
-    positions: IndexSet<Vec<u8>>,
+    positions: Parts,
     /// Room for the words of one position.
     draft: Vec<u32>,
-    /// Room for the bytes of the position that is looked up.
-    bytes: Vec<u8>,
-    ghost compact: { All IsCompact positions.keys },
 }
 
 impl<const B: usize, const M: usize> Model for States<B, M> {
-    ghost use Rattle.std.specs.Prelude.{ℕ, List, map};
-    ghost use Rattle.states.specs.Numbered.{words_of};
+    ghost use Rattle.std.specs.Prelude.{ℕ, List};
 
     ghost Value = { List (List ℕ) };
 
-    ghost view = { λ s. map words_of s.positions.keys };
-}
-
-/// Writes the bytes of the machine's position, by its words, in the place of what `bytes` and `words` hold.
-fn position_into<const B: usize, const M: usize>(
-    bytes: &mut Vec<u8>,
-    words: &mut Vec<u32>,
-    machine: &MachineState<B, M>,
-) -> Result<(), AllocError>
-    ensures bytes { OnOk result (bytes.new.items ≡ bytes_of (packed machine.now)) }
-    ensures back { OnOk result (words_in (bytes_of (packed machine.now)) ≡ packed machine.now) }
-    ensures sound { OnOk result (IsSoundMachine B M machine.now) }
-{
-    words.clear();
-    machine.pack(words)?;
-    bytes.clear();
-    push_bytes(bytes, words)
+    ghost view = { λ s. s.positions };
 }
 
 impl<const B: usize, const M: usize> States<B, M> {
@@ -58,9 +35,8 @@ impl<const B: usize, const M: usize> States<B, M> {
         let mut draft = Vec::new(alloc);
         machine.pack(&mut draft)?;
         Ok(States {
-            positions: IndexSet::new(alloc),
+            positions: Parts::new(alloc),
             draft,
-            bytes: Vec::new(alloc),
         })
     }
 
@@ -80,14 +56,9 @@ impl<const B: usize, const M: usize> States<B, M> {
         ensures next { length self.new ≤ length self.old + 1 }
         ensures err { OnErr result (self.new ≡ self.old) }
     {
-        position_into(&mut self.bytes, &mut self.draft, machine)?;
-        if let Some(number) = self.positions.get_index_of(self.bytes.as_slice()) {
-            return Ok(number);
-        }
-        let number = self.positions.len();
-        let position = Vec::from_slice(*self.bytes.allocator(), &self.bytes)?;
-        self.positions.insert(position)?;
-        Ok(number)
+        self.draft.clear();
+        machine.pack(&mut self.draft)?;
+        self.positions.number(&self.draft)
     }
 
     /// Writes the words of the position of this number in the place of what `words` holds. A machine of the
@@ -96,10 +67,6 @@ impl<const B: usize, const M: usize> States<B, M> {
         requires { number < length self.now }
         ensures { OnOk result (words.new.items ≡ words_at self.now number) }
     {
-        words.clear();
-        if let Some(position) = self.positions.get_index(number) {
-            push_words(words, position)?;
-        }
-        Ok(())
+        self.positions.words_into(number, words)
     }
 }

@@ -27,3 +27,4 @@ pub mod Packing
 pub mod Nexts
 pub mod TakingLaws
 pub mod PositionLaws
+pub mod PartLaws

@@ -141,11 +141,14 @@ stores_fit B M (suc n) ps ws all =
     (store_fits B M ps w all (nat_lt (length ps) B) (nat_le w.width (4 - w.addr % 4)) (nat_lt (w.addr / 4) M) refl
     refl)
 
+pub buffer_fits : (B M : ℕ) (ws : List ℕ) → InMemory M (unpacked_buffer B M ws).0
+buffer_fits B M ws = stores_fit B M (slice_index ws 0) [] (drop 1 ws) (All-nil (HasAddress M))
+
 pub buffers_fit : (B M : ℕ) (bs : List (List Write)) (ws : List ℕ) → All (InMemory M) (unpacked_buffers B M bs ws).0
 buffers_fit B M [] ws = All-nil (InMemory M)
 buffers_fit B M (b ∷ bs) ws =
     All-cons (InMemory M) (unpacked_buffer B M ws).0 (unpacked_buffers B M bs (unpacked_buffer B M ws).1).0
-    (stores_fit B M (slice_index ws 0) [] (drop 1 ws) (All-nil (HasAddress M))) (buffers_fit B M bs (unpacked_buffer B M ws).1)
+    (buffer_fits B M ws) (buffers_fit B M bs (unpacked_buffer B M ws).1)
 
 pub buffers_count : (B M : ℕ) (bs : List (List Write)) (ws : List ℕ) → length (unpacked_buffers B M bs ws).0 ≡ length bs
 buffers_count B M [] ws = refl

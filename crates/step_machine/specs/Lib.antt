@@ -13,3 +13,4 @@ pub mod Ranges
 pub mod Standing
 pub mod Positions
 pub mod Snapshots
+pub mod Parts

@@ -24,6 +24,7 @@ use std::alloc::{AllocError, Global};
 use std::marker::Model;
 
 mod packing;
+mod parts;
 
 /// For how many steps a hart gets room that has none.
 const STEPS_AT_ONCE: usize = 64;

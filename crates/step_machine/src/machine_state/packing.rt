@@ -70,7 +70,7 @@ fn push_changed(out: &mut Vec<u32>, first: &[u32; 32], now: &[u32; 32]) -> Resul
 }
 
 /// Appends where a hart stands: pc, status, the words left of its inbox, and the registers that changed.
-fn push_hart(out: &mut Vec<u32>, hart: &Hart) -> Result<(), AllocError>
+pub(super) fn push_hart(out: &mut Vec<u32>, hart: &Hart) -> Result<(), AllocError>
     ensures words { OnOk result (out.new.items ≡ out.old.items ++ packed_hart hart.now) }
     ensures sound { OnOk result (IsSoundHart hart.now) }
 {
@@ -116,7 +116,7 @@ fn take_changes<'a>(registers: &mut [u32; 32], count: u32, words: &'a [u32]) -> 
 }
 
 /// Puts a hart where the words say, and returns those after its own.
-fn take_hart<'a>(hart: &mut Hart, words: &'a [u32]) -> &'a [u32]
+pub(super) fn take_hart<'a>(hart: &mut Hart, words: &'a [u32]) -> &'a [u32]
     ensures hart { hart.new ≡ (unpacked_hart hart.old words.now).0 }
     ensures own { IsOfItsOpening hart.new }
     ensures rest { result.now ≡ (unpacked_hart hart.old words.now).1 }

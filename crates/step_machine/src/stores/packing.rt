@@ -24,7 +24,7 @@ fn push_stores(out: &mut Vec<u32>, stores: &[Write]) -> Result<(), AllocError>
 }
 
 /// Appends how many stores are pending, and each of them.
-fn push_buffer<const B: usize>(
+pub(super) fn push_buffer<const B: usize>(
     out: &mut Vec<u32>,
     buffer: &StoreBuffer<B>,
 ) -> Result<(), AllocError>
@@ -80,7 +80,7 @@ fn take_stores<'a, const B: usize, const M: usize>(
     rest
 }
 
-fn take_buffer<'a, const B: usize, const M: usize>(
+pub(super) fn take_buffer<'a, const B: usize, const M: usize>(
     buffer: &mut StoreBuffer<B>,
     words: &'a [u32],
 ) -> &'a [u32]

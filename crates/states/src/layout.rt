@@ -1,0 +1,137 @@
+//! Fields of keys: where a key has the number of each part of a state.
+
+ghost use Rattle.std.specs.Prelude.{◌≡◌, ◌≤◌, ◌<◌, ◌+◌, ◌*◌, ◌/◌, ◌%◌, ◌^◌, ◌-◌, All, length};
+ghost use Rattle.std.specs.Prelude.{IfOk, IfSome, OnOk};
+
+use std::alloc::{AllocError, Global};
+
+/// The bits of one word of a key that hold one part's number.
+#[derive(Clone, Copy)]
+pub struct Field {
+    word: u32,
+    shift: u32,
+    width: u32,
+    ghost some: { 1 ≤ width },
+    ghost few: { width ≤ 32 },
+    ghost in_word: { shift + width ≤ 64 },
+}
+
+impl Field {
+    /// The number that it holds in this word.
+    #[inline(always)]
+    fn number_in(self, word: u64) -> u32 {
+        let above = 64 - self.width - self.shift;
+        let number = (word << above) >> (64 - self.width);
+        (number % 4_294_967_296) as u32
+    }
+
+    /// The word with another number in it. `old` is the one that it holds.
+    #[inline(always)]
+    fn with(self, word: u64, old: u32, new: u32) -> u64 {
+        let without = word.wrapping_sub(u64::from(old) << self.shift);
+        without.wrapping_add(u64::from(new) << self.shift)
+    }
+
+    /// Whether it can hold the numbers below this one.
+    fn holds(self, count: usize) -> bool {
+        count as u64 <= 1u64 << self.width
+    }
+}
+
+/// Where each part's number stands in a key of `N` words.
+#[derive(Drop)]
+pub struct Layout<const N: usize> {
+    fields: Vec<Field>,
+}
+
+/// How many bits hold the numbers below twice this one, 32 at most.
+fn width_for(count: usize) -> u32
+    ensures some { 1 ≤ result }
+    ensures few { result ≤ 32 }
+{
+    for width in 1..32 {
+        if count as u64 <= 1u64 << (width - 1) {
+            return width;
+        }
+    }
+    32
+}
+
+impl<const N: usize> Layout<N> {
+    /// Fields for as many numbers as these counts have, and as many again. It is `None` where `N` words have no room.
+    pub fn of(alloc: Global, counts: &[usize]) -> Result<Option<Self>, AllocError> {
+        let mut fields = Vec::with_capacity(alloc, counts.len())?;
+        let mut word = 0u32;
+        let mut shift = 0;
+        for count in counts {
+            let width = width_for(*count);
+            if shift + width > 64 {
+                word = word.saturating_add(1);
+                shift = 0;
+            }
+            if word as usize >= N {
+                return Ok(None);
+            }
+            fields.push(Field { word, shift, width })?;
+            shift += width;
+        }
+        Ok(Some(Layout { fields }))
+    }
+
+    /// Whether each field can hold the numbers below the count of its place.
+    pub fn holds(&self, counts: &[usize]) -> bool {
+        for (field, count) in self.fields.iter().zip(counts) {
+            if !field.holds(*count) {
+                return false;
+            }
+        }
+        true
+    }
+
+    /// The last place.
+    #[inline(always)]
+    pub fn last(&self) -> usize {
+        self.fields.len().wrapping_sub(1)
+    }
+
+    /// The number that a key has at a place, and 0 at a place beyond.
+    #[inline(always)]
+    pub fn number(&self, key: &[u64; N], place: usize) -> u32 {
+        match self.fields.get(place) {
+            Some(field) => match key.get(field.word as usize) {
+                Some(word) => field.number_in(*word),
+                None => 0,
+            },
+            None => 0,
+        }
+    }
+
+    /// Makes the number at a place this one, and leaves the others. It must be one that the field can hold.
+    #[inline(always)]
+    pub fn set(&self, key: &mut [u64; N], place: usize, number: u32) {
+        if let Some(field) = self.fields.get(place) {
+            if let Some(word) = key.get_mut(field.word as usize) {
+                *word = field.with(*word, field.number_in(*word), number);
+            }
+        }
+    }
+
+    /// Writes the number at each place in the place of what `row` holds.
+    #[inline(always)]
+    pub fn row_into(&self, key: &[u64; N], row: &mut Vec<u32>) -> Result<(), AllocError> {
+        row.clear();
+        for place in 0..self.fields.len() {
+            row.push(self.number(key, place))?;
+        }
+        Ok(())
+    }
+
+    /// The key that has the same numbers by another layout.
+    pub fn moved(&self, key: &[u64; N], other: &Layout<N>) -> [u64; N] {
+        let mut new = [0; N];
+        for place in 0..self.fields.len() {
+            other.set(&mut new, place, self.number(key, place));
+        }
+        new
+    }
+}
