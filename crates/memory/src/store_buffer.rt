@@ -113,6 +113,7 @@ impl<const B: usize> StoreBuffer<B> {
     pub fn save(&self) -> Self
         ensures { result ≡ self.now }
     {
+        // the proof knows from here on what holds of the fields (`invariant`)
         let _ = &self.stores;
         let mut saved = StoreBuffer::new();
         saved.restore(self);

@@ -1,10 +1,11 @@
 //! Channels over rings in memory: what a ring is ([`RingKind`]), how a channel opens ([`opening_at`]), and
 //! what it delivers ([`deliver_at`]).
 //!
-//! The contract: [`deliver_at`], which the program calls, answers exactly the reports of the run of a channel's
-//! events, at any place for its blocks that is accepted, and they are clean. [`deliver`] is its instance at the
-//! dense layout, as [`opening`] is that of [`opening_at`]. This crate never looks into a machine: it stands on its
-//! histories alone.
+//! The contract: [`deliver_at`] answers exactly the reports of the run of a channel's events, at any place for its blocks
+//! that is accepted, and they are clean. [`deliver`] is its instance at the dense layout, as [`opening`] is that of
+//! [`opening_at`]. The program opens by [`opening_at`], runs the events or the record itself, and takes the reports from
+//! [`reports_of`] and [`whole_reports_of`], which promise the same of them. This crate never looks into a machine: it
+//! stands on its histories.
 
 #![tactic(auto)]
 

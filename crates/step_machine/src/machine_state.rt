@@ -88,6 +88,7 @@ impl<const B: usize, const M: usize> MachineState<B, M> {
             Event::Act(hart) => self.act(hart),
             Event::Land(hart) => self.land(hart),
         };
+        // the proof knows from here on what holds of the fields (`invariant`)
         let _ = &self.harts;
         outcome
     }

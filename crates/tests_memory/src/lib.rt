@@ -1,7 +1,7 @@
 //! Tests of calls that are refused memory and then have it: a refused call answers that there is no memory, nothing
 //! that was there is lost, and the second call gives the answer of its row.
 //!
-//! By itself a run refuses only what no machine holds. `tools/hostile calls` runs the tests with each of their
+//! By itself a run refuses only what no machine holds. `tests/hostile calls` runs the tests with each of their
 //! allocations refused in turn. Without its tests this crate is empty: it promises nothing, and no crate uses it.
 
 #![tactic(auto)]

@@ -44,6 +44,7 @@ impl<const B: usize, const M: usize> MachineState<B, M> {
         ensures harts { length self.new.harts ≡ length self.old.harts }
     {
         self.stores.unpack_memory(words);
+        // the proof knows from here on what holds of the fields (`invariant`)
         let _ = &self.harts;
     }
 }
