@@ -2,3 +2,4 @@
 pub mod Arriving
 pub mod Levels
 pub mod Rows
+pub mod Surveys

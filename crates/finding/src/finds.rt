@@ -12,6 +12,7 @@ ghost use Rattle.litmus.specs.declared.litmus_test.TheConstants.{MAX_LOCATIONS};
 
 use crate::progress::SearchProgress;
 use crate::searching::{Searched, search};
+use crate::surveying::survey;
 use engine_support::fault::Fault;
 use engine_support::litmus_text::read_test;
 use engine_support::output::end_with;
@@ -103,6 +104,33 @@ fn answer<const B: usize, const M: usize, P: SearchProgress>(
     Ok((String::new(alloc), found_none(states, is_cut)))
 }
 
+/// What answers a test: nothing where a survey of all states says so, and else what a search hands over.
+fn answer_or_none<const B: usize, const M: usize, P: SearchProgress>(
+    alloc: Global,
+    test: &Test,
+    states: u32,
+    progress: &mut P,
+) -> Result<(String, Found), AllocError>
+    requires some_capacity { 1 ≤ B }
+    requires capacity { B ≤ 64 }
+    requires words { MAX_LOCATIONS ≤ M }
+    requires size { M ≤ 65536 }
+    requires some_states { 1 ≤ states }
+    ensures { IfOk result (λ answered. IsFound B M states test.now (string_bytes answered.0) answered.1) }
+{
+    match survey::<B, M, P>(alloc, test, states, progress) {
+        Ok(None) => answer::<B, M, P>(alloc, test, states, progress),
+        Ok(Some(found)) => {
+            progress.end();
+            Ok((String::new(alloc), found))
+        }
+        Err(error) => {
+            progress.end();
+            Err(error)
+        }
+    }
+}
+
 /// What a search of this many states came to that found nothing.
 fn found_none(states: u32, is_cut: bool) -> Found
     ensures { result ≡ (if is_cut then Cut states else AllSeen states) }
@@ -129,7 +157,7 @@ fn made<const B: usize, const M: usize, R: Read, P: SearchProgress>(
     ensures { FindsByUpToReads (IsFindAnswer B M states) text_and_value (R.remaining file.old) result }
 {
     let test = read_test(alloc, file)?;
-    let answered = answer::<B, M, P>(alloc, &test, states, progress)?;
+    let answered = answer_or_none::<B, M, P>(alloc, &test, states, progress)?;
     Ok(answered)
 }
 

@@ -10,9 +10,15 @@
 #![tactic(auto)]
 
 mod arrivals;
+mod changes;
 mod finds;
+mod moves;
 mod progress;
+mod reports;
 mod searching;
+mod steps;
+mod surveying;
+mod walk;
 
 pub use finds::{Found, find_engine};
 pub use progress::SearchProgress;

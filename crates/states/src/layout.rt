@@ -44,13 +44,14 @@ pub struct Layout<const N: usize> {
     fields: Vec<Field>,
 }
 
-/// How many bits hold the numbers below twice this one, 32 at most.
+/// How many bits hold the numbers below this one and a quarter more, 32 at most.
 fn width_for(count: usize) -> u32
     ensures some { 1 ≤ result }
     ensures few { result ≤ 32 }
 {
+    let wanted = count.saturating_add(count / 4) as u64;
     for width in 1..32 {
-        if count as u64 <= 1u64 << (width - 1) {
+        if wanted <= 1u64 << width {
             return width;
         }
     }
@@ -58,7 +59,7 @@ fn width_for(count: usize) -> u32
 }
 
 impl<const N: usize> Layout<N> {
-    /// Fields for as many numbers as these counts have, and as many again. It is `None` where `N` words have no room.
+    /// Fields for the numbers below these counts, and a quarter more. It is `None` where `N` words have no room.
     pub fn of(alloc: Global, counts: &[usize]) -> Result<Option<Self>, AllocError> {
         let mut fields = Vec::with_capacity(alloc, counts.len())?;
         let mut word = 0u32;
