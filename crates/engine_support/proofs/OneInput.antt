@@ -9,12 +9,11 @@ use Rattle.litmus.specs.LitmusTests.{LitmusTest}
 use Rattle.litmus_reader.specs.declared.faults.LitmusFault.{LitmusFault}
 use Rattle.litmus_reader.specs.Grammar.{IsTestOf}
 use Rattle.litmus_reader.specs.Reading.{Content, content_of, test_at}
-use Rattle.litmus_reader.proofs.TestGrammar.{one_test, read_exactly}
+use Rattle.litmus_reader.proofs.TestGrammar.{read_exactly}
 use Rattle.engine_support.specs.declared.fault.Refusal.{Refusal}
 use Rattle.engine_support.specs.Engines.{Output, Accepted, AreOneAnswer, decoded}
 use Rattle.engine_support.specs.Faults.{too_large, not_text}
-use Rattle.engine_support.specs.Tests.{ByTest, IsNoTest, refused_test, test_of}
-use Rattle.engine_support.specs.Tests as tests
+use Rattle.engine_support.specs.Tests.{IsNoTest, refused_test, test_of}
 use Rattle.engine_support.specs.Schedules.{schedule_of}
 use Rattle.engine_support.specs.Histories.{AnswersRun}
 use Rattle.engine_support.proofs.Judging.{accepted-decoded, decoded-text}
@@ -53,18 +52,6 @@ said-or_refusal input said r =
 
 pub one_refusal : {V : Type 0} (judgement : Result V Refusal) (r s : Refusal) → judgement ≡ Err r → judgement ≡ Err s → r ≡ s
 one_refusal judgement r s e f = cc
-
--- ---- what is answered by a test
-
-module _ {A : Type 0} (Alike : Result A Refusal → Result A Refusal → Type 0)
-    (refusals : (r s : Refusal) → r.number ≡ s.number → Alike (Err r) (Err s)) (IsAnswer : LitmusTest → Result A Refusal → Type 0)
-    (alike : (q : LitmusTest) (a b : Result A Refusal) → IsAnswer q a → IsAnswer q b → Alike a b) (input : List ℕ) where
-  pub alike_by_test : (a b : Result A Refusal) → ByTest IsAnswer input a → ByTest IsAnswer input b → Alike a b
-  alike_by_test a b (tests.ByTest.no_test r none) (tests.ByTest.no_test s other) = refusals r s (one_number input r s none other)
-  alike_by_test a b (tests.ByTest.no_test r none) (tests.ByTest.of_test q given is holds) = absurd (test_or_refusal input q r is none)
-  alike_by_test a b (tests.ByTest.of_test q given is holds) (tests.ByTest.no_test s none) = absurd (test_or_refusal input q s is none)
-  alike_by_test a b (tests.ByTest.of_test q given is holds) (tests.ByTest.of_test p other also tells) =
-      alike q a b holds (subst (λ (x : LitmusTest). IsAnswer x b) (one_test input p q also.value_is is.value_is) tells)
 
 -- ---- what is answered by a history
 

@@ -38,10 +38,10 @@ module _ (first second : Option (List ℕ)) {A X : Type 0} (IsAnswer : LitmusTes
     (result : Result X Fault) where
   pub made_of_read : (test : LitmusTest) (said : ScheduleValue) → BySchedule AreRead first second (Ok (test, said))
       → AnswersAs (IsAnswer test said) seen result → FindsUpToReads (BySchedule IsAnswer first second) seen result
-  made_of_read test said read =
+  made_of_read test said are_read =
       answered_by (IsAnswer test said) (BySchedule IsAnswer first second) seen result
       (λ answer holds. made_both first second AreRead IsAnswer (test, said) answer
-      (λ q given is. subst (λ (both : LitmusTest × ScheduleValue). IsAnswer both.0 both.1 answer) (ok_is Refusal (test, said) (q, given) is) holds) read)
+      (λ q given is. subst (λ (both : LitmusTest × ScheduleValue). IsAnswer both.0 both.1 answer) (ok_is Refusal (test, said) (q, given) is) holds) are_read)
 
   -- and so does a fault in reading them
   pub read_fault : (fault : Fault) → result ≡ Err fault → FindsUpToReads (BySchedule AreRead first second) test_and_said (Err fault)

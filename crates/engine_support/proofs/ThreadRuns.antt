@@ -17,7 +17,7 @@ use Rattle.engine_support.specs.declared.fault.Refusal.{Refusal}
 use Rattle.engine_support.specs.Faults.{AnswersAs}
 use Rattle.engine_support.specs.Engines.{Accepted, OfInput}
 use Rattle.engine_support.specs.Tests.{ByTest, tests}
-use Rattle.engine_support.specs.Tests.ByTest.{no_test, of_test}
+use Rattle.engine_support.specs.Inputs.After.{read, refused}
 use Rattle.engine_support.specs.inner.Making.{FindsByUpToReads}
 use Rattle.engine_support.specs.Inputs.{IsReadAs}
 use Rattle.engine_support.proofs.Endings.{answered_by, handed_on, weaker}
@@ -37,9 +37,9 @@ module _ {X A : Type 0} (IsAnswer : LitmusTest → Result A Refusal → Type 0) 
   pub by_test : (test : LitmusTest) (result : Result X Fault)
       → OfInput known (λ bytes. Accepted IsTestOf bytes test) → AnswersAs (IsAnswer test) view result
       → FindsByUpToReads (ByTest IsAnswer) view known result
-  by_test test result read =
+  by_test test result is_test =
       answered_by (IsAnswer test) (λ answer. OfInput known (λ bytes. ByTest IsAnswer bytes answer)) view result
-      (λ answer holds. weaker known _ (λ bytes. ByTest IsAnswer bytes answer) (λ bytes accepted. of_test test answer accepted holds) read)
+      (λ answer holds. weaker known _ (λ bytes. ByTest IsAnswer bytes answer) (λ bytes accepted. read test answer accepted holds) is_test)
 
   -- no test was read
   pub by_no_test : {Y : Type 0} (seen : Y → LitmusTest) (result : Result X Fault) (fault : Fault)
@@ -48,7 +48,7 @@ module _ {X A : Type 0} (IsAnswer : LitmusTest → Result A Refusal → Type 0) 
   by_no_test seen result fault =
       handed_on (λ (a : Result LitmusTest Refusal). OfInput known (λ bytes. IsReadAs tests bytes a))
       (λ answer. OfInput known (λ bytes. ByTest IsAnswer bytes answer)) seen view
-      result fault (λ r. weaker known _ _ (λ bytes bad. no_test r bad))
+      result fault (λ r. weaker known _ _ (λ bytes bad. refused r bad))
 
 pub joined : (all text more a b : List ℕ) → all ≡ text ++ more → text ≡ a → more ≡ b → all ≡ a ++ b
 joined all text more a b p q r = cc

@@ -1,5 +1,5 @@
 -- Inputs that are litmus texts.
-use Rattle.std.specs.Prelude.{ℕ, ◌≡◌, List, Result, Err}
+use Rattle.std.specs.Prelude.{ℕ, ◌≡◌, List, Some, Result, Err}
 use Rattle.texts.specs.Results.{map_err}
 use Rattle.litmus.specs.LitmusTests.{LitmusTest}
 use Rattle.litmus_reader.specs.declared.faults.LitmusFault.{LitmusFault}
@@ -8,8 +8,8 @@ use Rattle.litmus_reader.specs.Reading.{Content, test_at}
 use Rattle.litmus_reader.specs.Grammar.{IsTestOf}
 use Rattle.engine_support.specs.declared.fault.Refusal.{Refusal}
 use Rattle.engine_support.specs.Faults.{refused_at}
-use Rattle.engine_support.specs.Engines.{Accepted, decoded}
-use Rattle.engine_support.specs.Inputs.{Format}
+use Rattle.engine_support.specs.Engines.{decoded}
+use Rattle.engine_support.specs.Inputs.{After, Format}
 
 -- a fault of a litmus text, refused by its number at this line
 abbrev pub refused_test : {V : Type 0} → (line : ℕ) → Result V LitmusFault → Result V Refusal
@@ -34,7 +34,6 @@ tests = litmus_texts IsTestOf
 abbrev pub tests_with : {X : Type 0} → (Tells : List ℕ → X → Type 0) → Format (LitmusTest × X)
 tests_with Tells = litmus_texts (λ text read. IsTestOf text read.0 × Tells text read.1)
 
--- What answers an input that is to be a test.
-pub data ByTest {A : Type 0} (IsAnswer : LitmusTest → Result A Refusal → Type 0) (input : List ℕ) : Result A Refusal → Type 0 where
-  no_test : (refusal : Refusal) → IsNoTest input refusal → ByTest IsAnswer input (Err refusal)
-  of_test : (test : LitmusTest) (answer : Result A Refusal) → Accepted IsTestOf input test → IsAnswer test answer → ByTest IsAnswer input answer
+-- what answers an input that is to be a test, where this holds of the test and of the answer
+abbrev pub ByTest : {A : Type 0} → (LitmusTest → Result A Refusal → Type 0) → (input : List ℕ) → Result A Refusal → Type 0
+ByTest IsAnswer input = After tests (Some input) IsAnswer

@@ -17,6 +17,7 @@ use Rattle.ztso_engines.specs.StepsReading.{script_at}
 use Rattle.ztso_engines.specs.Steps.{IsStateText, IsStepsAnswer, steps_texts}
 use Rattle.ztso_engines.specs.Dis.{SaysCode, code_texts, dis_at, instr_line, IsDisAnswer}
 use Rattle.engine_support.specs.Histories.{AnswersEvents, AnswersRun}
+use Rattle.engine_support.specs.Tests.{tests}
 use Rattle.recorder.specs.Outcomes.{entry_line}
 use Rattle.ztso_engines.specs.Run.{IsJudged, IsRunAnswer}
 use Rattle.ztso_engines.specs.Move.{IsMoved, IsMoveAnswer}
@@ -30,8 +31,8 @@ use Rattle.litmus.proofs.VerdictLaws.{one_verdict}
 use Rattle.tries.proofs.OneText.{one_try}
 use Rattle.debugger.proofs.OneTranscript.{one_transcript_of}
 use Rattle.engine_support.proofs.RunLaws.{one_record}
-use Rattle.engine_support.proofs.InputLaws.{alike_by_schedule, is_one, one_after, one_made}
-use Rattle.engine_support.proofs.OneInput.{alike_by_test, equal_alike, one_of_history, same_output}
+use Rattle.engine_support.proofs.InputLaws.{alike_after, alike_by_schedule, is_one, one_after, one_litmus_text, one_made}
+use Rattle.engine_support.proofs.OneInput.{equal_alike, one_of_history, same_output}
 
 -- ---- `steps`, `dis` and `asm`
 
@@ -103,4 +104,6 @@ module _ (B M : ℕ) where
 
   pub one_tried : (stream : Stream) (runs size : ℕ) (file : List ℕ) (a b : Result (List ℕ × Bool) Refusal)
       → IsTryAnswer B M stream runs size file a → IsTryAnswer B M stream runs size file b → AreOneAnswer a b
-  one_tried stream runs size = alike_by_test AreOneAnswer (λ r s e. e) (IsTriedOf B M stream runs size) (one_tried_of stream runs size)
+  one_tried stream runs size file =
+      alike_after tests (λ r s. r.number ≡ s.number) one_litmus_text AreOneAnswer (λ r s e. e) file
+      (IsTriedOf B M stream runs size) (one_tried_of stream runs size)
