@@ -1,10 +1,14 @@
 -- The answer of many runs: that all keep what callers owe, or a debt and a short schedule of a run that has it.
-use Rattle.std.specs.Prelude.{ℕ, ◌≡◌, ◌<◌, ◌⊎◌, Bool, true, false, List, [], ◌∷◌, ◌++◌, codes}
+use Rattle.std.specs.Prelude.{ℕ, ◌≡◌, ◌<◌, ◌⊎◌, Bool, true, false, List, [], ◌∷◌, ◌++◌, Option, Result, Ok, Err, codes}
 use Rattle.std.specs.Fmt.{decimal}
 use Rattle.rand_core.specs.Stream.{Stream}
 use Rattle.step_machine.specs.declared.events.Event.{Event}
 use Rattle.step_machine.specs.History.{OpeningValue}
+use Rattle.litmus.specs.LitmusTests.{LitmusTest}
 use Rattle.recorder.specs.Writing.{canon}
+use Rattle.engine_support.specs.declared.fault.Refusal.{Refusal}
+use Rattle.engine_support.specs.Inputs.{After}
+use Rattle.engine_support.specs.Tests.{tests}
 use Rattle.callers.specs.Queues.{IsLocated}
 use Rattle.callers.specs.Debts.{IsOpeningDebt}
 use Rattle.callers.specs.Runs.{CallSource, call_source, call_schedule, AreKept, IsFirstOwing, IsMadeShort}
@@ -66,3 +70,12 @@ pub record IsToldLocated (B M : ℕ) (o : OpeningValue) (queue : Queue) (stream 
 abbrev pub IsCallersTold : (B M : ℕ) → OpeningValue → Queue → Stream → (runs size : ℕ) → List ℕ × Bool → Type 0
 IsCallersTold B M o queue stream runs size (text, true) = IsToldLocated B M o queue stream runs size (text, true)
 IsCallersTold B M o queue stream runs size (text, false) = IsToldAtOnce M o queue text ⊎ IsToldLocated B M o queue stream runs size (text, false)
+
+-- what answers a test; none is refused
+abbrev pub IsCallersGiven : (B M : ℕ) → Queue → Stream → (runs size : ℕ) → LitmusTest → Result (List ℕ × Bool) Refusal → Type 0
+IsCallersGiven B M queue stream runs size test (Ok answer) = IsCallersTold B M test.opening queue stream runs size answer
+IsCallersGiven B M queue stream runs size test (Err refusal) = ⊥
+
+-- what answers a litmus text
+abbrev pub IsCallersAnswer : (B M : ℕ) → Queue → Stream → (runs size : ℕ) → (file : Option (List ℕ)) → Result (List ℕ × Bool) Refusal → Type 0
+IsCallersAnswer B M queue stream runs size file = After tests file (IsCallersGiven B M queue stream runs size)

@@ -8,6 +8,7 @@
 #![tactic(auto)]
 
 pub mod debts;
+pub mod engine;
 pub mod judging;
 pub mod laws;
 mod locating;
@@ -18,6 +19,7 @@ pub mod telling;
 mod wording;
 
 pub use debts::Debt;
+pub use engine::callers_engine;
 pub use laws::laws_of_debts;
 pub use queue::Queue;
 pub use telling::told;

@@ -1,0 +1,81 @@
+//! An engine: a litmus text in, what is told of its callers out.
+
+ghost use Rattle.std.specs.Prelude.{◌≤◌};
+ghost use Rattle.litmus.specs.declared.litmus_test.TheConstants.{MAX_LOCATIONS};
+ghost use Rattle.engine_support.specs.Engines.{Ends};
+ghost use Rattle.engine_support.specs.Faults.{AnswersAs};
+ghost use Rattle.engine_support.specs.inner.Making.{FindsUpToReads, text_and_value};
+ghost use Rattle.callers.specs.Answers.{IsCallersAnswer, IsCallersGiven};
+
+use crate::queue::Queue;
+use crate::telling::told;
+use engine_support::fault::Fault;
+use engine_support::litmus_text::read_test;
+use engine_support::output::end_with;
+use litmus::Test;
+use rand_core::Rng;
+use std::alloc::Global;
+use std::io::{Read, Write};
+
+/// What is to be written for a test.
+fn answer<const B: usize, const M: usize, G: Rng>(
+    alloc: Global,
+    test: &Test,
+    queue: Queue,
+    generator: &mut G,
+    runs: u32,
+    size: u32,
+) -> Result<(String, bool), Fault>
+    requires some_capacity { 1 ≤ B }
+    requires capacity { B ≤ 64 }
+    requires words { MAX_LOCATIONS ≤ M }
+    requires size { M ≤ 65536 }
+    ensures { AnswersAs (IsCallersGiven B M queue (G.stream generator.old) runs size test.now) text_and_value result }
+{
+    Ok(told::<B, M, G>(alloc, test, queue, generator, runs, size)?)
+}
+
+/// What is to be written for the input that the reader gives.
+fn made<const B: usize, const M: usize, R: Read, G: Rng>(
+    alloc: Global,
+    file: &mut R,
+    queue: Queue,
+    generator: &mut G,
+    runs: u32,
+    size: u32,
+) -> Result<(String, bool), Fault>
+    requires some_capacity { 1 ≤ B }
+    requires capacity { B ≤ 64 }
+    requires words { MAX_LOCATIONS ≤ M }
+    requires size { M ≤ 65536 }
+    ensures { FindsUpToReads (IsCallersAnswer B M queue (G.stream generator.old) runs size (R.remaining file.old)) text_and_value result }
+{
+    let test = read_test(alloc, file)?;
+    answer::<B, M, G>(alloc, &test, queue, generator, runs, size)
+}
+
+/// Reads a litmus text to its end, and writes what [`told`] answers of its test. It answers whether every run keeps what
+/// callers owe.
+///
+/// The input is refused as `run` refuses it, and then nothing was written.
+pub fn callers_engine<const B: usize, const M: usize, R: Read, G: Rng, W: Write>(
+    alloc: Global,
+    file: &mut R,
+    queue: Queue,
+    generator: &mut G,
+    runs: u32,
+    size: u32,
+    writer: &mut W,
+) -> Result<bool, Fault>
+    requires some_capacity { 1 ≤ B }
+    requires capacity { B ≤ 64 }
+    requires words { MAX_LOCATIONS ≤ M }
+    requires size { M ≤ 65536 }
+    ensures { Ends (IsCallersAnswer B M queue (G.stream generator.old) runs size (R.remaining file.old))
+        result W.contents writer.old writer.new }
+{
+    end_with(
+        made::<B, M, R, G>(alloc, file, queue, generator, runs, size),
+        writer,
+    )
+}
