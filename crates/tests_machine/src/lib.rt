@@ -16,6 +16,8 @@ macro_rules! assert_same {
 #[cfg(test)]
 mod given;
 #[cfg(test)]
+mod of_callers;
+#[cfg(test)]
 mod of_jumping;
 #[cfg(test)]
 mod of_litmus;
