@@ -23,7 +23,7 @@ use Rattle.spsc_queue.specs.RingBuffers.{Kind, RingBuffer, next, overlaps}
 use Rattle.spsc_queue.specs.Protocol.{ProtocolState, next_by}
 use Rattle.spsc_queue.specs.Listings.{lines_of}
 use Rattle.spsc_queue.specs.Calls.{Block, IsBlock, Party, the_sender, the_receiver, listing_of, ring_of, is_in_call_after, completed_at}
-use Rattle.spsc_queue.specs.CallEffects.{completed_word, take_accesses}
+use Rattle.spsc_queue.specs.CallEffects.{IsPlainNeed, completed_word, take_accesses}
 use Rattle.spsc_queue.proofs.Lines.{Line, word-plus, at_line, add_line, return_line, loads, stores, goes_to, leaves_in}
 use Rattle.spsc_queue.proofs.Registers.{set-same, set-other, decoded, thirteen, code_line, code_room, next_line, line_on}
 use Rattle.spsc_queue.proofs.Courses.{At, number, Equipped, Course, went, left_on, left_set, frame_on, frame_set, more_frame, back_of, returned, free_5, free_7}
@@ -59,10 +59,11 @@ module _ (M n a b : ℕ) (p : Party) (K : Kind) (k : Block) (is : IsBlock M k) (
   abbrev pub x : List ℕ
   x = s.registers
 
-  by_line : {f : Bool} {ys : List ℕ} (m : Need) (after : ℕ → HartState) → Line s m after → Does p K r t (access_of (entry_of h m v))
+  by_line : {f : Bool} {ys : List ℕ} (m : Need) (after : ℕ → HartState) → Line s m after → IsPlainNeed m → Does p K r t (access_of (entry_of h m v))
       → CourseStands n p K k r f ys (went c (access_of (entry_of h m v))) (after v) (part p (next_by K r (role p) t (access_of (entry_of h m v))))
       → Moves n p K k r f ys c h s t v
-  by_line {f} {ys} m after line rule stands = record {
+  by_line {f} {ys} m after line plain rule stands = record {
+    plain = subst IsPlainNeed (sym line.wants) plain;
     rule = subst (λ q. Does p K r t (access_of (entry_of h q v))) (sym line.wants) rule;
     after = subst (λ q. CourseStands n p K k r f ys (went c (access_of (entry_of h q v))) (advanced s v)
         (part p (next_by K r (role p) t (access_of (entry_of h q v)))))
@@ -72,7 +73,7 @@ module _ (M n a b : ℕ) (p : Party) (K : Kind) (k : Block) (is : IsBlock M k) (
 
   inner : {f : Bool} {ys : List ℕ} (z : HartState) → Line s need.Inner (λ q. z) → CourseStands n p K k r f ys (went c nothing) z (part p t)
       → Moves n p K k r f ys c h s t v
-  inner {f} {ys} z line stands = by_line need.Inner (λ q. z) line tt
+  inner {f} {ys} z line stands = by_line need.Inner (λ q. z) line tt tt
       (subst (λ u. CourseStands n p K k r f ys (went c nothing) z (part p u)) (sym (inner-leaves K r (role p) t)) stands)
 
   -- a line that accesses nothing, a load and a store lead to a line
@@ -83,14 +84,14 @@ module _ (M n a b : ℕ) (p : Party) (K : Kind) (k : Block) (is : IsBlock M k) (
   pub loads_to : (line : At) (a : ℕ) (i : Reg) → Line s (loads a) (λ q. leaves_in s i q) → next_pc s.pc ≡ 4 * (n + number line)
       → Row n p K k r (went c (load a 4 v)) ws line (leaves_in s i v).registers (part p (next_by K r (role p) t (load a 4 v)))
       → Moves n p K k r true ws c h s t v
-  loads_to line a i does place row = by_line (loads a) (λ q. leaves_in s i q) does tt (record { line = line; place = place; row = row })
+  loads_to line a i does place row = by_line (loads a) (λ q. leaves_in s i q) does tt tt (record { line = line; place = place; row = row })
 
   pub stores_to : (line : At) (a w : ℕ) → Line s (stores a w) (λ q. goes_to s (next_pc s.pc)) → next_pc s.pc ≡ 4 * (n + number line)
       → IsStore p K r t (write a 4 w)
       → Row n p K k r (went c (store (write a 4 w))) ws line x (part p (next_by K r (role p) t (store (write a 4 w))))
       → Moves n p K k r true ws c h s t v
   stores_to line a w does place rule row =
-      by_line (stores a w) (λ q. goes_to s (next_pc s.pc)) does rule (record { line = line; place = place; row = row })
+      by_line (stores a w) (λ q. goes_to s (next_pc s.pc)) does tt rule (record { line = line; place = place; row = row })
 
   room : 4 * (n + 13) < 2 ^ 32
   room = omega (arith, code_room s.code n (listing_of K p) has.code, thirteen K p, has.code.small)

@@ -1,5 +1,5 @@
 -- The four functions: each line of a call, how a call begins, and which words a party's calls completed.
-use Rattle.std.proofs.Common.{ℕ, ◌+◌, ◌*◌, ◌≡◌, inl, inr, Bool, true, false, List, [], refl, ◌∙◌, arith}
+use Rattle.std.proofs.Common.{ℕ, ◌+◌, ◌*◌, ◌≤◌, ◌≡◌, inl, inr, Bool, true, false, List, [], refl, ◌∙◌, arith}
 use Rattle.hart.specs.State.{HartState}
 use Rattle.spsc_queue.specs.RingBuffers.{Kind, lamport, fastforward, RingBuffer}
 use Rattle.spsc_queue.specs.Protocol.{ProtocolState}
@@ -84,6 +84,51 @@ module _ (n : ℕ) (p : Party) (K : Kind) (k : Block) (r : RingBuffer) (c : Cour
       at p fastforward at_28 row = inr row.0.words
       at p fastforward at_2C row = inl (row.level, row.words)
       at p fastforward at_30 row = inl (row.0.level, row.0.words)
+
+  -- and that at most 10 entries were made
+  pub few : (line : At) (x : List ℕ) (t : Part) → Row n p K k r c ws line x t → c.count ≤ 10
+  few line x t row = at p K line row
+    where
+      at : (p : Party) (K : Kind) (line : At) → Row n p K k r c ws line x t → c.count ≤ 10
+      at the_sender lamport at_00 row = omega (arith, row.frame.left.count)
+      at the_sender lamport at_04 row = omega (arith, row.frame.left.count)
+      at the_sender lamport at_08 row = omega (arith, row.frame.left.count)
+      at the_sender lamport at_0C row = omega (arith, row.0.frame.left.count)
+      at the_sender lamport at_10 row = omega (arith, row.0.frame.left.count)
+      at the_sender lamport at_14 row = omega (arith, row.0.frame.left.count)
+      at the_sender lamport at_18 row = omega (arith, row.frame.left.count)
+      at the_sender lamport at_1C row = omega (arith, row.frame.left.count)
+      at the_sender lamport at_20 row = omega (arith, row.frame.left.count)
+      at the_sender lamport at_24 row = omega (arith, row.left.count)
+      at the_sender lamport at_28 row = omega (arith, row.0.left.count)
+      at the_sender lamport at_2C row = omega (arith, row.left.count)
+      at the_sender lamport at_30 row = omega (arith, row.0.left.count)
+      at the_receiver lamport at_00 row = omega (arith, row.frame.left.count)
+      at the_receiver lamport at_04 row = omega (arith, row.frame.left.count)
+      at the_receiver lamport at_08 row = omega (arith, row.frame.left.count)
+      at the_receiver lamport at_0C row = omega (arith, row.frame.left.count)
+      at the_receiver lamport at_10 row = omega (arith, row.0.frame.left.count)
+      at the_receiver lamport at_14 row = omega (arith, row.frame.left.count)
+      at the_receiver lamport at_18 row = omega (arith, row.frame.left.count)
+      at the_receiver lamport at_1C row = omega (arith, row.0.frame.left.count)
+      at the_receiver lamport at_20 row = omega (arith, row.frame.left.count)
+      at the_receiver lamport at_24 row = omega (arith, row.left.count)
+      at the_receiver lamport at_28 row = omega (arith, row.0.left.count)
+      at the_receiver lamport at_2C row = omega (arith, row.left.count)
+      at the_receiver lamport at_30 row = omega (arith, row.0.left.count)
+      at p fastforward at_00 row = omega (arith, row.frame.left.count)
+      at p fastforward at_04 row = omega (arith, row.frame.left.count)
+      at p fastforward at_08 row = omega (arith, row.0.frame.left.count)
+      at p fastforward at_0C row = omega (arith, row.0.frame.left.count)
+      at p fastforward at_10 row = omega (arith, row.frame.left.count)
+      at p fastforward at_14 row = omega (arith, row.frame.left.count)
+      at p fastforward at_18 row = omega (arith, row.0.frame.left.count)
+      at p fastforward at_1C row = omega (arith, row.frame.left.count)
+      at p fastforward at_20 row = omega (arith, row.frame.left.count)
+      at p fastforward at_24 row = omega (arith, row.left.count)
+      at p fastforward at_28 row = omega (arith, row.0.left.count)
+      at p fastforward at_2C row = omega (arith, row.left.count)
+      at p fastforward at_30 row = omega (arith, row.0.left.count)
 
 pub told_by : (n : ℕ) (p : Party) (K : Kind) (k : Block) (r : RingBuffer) (b : Bool) (ws : List ℕ) (s : HartState) (t : Part)
     → Stands n p K k r b ws s t → Told ws s t

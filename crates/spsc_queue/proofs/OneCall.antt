@@ -1,9 +1,10 @@
 -- One whole call: what it does, what it completes, and what it has found where it returns 0.
-use Rattle.std.proofs.Common.{ℕ, ◌+◌, ◌≡◌, ◌⊎◌, inl, inr, Bool, true, false, if◌then◌else◌, List, [], ◌∷◌, ◌++◌, length, Some, refl, sym, ◌∙◌, ap, subst, arith}
+use Rattle.std.proofs.Common.{ℕ, ◌+◌, ◌≤◌, ◌≡◌, ◌⊎◌, inl, inr, Bool, true, false, if◌then◌else◌, List, [], ◌∷◌, ◌++◌}
+use Rattle.std.proofs.Common.{length, Some, refl, sym, ◌∙◌, ap, subst, arith}
 use Rattle.std.proofs.Common.{append-nil, append_assoc}
 use Rattle.std.specs.Prelude.{slice_index}
 use Rattle.hart.specs.State.{HartState}
-use Rattle.hart.specs.Steps.{advanced}
+use Rattle.hart.specs.Steps.{need_of, advanced}
 use Rattle.step_machine.specs.declared.events.Entry.{Entry}
 use Rattle.step_machine.specs.History.{OpeningValue, history_of}
 use Rattle.memory.specs.Writes.{write}
@@ -12,19 +13,23 @@ use Rattle.step_machine.specs.Entries.{hart_of, is_own, own}
 use Rattle.step_machine.specs.Paths.{value_of, state_of}
 use Rattle.spsc_queue.specs.RingBuffers.{Kind, RingBuffer, next}
 use Rattle.spsc_queue.specs.Protocol.{ProtocolState, at_start, role_of, next_by, protocol_next, protocol_after, room_at, says_full, word_at, says_empty}
-use Rattle.spsc_queue.specs.Calls.{Block, SpscQueue, Party, the_sender, the_receiver, party_hart, party_line, listing_of, buffer, is_in_call_with}
+use Rattle.spsc_queue.specs.Calls.{Block, SpscQueue, Party, the_sender, the_receiver, party_hart, party_line}
+use Rattle.spsc_queue.specs.Calls.{listing_of, buffer, is_in_call, is_in_call_with, enters}
 use Rattle.spsc_queue.specs.Calls.{completed_by_entry, UsesAsSpscQueue}
-use Rattle.spsc_queue.specs.CallEffects.{IsWholeCall, IsSend, IsReceive, accesses, completed_word, take_accesses, FoundFull, FoundEmpty}
-use Rattle.spsc_queue.proofs.Runs.{protocol-append}
+use Rattle.spsc_queue.specs.CallEffects.{IsWholeCall, IsCallUnderWay, IsPlainNeed, GoesOn, IsSend, IsReceive, accesses}
+use Rattle.spsc_queue.specs.CallEffects.{completed_word, take_accesses, FoundFull, FoundEmpty}
+use Rattle.spsc_queue.specs.Laws.{FollowsSpscProtocol}
+use Rattle.spsc_queue.proofs.Runs.{known-of, protocol-append}
 use Rattle.spsc_queue.proofs.Courses.{at_00, Course}
-use Rattle.spsc_queue.proofs.Outline.{Part, part, role, Level, index_at, look_at, looked, says_no, Knows, Effect, Fresh, Row, Inside, Outside, CourseStands}
+use Rattle.spsc_queue.proofs.Outline.{Near, Part, part, role, Level, index_at, look_at, looked, says_no, Knows, Effect}
+use Rattle.spsc_queue.proofs.Outline.{Fresh, Row, Inside, Outside, CourseStands}
 use Rattle.spsc_queue.proofs.Outline.{Stands}
-use Rattle.spsc_queue.proofs.Parts.{first-load, load-words}
-use Rattle.spsc_queue.proofs.Functions.{is_fresh, begins}
-use Rattle.spsc_queue.proofs.OwnEntries.{own_parts, state_here, here_same, here_next}
+use Rattle.spsc_queue.proofs.Parts.{ring_is, near-of, first-load, load-words}
+use Rattle.spsc_queue.proofs.Functions.{moves_at, is_fresh, few, begins}
+use Rattle.spsc_queue.proofs.OwnEntries.{equipped, own_parts, state_here, here_same, here_next}
 use Rattle.spsc_queue.proofs.Completed.{is_in_call-last, completed-last, none_completed, same_call, entered}
 use Rattle.spsc_queue.proofs.Parties.{is_busy, words, has_of, which, other_hart, Mine, Others, whose, not_mine}
-use Rattle.spsc_queue.proofs.Calls.{Stand, stands-at, here, was_here, course_stands, completes}
+use Rattle.spsc_queue.proofs.Calls.{calls_follow, Stand, stands-at, here, was_here, course_stands, completes}
 use Rattle.spsc_queue.proofs.CallLaws.{finds_full, finds_empty}
 use Rattle.spsc_queue.proofs.Accesses.{First, first_access, off_silent, still, unmoved}
 use Rattle.spsc_queue.proofs.WholeCalls.{first_line, same_arguments, course, course_on, course_same, chose}
@@ -35,6 +40,26 @@ carry n p K k r {b} {b1} {ws} {ws1} {c} {c1} {s} {s1} {t} {t1} eb ew ec es et st
     subst (λ y. CourseStands n p K k r b1 ws1 c1 s1 y) et (subst (λ y. CourseStands n p K k r b1 ws1 c1 y t) es
     (subst (λ y. CourseStands n p K k r b1 ws1 y s t) ec (subst (λ y. CourseStands n p K k r b1 y c s t) ew
     (subst (λ y. CourseStands n p K k r y ws c s t) eb stands))))
+
+-- a call that began, and is in its course until the last of these entries
+pub record Begun (M : ℕ) (o : OpeningValue) (h n : ℕ) (k : Block) (before done call : List Entry) (s : HartState) : Type 0 where
+  pub entry : state_of M (history_of o (before ++ done)) h ≡ Some s
+  pub enters : enters n k s ≡ true
+  pub begun : is_in_call M o h n k before done ≡ true
+  pub within : (part : List Entry) (e : Entry) (rest : List Entry) → call ≡ part ++ e ∷ rest → is_in_call M o h n k before (done ++ part) ≡ true
+
+pub whole_begun : {M : ℕ} {o : OpeningValue} {h n : ℕ} {k : Block} {before done call : List Entry} {s z : HartState}
+    → IsWholeCall M o h n k before done call s z → Begun M o h n k before done call s
+whole_begun w = record { entry = w.entry; enters = w.enters; begun = w.begun; within = w.within }
+
+pub part_begun : {M : ℕ} {o : OpeningValue} {h n : ℕ} {k : Block} {before done part : List Entry} {s : HartState}
+    → IsCallUnderWay M o h n k before done part s → Begun M o h n k before done part s
+part_begun {M} {o} {h} {n} {k} {before} {done} {part} {s} w = record {
+  entry = w.entry;
+  enters = w.enters;
+  begun = subst (λ xs. is_in_call M o h n k before xs ≡ true) (append-nil done) (w.within [] part refl);
+  within = λ front e rest is. w.within front (e ∷ rest) is;
+}
 
 -- a call that returns 0 looked, and saw that there is no room, or no word
 record Looks (p : Party) (K : Kind) (r : RingBuffer) (all : List Access) : Type 0 where
@@ -65,7 +90,7 @@ looks_of the_receiver K r s z count did f none =
     }
 
 module _ (B M : ℕ) (o : OpeningValue) (q : SpscQueue) (before es : List Entry) (c : UsesAsSpscQueue B M o q before es) (done call rest : List Entry)
-    (is : es ≡ done ++ (call ++ rest)) (p : Party) (s z : HartState) (w : IsWholeCall M o (party_hart q p) (party_line q p) q.block before done call s z) where
+    (is : es ≡ done ++ (call ++ rest)) (p : Party) (s : HartState) (w : Begun M o (party_hart q p) (party_line q p) q.block before done call s) where
   abbrev h : ℕ
   h = party_hart q p
 
@@ -215,77 +240,115 @@ module _ (B M : ℕ) (o : OpeningValue) (q : SpscQueue) (before es : List Entry)
   at_end : So (done ++ call) call
   at_end = so_far call [] (sym (append-nil call))
 
-  end_state : state (done ++ call) ≡ z
-  end_state = let one : Some (state (done ++ call)) ≡ Some z = sym (was_here B M o q before es c.shares p (done ++ call)) ∙ w.return in cc
+  -- the same of a call under way: where it stands, and how many entries it has made
+  pub inside_at : is_in_call M o h n k before (done ++ call) ≡ true → Inside n p K k r (words_at (done ++ call)) (course h s call) (state (done ++ call))
+      (part p (protocol (done ++ call)))
+  inside_at busy = subst (λ b. CourseStands n p K k r b (words_at (done ++ call)) (course h s call) (state (done ++ call)) (part p (protocol (done ++ call))))
+      busy at_end.stands
 
-  pub effect_of : Effect p K r s z (length (own h call)) (accesses h call)
-  effect_of =
-      let outside : Outside p K r (words_at (done ++ call)) (course h s call) (state (done ++ call)) (part p (protocol (done ++ call))) =
-      subst (λ b. CourseStands n p K k r b (words_at (done ++ call)) (course h s call) (state (done ++ call)) (part p (protocol (done ++ call))))
-      w.over at_end.stands in
-      subst (λ y. Effect p K r s y (length (own h call)) (accesses h call)) end_state outside.effect
+  pub made_few : is_in_call M o h n k before (done ++ call) ≡ true → length (own h call) ≤ 10
+  made_few busy =
+      let inside = inside_at busy in
+      few n p K k r (course h s call) (words_at (done ++ call)) inside.line (state (done ++ call)).registers (part p (protocol (done ++ call))) inside.row
 
-  pub call_completes : words_at (done ++ call) ≡ words_at done ++ completed_word z
-  call_completes = at_end.over w.over ∙ ap (λ y. words_at done ++ completed_word y) end_state
+  module _ (z : HartState) (whole : IsWholeCall M o h n k before done call s z) where
+    end_state : state (done ++ call) ≡ z
+    end_state = let one : Some (state (done ++ call)) ≡ Some z = sym (was_here B M o q before es c.shares p (done ++ call)) ∙ whole.return in cc
 
-  -- where a call that returns 0 looked: the entry, what it loaded there, and the party's part of the protocol's state before it
-  record Found : Type 0 where
-    looks : Looks p K r (accesses h call)
-    part_done : List Entry
-    entry : Entry
-    more : List Entry
-    cut : call ≡ part_done ++ entry ∷ more
-    mine : is_own h entry ≡ true
-    loads : access_of entry ≡ load (look_at p K r looks.index) 4 looks.seen
-    knows : Knows p looks.index (part p (protocol (done ++ part_done)))
-    words : (part p (protocol (done ++ part_done))).words ≡ words_at (done ++ part_done)
+    pub effect_of : Effect p K r s z (length (own h call)) (accesses h call)
+    effect_of =
+        let outside : Outside p K r (words_at (done ++ call)) (course h s call) (state (done ++ call)) (part p (protocol (done ++ call))) =
+        subst (λ b. CourseStands n p K k r b (words_at (done ++ call)) (course h s call) (state (done ++ call)) (part p (protocol (done ++ call))))
+        whole.over at_end.stands in
+        subst (λ y. Effect p K r s y (length (own h call)) (accesses h call)) end_state outside.effect
 
-  found : slice_index z.registers 10 ≡ 0 → Found
-  found none =
-      let looks : Looks p K r (accesses h call) = looks_of p K r s z (length (own h call)) (accesses h call) effect_of none in
-      let u : ℕ = looks.index in
-      let f : First h call (load (index_at p r) 4 u) (load (look_at p K r u) 4 looks.seen ∷ []) =
-      first_access h call (load (index_at p r) 4 u) (load (look_at p K r u) 4 looks.seen ∷ []) looks.did in
-      let g : First h f.rest (load (look_at p K r u) 4 looks.seen) [] = first_access h f.rest (load (look_at p K r u) 4 looks.seen) [] f.others in
-      let front : List Entry = f.part ++ f.entry ∷ g.part in
-      let cut : call ≡ front ++ g.entry ∷ g.rest = f.is ∙ ap (λ zs. f.part ++ f.entry ∷ zs) g.is
-      ∙ sym (append_assoc f.part (f.entry ∷ g.part) (g.entry ∷ g.rest)) in
-      let first = fresh.1 in
-      let early : ProtocolState = protocol_after r (protocol done) f.part in
-      let same : part p early ≡ part p (protocol done) = unmoved q p (protocol done) f.part f.none in
-      let at_f : es ≡ (done ++ f.part) ++ f.entry ∷ (f.rest ++ rest) = split f.part (f.entry ∷ f.rest) f.is in
-      let so_f = so_far f.part (f.entry ∷ f.rest) f.is in
-      let loaded : part p (protocol_next r early f.entry) ≡ part p (next_by K r (role p) early (load (index_at p r) 4 u)) =
-      ap (λ g. part p (next_by K r g early (access_of f.entry)))
-      (own_role (done ++ f.part) f.part f.entry (f.rest ++ rest) at_f (w.within f.part f.entry f.rest f.is) so_f f.mine)
-      ∙ ap (λ x. part p (next_by K r (role p) early x)) f.does in
-      let now : part p (protocol (done ++ front)) ≡ part p (next_by K r (role p) early (load (index_at p r) 4 u)) =
-      ap (part p) (protocol-append r at_start done front ∙ protocol-append r (protocol done) f.part (f.entry ∷ g.part))
-      ∙ unmoved q p (protocol_next r early f.entry) g.part g.none ∙ loaded in
-      record {
-        looks = looks;
-        part_done = front;
-        entry = g.entry;
-        more = g.rest;
-        cut = cut;
-        mine = g.mine;
-        loads = g.does;
-        knows = subst (Knows p u) (sym now) (first-load K r p early (index_at p r) u (subst Level (sym same) first.level) refl);
-        words = ap (λ (t : Part). t.words) now ∙ load-words K r p early (index_at p r) u ∙ ap (λ (t : Part). t.words) same ∙ first.words
-            ∙ sym ((so_far front (g.entry ∷ g.rest) cut).words (w.within front g.entry g.rest cut));
-      }
+    pub call_completes : words_at (done ++ call) ≡ words_at done ++ completed_word z
+    call_completes = at_end.over whole.over ∙ ap (λ y. words_at done ++ completed_word y) end_state
+
+    -- where a call that returns 0 looked: the entry, what it loaded there, and the party's part of the protocol's state before it
+    record Found : Type 0 where
+      looks : Looks p K r (accesses h call)
+      part_done : List Entry
+      entry : Entry
+      more : List Entry
+      cut : call ≡ part_done ++ entry ∷ more
+      mine : is_own h entry ≡ true
+      loads : access_of entry ≡ load (look_at p K r looks.index) 4 looks.seen
+      knows : Knows p looks.index (part p (protocol (done ++ part_done)))
+      words : (part p (protocol (done ++ part_done))).words ≡ words_at (done ++ part_done)
+
+    found : slice_index z.registers 10 ≡ 0 → Found
+    found none =
+        let looks : Looks p K r (accesses h call) = looks_of p K r s z (length (own h call)) (accesses h call) effect_of none in
+        let u : ℕ = looks.index in
+        let f : First h call (load (index_at p r) 4 u) (load (look_at p K r u) 4 looks.seen ∷ []) =
+        first_access h call (load (index_at p r) 4 u) (load (look_at p K r u) 4 looks.seen ∷ []) looks.did in
+        let g : First h f.rest (load (look_at p K r u) 4 looks.seen) [] = first_access h f.rest (load (look_at p K r u) 4 looks.seen) [] f.others in
+        let front : List Entry = f.part ++ f.entry ∷ g.part in
+        let cut : call ≡ front ++ g.entry ∷ g.rest = f.is ∙ ap (λ zs. f.part ++ f.entry ∷ zs) g.is
+        ∙ sym (append_assoc f.part (f.entry ∷ g.part) (g.entry ∷ g.rest)) in
+        let first = fresh.1 in
+        let early : ProtocolState = protocol_after r (protocol done) f.part in
+        let same : part p early ≡ part p (protocol done) = unmoved q p (protocol done) f.part f.none in
+        let at_f : es ≡ (done ++ f.part) ++ f.entry ∷ (f.rest ++ rest) = split f.part (f.entry ∷ f.rest) f.is in
+        let so_f = so_far f.part (f.entry ∷ f.rest) f.is in
+        let loaded : part p (protocol_next r early f.entry) ≡ part p (next_by K r (role p) early (load (index_at p r) 4 u)) =
+        ap (λ g. part p (next_by K r g early (access_of f.entry)))
+        (own_role (done ++ f.part) f.part f.entry (f.rest ++ rest) at_f (w.within f.part f.entry f.rest f.is) so_f f.mine)
+        ∙ ap (λ x. part p (next_by K r (role p) early x)) f.does in
+        let now : part p (protocol (done ++ front)) ≡ part p (next_by K r (role p) early (load (index_at p r) 4 u)) =
+        ap (part p) (protocol-append r at_start done front ∙ protocol-append r (protocol done) f.part (f.entry ∷ g.part))
+        ∙ unmoved q p (protocol_next r early f.entry) g.part g.none ∙ loaded in
+        record {
+          looks = looks;
+          part_done = front;
+          entry = g.entry;
+          more = g.rest;
+          cut = cut;
+          mine = g.mine;
+          loads = g.does;
+          knows = subst (Knows p u) (sym now) (first-load K r p early (index_at p r) u (subst Level (sym same) first.level) refl);
+          words = ap (λ (t : Part). t.words) now ∙ load-words K r p early (index_at p r) u ∙ ap (λ (t : Part). t.words) same ∙ first.words
+              ∙ sym ((so_far front (g.entry ∷ g.rest) cut).words (w.within front g.entry g.rest cut));
+        }
 
 module _ (B M : ℕ) (o : OpeningValue) (q : SpscQueue) (before done call : List Entry)
     (c : UsesAsSpscQueue B M o q before (done ++ call)) (s z : HartState) where
   pub whole : done ++ call ≡ done ++ (call ++ [])
   whole = ap (λ zs. done ++ zs) (sym (append-nil call))
 
+  -- a party in a call, at the end of the run: what it wants, and how many entries it has made
+  pub goes_on : (p : Party) → IsCallUnderWay M o (party_hart q p) (party_line q p) q.block before done call s
+      → state_of M (history_of o (before ++ (done ++ call))) (party_hart q p) ≡ Some z → GoesOn z (length (own (party_hart q p) call))
+  goes_on p w at =
+      let es : List Entry = done ++ call in
+      let h : ℕ = party_hart q p in
+      let n : ℕ = party_line q p in
+      let k : Block = q.block in
+      let r : RingBuffer = buffer q in
+      let t : ProtocolState = protocol_after r at_start es in
+      let y : HartState = here B M o q before es c.shares p es in
+      let was : state_of M (history_of o (before ++ es)) h ≡ Some y = was_here B M o q before es c.shares p es in
+      let same : y ≡ z = (let one : Some y ≡ Some z = sym was ∙ at in cc) in
+      let busy : is_in_call M o h n k before es ≡ true = w.within call [] (sym (append-nil call)) in
+      let inside = inside_at B M o q before es c done call [] whole p s (part_begun w) busy in
+      let near : Near k (part p t) = near-of k q.sender q.receiver (ring_is M k q.sender q.receiver c.shares.block c.shares.parties) p k.kind
+      (slice_index (protocol_after r at_start (es ++ [])).sent) t
+      (known-of B r o before es [] (subst (FollowsSpscProtocol B r o before) (sym (append-nil es)) (calls_follow B M o q before es c))) in
+      let moves = moves_at M n q.sender q.receiver p k.kind k c.shares.block h y t 0 refl
+      (equipped M o h n (listing_of k.kind p) (has_of c.shares p) (before ++ es) y was) near (course h s call) (words M o q p before es)
+      inside.line inside.place inside.row in
+      record {
+        wants = subst (λ x. IsPlainNeed (need_of x)) same moves.0.plain;
+        short = made_few B M o q before es c done call [] whole p s (part_begun w) busy;
+      }
+
   uses_at : (part : List Entry) (e : Entry) (more : List Entry) → call ≡ part ++ e ∷ more → UsesAsSpscQueue B M o q before ((done ++ part) ++ e ∷ more)
   uses_at part e more is = subst (UsesAsSpscQueue B M o q before) (ap (λ zs. done ++ zs) is ∙ sym (append_assoc done part (e ∷ more))) c
 
   pub found_full : IsSend M o q before done call s z → slice_index z.registers 10 ≡ 0 → FoundFull M o q before done call
   found_full w none =
-      let f = found B M o q before (done ++ call) c done call [] whole the_sender s z w none in
+      let f = found B M o q before (done ++ call) c done call [] whole the_sender s (whole_begun w) z w none in
       record {
         part = f.part_done;
         entry = f.entry;
@@ -302,7 +365,7 @@ module _ (B M : ℕ) (o : OpeningValue) (q : SpscQueue) (before done call : List
 
   pub found_empty : IsReceive M o q before done call s z → slice_index z.registers 10 ≡ 0 → FoundEmpty M o q before done call
   found_empty w none =
-      let f = found B M o q before (done ++ call) c done call [] whole the_receiver s z w none in
+      let f = found B M o q before (done ++ call) c done call [] whole the_receiver s (whole_begun w) z w none in
       record {
         part = f.part_done;
         entry = f.entry;

@@ -4,14 +4,14 @@ use Rattle.std.specs.Prelude.{slice_index}
 use Rattle.memory.specs.declared.writes.Write.{Write}
 use Rattle.memory.specs.Writes.{write}
 use Rattle.hart.specs.State.{HartState}
-use Rattle.hart.specs.Steps.{advanced}
+use Rattle.hart.specs.Steps.{need_of, advanced}
 use Rattle.step_machine.specs.Access.{Access, load, store, exchange}
 use Rattle.spsc_queue.specs.RingBuffers.{Kind, lamport, fastforward, RingBuffer, next}
 use Rattle.spsc_queue.specs.Protocol.{SenderState, resting, placed, roomy, filled, ReceiverState, idle, asked, waiting, holding, cleared, ProtocolState, Role}
 use Rattle.spsc_queue.specs.Protocol.{sends, receives, room_at, says_full, word_at, says_empty, looks_for_room, looks_for_word, next_by, IsSenderStore}
 use Rattle.spsc_queue.specs.Protocol.{IsReceiverStore}
 use Rattle.spsc_queue.specs.Calls.{Block, Party, the_sender, the_receiver}
-use Rattle.spsc_queue.specs.CallEffects.{send_accesses, receive_accesses, IsFound, SendEffect, ReceiveEffect}
+use Rattle.spsc_queue.specs.CallEffects.{IsPlainNeed, send_accesses, receive_accesses, IsFound, SendEffect, ReceiveEffect}
 use Rattle.spsc_queue.proofs.Courses.{At, at_00, at_04, at_08, at_0C, at_10, at_14, at_18, at_1C, at_20, at_24, at_28, at_2C, at_30, number, moved, Course}
 use Rattle.spsc_queue.proofs.Courses.{went, Left, Frame}
 
@@ -306,6 +306,7 @@ Does p K r t x = Unit {0}
 
 pub record Moves (n : ℕ) (p : Party) (K : Kind) (k : Block) (r : RingBuffer) (b : Bool) (ws : List ℕ) (c : Course) (h : ℕ) (s : HartState)
     (t : ProtocolState) (v : ℕ) : Type 0 where
+  pub plain : IsPlainNeed (need_of s)
   pub rule : Does p K r t (moved h s v)
   pub after : CourseStands n p K k r b ws (went c (moved h s v)) (advanced s v) (part p (next_by K r (role p) t (moved h s v)))
 

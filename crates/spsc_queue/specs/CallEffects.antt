@@ -2,6 +2,9 @@
 use Rattle.std.specs.Prelude.{ℕ, ◌≡◌, ◌≢◌, ◌+◌, ◌*◌, ◌/◌, ◌%◌, ◌≤◌, ◌==◌, if◌then◌else◌, true, false, Some, List, [], ◌∷◌, ◌++◌, length, slice_index}
 use Rattle.memory.specs.Writes.{write}
 use Rattle.hart.specs.State.{HartState}
+use Rattle.hart.specs.Steps.{need_of}
+use Rattle.hart.specs.declared.need.Need.{Need}
+use Rattle.hart.specs.declared.need.Need.TheVariants as need
 use Rattle.step_machine.specs.declared.events.Entry.{Entry}
 use Rattle.step_machine.specs.Access.{Access, nothing, load, store, access_of}
 use Rattle.step_machine.specs.History.{OpeningValue, history_of}
@@ -20,6 +23,27 @@ pub record IsWholeCall (M : ℕ) (o : OpeningValue) (h n : ℕ) (k : Block) (bef
   pub within : (part : List Entry) (e : Entry) (rest : List Entry) → call ≡ part ++ e ∷ rest → is_in_call M o h n k before (done ++ part) ≡ true
   pub over : is_in_call M o h n k before (done ++ call) ≡ false
   pub return : state_of M (history_of o (before ++ (done ++ call))) h ≡ Some z
+
+-- hart h has called the function at line n for this block, and is in the call after each front of `part`: s is its state as it
+-- entered
+pub record IsCallUnderWay (M : ℕ) (o : OpeningValue) (h n : ℕ) (k : Block) (before done part : List Entry) (s : HartState) : Type 0 where
+  pub entry : state_of M (history_of o (before ++ done)) h ≡ Some s
+  pub enters : enters n k s ≡ true
+  pub within : (front rest : List Entry) → part ≡ front ++ rest → is_in_call M o h n k before (done ++ front) ≡ true
+
+-- what a hart in a call wants next: nothing of memory, a load or a store. So it doesn't stop there, nor make an environment
+-- call
+abbrev pub IsPlainNeed : Need → Type 0
+IsPlainNeed need.Inner = Unit {0}
+IsPlainNeed (need.Load a width) = Unit {0}
+IsPlainNeed (need.Store a width w) = Unit {0}
+IsPlainNeed other = ⊥
+
+-- a hart that is in a call, in state z, after this many entries of it: it only computes, loads or stores next, and these entries
+-- were at most 10
+pub record GoesOn (z : HartState) (count : ℕ) : Type 0 where
+  pub wants : IsPlainNeed (need_of z)
+  pub short : count ≤ 10
 
 abbrev pub IsSend : (M : ℕ) → OpeningValue → SpscQueue → (before done call : List Entry) → (s z : HartState) → Type 0
 IsSend M o q before done call s z = IsWholeCall M o q.sender q.send_line q.block before done call s z

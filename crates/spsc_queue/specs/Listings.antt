@@ -40,7 +40,7 @@ try_send =
     line 0x00752023 (Store store.Word (reg_of 10) (reg_of 7) (pos 0)) ∷  -- 20 sw x7,0(x10)
     line 0x00100513 (Immediate immediate.Add (reg_of 10) (reg_of 0) (pos 1)) ∷  -- 24 addi x10,x0,1
     line 0x00008067 (Jalr (reg_of 0) (reg_of 1) (pos 0)) ∷  -- 28 jalr x0,0(x1)
-    line 0x00000513 (Immediate immediate.Add (reg_of 10) (reg_of 0) (pos 0)) ∷  -- 2C addi x10,x0,0
+    line 0x00000513 (Immediate immediate.Add (reg_of 10) (reg_of 0) (pos 0)) ∷  -- 2C addi x10,x0,0: full
     line 0x00008067 (Jalr (reg_of 0) (reg_of 1) (pos 0)) ∷  -- 30 jalr x0,0(x1)
     []
 
@@ -59,6 +59,6 @@ try_receive =
     line 0x04552023 (Store store.Word (reg_of 10) (reg_of 5) (pos 64)) ∷  -- 20 sw x5,64(x10)
     line 0x00100513 (Immediate immediate.Add (reg_of 10) (reg_of 0) (pos 1)) ∷  -- 24 addi x10,x0,1
     line 0x00008067 (Jalr (reg_of 0) (reg_of 1) (pos 0)) ∷  -- 28 jalr x0,0(x1)
-    line 0x00000513 (Immediate immediate.Add (reg_of 10) (reg_of 0) (pos 0)) ∷  -- 2C addi x10,x0,0
+    line 0x00000513 (Immediate immediate.Add (reg_of 10) (reg_of 0) (pos 0)) ∷  -- 2C addi x10,x0,0: empty
     line 0x00008067 (Jalr (reg_of 0) (reg_of 1) (pos 0)) ∷  -- 30 jalr x0,0(x1)
     []

@@ -34,7 +34,8 @@ ghost use Rattle.spsc_queue.specs.Listings.{try_send, try_receive, words_of, lin
 ghost use Rattle.spsc_queue.specs.Calls.{SpscQueue, Party, listing_of, moved_on, ring_of};
 ghost use Rattle.spsc_queue.specs.Calls.{buffer, is_sender_in_call, is_receiver_in_call, sent_words, received_words};
 ghost use Rattle.spsc_queue.specs.Calls.{CallerObligation, UsesAsSpscQueue};
-ghost use Rattle.spsc_queue.specs.CallEffects.{IsSend, IsReceive, accesses, completed_word, SendEffect, ReceiveEffect, FoundFull, FoundEmpty};
+ghost use Rattle.spsc_queue.specs.CallEffects.{IsCallUnderWay, GoesOn, IsSend, IsReceive, accesses, completed_word, SendEffect, ReceiveEffect};
+ghost use Rattle.spsc_queue.specs.CallEffects.{FoundFull, FoundEmpty};
 ghost use Rattle.spsc_queue.specs.Obligations.{obligations_kept};
 ghost use Rattle.spsc_queue.specs.ManyQueues.{UsesManyQueues};
 ghost use Rattle.spsc_queue.specs.Example as example;
@@ -206,6 +207,8 @@ pub fn laws_of_many_queues()
 /// - `receive`: a call that receives loads the tail, and then the head or the slot. If that says that the queue is empty it
 ///   returns a0 = 0; else a1 is the word of the slot, into which FastForward's stores 0, it stores the tail and returns
 ///   a0 = 1. The rest is as above, and a1 may change.
+/// - `send_goes_on` and `receive_goes_on`: in a call, which may be cut at any point, a hart wants nothing of memory, a load or a
+///   store, and has made at most 10 entries. So no call stops a hart, and none goes on for ever.
 /// - `sends` and `receives`: a call that returns 1 completes the word in a1, and one that returns 0 completes none.
 /// - `linearization_of_full` and `linearization_of_empty`: a call that returned 0 found the queue so at its second load,
 ///   as far as the partner's stores had landed.
@@ -216,6 +219,12 @@ pub fn laws_of_one_call()
     ensures receive { (B M : ℕ) (o : OpeningValue) (q : SpscQueue) (before done call : List Entry) (s z : HartState)
         → UsesAsSpscQueue B M o q before (done ++ call) → IsReceive M o q before done call s z
         → ReceiveEffect q.block.kind (buffer q) s z (length (own q.receiver call)) (accesses q.receiver call) }
+    ensures send_goes_on { (B M : ℕ) (o : OpeningValue) (q : SpscQueue) (before done part : List Entry) (s z : HartState)
+        → UsesAsSpscQueue B M o q before (done ++ part) → IsCallUnderWay M o q.sender q.send_line q.block before done part s
+        → state_of M (history_of o (before ++ (done ++ part))) q.sender ≡ Some z → GoesOn z (length (own q.sender part)) }
+    ensures receive_goes_on { (B M : ℕ) (o : OpeningValue) (q : SpscQueue) (before done part : List Entry) (s z : HartState)
+        → UsesAsSpscQueue B M o q before (done ++ part) → IsCallUnderWay M o q.receiver q.receive_line q.block before done part s
+        → state_of M (history_of o (before ++ (done ++ part))) q.receiver ≡ Some z → GoesOn z (length (own q.receiver part)) }
     ensures sends { (B M : ℕ) (o : OpeningValue) (q : SpscQueue) (before done call : List Entry) (s z : HartState)
         → UsesAsSpscQueue B M o q before (done ++ call) → IsSend M o q before done call s z
         → sent_words M o q before (done ++ call) ≡ sent_words M o q before done ++ completed_word z }
