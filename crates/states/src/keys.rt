@@ -70,7 +70,7 @@ fn tag_of(hash: u64) -> u32 {
 /// The first slot from that of a hash on that is free.
 fn free_slot(slots: &[u32], hash: u64) -> usize {
     let mask = slots.len().wrapping_sub(1);
-    let mut at = hash as usize & mask;
+    let mut at = (hash % 4_294_967_296) as u32 as usize & mask;
     for _ in 0..slots.len() {
         match slots.get(at) {
             Some(slot) if *slot != 0 => at = at.wrapping_add(1) & mask,
@@ -118,7 +118,7 @@ impl<const N: usize> Keys<N> {
     fn look(&self, hash: u64) -> u32 {
         let mask = self.slots.len().wrapping_sub(1);
         let tag = tag_of(hash);
-        let mut at = hash as usize & mask;
+        let mut at = (hash % 4_294_967_296) as u32 as usize & mask;
         for _ in 0..self.slots.len() {
             match self.slots.get(at) {
                 Some(slot) if *slot != 0 && *slot & 0xFF00_0000 != tag => at = at.wrapping_add(1)
@@ -167,7 +167,7 @@ impl<const N: usize> Keys<N> {
     {
         let mask = self.slots.len().wrapping_sub(1);
         let tag = tag_of(draft.hash);
-        let mut at = draft.hash as usize & mask;
+        let mut at = (draft.hash % 4_294_967_296) as u32 as usize & mask;
         for _ in 0..self.slots.len() {
             match self.slots.get(at) {
                 Some(slot) if *slot != 0 => {
