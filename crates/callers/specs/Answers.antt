@@ -61,12 +61,14 @@ abbrev pub IsCallersToldOf : CallSource → (runs : ℕ) → List ℕ × Bool �
 IsCallersToldOf s runs (text, true) = IsToldKept s runs text
 IsCallersToldOf s runs (text, false) = IsToldOwing s runs text
 
--- the same where the functions are first looked for
+-- the same of a queue whose functions were found
 pub record IsToldLocated (B M : ℕ) (o : OpeningValue) (queue : Queue) (stream : Stream) (runs size : ℕ) (told : List ℕ × Bool) : Type 0 where
   pub located : Located
   pub usable : IsLocated M o queue located
   pub told_of : IsCallersToldOf (call_source B M o located stream size) runs told
 
+-- what is told of this number of drawn runs of a test with this opening, and whether all keep what callers owe: that something
+-- is owed at once, or what is told of the runs
 abbrev pub IsCallersTold : (B M : ℕ) → OpeningValue → Queue → Stream → (runs size : ℕ) → List ℕ × Bool → Type 0
 IsCallersTold B M o queue stream runs size (text, true) = IsToldLocated B M o queue stream runs size (text, true)
 IsCallersTold B M o queue stream runs size (text, false) = IsToldAtOnce M o queue text ⊎ IsToldLocated B M o queue stream runs size (text, false)
