@@ -135,8 +135,8 @@ def part(count, program):
             count.told(f"lines beside a picture {words}", (status, error) == (0, "") and beside(printed) == wanted, printed)
             count.told(f"its rows {words}", "x := 1" in picture and printed.endswith("\nHolds: exists (0:x7=1)\n"), printed)
         status, printed, error = run("chart-lines", write(folder, "w.litmus", WIDE), schedule, "--program", program)
-        hint = error.startswith("chart-lines: 4 rows have only their number") and error.endswith(": --memory leaves them out\n")
-        count.told("rows with only a number", status == 0 and hint, error + printed)
+        hint = printed.endswith("\nhint: --memory leaves out rows of instructions that only compute or jump\n")
+        count.told("rows with only a number", (status, error) == (0, "") and hint, error + printed)
         for text, why in ((SCHEDULE[2:], "refused 27"), (SCHEDULE + "\x1b", "refused 28 at byte")):
             status, printed, error = run("chart-lines", file, write(folder, "bad", text), "--program", program)
             count.told(f"a schedule that is refused by {why}", (status, printed) == (2, "") and why in error, error + printed)

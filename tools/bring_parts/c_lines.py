@@ -37,20 +37,19 @@ def rows_of(test, buffer, steps):
 
 
 def beside(picture, notes):
-    """The picture with what stands beside its rows, and how many rows have no more than their number."""
+    """The picture with what stands beside its rows."""
     rows = picture.split("\n\n")[1].split("\n")
-    width, bare, made, before = max(map(len, rows)), 0, [], {}
+    width, made, before = max(map(len, rows)), [], {}
     for row in rows:
         shape = ROW.match(row)
-        bare += bool(shape) and not row[shape.end():].strip("| ")
         hart, note = notes.get(int(shape[1]), (None, "")) if shape else (None, "")
         shown = note.partition(":")[0] if note == before.get(hart) else note
         made.append(f"{row.ljust(width)}   P{hart} {shown}" if note else row)
         before[hart] = note
-    return picture.replace("\n".join(rows), "\n".join(made), 1), bare
+    return picture.replace("\n".join(rows), "\n".join(made), 1)
 
 
 def picture(program, path, test, schedule, buffer=4, options=()):
-    """The picture of a schedule's run of the test in a file, and how many rows have no more than their number."""
+    """The picture of a schedule's run of the test in a file."""
     drawn = answer(program, "chart", path, "/dev/stdin", "--buffer", buffer, *options, text=schedule)
     return beside(drawn, rows_of(test, buffer, schedules.read_steps(schedule)))

@@ -99,7 +99,7 @@ def pictures(program, difference):
         path = Path(folder, "shown.litmus")
         path.write_text(difference.text)
         schedule, test = difference.schedule(), litmus.read(difference.text)
-        as_text, _ = c_lines.picture(program, path, test, schedule, 4, ["--memory"])
+        as_text = c_lines.picture(program, path, test, schedule, 4, ["--memory"])
         try:
             as_svg = answer(program, "chart", path, "/dev/stdin", "--memory", "--svg", text=schedule)
         except Refused:

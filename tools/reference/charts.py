@@ -149,14 +149,14 @@ class Picture:
     """The rows in one form: their texts, their lanes and where all of it stands. Rows that are left out stay silent."""
 
     def __init__(self, rows, harts, room, form, without=()):
-        self.listed, instructions, self.most, stores = form
+        self.listed, self.instructions, self.most, stores = form
         self.rows, self.harts, self.drawn = rows, harts, [n for n, row in enumerate(rows) if row.kind not in without]
-        effects = [beside("  ", f"P{r.hart}" if self.listed else "", r.instruction if instructions else "", r.effect) for r in rows]
+        effects = [beside("  ", f"P{r.hart}" if self.listed else "", r.instruction if self.instructions else "", r.effect) for r in rows]
         self.said = ["" if r.kind in without else shortened(beside(" ", effect, r.tag)) for effect, r in zip(effects, rows)]
         self.kept = [shortened(r.memory + (f" [{r.landed + 1}]" if stores and r.landed is not None else "")) for r in rows]
         self.lane()
         caller = len(f"P{harts - 1}") + 2 if self.listed else 0
-        least = min(caller + (room.said if instructions else room.brief), LONGEST_TEXT)
+        least = min(caller + (room.said if self.instructions else room.brief), LONGEST_TEXT)
         self.text = max([least, *map(len, self.said)])
         self.used = max([min(room.shared if self.listed else room.lanes, self.most), *(own[2] + 1 for own, _ in self.lanes if own)])
         self.pitch = self.text + 2 * self.used + 4
@@ -258,4 +258,7 @@ def chart(text, test, machine, walk, without=()):
              for h in range(harts) for n, place, width, value in rows.pending.get(h, [])]
     values = [f"last value: {left} = {value}" for (left, _), value in zip(test.lefts, outcome(test, state))]
     foot = [*never, *values, f"{verdict(test, state)}: {heading.condition}"]
-    return [heading.name, "", *picture.lines(), "", *foot]
+    hints = ["left out: the instructions, since columns would be too wide"] * (not picture.instructions)
+    if hints and "inner" not in without and any(row.kind == "inner" for row in rows.rows):
+        hints.append("hint: --memory leaves out rows of instructions that only compute or jump")
+    return [heading.name, "", *picture.lines(), "", *foot, *hints]

@@ -1,7 +1,7 @@
 -- A run's picture: the first form that is narrow enough, and the last one where none is.
-use Rattle.std.specs.Prelude.{ℕ, zero, suc, ◌≡◌, ◌+◌, ◌*◌, min, max, nat_le, if◌then◌else◌, true, false, List, [], ◌∷◌}
+use Rattle.std.specs.Prelude.{ℕ, zero, suc, ◌≡◌, ◌+◌, ◌*◌, min, max, nat_le, if◌then◌else◌, Bool, true, false, List, [], ◌∷◌}
 use Rattle.std.specs.Prelude.{◌++◌, length, map, codes, Option, None, Some}
-use Rattle.std.specs.List.{slice_get}
+use Rattle.std.specs.List.{list_any, slice_get}
 use Rattle.std.specs.Fmt.{decimal}
 use Rattle.step_machine.specs.declared.events.Entry.{Entry}
 use Rattle.chart.specs.declared.sources.RowWrite.{RowWrite}
@@ -13,7 +13,7 @@ use Rattle.chart.specs.Sources.{pending_by_row}
 use Rattle.chart.specs.Lanes.{held_at_end}
 use Rattle.chart.specs.Pictures.{LineOf, PictureOf, picture_text}
 use Rattle.chart.specs.Places.{memory_cell}
-use Rattle.chart.specs.Scenes.{SceneOf, scene_of, least_said, said_cells, kept_cells, least_lanes, used_after}
+use Rattle.chart.specs.Scenes.{SceneOf, is_bare, scene_of, least_said, said_cells, kept_cells, least_lanes, used_after}
 use Rattle.chart.specs.Scenes.{lanes_in, shape_of, places_of}
 use Rattle.chart.specs.Lines.{row_lines, open_lines, heads_line}
 
@@ -122,12 +122,23 @@ body_of form scene =
     row_lines form scene (places_of form scene) (lanes_in form scene)
     ++ open_lines (places_of form scene) (held_at_end (shape_of form) scene.rows)
 
+-- ---- what a form leaves out, below all else
+
+abbrev pub has_bare : SceneOf → Bool
+has_bare scene = list_any (is_bare scene.selection) scene.entries
+
+abbrev pub bare_hints : SceneOf → List (List ℕ)
+bare_hints scene = if has_bare scene then codes "hint: --memory leaves out rows of instructions that only compute or jump" ∷ [] else []
+
+abbrev pub hints_of : Form → SceneOf → List (List ℕ)
+hints_of form scene = if form.instructions then [] else codes "left out: the instructions, since columns would be too wide" ∷ bare_hints scene
+
 abbrev pub picture_in : Form → SceneOf → (head foot : List (List ℕ)) → PictureOf
 picture_in form scene head foot = record {
   head = head;
   heads = heads_line (places_of form scene);
   body = body_of form scene;
-  foot = foot;
+  foot = foot ++ hints_of form scene;
   width = width_of form scene;
 }
 

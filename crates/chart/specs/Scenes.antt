@@ -27,6 +27,11 @@ abbrev pub is_left_out : Selection → Entry → Bool
 is_left_out EveryRow e = false
 is_left_out MemoryRows e = is_inner e
 
+-- whose rows are drawn though they have nothing except an instruction to show
+abbrev pub is_bare : Selection → Entry → Bool
+is_bare EveryRow e = is_inner e
+is_bare MemoryRows e = false
+
 -- which rows are drawn, the locations' names, the instruction of each entry, the entries with their rows, how many
 -- harts there are, and how wide their columns are at least
 pub record SceneOf : Type 0 where

@@ -1,6 +1,6 @@
 //! The lines of a picture, and the picture.
 
-ghost use Rattle.std.specs.Prelude.{◌≡◌, ◌≤◌, ◌++◌, map, nat_le, length, IfOk, OnOk};
+ghost use Rattle.std.specs.Prelude.{◌≡◌, ◌≤◌, ◌++◌, ◌∷◌, [], map, nat_le, length, IfOk, OnOk};
 ghost use Rattle.std.specs.List.{slice_get};
 ghost use Rattle.std.specs.String.{string_bytes};
 ghost use Rattle.chart.specs.declared.scenes.TheConstants.{LONGEST_TEXT};
@@ -10,7 +10,7 @@ ghost use Rattle.chart.specs.Lines.{line_with, laned_line, line_at, is_without_l
 ghost use Rattle.chart.specs.Lines.{row_lines as lines_of_rows, open_stroke, open_lines, head_mark};
 ghost use Rattle.chart.specs.Lines.{head_marks as marks_of_heads, hart_marks, heads_line as line_of_heads};
 ghost use Rattle.chart.specs.Layout.{width_of as width_in, limit as limit_of, form_of as form_for};
-ghost use Rattle.chart.specs.Layout.{picture_in as picture_in_form, picture_of as picture_of_scene};
+ghost use Rattle.chart.specs.Layout.{bare_hints, has_bare as scene_has_bare, hints_of, picture_in as picture_in_form, picture_of as picture_of_scene};
 
 use crate::lanes::{Held, Laned, held_at_end, lanes_of};
 use crate::pictures::{Line, Mark, Picture, Sign, Stroke, Weight};
@@ -314,6 +314,58 @@ fn form_of(alloc: Global, scene: &Scene, most: u64) -> Result<Form, AllocError>
     })
 }
 
+/// Whether a row has nothing except an instruction to show.
+fn has_bare(scene: &Scene) -> bool
+    ensures { result ≡ scene_has_bare scene.now }
+{
+    scene
+        .entries
+        .iter()
+        .any(|entry| scene.selection.draws_bare(*entry))
+}
+
+fn push_text(alloc: Global, out: &mut Vec<String>, text: &str) -> Result<(), AllocError>
+    ensures { OnOk result (map string_bytes out.new.items ≡ map string_bytes out.old.items ++ text.now ∷ []) }
+{
+    Ok(out.push(text.to_string(alloc)?)?)
+}
+
+/// Says how rows go that show nothing, if there are any.
+fn push_bare_hint(alloc: Global, out: &mut Vec<String>, scene: &Scene) -> Result<(), AllocError>
+    ensures { OnOk result (map string_bytes out.new.items ≡ map string_bytes out.old.items ++ bare_hints scene.now) }
+{
+    if has_bare(scene) {
+        push_text(
+            alloc,
+            out,
+            "hint: --memory leaves out rows of instructions that only compute or jump",
+        )?;
+    }
+    Ok(())
+}
+
+/// What stands below all else: that the form leaves out the instructions, and how rows go that then show nothing.
+#[tactic(auto, using(crate::proofs::FootLaws::hints_more))]
+fn push_hints(
+    alloc: Global,
+    out: &mut Vec<String>,
+    form: Form,
+    scene: &Scene,
+) -> Result<(), AllocError>
+    ensures { OnOk result (map string_bytes out.new.items ≡ map string_bytes out.old.items ++ hints_of form scene.now) }
+{
+    if form.instructions {
+        return Ok(());
+    }
+    push_text(
+        alloc,
+        out,
+        "left out: the instructions, since columns would be too wide",
+    )?;
+    push_bare_hint(alloc, out, scene)?;
+    Ok(())
+}
+
 fn picture_in(
     alloc: Global,
     form: Form,
@@ -328,6 +380,8 @@ fn picture_in(
     let places = places_of(alloc, form, scene, &lanes)?;
     let mut body = row_lines(alloc, form, scene, &places, &lanes)?;
     push_open(alloc, &mut body, &places, &held)?;
+    let mut foot = foot;
+    push_hints(alloc, &mut foot, form, scene)?;
     Ok(Picture {
         head,
         heads: heads_line(alloc, &places)?,

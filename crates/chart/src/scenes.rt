@@ -3,7 +3,7 @@
 ghost use Rattle.std.specs.Prelude.{◌≡◌, ◌≤◌, ◌<◌, ◌+◌, ◌^◌, ◌++◌, length, codes, map, IfOk, OnOk};
 ghost use Rattle.std.specs.String.{string_bytes};
 ghost use Rattle.chart.specs.declared.scenes.TheConstants.{LONGEST_TEXT};
-ghost use Rattle.chart.specs.Scenes.{is_left_out, scene_of, beside, caller, shown_instruction, shortened as short_text};
+ghost use Rattle.chart.specs.Scenes.{is_bare, is_left_out, scene_of, beside, caller, shown_instruction, shortened as short_text};
 ghost use Rattle.chart.specs.Scenes.{said as said_by, of_row, instruction_at as instruction_of, said_at as said_of_row};
 ghost use Rattle.chart.specs.Scenes.{kept_at as kept_of_row, caller_cells as cells_of_caller, least_own};
 ghost use Rattle.chart.specs.Scenes.{least_said as least_of_rows, said_cells, kept_cells, least_lanes, lanes_in};
@@ -189,6 +189,16 @@ impl Selection {
         match self {
             Selection::EveryRow => false,
             Selection::MemoryRows => matches!(entry, Entry::Inner { .. }),
+        }
+    }
+
+    /// Whether an entry's row is drawn though it has nothing except an instruction to show.
+    pub(crate) fn draws_bare(self, entry: Entry) -> bool
+        ensures { result ≡ is_bare self entry }
+    {
+        match self {
+            Selection::EveryRow => Selection::MemoryRows.leaves_out(entry),
+            Selection::MemoryRows => false,
         }
     }
 }
