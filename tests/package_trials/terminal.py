@@ -203,11 +203,22 @@ def short_names(count, places, prefix, top):
 
 
 def progress(count, place, share):
-    """`try` still sees that it is at a terminal."""
+    """`try`, `ring` and `check` still see that they are at a terminal."""
     words = [place.wrapper, "try", share / SB[0], "--seed", "1", "--runs", "100000", "--length", "1000"]
     done, written = terminal.run(list(map(str, words)), stdout=subprocess.PIPE, timeout=SECONDS)
     shown, gone = terminal.shown(written)
     count.told("the progress of try", shown == b"" and gone and gone[-1].startswith(b"runs ") and done.stdout, (shown, gone))
+    rings = tree.TOP / "examples/rings"
+    words = [place.wrapper, "ring", rings / "lamport-sender.asm", rings / "lamport-receiver.asm", "2", "--seed", "1", "--runs", "9", "--length", "99"]
+    done, written = terminal.run(list(map(str, words)), input=b"7\n", stdout=subprocess.PIPE, timeout=SECONDS)
+    shown, gone = terminal.shown(written)
+    count.told("the progress of ring", (shown, gone[-1:]) == (b"", [b"runs 9 of 9"]) and done.stdout, (shown, gone))
+    # more than a second passes between two records
+    record = "printf 'ztso-schedule 2\\n'"
+    words = ["sh", "-c", f'({record}; sleep 2; {record}) | "$0" check "$1"', place.wrapper, share / SB[0]]
+    done, written = terminal.run(list(map(str, words)), stdout=subprocess.PIPE, timeout=SECONDS)
+    shown, gone = terminal.shown(written)
+    count.told("the progress of check", shown == b"" and gone and gone[-1].startswith(b"0 kB read, ") and done.stdout, (shown, gone))
 
 
 def prompt(count, place, share):

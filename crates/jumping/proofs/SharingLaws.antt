@@ -1,23 +1,37 @@
 -- Where the runs of jobs begin, and what jobs gave, one after the other.
-use Rattle.std.proofs.Common.{◌≡◌, ℕ, ◌+◌, ◌≤◌, ◌<◌, List, [], ◌∷◌, length, Result, Ok, sym, subst, arith, rules}
+use Rattle.std.proofs.Common.{◌≡◌, ℕ, ◌+◌, ◌-◌, ◌≤◌, ◌<◌, List, [], ◌∷◌, length, Result, Ok, sym, subst, arith, rules}
 use Rattle.std.specs.Prelude.{IfOk, slice_index_or}
 use Rattle.std.proofs.Math.Nat.{div-mul-le_self}
 use Rattle.std.proofs.lemmas.Nat.{le-div}
-use Rattle.jumping.specs.Sharing.{first_of, AreOfJobs}
+use Rattle.jumping.specs.Sharing.{first_of, place_of, AreOfJobs}
 
 -- ---- where they begin
 
-pub none_placed : (runs jobs : ℕ) → 1 ≤ jobs → 0 ≡ first_of runs jobs 0
-none_placed runs jobs some = search rules
+none_before : (runs jobs : ℕ) → 1 ≤ jobs → first_of runs jobs 0 ≡ 0
+none_before runs jobs some = search rules
 
-pub all_placed : (runs jobs job : ℕ) → 1 ≤ jobs → job ≡ jobs → first_of runs jobs job ≡ runs
-all_placed runs jobs job some last = search rules
+all_before : (runs jobs job : ℕ) → 1 ≤ jobs → job ≡ jobs → first_of runs jobs job ≡ runs
+all_before runs jobs job some last = search rules
 
-pub placed_later : (runs jobs job : ℕ) → 1 ≤ jobs → first_of runs jobs job ≤ first_of runs jobs (job + 1)
-placed_later runs jobs job some = grind (arith, div-mul-le_self, le-div)
+later_after : (runs jobs job : ℕ) → 1 ≤ jobs → first_of runs jobs job ≤ first_of runs jobs (job + 1)
+later_after runs jobs job some = grind (arith, div-mul-le_self, le-div)
 
-pub placed_within : (runs jobs job : ℕ) → 1 ≤ jobs → job ≤ jobs → first_of runs jobs job ≤ runs
-placed_within runs jobs job some most = search rules
+within_all : (runs jobs job : ℕ) → 1 ≤ jobs → job ≤ jobs → first_of runs jobs job ≤ runs
+within_all runs jobs job some most = search rules
+
+-- the same of the runs from `first` on and before `end`
+module _ (first end jobs : ℕ) (some : 1 ≤ jobs) where
+  pub none_placed : place_of first end jobs 0 ≡ first
+  none_placed = omega (arith, none_before (end - first) jobs some)
+
+  pub all_placed : (job : ℕ) → job ≡ jobs → first ≤ end → place_of first end jobs job ≡ end
+  all_placed job last order = omega (arith, all_before (end - first) jobs job some last, order)
+
+  pub placed_later : (job : ℕ) → place_of first end jobs job ≤ place_of first end jobs (job + 1)
+  placed_later job = omega (arith, later_after (end - first) jobs job some)
+
+  pub placed_within : (job : ℕ) → job ≤ jobs → first ≤ end → place_of first end jobs job ≤ end
+  placed_within job most order = omega (arith, within_all (end - first) jobs job some most, order)
 
 -- ---- what they gave
 

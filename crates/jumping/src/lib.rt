@@ -1,10 +1,14 @@
-//! Generators that can jump over words that nobody draws, and which runs they draw ([`Runs`]).
+//! Generators that can jump over words that nobody draws, which runs they draw ([`Runs`]), and how these are spread.
 //!
 //! The contract: [`Jump::ahead`] returns a generator whose stream is what is left of this one's after so
-//! many words of 32 bits, and [`first_run`] shares runs among jobs. This crate draws no event and knows no
-//! schedule.
+//! many words of 32 bits, [`first_run`] shares runs among jobs, and [`spreading::in_rounds`] returns what
+//! [`spreading::Trials`] knows of runs, however they were spread over rounds and jobs. What is reported through
+//! [`progress::Progress`] no clause says. This crate draws no event and knows no schedule.
 
 #![tactic(auto)]
+
+pub mod progress;
+pub mod spreading;
 
 ghost use Rattle.std.specs.Prelude.{◌≡◌, ◌≤◌, ◌*◌, IfOk};
 ghost use Rattle.recorder.specs.Drawing.{left_after};

@@ -1,28 +1,25 @@
 -- What was found of runs, and of those that the generator draws after them.
-use Rattle.std.proofs.Common.{ℕ, ◌≡◌, ◌+◌, ◌-◌, ◌<◌, ◌≤◌, List, [], ◌∷◌, ◌++◌, length, max, Result, Ok, Vec, Global, sym, ap, subst, ◌∙◌, arith, length-append}
+use Rattle.std.proofs.Common.{ℕ, ◌≡◌, ◌+◌, ◌≤◌, List, [], ◌∷◌, ◌++◌, length, max, refl, sym, ap, subst, ◌∙◌, arith, length-append}
 use Rattle.std.specs.Prelude.{if◌then◌else◌, Some}
 use Rattle.std.specs.List.{slice_get}
-use Rattle.std.specs.declared.alloc.AllocError.{AllocError}
-use Rattle.std.proofs.lemmas.List.Elements.{All-append}
+use Rattle.std.proofs.lemmas.List.Elements.{All-append, All-nil}
 use Rattle.std.proofs.lemmas.Option.{slice_get_within}
 use Rattle.step_machine.specs.declared.events.Event.{Event}
 use Rattle.step_machine.specs.History.{History}
 use Rattle.step_machine.specs.Entries.{reported}
 use Rattle.step_machine.specs.Runs.{Run}
 use Rattle.recorder.proofs.Drawn.{left_after-sum}
-use Rattle.jumping.specs.Sharing.{first_of, AreOfJobs}
-use Rattle.jumping.proofs.SharingLaws.{placed_later, placed_within, job_first}
 use Rattle.poll_close.specs.Reports.{taken}
 use Rattle.poll_close.specs.Plans.{is_closed}
 use Rattle.poll_close.specs.declared.clean.Breach.{Breach}
-use Rattle.ring_trials.specs.Own.{start_of}
+use Rattle.ring_trials.specs.Own.{lists_of, start_of}
 use Rattle.ring_trials.specs.declared.runs.Total.{Total}
 use Rattle.ring_trials.specs.declared.runs.Found.{Found}
 use Rattle.ring_trials.specs.declared.runs.Found.TheVariants as found
 use Rattle.ring_trials.specs.Trials.{Source, schedule_of, AreRuns, KeepsAll, AreCleanRuns, most_of, closed_in, AreTotals, IsFirstUnclean, AreAllClean}
 use Rattle.ring_trials.specs.Trials.{IsFound}
-use Rattle.ring_trials.specs.inner.Joining.{later_than, IsFoundByJob}
-use Rattle.ring_trials.proofs.RunsLaws.{TakenIn, few_closed}
+use Rattle.ring_trials.specs.inner.Joining.{later_than, AreCleanFrom, IsUncleanFrom, AreAllCleanFrom, IsFoundFrom}
+use Rattle.ring_trials.proofs.RunsLaws.{TakenIn, closed_few}
 
 -- ---- the runs
 
@@ -40,11 +37,17 @@ runs_both : (s : Source) (n : ℕ) (ts us : List History) → AreRuns s n ts →
 runs_both s n [] us runs more = subst (λ (m : ℕ). AreRuns s m us) (omega arith) more
 runs_both s n (t ∷ ts) us runs more = (runs.0, runs_both s (n + 1) ts us runs.1 (subst (λ (m : ℕ). AreRuns s m us) (omega arith) more))
 
-clean_both : (s : Source) (n k : ℕ) (ts us : List History) → AreCleanRuns s n ts → AreCleanRuns (later_than n s) k us → AreCleanRuns s (n + k) (ts ++ us)
-clean_both s n k ts us first second = record {
-  runs = runs_both s 0 ts us first.runs
-      (subst (λ (m : ℕ). AreRuns s m us) (omega (arith, first.count)) (runs_later s n 0 us second.runs));
-  count = length-append ts us ∙ ap (λ m. m + length us) first.count ∙ ap (λ m. n + m) second.count;
+clean_later : (s : Source) (first n : ℕ) (ts : List History) → AreCleanRuns (later_than first s) n ts → AreCleanFrom s first (first + n) ts
+clean_later s first n ts clean = record {
+  runs = subst (λ (m : ℕ). AreRuns s m ts) (omega arith) (runs_later s first 0 ts clean.runs);
+  count = ap (λ m. first + m) clean.count;
+  kept = clean.kept;
+}
+
+clean_both : (s : Source) (middle end : ℕ) (ts us : List History) → AreCleanFrom s 0 middle ts → AreCleanFrom s middle end us → AreCleanFrom s 0 end (ts ++ us)
+clean_both s middle end ts us first second = record {
+  runs = runs_both s 0 ts us first.runs (subst (λ (m : ℕ). AreRuns s m us) (sym first.count) second.runs);
+  count = omega (arith, length-append ts us, first.count, second.count);
   kept = All-append (KeepsAll s.own) ts us first.kept second.kept;
 }
 
@@ -79,83 +82,88 @@ totals_both ts us old later new i all first second taken = record {
 
 -- ---- what was found of them
 
-pub all_both : (s : Source) (n k : ℕ) (old later new : List Total) → AreAllClean s n old → AreAllClean (later_than n s) k later
-    → ((ts us : List History) → AreTotals ts old → AreTotals us later → AreTotals (ts ++ us) new) → length new ≡ length old → AreAllClean s (n + k) new
-all_both s n k old later new first second add same = record {
-  histories = first.histories ++ second.histories;
-  clean = clean_both s n k first.histories second.histories first.clean second.clean;
-  totals_are = add first.histories second.histories first.totals_are second.totals_are;
-  count = same ∙ first.count;
+-- of runs that were numbered from their first one on
+pub all_later : (s : Source) (first end n : ℕ) (totals : List Total) → first + n ≡ end → AreAllClean (later_than first s) n totals
+    → AreAllCleanFrom s first end totals
+all_later s first end n totals sum all = record {
+  histories = all.histories;
+  clean = subst (λ (m : ℕ). AreCleanFrom s first m all.histories) sum (clean_later s first n all.histories all.clean);
+  totals_are = all.totals_are;
+  count = all.count;
 }
 
-pub unclean_later : (s : Source) (n k : ℕ) (old : List Total) (breach : Breach) → AreAllClean s n old → IsFirstUnclean (later_than n s) k breach
-    → IsFirstUnclean s (n + k) breach
-unclean_later s n k old breach first found = record {
-  before = first.histories ++ found.before;
-  clean = clean_both s n k first.histories found.before first.clean found.clean;
+pub unclean_later : (s : Source) (first number : ℕ) (breach : Breach) → IsFirstUnclean (later_than first s) number breach
+    → IsUncleanFrom s first (first + number) breach
+unclean_later s first number breach found = record {
+  before = found.before;
+  clean = clean_later s first number found.before found.clean;
   history = found.history;
-  run = subst (λ (evs : List Event). Run s.B s.M (start_of s.own) evs found.history) (schedule_later s n k) found.run;
+  run = subst (λ (evs : List Event). Run s.B s.M (start_of s.own) evs found.history) (schedule_later s first number) found.run;
   breaks = found.breaks;
 }
 
--- ---- what a job found, after the jobs before it found their runs clean
+-- of the runs from the first of all on
+clean_from_first : (s : Source) (end : ℕ) (ts : List History) → AreCleanFrom s 0 end ts → AreCleanRuns s end ts
+clean_from_first s end ts clean = record { runs = clean.runs; count = omega (arith, clean.count); kept = clean.kept }
 
--- this was found of a job's runs, and those before are clean
-pub record NextJob (s : Source) (runs jobs job : ℕ) (given : Found) (totals : List Total) : Type 0 where
-  pub here : job + 1 ≤ jobs
-  pub mine : IsFoundByJob s runs jobs job given
-  pub clean : AreAllClean s (first_of runs jobs job) totals
+pub found_from_first : (s : Source) (runs : ℕ) (given : Found) → IsFoundFrom s 0 runs given → IsFound s runs given
+found_from_first s runs (found.Clean totals) all = record {
+  histories = all.histories;
+  clean = clean_from_first s runs all.histories all.clean;
+  totals_are = all.totals_are;
+  count = all.count;
+}
+found_from_first s runs (found.Unclean number breach) found = (
+  found.0,
+  record {
+    before = found.1.before;
+    clean = clean_from_first s number found.1.before found.1.clean;
+    history = found.1.history;
+    run = found.1.run;
+    breaks = found.1.breaks;
+  },
+)
 
-pub next_job : (s : Source) (runs jobs job : ℕ) (given : Found) {all rest : List (Result Found AllocError)} {first : Result Found AllocError}
-    {totals : List Total} → all ≡ first ∷ rest → first ≡ Ok given → job + 1 ≤ jobs → AreOfJobs (IsFoundByJob s runs jobs) job all
-    → AreAllClean s (first_of runs jobs job) totals → NextJob s runs jobs job given totals
-next_job s runs jobs job given {all} {rest} is was here found clean = record {
-  here = here;
-  mine = job_first (IsFoundByJob s runs jobs) job all rest given (is ∙ ap (λ (r : Result Found AllocError). r ∷ rest) was) found;
-  clean = clean;
+-- of no run
+pub none_from : (s : Source) (totals : List Total) → AreTotals [] totals → length totals ≡ length (lists_of s.own) → AreAllCleanFrom s 0 0 totals
+none_from s totals are count = record {
+  histories = [];
+  clean = record { runs = tt; count = refl; kept = All-nil (KeepsAll s.own) };
+  totals_are = are;
+  count = count;
 }
 
-module _ {s : Source} {runs jobs job : ℕ} {given : Found} {totals : List Total} (next : NextJob s runs jobs job given totals) where
-  abbrev begin : ℕ
-  begin = first_of runs jobs job
+-- of two parts
+module _ (s : Source) (middle end : ℕ) (old : List Total) (first : AreAllCleanFrom s 0 middle old) where
+  module _ (later : List Total) (second : AreAllCleanFrom s middle end later) where
+    pub few_joined : (k : ℕ) (one other : Total) → slice_get old k ≡ Some one → slice_get later k ≡ Some other → one.closed + other.closed ≤ end
+    few_joined k one other at there = omega (
+      arith,
+      first.totals_are.closed k one at,
+      second.totals_are.closed k other there,
+      closed_few k first.histories,
+      closed_few k second.histories,
+      first.clean.count,
+      second.clean.count,
+    )
 
-  abbrev end : ℕ
-  end = first_of runs jobs (job + 1)
+    pub same_count : length old ≡ length later
+    same_count = first.count ∙ sym second.count
 
-  order : begin ≤ end
-  order = placed_later runs jobs job (omega (arith, next.here))
+    pub all_both : (new : List Total) → ((ts us : List History) → AreTotals ts old → AreTotals us later → AreTotals (ts ++ us) new)
+        → length new ≡ length old → AreAllCleanFrom s 0 end new
+    all_both new add same = record {
+      histories = first.histories ++ second.histories;
+      clean = clean_both s middle end first.histories second.histories first.clean second.clean;
+      totals_are = add first.histories second.histories first.totals_are second.totals_are;
+      count = same ∙ first.count;
+    }
 
-  within : end ≤ runs
-  within = placed_within runs jobs (job + 1) (omega (arith, next.here)) next.here
-
-  module _ (more : Vec Total Global) (is : given ≡ found.Clean more) where
-    more_clean : AreAllClean (later_than begin s) (end - begin) more.items
-    more_clean = subst (IsFound (later_than begin s) (end - begin)) is next.mine
-
-    pub few_joined : (k : ℕ) (one other : Total) → slice_get totals k ≡ Some one → slice_get more.items k ≡ Some other → one.closed + other.closed ≤ runs
-    few_joined k one other at there =
-        omega (
-          arith,
-          few_closed s begin totals k one next.clean at,
-          few_closed (later_than begin s) (end - begin) more.items k other more_clean there,
-          order,
-          within,
-        )
-
-    pub same_count : length totals ≡ length more.items
-    same_count = next.clean.count ∙ sym more_clean.count
-
-    pub joined_clean : (new : List Total) → ((ts us : List History) → AreTotals ts totals → AreTotals us more.items → AreTotals (ts ++ us) new)
-        → length new ≡ length totals → AreAllClean s end new
-    joined_clean new add same =
-        let sum : begin + (end - begin) ≡ end = omega (arith, order) in
-        subst (λ (n : ℕ). AreAllClean s n new) sum (all_both s begin (end - begin) totals more.items new next.clean more_clean add same)
-
-  pub job_unclean : (before number : ℕ) (breach : Breach) → given ≡ found.Unclean number breach → before ≡ begin
-      → (before + number < runs) × IsFirstUnclean s (before + number) breach
-  job_unclean before number breach is at =
-      let there = subst (IsFound (later_than begin s) (end - begin)) is next.mine in
-      let sum : begin + number ≡ before + number = omega (arith, at) in (
-        omega (arith, there.0, order, within, at),
-        subst (λ (n : ℕ). IsFirstUnclean s n breach) sum (unclean_later s begin number totals breach next.clean there.1),
-      )
+  pub unclean_both : (number : ℕ) (breach : Breach) → IsUncleanFrom s middle number breach → IsUncleanFrom s 0 number breach
+  unclean_both number breach found = record {
+    before = first.histories ++ found.before;
+    clean = clean_both s middle number first.histories found.before first.clean found.clean;
+    history = found.history;
+    run = found.run;
+    breaks = found.breaks;
+  }

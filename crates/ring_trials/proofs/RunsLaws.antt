@@ -59,7 +59,7 @@ at_most_one : (b : Bool) (n m : ℕ) → n ≤ m → (if b then 1 else 0) + n �
 at_most_one true n m few = omega arith
 at_most_one false n m few = omega arith
 
-closed_few : (i : ℕ) (ts : List History) → closed_in i ts ≤ length ts
+pub closed_few : (i : ℕ) (ts : List History) → closed_in i ts ≤ length ts
 closed_few i [] = omega arith
 closed_few i (u ∷ ts) = at_most_one (is_closed (reported 0 u.entries) i) (closed_in i ts) (length ts) (closed_few i ts)
 

@@ -1,73 +1,30 @@
-//! Runs spread over jobs, and each job in a thread of its own.
+//! The runs of a channel, which are spread over rounds and jobs.
 
-ghost use Rattle.std.specs.Prelude.{◌≡◌, ◌≤◌, ◌<◌, ◌+◌, ◌++◌, ℕ, List, Some, slice_index_or, length, IfOk, vec_len};
+ghost use Rattle.std.specs.Prelude.{◌≡◌, ◌≤◌, ◌+◌, ◌++◌, ℕ, List, Some, None, length, IfOk};
 ghost use Rattle.std.specs.List.{slice_get};
 ghost use Rattle.step_machine.specs.History.{History};
 ghost use Rattle.ring_trials.specs.Own.{OpensOver};
 ghost use Rattle.ring_trials.specs.Trials.{AreTotals, IsFound, source_of};
-ghost use Rattle.ring_trials.specs.inner.Joining.{IsFoundByJob};
+ghost use Rattle.ring_trials.specs.inner.Joining.{IsFoundFrom};
 
 use crate::own::{Own, senders};
 use crate::runs::{Found, Total, find_on, no_totals};
-use jumping::{Jump, first_run};
+use jumping::Jump;
+use jumping::progress::Progress;
+use jumping::spreading::{Trials, in_rounds};
 use std::alloc::{AllocError, Global};
-use std::thread::{Threads, map_indices};
+use std::thread::Threads;
 use step_machine::{MachineState, Opening};
 
-/// What is found of one job's runs, by the words that the generator gives after those of the runs before.
-fn find_of_job<const B: usize, const M: usize, G: Jump + Drop>(
-    alloc: Global,
-    own: &Own,
-    opening: &Opening,
-    generator: &G,
-    runs: u32,
+/// The runs of a channel from this opening, each by `size` events that a generator draws, over buffers of `B` stores and
+/// `M` words of memory.
+#[derive(Drop)]
+struct OwnRuns<'a, const B: usize, const M: usize, G> {
+    own: &'a Own,
+    opening: &'a Opening,
+    generator: &'a G,
     size: u32,
-    jobs: usize,
-    job: usize,
-) -> Result<Found, AllocError>
-    requires capacity { B ≤ 64 }
-    requires memory { M ≤ 65536 }
-    requires opens { OpensOver M own.now opening.now }
-    requires most { jobs ≤ 4294967295 }
-    requires job { job < jobs }
-    ensures { IfOk result (λ found. IsFoundByJob (source_of B M own.now (G.Rng.stream generator.now) size) runs jobs job found) }
-{
-    let first = first_run(runs, jobs, job);
-    let end = first_run(runs, jobs, job + 1);
-    let mut there = generator.ahead(u64::from(first), size)?;
-    let mut machine = MachineState::<B, M>::open(alloc, opening)?;
-    find_on(alloc, own, &mut there, &mut machine, end - first, size)
-}
-
-/// What each job found, in order, each in a thread of its own where there is one to be had.
-fn found_by_each<const B: usize, const M: usize, G: Jump + Sync + Drop, T: Threads + Sync>(
-    rt: &T,
-    alloc: Global,
-    own: &Own,
-    opening: &Opening,
-    generator: &G,
-    runs: u32,
-    size: u32,
-    jobs: usize,
-) -> Result<Vec<Result<Found, AllocError>>, AllocError>
-    requires capacity { B ≤ 64 }
-    requires memory { M ≤ 65536 }
-    requires opens { OpensOver M own.now opening.now }
-    requires most { jobs ≤ 4294967295 }
-    ensures len { IfOk result (λ all. vec_len all ≡ jobs) }
-    ensures each { IfOk result (λ all. (job : ℕ) (d : _) → job < jobs → IfOk (slice_index_or all.items job d)
-        (λ found. IsFoundByJob (source_of B M own.now (G.Rng.stream generator.now) size) runs jobs job found)) }
-{
-    map_indices(
-        rt,
-        alloc,
-        jobs,
-        &|job: usize| -> Result<Found, AllocError>
-            requires { (B ≤ 64) × (M ≤ 65536) × OpensOver M own.now opening.now × (jobs ≤ 4294967295) × (job < jobs) }
-            ensures { IfOk result (λ found. IsFoundByJob (source_of B M own.entry.now (G.Rng.stream generator.entry.now) size)
-                runs jobs job found) }
-        { find_of_job::<B, M, G>(alloc, own, opening, generator, runs, size, jobs, job) },
-    )
+    ghost can: { (B ≤ 64) × (M ≤ 65536) × OpensOver M own.now opening.now },
 }
 
 /// Takes in the totals of later runs.
@@ -88,9 +45,91 @@ fn join(totals: &mut [Total], later: &[Total])
     }
 }
 
-/// What is found of `runs` runs, each by `size` events that the generator draws, spread over `jobs` threads; no job
-/// is one. It doesn't depend on the jobs.
-pub fn find_by_jobs<const B: usize, const M: usize, G: Jump + Sync + Drop, T: Threads + Sync>(
+/// What is found of the runs from `first` on and before `end`, by the words that the generator gives after those of the
+/// runs before.
+fn found_between<const B: usize, const M: usize, G: Jump + Drop>(
+    alloc: Global,
+    own: &Own,
+    opening: &Opening,
+    generator: &G,
+    size: u32,
+    first: u32,
+    end: u32,
+) -> Result<Found, AllocError>
+    requires capacity { B ≤ 64 }
+    requires memory { M ≤ 65536 }
+    requires opens { OpensOver M own.now opening.now }
+    requires order { first ≤ end }
+    ensures { IfOk result (λ found. IsFoundFrom (source_of B M own.now (G.Rng.stream generator.now) size) first end found) }
+{
+    let mut there = generator.ahead(u64::from(first), size)?;
+    let mut machine = MachineState::<B, M>::open(alloc, opening)?;
+    let found = find_on(alloc, own, &mut there, &mut machine, end - first, size)?;
+    match found {
+        Found::Clean(totals) => Ok(Found::Clean(totals)),
+        Found::Unclean { number, breach } => Ok(Found::Unclean {
+            number: first + number,
+            breach,
+        }),
+    }
+}
+
+/// A job's runs take a machine, a schedule and the senders' totals, however many they are. None is made after one that
+/// isn't clean.
+impl<'a, const B: usize, const M: usize, G: Jump + Sync + Drop> Trials for OwnRuns<'a, B, M, G> {
+    type Part = Found;
+
+    ghost knows = { λ it first end found. IsFoundFrom (source_of B M it.own.now (G.Rng.stream it.generator.now) it.size) first end found };
+
+    fn none(&self, alloc: Global) -> Result<Found, AllocError> {
+        Ok(Found::Clean(no_totals(alloc, senders(self.own))?))
+    }
+
+    fn make(&self, alloc: Global, first: u32, end: u32) -> Result<Found, AllocError> {
+        found_between::<B, M, G>(
+            alloc,
+            self.own,
+            self.opening,
+            self.generator,
+            self.size,
+            first,
+            end,
+        )
+    }
+
+    fn join(&self, whole: &mut Found, later: Found) -> Result<(), AllocError> {
+        if let Found::Clean(totals) = whole {
+            match later {
+                Found::Clean(more) => join(totals, &more),
+                Found::Unclean { number, breach } => *whole = Found::Unclean { number, breach },
+            }
+        }
+        Ok(())
+    }
+
+    fn is_over(&self, whole: &Found) -> bool {
+        match whole {
+            Found::Clean(_) => false,
+            Found::Unclean { .. } => true,
+        }
+    }
+
+    fn outcomes(&self, _whole: &Found) -> Option<usize>
+        ensures { result ≡ None }
+    {
+        None
+    }
+}
+
+/// What is found of `runs` runs, each by `size` events that the generator draws, spread over rounds and over `jobs`
+/// threads; no job is one. It depends on neither. The progress learns how far the runs are, and that they ended.
+pub fn find_in_rounds<
+    const B: usize,
+    const M: usize,
+    G: Jump + Sync + Drop,
+    T: Threads + Sync,
+    P: Progress,
+>(
     rt: &T,
     alloc: Global,
     own: &Own,
@@ -99,28 +138,20 @@ pub fn find_by_jobs<const B: usize, const M: usize, G: Jump + Sync + Drop, T: Th
     runs: u32,
     size: u32,
     jobs: u32,
+    progress: &mut P,
 ) -> Result<Found, AllocError>
     requires capacity { B ≤ 64 }
     requires memory { M ≤ 65536 }
     requires opens { OpensOver M own.now opening.now }
     ensures { IfOk result (λ found. IsFound (source_of B M own.now (G.Rng.stream generator.now) size) runs found) }
 {
-    let jobs = jobs.max(1) as usize;
-    let all = found_by_each::<B, M, G, T>(rt, alloc, own, opening, generator, runs, size, jobs)?;
-    let mut totals = no_totals(alloc, senders(own))?;
-    let mut job = 0;
-    for found in all {
-        match found? {
-            Found::Clean(later) => join(&mut totals, &later),
-            Found::Unclean { number, breach } => {
-                let before = first_run(runs, jobs, job);
-                return Ok(Found::Unclean {
-                    number: before + number,
-                    breach,
-                });
-            }
-        }
-        job += 1;
-    }
-    Ok(Found::Clean(totals))
+    let trials = OwnRuns::<B, M, G> {
+        own,
+        opening,
+        generator,
+        size,
+    };
+    let found = in_rounds(rt, alloc, &trials, runs, jobs, progress);
+    progress.end();
+    found
 }

@@ -13,8 +13,9 @@ use crate::judging::judge;
 use crate::own::{Own, open_own, senders};
 use crate::passes::{Bench, shorten};
 use crate::runs::Found;
-use crate::spreading::find_by_jobs;
+use crate::spreading::find_in_rounds;
 use crate::wording::{clean_text, unclean_text};
+use jumping::progress::Progress;
 use jumping::{Jump, Runs};
 use poll_close::{RefusedAt, no_shares};
 use recorder::draw;
@@ -69,13 +70,14 @@ fn short_text<const B: usize, const M: usize, G: Jump + Drop>(
 }
 
 /// The text for the runs of a channel with this opening, and whether all are clean.
-fn tell<const B: usize, const M: usize, G: Jump + Sync + Drop, T: Threads + Sync>(
+fn tell<const B: usize, const M: usize, G: Jump + Sync + Drop, T: Threads + Sync, P: Progress>(
     rt: &T,
     alloc: Global,
     own: &Own,
     opening: &Opening,
     generator: &G,
     runs: Runs,
+    progress: &mut P,
 ) -> Result<(String, bool), AllocError>
     requires capacity { B ≤ 64 }
     requires memory { M ≤ 65536 }
@@ -91,7 +93,9 @@ fn tell<const B: usize, const M: usize, G: Jump + Sync + Drop, T: Threads + Sync
         jobs,
         ..
     } = runs;
-    let found = find_by_jobs::<B, M, G, T>(rt, alloc, own, opening, &start, number, length, jobs)?;
+    let found = find_in_rounds::<B, M, G, T, P>(
+        rt, alloc, own, opening, &start, number, length, jobs, progress,
+    )?;
     match found {
         Found::Clean(totals) => Ok((clean_text(alloc, number, &totals, &own.lists)?, true)),
         Found::Unclean { number, .. } => {
@@ -107,15 +111,16 @@ fn tell<const B: usize, const M: usize, G: Jump + Sync + Drop, T: Threads + Sync
 ///
 /// If all are clean, that is their number and a line for each sender. Otherwise it is a schedule and the line of the
 /// first breach of its run: of the first run that isn't clean, from which events were left out until none could go.
-/// The text doesn't depend on the jobs.
+/// The text depends neither on the jobs nor on the progress, which learns how far the runs are, and that they ended.
 ///
 /// The channel is refused as [`open_own`] refuses it.
-pub fn told<const B: usize, const M: usize, G: Jump + Sync + Drop, T: Threads + Sync>(
+pub fn told<const B: usize, const M: usize, G: Jump + Sync + Drop, T: Threads + Sync, P: Progress>(
     rt: &T,
     alloc: Global,
     own: &Own,
     generator: &G,
     runs: Runs,
+    progress: &mut P,
 ) -> Result<(String, bool), RefusedAt>
     requires some_capacity { 1 ≤ B }
     requires capacity { B ≤ 64 }
@@ -129,5 +134,5 @@ pub fn told<const B: usize, const M: usize, G: Jump + Sync + Drop, T: Threads + 
     ensures refused { IfErr result (λ e. RefusesAt (ring_of own.now) M (lists_of own.now) (layout_from own.now) e) }
 {
     let opening = open_own(alloc, own, M)?;
-    Ok(tell::<B, M, G, T>(rt, alloc, own, &opening, generator, runs)?)
+    Ok(tell::<B, M, G, T, P>(rt, alloc, own, &opening, generator, runs, progress)?)
 }

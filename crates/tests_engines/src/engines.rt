@@ -6,13 +6,13 @@ use debugger::debug::debug_engine;
 use engine_support::fault::Fault;
 use finding::{SearchProgress, find_engine};
 use hart::Stop;
+use jumping::progress::Progress;
 use lamport_ring::Lamport;
 use poll_close::BlockPlace;
 use rand_pcg::Pcg32;
 use std::io::BufReader;
 use std::sync::Wait;
 use std::thread::Threads;
-use tries::progress::Progress;
 use tries::trials::{Runs, try_engine};
 use view_engines::charting::{Selection, Style, chart_engine};
 use view_engines::showing::{Form, show_engine};
@@ -96,7 +96,9 @@ impl Progress for Nobody {
         left
     }
 
-    fn report(&mut self, _done: u32, _runs: u32, _outcomes: usize) {}
+    fn report(&mut self, _done: u32, _runs: u32, _outcomes: Option<usize>) {}
+
+    fn stopped(&mut self, _hart: u32, _why: Stop, _runs: u32) {}
 
     fn end(&mut self) {}
 }
@@ -190,8 +192,17 @@ pub fn answer(
         Engine::Ring => {
             let generator = Pcg32::new(42, 54);
             let runs = ONE_RUN;
-            ring_engine::<4, 4096, _, _, _, _, _, _>(
-                rt, alloc, RING, first, second, third, &generator, runs, writer,
+            ring_engine::<4, 4096, _, _, _, _, _, _, _>(
+                rt,
+                alloc,
+                RING,
+                first,
+                second,
+                third,
+                &generator,
+                runs,
+                &mut Nobody,
+                writer,
             )
             .map(|_| ())
         }

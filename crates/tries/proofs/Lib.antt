@@ -6,3 +6,4 @@ pub mod OneText
 pub mod EndVerdicts
 pub mod WalkLaws
 pub mod GrownWalks
+pub mod StopLaws

@@ -18,8 +18,6 @@ use Rattle.engine_support.proofs.OutcomeTables.{seen_both, seen_few}
 use Rattle.tries.specs.Trials.{Trial, IsTrial, AreTrials, gave, is_finished, is_holds, is_fails}
 use Rattle.tries.specs.Outcomes.{first_schedule}
 use Rattle.tries.specs.inner.Tallies.{IsTallyOf}
-use Rattle.jumping.specs.Sharing.{first_of}
-use Rattle.jumping.proofs.SharingLaws.{none_placed}
 use Rattle.tries.specs.inner.Merging.{AreRunsFrom, IsTallyFrom, Merges, Source}
 use Rattle.tries.proofs.TrialLaws.{no_trials}
 use Rattle.tries.proofs.TallyLaws.{first_of_both, first_of_later}
@@ -116,30 +114,14 @@ module _ (source : Source) where
   from_all runs tally is = (is.trials, first_are runs tally is, is.tallied)
 
   -- the tally that has none is that of no run
-  pub from_none : (runs jobs : ℕ) (tally : Tally) → IsTallyOf [] tally → 1 ≤ jobs → IsTallyFrom source 0 (first_of runs jobs 0) tally
-  from_none runs jobs tally none some =
-      let zero_runs = none_placed runs jobs some in
-      record {
-        trials = [];
-        are = are_first (first_of runs jobs 0) [] (subst (λ (n : ℕ). AreRuns n []) zero_runs
-            (no_trials source.B source.M source.test source.stream source.size));
-        tallied = none;
-      }
+  pub from_none : (tally : Tally) → IsTallyOf [] tally → IsTallyFrom source 0 0 tally
+  from_none tally none = record {
+    trials = [];
+    are = are_first 0 [] (no_trials source.B source.M source.test source.stream source.size);
+    tallied = none;
+  }
 
-  -- the runs of a round, which the generator draws after those before it
-  pub from_round : (before round : ℕ) (there : Stream) (tally : Tally) → there ≡ left_after (before * source.size) source.stream
-      → (trials : List Trial) × AreTrials source.B source.M source.test there round source.size trials × IsTallyOf trials tally
-      → IsTallyFrom source before (before + round) tally
-  from_round before round there tally drawn is =
-      let own : round ≡ (before + round) - before = omega arith in
-      record {
-        trials = is.0;
-        are = subst (λ (n : ℕ). AreRunsFrom source before n is.0) own
-            (subst (λ (s : Stream). AreTrials source.B source.M source.test s round source.size is.0) drawn is.1);
-        tallied = is.2;
-      }
-
-  -- the runs before a job or a round, and its own
+  -- the runs before some others, and these
   module _ (before end : ℕ) (old later : Tally) (le : before ≤ end) (first : IsTallyFrom source 0 before old)
       (second : IsTallyFrom source before end later) where
     abbrev both : List Trial

@@ -2,3 +2,4 @@
 pub mod Tallies
 pub mod Merging
 pub mod Walks
+pub mod Stops

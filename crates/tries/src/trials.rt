@@ -8,7 +8,6 @@ ghost use Rattle.tries.specs.inner.Tallies.{text_and_good};
 ghost use Rattle.recorder.specs.Drawing.{left_after};
 ghost use Rattle.litmus.specs.declared.litmus_test.TheConstants.{MAX_LOCATIONS};
 
-use crate::progress::Progress;
 use crate::trials::outcomes::end_with_tally;
 use crate::trials::spreading::tally_in_rounds;
 use crate::trials::tally::Tally;
@@ -16,6 +15,7 @@ use engine_support::fault::Fault;
 use engine_support::litmus_text::read_test;
 use jumping::Jump;
 pub use jumping::Runs;
+use jumping::progress::Progress;
 use litmus::Test;
 use std::alloc::{AllocError, Global};
 use std::io::{Read, Write};
@@ -52,11 +52,9 @@ fn drawn<const B: usize, const M: usize, G: Jump + Sync + Drop, T: Threads + Syn
         jobs,
         ..
     } = runs;
-    let tallied = tally_in_rounds::<B, M, G, T, P>(
+    let tally = tally_in_rounds::<B, M, G, T, P>(
         rt, alloc, test, &start, number, length, jobs, progress,
-    );
-    progress.end();
-    let tally = tallied?;
+    )?;
     tally.outcomes.has_lines(test);
     Ok(tally)
 }

@@ -147,6 +147,11 @@ Does B (Own place capacity) result given =
 Does B (Ring seed runs place capacity) result given =
     Done good_exit (IsRingAnswer (drawn_runs B seed runs place) given.first given.second given.third) result
 
+-- a command that judges records, one after the other
+abbrev pub judges_records : Command → Bool
+judges_records (Machine Check capacity) = true
+judges_records command = false
+
 -- ---- what is left unread
 
 -- the end is a refusal

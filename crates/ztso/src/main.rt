@@ -8,43 +8,52 @@
 
 #![tactic(auto)]
 
-ghost use Rattle.std.specs.Prelude.{◌≤◌, IfOk};
+ghost use Rattle.std.specs.Prelude.{◌≡◌, ◌≤◌, IfOk};
+ghost use Rattle.ztso.specs.Work.{judges_records};
 
+mod clock_line;
 mod failure;
 mod lazy_input;
-mod progress_line;
 mod prompt_reader;
-mod search_line;
-mod stop_counts;
+mod reading_line;
+mod shown_input;
+mod terminal_line;
 mod work;
 
-use command_line::job::Job;
+use command_line::job::{Command, Job, MachineCommand};
 use command_line::{CommandLineError, job_of};
 use failure::Failure;
 use finding::SearchProgress;
+use jumping::progress::Progress;
 use lazy_input::LazyInput;
-use progress_line::ProgressLine;
 use prompt_reader::PromptReader;
-use search_line::SearchLine;
+use reading_line::ReadingLine;
+use shown_input::ShownInput;
 use std::io::IsTerminal;
 use std::process::ExitCode;
-use std::rt::{Env, Files};
+use std::rt::{Clock, Env, Files};
 use std::sync::Wait;
 use std::thread::Threads;
 use std::{env, io};
-use tries::progress::Progress;
+use terminal_line::TerminalLine;
 use work::{Streams, do_command};
 
 fn main(rt: HostRuntime) -> ExitCode {
     let is_terminal = rt.stderr().is_terminal();
-    let mut progress = is_terminal.then_some(ProgressLine::new(&rt));
-    let mut search = is_terminal.then_some(SearchLine::new(&rt));
-    match run(&rt, &mut progress, &mut search) {
-        Ok(status) => ExitCode::from(status),
+    let shows_reading = is_terminal && !rt.stdout().is_terminal();
+    let mut progress = is_terminal.then_some(TerminalLine::new(&rt));
+    let mut search = is_terminal.then_some(TerminalLine::new(&rt));
+    match run(&rt, shows_reading, &mut progress, &mut search) {
+        Ok(status) => {
+            if let Some(line) = progress {
+                line.tell_stopped_runs();
+            }
+            ExitCode::from(status)
+        }
         Err(failure) => {
             let _ = eprintln!(rt; "ztso: {failure}");
             if let (Failure::AllSeen { .. } | Failure::Cut { .. }, Some(line)) = (failure, search) {
-                line.tell_stops();
+                line.tell_stopped_states();
             }
             ExitCode::from(failure.status())
         }
@@ -52,42 +61,62 @@ fn main(rt: HostRuntime) -> ExitCode {
 }
 
 /// Does the job that the command line asks for, and answers the exit status. It may wait where that job
-/// runs on threads. `progress` gets the reports of `try`, and `search` those of `find`.
+/// runs on threads. `shows_reading` says whether `check` shows how much it has read. `progress` gets the reports of `try`
+/// and `ring`, and `search` those of `find`.
 fn run<R, P: Progress, Q: SearchProgress>(
     rt: &R,
+    shows_reading: bool,
     progress: &mut P,
     search: &mut Q,
 ) -> Result<u8, Failure>
 where
-    R: Env + Files + Input + Print + Eprint + AllocGlobal + Threads + Wait + Sync,
+    R: Env + Files + Input + Clock + Print + Eprint + AllocGlobal + Threads + Wait + Sync,
     R::Reader: IsTerminal,
     ensures { IfOk result (λ status. status ≤ 1) }
 {
     let arguments = env::args(rt).map_err(CommandLineError::of_arguments)?;
     let words: Vec<String> = arguments.collect(rt.alloc())?;
     let job = job_of(rt.alloc(), &words)?;
-    do_job(rt, job, progress, search)
+    do_job(rt, job, shows_reading, progress, search)
 }
 
 /// Does a job on the streams and files that it names. None is opened before it is read.
 fn do_job<R, P: Progress, Q: SearchProgress>(
     rt: &R,
     job: Job<'_>,
+    shows_reading: bool,
     progress: &mut P,
     search: &mut Q,
 ) -> Result<u8, Failure>
 where
-    R: Files + Input + Print + Eprint + AllocGlobal + Threads + Wait + Sync,
+    R: Files + Input + Clock + Print + Eprint + AllocGlobal + Threads + Wait + Sync,
     R::Reader: IsTerminal,
     ensures { IfOk result (λ status. status ≤ 1) }
 {
+    let shown = shows_reading && is_check(job.command);
+    let line = shown.then_some(ReadingLine::new(rt));
     let mut streams = Streams {
-        first: LazyInput::new(rt, Some(job.first)),
-        second: LazyInput::new(rt, job.second),
-        third: LazyInput::new(rt, job.third),
-        fourth: LazyInput::new(rt, job.fourth),
+        first: ShownInput::new(LazyInput::new(rt, Some(job.first)), None),
+        second: ShownInput::new(LazyInput::new(rt, job.second), line),
+        third: ShownInput::new(LazyInput::new(rt, job.third), None),
+        fourth: ShownInput::new(LazyInput::new(rt, job.fourth), None),
         commands: PromptReader::new(rt),
         writer: io::writer(rt),
     };
-    do_command(rt, job.command, &mut streams, progress, search)
+    let ended = do_command(rt, job.command, &mut streams, progress, search);
+    streams.second.wipe();
+    ended
+}
+
+/// Whether the command judges records, one after the other.
+fn is_check(command: Command) -> bool
+    ensures { result ≡ judges_records command }
+{
+    matches!(
+        command,
+        Command::Machine {
+            command: MachineCommand::Check,
+            ..
+        }
+    )
 }

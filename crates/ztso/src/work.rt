@@ -30,6 +30,7 @@ use engine_support::fault::Fault;
 use fastforward::FastForward;
 use finding::{Found, SearchProgress, find_engine};
 use jumping::Runs;
+use jumping::progress::Progress;
 use lamport_cached::LamportCached;
 use lamport_ring::Lamport;
 use poll_close::BlockPlace;
@@ -39,7 +40,6 @@ use std::alloc::Global;
 use std::io::{BufReader, Read, Write};
 use std::sync::Wait;
 use std::thread::Threads;
-use tries::progress::Progress;
 use tries::trials::try_engine;
 use view_engines::charting::chart_engine;
 use view_engines::showing::{Form, show_engine};
@@ -196,7 +196,15 @@ fn find<const B: usize, F: Read, W: Write, P: SearchProgress>(
 
 /// Runs a channel over two programs by schedules that are drawn from a generator of this seed, with buffers of `B`
 /// stores. The jobs are threads; it has no leave to wait for anything else.
-fn run_own_ring<const B: usize, S: Read, R: Read, L: Read, W: Write, T: Threads + Sync>(
+fn run_own_ring<
+    const B: usize,
+    S: Read,
+    R: Read,
+    L: Read,
+    W: Write,
+    T: Threads + Sync,
+    P: Progress,
+>(
     rt: &T,
     alloc: Global,
     seed: u64,
@@ -205,6 +213,7 @@ fn run_own_ring<const B: usize, S: Read, R: Read, L: Read, W: Write, T: Threads 
     sender: &mut S,
     receiver: &mut R,
     lists: &mut L,
+    progress: &mut P,
     writer: &mut W,
 ) -> Result<bool, Fault>
     requires some_capacity { 1 ≤ B }
@@ -216,8 +225,8 @@ fn run_own_ring<const B: usize, S: Read, R: Read, L: Read, W: Write, T: Threads 
         → lists.new ≡ lists.old }
 {
     let generator = Lcg64Xsh32::seed_from_u64(seed);
-    ring_engine::<B, WORDS, _, _, _, _, _, _>(
-        rt, alloc, place, sender, receiver, lists, &generator, runs, writer,
+    ring_engine::<B, WORDS, _, _, _, _, _, _, _>(
+        rt, alloc, place, sender, receiver, lists, &generator, runs, progress, writer,
     )
 }
 
@@ -372,7 +381,7 @@ where
             runs,
             place,
             ..
-        } => after_runs(run_own_ring::<B, _, _, _, _, _>(
+        } => after_runs(run_own_ring::<B, _, _, _, _, _, _>(
             rt,
             alloc,
             seed,
@@ -381,6 +390,7 @@ where
             &mut streams.first,
             &mut streams.second,
             &mut streams.third,
+            progress,
             &mut streams.writer,
         )),
     }

@@ -13,6 +13,7 @@ use crate::lists::read_lists;
 use crate::programs::read_program;
 use engine_support::fault::{Fault, Role};
 use engine_support::output::end_with;
+use jumping::progress::Progress;
 use jumping::{Jump, Runs};
 use poll_close::BlockPlace;
 use ring_trials::own::Own;
@@ -30,6 +31,7 @@ fn made<
     L: Read,
     G: Jump + Sync + Drop,
     T: Threads + Sync,
+    P: Progress,
 >(
     rt: &T,
     alloc: Global,
@@ -39,6 +41,7 @@ fn made<
     lists: &mut L,
     generator: &G,
     runs: Runs,
+    progress: &mut P,
 ) -> Result<(String, bool), Fault>
     requires some_capacity { 1 ≤ B }
     requires capacity { B ≤ 64 }
@@ -59,7 +62,7 @@ fn made<
         lists,
         place,
     };
-    match told::<B, M, G, T>(rt, alloc, &own, generator, runs) {
+    match told::<B, M, G, T, P>(rt, alloc, &own, generator, runs, progress) {
         Ok(answered) => Ok(answered),
         Err(why) => Err(channel_fault(why)),
     }
@@ -73,7 +76,7 @@ fn made<
 /// Where all runs are clean it writes how many they are, and a line for each sender: how many of its words a run took
 /// at most, and in how many runs it was reported closed. Else it writes a part of the first unclean run's events that is
 /// unclean itself, and without any one of them isn't, and what that breaks first. It answers whether all runs are clean.
-/// Neither depends on the jobs.
+/// Neither depends on the jobs or on the progress, which learns how far the runs are, and that they ended.
 ///
 /// A program is refused as too large ([`engine_support::fault::TOO_LARGE`]), else as no text
 /// ([`engine_support::fault::NOT_TEXT`]), else as [`assembler::assemble`] says, at the line, as this program's. Lists are
@@ -88,6 +91,7 @@ pub fn ring_engine<
     G: Jump + Sync + Drop,
     W: Write,
     T: Threads + Sync,
+    P: Progress,
 >(
     rt: &T,
     alloc: Global,
@@ -97,6 +101,7 @@ pub fn ring_engine<
     lists: &mut L,
     generator: &G,
     runs: Runs,
+    progress: &mut P,
     writer: &mut W,
 ) -> Result<bool, Fault>
     requires some_capacity { 1 ≤ B }
@@ -110,7 +115,9 @@ pub fn ring_engine<
         → lists.new ≡ lists.old }
 {
     end_with(
-        made::<B, M, S, R, L, G, T>(rt, alloc, place, sender, receiver, lists, generator, runs),
+        made::<B, M, S, R, L, G, T, P>(
+            rt, alloc, place, sender, receiver, lists, generator, runs, progress,
+        ),
         writer,
     )
 }

@@ -3,7 +3,6 @@ use Rattle.std.specs.Prelude.{ℕ, ◌≡◌, ◌+◌, ◌*◌, ◌-◌, ◌||�
 use Rattle.rand_core.specs.Stream.{Stream}
 use Rattle.litmus.specs.LitmusTests.{LitmusTest}
 use Rattle.recorder.specs.Drawing.{left_after}
-use Rattle.jumping.specs.Sharing.{first_of}
 use Rattle.tries.specs.declared.trials.tally.Tally.{Tally}
 use Rattle.tries.specs.Trials.{Trial, AreTrials}
 use Rattle.engine_support.specs.Counting.{counted, counted_both}
@@ -35,7 +34,3 @@ pub record IsTallyFrom (source : Source) (first end : ℕ) (tally : Tally) : Typ
   pub trials : List Trial
   pub are : AreRunsFrom source first (end - first) trials
   pub tallied : IsTallyOf trials tally
-
--- the tally of a job's runs, which end where those of the next job begin
-abbrev pub IsTallyOfJob : Source → (runs jobs job : ℕ) → Tally → Type 0
-IsTallyOfJob source runs jobs job tally = IsTallyFrom source (first_of runs jobs job) (first_of runs jobs (job + 1)) tally

@@ -10,7 +10,9 @@ ghost use Rattle.tries.specs.Outcomes.{schedule_text as text_of_schedule};
 ghost use Rattle.engine_support.specs.Counting.{counted, counted_both, Counts};
 ghost use Rattle.tries.specs.inner.Tallies.{IsTallyOf, Tallies};
 ghost use Rattle.tries.specs.inner.Merging.{Merges};
+ghost use Rattle.tries.specs.inner.Stops.{NotesStops, TakesStops};
 
+use crate::stops::{Stopped, Stops};
 use engine_support::outcomes::Outcomes;
 use litmus::Verdict;
 use recorder::push_tokens;
@@ -24,6 +26,8 @@ pub struct Tally {
     pub outcomes: Outcomes,
     /// How many runs left a hart that hasn't ended, or a store pending. They have no outcome.
     pub unfinished: u32,
+    /// In how many of these each hart is stopped at the end, for each reason.
+    pub stops: Stops,
     pub some_hold: bool,
     pub some_fail: bool,
 }
@@ -80,10 +84,12 @@ impl Tally {
             → IfSome (counted_both (counted self.old.outcomes outcome) (counted later.outcomes outcome))
             (λ seen. seen.0 < 18446744073709551616) }
         requires unfinished { self.old.unfinished + later.unfinished < 4294967296 }
-        ensures { OnOk result (Merges self.old later self.new) }
+        ensures merged { OnOk result (Merges self.old later self.new) }
+        ensures stops { OnOk result (TakesStops later.stops self.old.stops self.new.stops) }
     {
         self.outcomes.take_in(later.outcomes)?;
         self.unfinished += later.unfinished;
+        self.stops.take_in(&later.stops);
         self.some_hold = self.some_hold || later.some_hold;
         self.some_fail = self.some_fail || later.some_fail;
         Ok(())
@@ -96,22 +102,25 @@ impl Tally {
         Tally {
             outcomes: Outcomes::new(alloc),
             unfinished: 0,
+            stops: Stops::new(),
             some_hold: false,
             some_fail: false,
         }
     }
 
-    /// Takes in one more run, by these events, with this verdict and these last values.
+    /// Takes in one more run, by these events, with this verdict and these last values, and with these harts stopped.
     pub fn add(
         &mut self,
         alloc: Global,
         events: &[Event],
         verdict: Verdict,
         values: &[u32],
+        stopped: &[Stopped],
     ) -> Result<(), AllocError>
         requires counts { (outcome : List ℕ) → IfSome (counted self.old.outcomes outcome) (λ seen. seen.0 < 18446744073709551615) }
         requires unfinished { self.old.unfinished < 4294967295 }
-        ensures { OnOk result (Tallies (record { events = events.now; verdict = verdict; values = values.now }) self.old self.new) }
+        ensures tallied { OnOk result (Tallies (record { events = events.now; verdict = verdict; values = values.now }) self.old self.new) }
+        ensures stops { OnOk result (NotesStops (is_finished verdict) stopped.now self.old.stops self.new.stops) }
     {
         match verdict {
             Verdict::Holds => {
@@ -124,23 +133,26 @@ impl Tally {
             }
             Verdict::Unfinished => {
                 self.unfinished += 1;
+                self.stops.note_each(stopped);
                 Ok(())
             }
         }
     }
 
-    /// Takes in one more run with this verdict and these last values, unless it is the first with a new outcome,
-    /// and answers whether it did.
-    pub fn add_again(&mut self, verdict: Verdict, values: &[u32]) -> bool
+    /// Takes in one more run with this verdict and these last values, and with these harts stopped, unless it is the
+    /// first with a new outcome, and answers whether it did.
+    pub fn add_again(&mut self, verdict: Verdict, values: &[u32], stopped: &[Stopped]) -> bool
         requires counts { (outcome : List ℕ) → IfSome (counted self.old.outcomes outcome) (λ seen. seen.0 < 18446744073709551615) }
         requires unfinished { self.old.unfinished < 4294967295 }
         ensures again { IsTrue result → (events : List Event) → Tallies (record { events = events; verdict = verdict; values = values.now }) self.old self.new }
+        ensures stops { IsTrue result → NotesStops (is_finished verdict) stopped.now self.old.stops self.new.stops }
         ensures none { result ≡ false → self.new ≡ self.old }
         ensures new { result ≡ false → counted self.old.outcomes values.now ≡ None }
         ensures finished { result ≡ false → IsTrue (is_finished verdict) }
     {
         if verdict == Verdict::Unfinished {
             self.unfinished += 1;
+            self.stops.note_each(stopped);
             return true;
         }
         if !self.outcomes.count_again(values) {

@@ -13,6 +13,11 @@ impl HostRuntime {
         HostRuntime(())
     }
 
+    /// Standard output.
+    pub fn stdout(&self) -> Stream {
+        Stream::standard(1)
+    }
+
     /// Standard error.
     pub fn stderr(&self) -> Stream {
         Stream::standard(2)

@@ -1,19 +1,24 @@
-//! How far the runs of a test are, for whoever waits for them.
+//! How far runs are, for whoever waits for them.
 
 ghost use Rattle.std.specs.Prelude.{◌≡◌, None};
 
+use hart::Stop;
+
 /// What is reported of runs while they are made. They come in rounds, with a report after each.
 ///
-/// What the runs show depends on none of it.
+/// What is known of the runs depends on none of it.
 pub trait Progress {
     /// How many of the runs that are left are made before the next report. Any answer is taken: a round has
     /// at least one run, and at most those that are left.
     fn next_round(&mut self, left: u32) -> u32;
 
-    /// `done` of all `runs` are made, and showed this many outcomes.
-    fn report(&mut self, done: u32, runs: u32, outcomes: usize);
+    /// `done` of all `runs` are made, and showed this many outcomes, where outcomes are counted.
+    fn report(&mut self, done: u32, runs: u32, outcomes: Option<usize>);
 
-    /// No report follows: all runs are made, or memory ran out.
+    /// In so many of the runs this hart is stopped at the end, for this reason.
+    fn stopped(&mut self, hart: u32, why: Stop, runs: u32);
+
+    /// No report follows: all runs are made, no further one is wanted, or memory ran out.
     fn end(&mut self);
 }
 
@@ -28,9 +33,15 @@ impl<P: Progress> Progress for Option<P> {
         }
     }
 
-    fn report(&mut self, done: u32, runs: u32, outcomes: usize) {
+    fn report(&mut self, done: u32, runs: u32, outcomes: Option<usize>) {
         if let Some(progress) = self {
             progress.report(done, runs, outcomes);
+        }
+    }
+
+    fn stopped(&mut self, hart: u32, why: Stop, runs: u32) {
+        if let Some(progress) = self {
+            progress.stopped(hart, why, runs);
         }
     }
 
