@@ -310,15 +310,18 @@ fn refusals_have_their_numbers_and_texts(rt: HostRuntime) -> Result<(), Fail> {
 }
 
 #[test]
-fn refusals_of_places_have_their_texts(rt: HostRuntime) -> Result<(), Fail> {
+fn refusals_of_places_have_their_numbers_and_texts(rt: HostRuntime) -> Result<(), Fail> {
+    let filled = RefusedAt::FilledBlock { word: 5 };
     let rows = [
-        (RefusedAt::Lists(Refused::DoesNotFit), "does not fit"),
-        (RefusedAt::UnevenBase, "uneven base"),
-        (RefusedAt::UnevenStride, "uneven stride"),
-        (RefusedAt::BlocksMeet, "blocks meet"),
-        (RefusedAt::FilledBlock { word: 5 }, "filled block at word 5"),
+        (RefusedAt::Lists(Refused::NoMemory), 0, "no memory"),
+        (RefusedAt::Lists(Refused::DoesNotFit), 20, "does not fit"),
+        (RefusedAt::UnevenBase, 41, "uneven base"),
+        (RefusedAt::UnevenStride, 42, "uneven stride"),
+        (RefusedAt::BlocksMeet, 43, "blocks meet"),
+        (filled, 44, "filled block at word 5"),
     ];
-    for (refused, text) in rows {
+    for (refused, number, text) in rows {
+        assert_same!(rt; refused.number(), number);
         assert_same!(rt; refused.to_string(rt.alloc())?.as_str(), text);
     }
     Ok(())

@@ -17,8 +17,15 @@ fn a_misplaced_symbol_leaves_the_draft(rt: HostRuntime) {
     };
     draft.push(is).expect(&rt, "memory");
     let _condition = draft.finish().expect(&rt, "a condition");
-    let text = misplaced.to_string(rt.alloc()).expect(&rt, "a text");
-    assert_same!(rt; text.as_str(), "bad condition");
+}
+
+#[test]
+fn errors_of_conditions_have_their_texts(rt: HostRuntime) -> Result<(), Fail> {
+    let none = ConditionError::NoMemory;
+    assert_same!(rt; none.to_string(rt.alloc())?.as_str(), "no memory");
+    let misplaced = ConditionError::Misplaced;
+    assert_same!(rt; misplaced.to_string(rt.alloc())?.as_str(), "bad condition");
+    Ok(())
 }
 
 #[test]

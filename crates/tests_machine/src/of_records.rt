@@ -4,7 +4,9 @@ use recorder::{
 };
 use std::alloc::AllocError;
 use std::process::Abort;
+use std::test::Fail;
 use step_machine::{Event, Machine, Outcome};
+use texts::Numbered;
 
 const STORE_BUFFERING: &str =
     "ztso-schedule 2\na0 store 0 0 1\na1 store 1 4 1\na0 load 0 4 0\na1 load 1 0 0\nl0 land 0\nl1 land 1\n";
@@ -87,4 +89,21 @@ fn spellings_of_lines(rt: HostRuntime) {
     assert_same!(rt; read_plain(rt.alloc(), text).is_err(), true);
     let none = written(&rt, &read(&rt, "ztso-schedule 2"));
     assert_same!(rt; none.as_str(), "ztso-schedule 2\n");
+}
+
+#[test]
+fn errors_of_checks_have_their_numbers_and_texts(rt: HostRuntime) -> Result<(), Fail> {
+    let rows = [
+        (CheckError::NoMemory, 0, "no memory"),
+        (
+            CheckError::Differs { event: 7 },
+            38,
+            "other outcome at event 7",
+        ),
+    ];
+    for (error, number, text) in rows {
+        assert_same!(rt; error.number(), number);
+        assert_same!(rt; error.to_string(rt.alloc())?.as_str(), text);
+    }
+    Ok(())
 }
