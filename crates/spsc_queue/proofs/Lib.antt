@@ -28,6 +28,7 @@ pub mod FastForwardLines
 pub mod Completed
 pub mod Functions
 pub mod OwnEntries
+pub mod Running
 pub mod Parties
 pub mod Calls
 pub mod CallLaws

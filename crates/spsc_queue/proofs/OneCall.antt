@@ -27,6 +27,7 @@ use Rattle.spsc_queue.proofs.Outline.{Stands}
 use Rattle.spsc_queue.proofs.Parts.{ring_is, near-of, first-load, load-words}
 use Rattle.spsc_queue.proofs.Functions.{moves_at, is_fresh, few, begins}
 use Rattle.spsc_queue.proofs.OwnEntries.{equipped, own_parts, state_here, here_same, here_next}
+use Rattle.spsc_queue.proofs.Running.{runs_here}
 use Rattle.spsc_queue.proofs.Completed.{is_in_call-last, completed-last, none_completed, same_call, entered}
 use Rattle.spsc_queue.proofs.Parties.{is_busy, words, has_of, which, other_hart, Mine, Others, whose, not_mine}
 use Rattle.spsc_queue.proofs.Calls.{calls_follow, Stand, stands-at, here, was_here, course_stands, completes}
@@ -339,6 +340,8 @@ module _ (B M : ℕ) (o : OpeningValue) (q : SpscQueue) (before done call : List
       (equipped M o h n (listing_of k.kind p) (has_of c.shares p) (before ++ es) y was) near (course h s call) (words M o q p before es)
       inside.line inside.place inside.row in
       record {
+        runs = ap (λ (x : HartState). x.status) (sym same)
+            ∙ runs_here B M o h n (listing_of k.kind p) (has_of c.shares p) (before ++ es) c.shares.run moves.0.plain;
         wants = subst (λ x. IsPlainNeed (need_of x)) same moves.0.plain;
         short = made_few B M o q before es c done call [] whole p s (part_begun w) busy;
       }

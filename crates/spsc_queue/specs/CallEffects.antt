@@ -3,6 +3,7 @@ use Rattle.std.specs.Prelude.{ℕ, ◌≡◌, ◌≢◌, ◌+◌, ◌*◌, ◌/�
 use Rattle.memory.specs.Writes.{write}
 use Rattle.hart.specs.State.{HartState}
 use Rattle.hart.specs.Steps.{need_of}
+use Rattle.hart.specs.declared.status.Status.TheVariants as status
 use Rattle.hart.specs.declared.need.Need.{Need}
 use Rattle.hart.specs.declared.need.Need.TheVariants as need
 use Rattle.step_machine.specs.declared.events.Entry.{Entry}
@@ -39,15 +40,18 @@ IsPlainNeed (need.Load a width) = Unit {0}
 IsPlainNeed (need.Store a width w) = Unit {0}
 IsPlainNeed other = ⊥
 
--- a hart that is in a call, in state z, after this many entries of it: it only computes, loads or stores next, and these entries
--- were at most 10
+-- a hart that is in a call, in state z, after this many entries of it: it runs, it only computes, loads or stores next, and
+-- these entries were at most 10
 pub record GoesOn (z : HartState) (count : ℕ) : Type 0 where
+  pub runs : z.status ≡ status.Running
   pub wants : IsPlainNeed (need_of z)
   pub short : count ≤ 10
 
+-- `call` is a whole call of the sender's function
 abbrev pub IsSend : (M : ℕ) → OpeningValue → SpscQueue → (before done call : List Entry) → (s z : HartState) → Type 0
 IsSend M o q before done call s z = IsWholeCall M o q.sender q.send_line q.block before done call s z
 
+-- `call` is a whole call of the receiver's function
 abbrev pub IsReceive : (M : ℕ) → OpeningValue → SpscQueue → (before done call : List Entry) → (s z : HartState) → Type 0
 IsReceive M o q before done call s z = IsWholeCall M o q.receiver q.receive_line q.block before done call s z
 

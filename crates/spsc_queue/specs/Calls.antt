@@ -1,4 +1,4 @@
--- Calls of the two functions by code that does as it likes around them: where a block lies, when a hart is in a call, which
+-- Calls of the functions by code that does as it likes around them: where a block lies, when a hart is in a call, which
 -- words its calls completed, and all that a caller owes.
 use Rattle.std.specs.Prelude.{ℕ, ◌≡◌, ◌≢◌, ◌+◌, ◌*◌, ◌/◌, ◌%◌, ◌^◌, ◌<◌, ◌≤◌, ◌==◌, ◌&&◌, ◌||◌, if◌then◌else◌, Bool, true, false, Option, None, Some, List, []}
 use Rattle.std.specs.Prelude.{◌∷◌, ◌++◌, length, slice_index}
@@ -203,7 +203,8 @@ pub record SharesQueue (B M : ℕ) (o : OpeningValue) (q : SpscQueue) (before es
   pub sends : HasFunction o q.sender q.send_line (listing_of q.block.kind the_sender)
   pub receives : HasFunction o q.receiver q.receive_line (listing_of q.block.kind the_receiver)
 
--- in which they call these functions for the block, neither in a call where it begins, and each entry keeps what is owed
+-- a run of two harts that call the functions for the block, and each of whose entries keeps what is owed. Where it begins both
+-- count as in no call
 pub record UsesAsSpscQueue (B M : ℕ) (o : OpeningValue) (q : SpscQueue) (before es : List Entry) : Type 0 where
   pub shares : SharesQueue B M o q before es
   pub owed : (done : List Entry) (e : Entry) (more : List Entry) → es ≡ done ++ e ∷ more → CallerObligation M o q before done e

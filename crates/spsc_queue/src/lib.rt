@@ -207,8 +207,8 @@ pub fn laws_of_many_queues()
 /// - `receive`: a call that receives loads the tail, and then the head or the slot. If that says that the queue is empty it
 ///   returns a0 = 0; else a1 is the word of the slot, into which FastForward's stores 0, it stores the tail and returns
 ///   a0 = 1. The rest is as above, and a1 may change.
-/// - `send_goes_on` and `receive_goes_on`: in a call, which may be cut at any point, a hart wants nothing of memory, a load or a
-///   store, and has made at most 10 entries. So no call stops a hart, and none goes on for ever.
+/// - `send_goes_on` and `receive_goes_on`: in a call, which may be cut at any point, a hart runs, wants nothing of memory, a load or
+///   a store, and has made at most 10 entries. So no call stops a hart, and with its 11th entry a call is over.
 /// - `sends` and `receives`: a call that returns 1 completes the word in a1, and one that returns 0 completes none.
 /// - `linearization_of_full` and `linearization_of_empty`: a call that returned 0 found the queue so at its second load,
 ///   as far as the partner's stores had landed.

@@ -1,0 +1,98 @@
+-- A hart that a run leads to a state runs there, except where it wants to stop or to end.
+use Rattle.std.proofs.Common.{arith, ℕ, ◌*◌, ◌≡◌, ◌==◌, ◌⊎◌, inl, inr, Bool, true, false, if◌then◌else◌, List, [], ◌∷◌}
+use Rattle.std.proofs.Common.{length, Option, Some, None, refl, sym, ◌∙◌, ap, subst}
+use Rattle.std.specs.Prelude.{nat_lt}
+use Rattle.std.proofs.lemmas.Bool.{eqb-true}
+use Rattle.std.proofs.lemmas.Bool.Decides.{nat_tests}
+use Rattle.std.proofs.lemmas.Option.{slice_get_within}
+use Rattle.rv_decode.specs.declared.instruction.Instr.{Instr}
+use Rattle.hart.specs.State.{HartState}
+use Rattle.hart.specs.Steps.{need_of, settled, after_meaning, given, advanced_by, advanced, fetched}
+use Rattle.hart.specs.Effects.{registers_after, pc_after}
+use Rattle.hart.specs.declared.status.Status.{Status}
+use Rattle.hart.specs.declared.status.Status.TheVariants as status
+use Rattle.hart.specs.declared.need.Need.{Need}
+use Rattle.hart.specs.declared.need.Need.TheVariants as need
+use Rattle.step_machine.specs.declared.events.Entry.{Entry}
+use Rattle.step_machine.specs.History.{OpeningValue, history_of}
+use Rattle.step_machine.specs.Entries.{own}
+use Rattle.step_machine.specs.Paths.{value_of, after_entries, Makes, opens_as, PathOf}
+use Rattle.step_machine.specs.Legal.{WellFormed}
+use Rattle.spsc_queue.specs.Listings.{Listed}
+use Rattle.spsc_queue.specs.Calls.{HasFunction}
+use Rattle.spsc_queue.specs.CallEffects.{IsPlainNeed}
+use Rattle.spsc_queue.proofs.OwnEntries.{state_here}
+
+abbrev IsHalt : Need → Type 0
+IsHalt need.Exit = Unit {0}
+IsHalt (need.Stop why) = Unit {0}
+IsHalt other = ⊥
+
+abbrev pub RunsOrHalts : HartState → Type 0
+RunsOrHalts s = (s.status ≡ status.Running) ⊎ IsHalt (need_of s)
+
+past_code : (s : HartState) → s.pc ≡ 4 * length s.code → IsHalt (need_of s)
+unfolding need_of
+past_code s end = let out : nat_lt s.pc (4 * length s.code) ≡ false = grind (arith, nat_tests) in rw out tt
+
+halts_still : (s : HartState) (x : Status) → IsHalt (need_of s) → IsHalt (need_of (record s { status = x }))
+unfolding need_of
+halts_still s x halts = halts
+
+settles : (s : HartState) → s.status ≡ status.Running → RunsOrHalts (settled s)
+settles s runs = at (s.pc == 4 * length s.code) refl
+  where
+    at : (b : Bool) → (s.pc == 4 * length s.code) ≡ b → RunsOrHalts (settled s)
+    at true end = inr (past_code (settled s) (eqb-true s.pc (4 * length s.code) end))
+    at false on = inl (ap (λ b. if b then status.Ended else s.status) on ∙ runs)
+
+by_meaning : (s : HartState) (v : ℕ) (i : Option Instr) → s.status ≡ status.Running → RunsOrHalts (after_meaning s v i)
+by_meaning s v None runs = inl runs
+by_meaning s v (Some i) runs = settles (record s { registers = registers_after i s.registers s.pc v; pc = pc_after i s.registers s.pc }) runs
+
+by_word : (s : HartState) (w : Option ℕ) → s.status ≡ status.Running → RunsOrHalts (given s w)
+by_word s None runs = settles _ runs
+by_word s (Some w) runs = settles _ runs
+
+by_need : (s : HartState) (v : ℕ) (m : Need) → need_of s ≡ m → s.status ≡ status.Running → RunsOrHalts (advanced_by s m v)
+by_need s v need.Inner is runs = by_meaning s v (fetched s) runs
+by_need s v (need.Load a width) is runs = by_meaning s v (fetched s) runs
+by_need s v (need.Store a width w) is runs = by_meaning s v (fetched s) runs
+by_need s v (need.Amo a op rs2) is runs = by_meaning s v (fetched s) runs
+by_need s v (need.Fence full) is runs = by_meaning s v (fetched s) runs
+by_need s v (need.Next w) is runs = by_word s w runs
+by_need s v (need.Report r) is runs = settles _ runs
+by_need s v need.Exit is runs = inr (halts_still s status.Ended (subst IsHalt (sym is) tt))
+by_need s v (need.Stop why) is runs = inr (halts_still s (status.Stopped why) (subst IsHalt (sym is) tt))
+
+goes : (s : HartState) (v : ℕ) → s.status ≡ status.Running → RunsOrHalts (advanced s v)
+unfolding advanced
+goes s v runs = by_need s v (need_of s) refl runs
+
+goes_by : (s : HartState) (es : List Entry) → RunsOrHalts s → Makes s es → RunsOrHalts (after_entries s es)
+goes_by s [] so makes = so
+goes_by s (e ∷ es) so makes = goes_by (advanced s (value_of e)) es (goes s (value_of e) makes.0.running) makes.1
+
+plain_runs : (s : HartState) → RunsOrHalts s → IsPlainNeed (need_of s) → s.status ≡ status.Running
+plain_runs s (inl runs) plain = runs
+plain_runs s (inr halts) plain = absurd (no (need_of s) halts plain)
+  where
+    no : (m : Need) → IsHalt m → IsPlainNeed m → ⊥
+    no need.Exit halts plain = plain
+    no (need.Stop why) halts plain = plain
+    no need.Inner halts plain = halts
+    no (need.Load a width) halts plain = halts
+    no (need.Store a width w) halts plain = halts
+    no (need.Amo a op rs2) halts plain = halts
+    no (need.Fence full) halts plain = halts
+    no (need.Next w) halts plain = halts
+    no (need.Report r) halts plain = halts
+
+-- a hart that opens with a function, where it wants nothing of memory, a load or a store
+pub runs_here : (B M : ℕ) (o : OpeningValue) (h n : ℕ) (listing : List Listed) (has : HasFunction o h n listing) (es : List Entry)
+    → WellFormed B M (history_of o es) → IsPlainNeed (need_of (state_here M o h n listing has es)) → (state_here M o h n listing has es).status ≡ status.Running
+runs_here B M o h n listing has es run plain =
+    let makes : Makes (opens_as M has.opens) (own h es) =
+    subst (λ so. PathOf M so (own h es)) has.is (run.paths h (slice_get_within o.harts h has.opens has.is)) in
+    plain_runs (state_here M o h n listing has es)
+    (goes_by (opens_as M has.opens) (own h es) (settles _ refl) makes) plain
