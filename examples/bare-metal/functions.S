@@ -1,6 +1,8 @@
 # The functions of docs/functions.md for GNU as, for code of harts with Ztso that keeps what that page asks.
 # scripts/make-ring-assembly makes this file.
+#ifndef __clang__  /* clang 14 knows no ztso; as without the preprocessor takes this line for a remark */
     .attribute arch, "rv32i2p1_ztso1p0"
+#endif
     .option norvc
 
     .section .text.lamport_try_send, "ax", @progbits

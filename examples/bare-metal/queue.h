@@ -13,7 +13,7 @@
  *     FASTFORWARD_TRY_SEND(&queue, word)          the word isn't 0
  *     FASTFORWARD_TRY_RECEIVE(&queue)
  *
- * The functions exist for RV32 only. Elsewhere this header has the block and its offsets. */
+ * The functions exist for RV32 only. Elsewhere this header has the block and its offsets, and a call is refused in words. */
 #ifndef QUEUE_H
 #define QUEUE_H
 
@@ -59,18 +59,22 @@
 #define QUEUE_BYTES(queue) ((uint32_t)sizeof((queue)->slots))
 #define FASTFORWARD_BYTES(queue) ((uint32_t)sizeof((queue)->words_or_0))
 
-#if defined(__riscv) && __riscv_xlen == 32
-
-#ifdef __cplusplus
-extern "C" {
-#endif
-
 /* What a receive returns, in a0 and a1. */
 struct received {
     uint32_t ok;   /* 1, or 0: the queue was found empty */
     uint32_t word; /* the word if ok is 1 */
 };
 QUEUE_ASSERT(sizeof(struct received) == 8, "a0 and a1");
+
+#if defined(__riscv) && __riscv_xlen == 32
+
+#ifdef __riscv_compressed
+#error "queue.h: compile without compressed instructions, as by -march=rv32ima: rule 7 of docs/functions.md"
+#endif
+
+#ifdef __cplusplus
+extern "C" {
+#endif
 
 /* Sends the word and returns 1, or returns 0 and stores nothing: it found the queue full. It has no loop. What this hart
  * stored before the call, the receiver's hart reads once it has received the word, if nobody writes there since. */
@@ -97,6 +101,14 @@ struct received fastforward_try_receive(void *block, uint32_t unused, uint32_t b
 /* `queue` points to a struct of FASTFORWARD_QUEUE. */
 #define FASTFORWARD_TRY_SEND(queue, word) fastforward_try_send((queue), (word), FASTFORWARD_BYTES(queue))
 #define FASTFORWARD_TRY_RECEIVE(queue) fastforward_try_receive((queue), 0, FASTFORWARD_BYTES(queue))
+
+#else
+
+/* No such name is declared: it is what the compiler complains of. */
+#define QUEUE_TRY_SEND(queue, word) queue_h_has_functions_for_RV32_only
+#define QUEUE_TRY_RECEIVE(queue) queue_h_has_functions_for_RV32_only
+#define FASTFORWARD_TRY_SEND(queue, word) queue_h_has_functions_for_RV32_only
+#define FASTFORWARD_TRY_RECEIVE(queue) queue_h_has_functions_for_RV32_only
 
 #endif
 #endif

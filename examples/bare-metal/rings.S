@@ -1,6 +1,8 @@
 # The programs of docs/channels.md for GNU as. Each is the whole program of a hart with Ztso.
 # scripts/make-ring-assembly makes this file.
+#ifndef __clang__  /* clang 14 knows no ztso; as without the preprocessor takes this line for a remark */
     .attribute arch, "rv32i2p1_ztso1p0"
+#endif
     .option norvc
 
     .section .text.lamport_sender, "ax", @progbits

@@ -2,13 +2,13 @@
 #include "queue.h"
 
 LAMPORT_QUEUE(messages, 2);
-struct messages queue;
+struct messages q;
 uint32_t message[3];
 
 void P0(void) {
     for (uint32_t i = 0; i < 2; i++) {
         message[i] = 7 + i;
-        while (!QUEUE_TRY_SEND(&queue, i)) {
+        while (!QUEUE_TRY_SEND(&q, i)) {
         }
     }
 }
@@ -18,7 +18,7 @@ uint32_t P1(void) {
     for (uint32_t i = 0; i < 2; i++) {
         struct received got;
         do
-            got = QUEUE_TRY_RECEIVE(&queue);
+            got = QUEUE_TRY_RECEIVE(&q);
         while (!got.ok);
         sum += message[got.word];
     }
@@ -26,4 +26,4 @@ uint32_t P1(void) {
 }
 
 /* Does hart 1 ever miss a message? */
-// ~exists (~ 1:a0=15)
+// exists (~ 1:a0=15)

@@ -33,6 +33,7 @@ COLUMNS = [
     (["lr.w\tx5,(x6)"], "a.c:1: `lr.w x5,(x6)`: ztso has no LR and SC"),
     (["jalr\tx0,0(x15)"], "a jump to a computed place"), (["add\tx5,x5,x4"], "a thread-local variable"),
     (["mul\tx5,x5,x6"], "not in RV32I"), (["csrrw\tx0,cycle,x0"], "unreachable"),
+    (["c.swsp\tx1,12(x2)"], "a.c:1: compressed instructions: leave `c` out of -march"),
     (["lw\tx5,0(x2)"], "a.c:1: P0 takes arguments from the stack"), (["jal\tx0,100400 <Q>"], "leaves the code"),
     (["jal\tx1,100000 <P0>", "jalr\tx0,0(x1)"], "a.c:1: P0 calls itself"), (["amoadd.d\tx5,x5,(x6)"], "32 bits"),
 ]

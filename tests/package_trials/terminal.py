@@ -31,6 +31,10 @@ ztso: read failed
   A file can't be opened or read, or standard input can't be read.
   none isn't there
 """
+CUT = """\
+ztso: cut at 1 states
+  `find` stopped when it had seen this number of distinct states, and none of them is the end of a finished run with the outcome that the test asks about. The exit status is 5.
+"""
 # words that ask for no job, and what is wrong with them
 WRONG = ((("run",), "FILE is missing"), (("run", "a", "b", "c"), "`c` is one word too many"), (("no-command",), "`no-command` is no command"),
          (("find", "a", "--states", "abc"), "`abc` is no number from 1 to 16777216, for --states"),
@@ -172,6 +176,7 @@ def after_faults(count, place, folder):
         (("run", "bad.litmus", "none"), "", 2, NO_HEADER, "21"),
         (("try", "bad.litmus", *DRAWN), "", 2, NO_HEADER, "21"),
         (("debug", "bad.litmus", "none"), "q\n", 2, NO_HEADER, "21"),
+        (("find", f"{place.pages}/litmus/message-passing/mp.litmus", "--states", "1"), "", 5, CUT, "cut at states"),
         (("run", "none", "none"), "", 3, READ_FAILED, "read failed"))
     for words, text, status, shown, what in trials:
         count.same(f"{place.name}, {' '.join(words)}", at_terminal([place.wrapper, *words], folder, text),

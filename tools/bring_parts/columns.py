@@ -36,6 +36,9 @@ def column(hart, functions, fences="all", note=None):
         raise Refused(f"the compiler made no function {name}")
     names = called(name, functions)
     code = [(each, instruction) for each in names for instruction in functions[each]]
+    compressed = next((instruction for _, instruction in code if instruction.name.startswith("c.")), None)
+    if compressed:
+        raise Refused(f"{compressed.where()}: compressed instructions: leave `c` out of -march")
     on_stack = [instruction for _, instruction in code if re.search(r"\bx2\b", instruction.operands)]
     frames = sum(frame_of(instruction) for _, instruction in code)
     if on_stack and not frames:
