@@ -100,7 +100,7 @@ def checkout(top, program):
 def which(count, places, program, folder):
     """What `--which` says of the program that runs."""
     installed, here = places
-    words = "as it was installed; packages hold the proved program only"
+    words = "as it was installed; a package holds the proved program, scripts/install --program what it was given"
     count.same("which program is installed", call(installed.wrapper, "--which", folder=folder),
                (0, f"{installed.wrapper.parent.parent}/lib/ztso/ztso: {words}\n", ""))
     count.same("which program a checkout runs", call(here.wrapper, "--which", folder=folder),
