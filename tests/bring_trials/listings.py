@@ -1,6 +1,8 @@
 """Columns from listings of objdump, written by hand: what a compiler may make, without one."""
 
-from bring_parts import Refused, c_source, c_tests, columns, objects
+from types import SimpleNamespace
+
+from bring_parts import Refused, c_source, c_tests, columns, objects, queues
 
 CALLS = """
 00100000 <P0>:
@@ -25,6 +27,27 @@ MADE = ["lui x15,0", "fence rw,w", "sw x0,4(x15)", "jal x1,L6", "beq x10,x0,L5",
         "L6: addi x10,x0,1", "jalr x0,0(x1)", "end:"]
 FULL = ["lui x15,0", "sw x0,4(x15)", "jal x1,L5", "beq x10,x0,L4", "L4: jal x0,end", "L5: addi x10,x0,1",
         "jalr x0,0(x1)", "end:"]
+QUEUE_CALLS = """
+00100000 <P0>:
+/tmp/a.c:3
+  100000:\taddi\tx8,x0,4
+  100004:\taddi\tx10,x8,0
+  100008:\tjal\tx1,100030 <lamport_try_send>
+  10000c:\tbeq\tx10,x0,100004 <P0+0x4>
+  100010:\tlui\tx10,0x1
+  100014:\taddi\tx10,x10,-64
+  100018:\tjal\tx1,100040 <lamport_try_receive>
+  10001c:\tbeq\tx10,x0,100024 <P0+0x24>
+  100020:\tlw\tx8,0(x8)
+  100024:\taddi\tx10,x8,0
+  100028:\tjal\tx0,100030 <lamport_try_send>
+
+00100030 <lamport_try_send>:
+  100030:\tjalr\tx0,0(x1)
+
+00100040 <lamport_try_receive>:
+  100040:\tjalr\tx0,0(x1)
+"""
 # lines of P0, and what comes of it
 COLUMNS = [
     (["addi\tx10,x0,1", "jalr\tx0,0(x1)"], ["addi x10,x0,1"]), (["jalr\tx0,0(x1)"], []),
@@ -80,7 +103,31 @@ def sources(count):
     count.told("names of words", names == ["x", "x", "y_0_1", "null", "stack0_0"], str(names))
 
 
+def queue_users(count):
+    """The block that each call passes, and the harts that each queue of a kind has by that."""
+    functions = objects.functions_in(QUEUE_CALLS)
+    made = queues.calls_of(["P0"], functions)
+    send, receive = "lamport_try_send", "lamport_try_receive"
+    count.told("the blocks of calls", made == {(send, 4), (receive, 4032), (send, None)}, str(made))
+
+    def parts_of(name):
+        places = {".head": 0, ".tail": 64, ".slots[0]": 128, ".slots[1]": 132}
+        return [SimpleNamespace(name=name + part, at=at) for part, at in places.items()]
+
+    two = [(4, 192, "a"), (196, 192, "b")]
+    for names, symbols, calls, wanted in (
+            ("one there, one back", two, [{(send, 4), (receive, 196)}, {(send, 196), (receive, 4)}],
+             [", hart 0 sends, hart 1 receives", ", hart 1 sends, hart 0 receives"]),
+            ("one of each", two, [{(send, 4)}, {(receive, 196)}], [", hart 0 sends", ", hart 1 receives"]),
+            ("one of two, unknown", two, [{(send, None)}, {(receive, 4)}], [", hart 1 receives", ""]),
+            ("the only one, unknown", two[:1], [{(send, None)}, {(receive, 4)}], [", hart 0 sends, hart 1 receives"]),
+            ("two senders", two[:1], [{(send, 4)}, {(send, 4), (receive, 4)}], [", hart 1 receives"])):
+        said = [line.partition("2 slots")[2] for line in queues.lines(symbols, parts_of, calls)]
+        count.told(f"a queue's harts: {names}", said == wanted, str(said))
+
+
 def part(count):
+    queue_users(count)
     count.told("calls", cells(CALLS) == MADE, str(cells(CALLS)))
     count.told("calls, full fences", cells(CALLS, "full") == FULL, str(cells(CALLS, "full")))
     column = columns.column(0, objects.functions_in(CALLS))

@@ -254,7 +254,8 @@ def litmus_text(source, compiler, flags, folders, assembly, fences, note, told):
     openings = [opening(hart, source, column, words) for hart, column in enumerate(made)]
     if len(words.names) > LOCATIONS:
         raise Refused(f"{len(words.names)} words of data and stacks: ztso has names for {LOCATIONS}")
-    told = [*told, *queues.lines(symbols, parts_of, [columns.called(f"P{hart}", functions) for hart in range(len(made))])]
+    calls = [queues.calls_of(columns.called(f"P{hart}", functions), functions) for hart in range(len(made))]
+    told = [*told, *queues.lines(symbols, parts_of, calls)]
     init = ["{", *words.items(), *filter(None, openings), "}"]
     text = "\n".join([f"RISCV {source.name}", comment_of(told, results), *init, *table(made),
                       condition(source, results, words)]) + "\n"
