@@ -1,8 +1,9 @@
 """What a crate's files cite of the crates below, of itself or by what that cites.
 
-A name that occurs as a word counts as cited, so rather too much is taken than too little: a file of specs/ by its name,
-a function's head by its name, and all that a source says outside of functions by a name that is declared there. What the
-compiler uses without a name, as `drop` or `from`, stands in an impl of a trait: such functions always count.
+A file of specs/ is cited by its path, which each import has whole. A name that occurs as a word counts as cited, so rather
+too much is taken than too little: a function's head by its name, and all that a source says outside of functions by a name
+that is declared there. What the compiler uses without a name, as `drop` or `from`, stands in an impl of a trait: such
+functions always count.
 """
 
 import re
@@ -11,6 +12,7 @@ from typing import NamedTuple
 from . import functions
 
 WORD = re.compile(r"\w+")
+PATH = re.compile(r"\bRattle\.(\w+\.specs(?:\.\w+)+)")
 DECLARED = re.compile(r"^\s*(?:pub(?:\([^)]*\))?\s+)?(?:const\s+)?(?:unsafe\s+)?(?:struct|enum|union|trait|type|const|static|fn|macro_rules!)\s+(\w+)", re.M)
 IMPORT = re.compile(r"^[ \t]*(?:pub(?:\([^)]*\))?\s+)?(?:ghost )?use ([^;{]+)(?:\{([^}]*)\})?[^;]*;", re.M)
 MODULE = re.compile(r"^[ \t]*(?:pub(?:\([^)]*\))?\s+)?mod \w+;", re.M)
@@ -24,7 +26,9 @@ class Item(NamedTuple):
 
 
 def words(text):
-    return frozenset(WORD.findall(text))
+    """The words of a text, and the paths of files of specs/ with all that they begin with."""
+    paths = (path.split(".") for path in PATH.findall(text))
+    return frozenset((*WORD.findall(text), *(".".join(path[:end]) for path in paths for end in range(3, len(path) + 1))))
 
 
 def imports(code):
@@ -58,7 +62,8 @@ def items(name, text):
 def stated(crate, files):
     """The pieces of what a crate states."""
     for name, path in files(crate / "specs"):
-        yield Item(frozenset((path.stem,)), f"{crate.name} {name} {path.read_text()}")
+        at = name.removesuffix(path.suffix).replace("/", ".")
+        yield Item(frozenset((f"{crate.name}.specs.{at}",)), f"{crate.name} {name} {path.read_text()}")
     for name, path in files(crate / "src", ".rt"):
         yield from items(f"{crate.name} {name}", path.read_text())
 
