@@ -1,5 +1,6 @@
 -- What serves the proofs alone, where a private contract names it.
 pub mod Arriving
 pub mod Levels
+pub mod Parts
 pub mod Rows
 pub mod Surveys

@@ -2,8 +2,10 @@
 
 ghost use Rattle.std.specs.Prelude.{◌≡◌, ◌≤◌, ◌<◌, ◌+◌, ◌*◌, ◌/◌, ◌%◌, ◌^◌, ◌-◌, All, length};
 ghost use Rattle.std.specs.Prelude.{IfOk, IfSome, OnOk};
+ghost use Rattle.states.specs.Fields.{field, with_field};
 
 use std::alloc::{AllocError, Global};
+use std::marker::Model;
 
 /// The bits of one word of a key that hold one part's number.
 #[derive(Clone, Copy)]
@@ -19,7 +21,9 @@ pub struct Field {
 impl Field {
     /// The number that it holds in this word.
     #[inline(always)]
-    fn number_in(self, word: u64) -> u32 {
+    fn number_in(self, word: u64) -> u32
+        ensures { result ≡ field word (2 ^ self.shift) (2 ^ self.width) }
+    {
         let above = 64 - self.width - self.shift;
         let number = (word << above) >> (64 - self.width);
         (number % 4_294_967_296) as u32
@@ -27,7 +31,10 @@ impl Field {
 
     /// The word with another number in it. `old` is the one that it holds.
     #[inline(always)]
-    fn with(self, word: u64, old: u32, new: u32) -> u64 {
+    fn with(self, word: u64, old: u32, new: u32) -> u64
+        requires { old ≡ field word (2 ^ self.shift) (2 ^ self.width) }
+        ensures { new < 2 ^ self.width → result ≡ with_field word (2 ^ self.shift) (2 ^ self.width) new }
+    {
         let without = word.wrapping_sub(u64::from(old) << self.shift);
         without.wrapping_add(u64::from(new) << self.shift)
     }
@@ -42,6 +49,15 @@ impl Field {
 #[derive(Drop)]
 pub struct Layout<const N: usize> {
     fields: Vec<Field>,
+}
+
+impl<const N: usize> Model for Layout<N> {
+    ghost use Rattle.std.specs.Prelude.{List, map};
+    ghost use Rattle.states.specs.Digits.{Digits, digits_of};
+
+    ghost Value = { List Digits };
+
+    ghost view = { λ l. map digits_of l.fields.items };
 }
 
 /// How many bits hold the numbers below this one and a quarter more, 32 at most.
@@ -59,6 +75,9 @@ fn width_for(count: usize) -> u32
 }
 
 impl<const N: usize> Layout<N> {
+    ghost use Rattle.std.specs.Prelude.{slice_get};
+    ghost use Rattle.states.specs.Digits.{HasDigitsFor, number_at, with_number_of};
+
     /// Fields for the numbers below these counts, and a quarter more. It is `None` where `N` words have no room.
     pub fn of(alloc: Global, counts: &[usize]) -> Result<Option<Self>, AllocError> {
         let mut fields = Vec::with_capacity(alloc, counts.len())?;
@@ -97,7 +116,9 @@ impl<const N: usize> Layout<N> {
 
     /// The number that a key has at a place, and 0 at a place beyond.
     #[inline(always)]
-    pub fn number(&self, key: &[u64; N], place: usize) -> u32 {
+    pub fn number(&self, key: &[u64; N], place: usize) -> u32
+        ensures { result ≡ number_at self.now key.now place }
+    {
         match self.fields.get(place) {
             Some(field) => match key.get(field.word as usize) {
                 Some(word) => field.number_in(*word),
@@ -109,10 +130,14 @@ impl<const N: usize> Layout<N> {
 
     /// Makes the number at a place this one, and leaves the others. It must be one that the field can hold.
     #[inline(always)]
-    pub fn set(&self, key: &mut [u64; N], place: usize, number: u32) {
+    pub fn set(&self, key: &mut [u64; N], place: usize, number: u32)
+        ensures { HasDigitsFor (slice_get self.now place) number → key.new ≡ with_number_of (slice_get self.now place) key.old number }
+    {
         if let Some(field) = self.fields.get(place) {
-            if let Some(word) = key.get_mut(field.word as usize) {
-                *word = field.with(*word, field.number_in(*word), number);
+            let at = field.word as usize;
+            if at < N {
+                let word = key[at];
+                key[at] = field.with(word, field.number_in(word), number);
             }
         }
     }
