@@ -1,20 +1,23 @@
 """The checksum of all that the checks of a crate's mutants read.
 
-Of the crate itself these are its sources as they are and its line of crates.txt, of the crates below what its sources cite
-of their specs/ and of the text of their src/ outside of functions' bodies (`cited`). A body below is no part of a check
+Of the crate itself these are its sources, comments aside, and its line of crates.txt, of the crates below what its sources
+cite of their specs/ and of the text of their src/ outside of functions' bodies (`cited`). A body below is no part of a check
 here, which cites its contract, and neither are the lemmas of proofs/ below: they are proved, so no lemma makes a wrong
 body right.
 """
 
 import hashlib
+import re
 import shutil
 import subprocess
 
 from crates import SOURCES, TOP
 
 from .cited import cited, stated
+from .functions import bare
 
 DIGITS = 16
+REMARK = re.compile(r"^[ \t]*--.*\n", re.MULTILINE)
 
 
 def kit():
@@ -39,9 +42,15 @@ def files(folder, suffix=""):
     return [(path.relative_to(folder).as_posix(), path) for path in sorted(folder.rglob(f"*{suffix}")) if path.is_file()]
 
 
+def uncommented(path):
+    """A source without its comments: of a definition or a lemma, without the lines that are one."""
+    text = path.read_text()
+    return " ".join(bare(text).split()) if path.suffix == ".rt" else REMARK.sub("", text)
+
+
 def read_by(name, crates, logic, top=TOP):
     """The sum of all that the checks of a crate read, but its mutants."""
-    own = [(f"{part}/{at}", path.read_text()) for part in SOURCES for at, path in files(top / "crates" / name / part)]
+    own = [(f"{part}/{at}", uncommented(path)) for part in SOURCES for at, path in files(top / "crates" / name / part)]
     parts = [logic, *(line for line in (top / "crates.txt").read_text().splitlines() if line.partition(":")[0].split()[:1] == [name])]
     below = [item for low in sorted(crates.below(name)) for item in stated(top / "crates" / low, files)]
     return digest([*parts, *(text for file in own for text in file), *cited((text for _, text in own), below)])
