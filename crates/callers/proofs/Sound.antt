@@ -15,14 +15,15 @@ use Rattle.step_machine.specs.Entries.{hart_of, is_land}
 use Rattle.step_machine.specs.Paths.{value_of, state_of}
 use Rattle.step_machine.specs.Legal.{WellFormed}
 use Rattle.step_machine.proofs.Follows.{advance_by, state_of-mine}
-use Rattle.spsc_queue.specs.RingBuffers.{Kind, lamport, fastforward, RingBuffer, overlaps}
+use Rattle.spsc_queue.specs.RingBuffers.{RingBuffer, overlaps}
 use Rattle.spsc_queue.specs.Protocol.{WritesNothingTo}
-use Rattle.spsc_queue.specs.Calls.{Block, SpscQueue, Party, the_sender, the_receiver, buffer, enters, is_sender_in_call, is_receiver_in_call, MayPass}
+use Rattle.spsc_queue.specs.Calls.{Block, SpscQueue, Party, the_sender, the_receiver, buffer, enters, is_sender_in_call, is_receiver_in_call}
 use Rattle.spsc_queue.specs.Calls.{HasArguments, PartyOwes, CallerObligation, UsesAsSpscQueue}
+use Rattle.spsc_queue.proofs.Obligations.{arguments_are}
 use Rattle.spsc_queue.proofs.OwnEntries.{land_is}
 use Rattle.callers.specs.Queues.{spsc_of, IsLocated}
 use Rattle.callers.specs.declared.queue.Located.{Located}
-use Rattle.spsc_queue.specs.Obligations.{may_pass, has_arguments}
+use Rattle.spsc_queue.specs.Obligations.{has_arguments}
 use Rattle.callers.specs.Debts.{is_in_its_call, met_by, written_at, arguments_debt, entering_debt, party_debt, pc_in}
 use Rattle.callers.specs.Debts.{idle_debt, debt_of, debt_after, first_debt}
 use Rattle.callers.specs.declared.debts.Debt.TheVariants as debt
@@ -67,14 +68,6 @@ arguments_right p h n k z is = by (slice_index z.registers 12 == 4 * k.size) ref
         let some : Some (debt.PassedBytes h (slice_index z.registers 12)) ≡ None =
         sym (ap (λ a. if a then (if has_arguments p n k z then None else Some (debt.PassedReturn h (slice_index z.registers 1)))
         else Some (debt.PassedBytes h (slice_index z.registers 12))) bytes) ∙ is in absurd (cc)
-
-passes_is : (p : Party) (K : Kind) (w : ℕ) → may_pass p K w ≡ true → MayPass p K w
-passes_is the_sender lamport w is = tt
-passes_is the_sender fastforward w is = λ none. (let no : false ≡ true = sym (ap not (eq-eqb w 0 none)) ∙ is in cc)
-passes_is the_receiver K w is = tt
-
-arguments_are : (p : Party) (n : ℕ) (k : Block) (s : HartState) → has_arguments p n k s ≡ true → HasArguments p n k s
-arguments_are p n k s is = grind (arith, is, passes_is)
 
 enters_right : (p : Party) (h n : ℕ) (k : Block) (z : HartState) → entering_debt p h n k (Some z) ≡ None → enters n k z ≡ true → HasArguments p n k z
 enters_right p h n k z is on = arguments_are p n k z (arguments_right p h n k z

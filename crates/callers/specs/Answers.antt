@@ -67,8 +67,8 @@ pub record IsToldLocated (B M : ℕ) (o : OpeningValue) (queue : Queue) (stream 
   pub usable : IsLocated M o queue located
   pub told_of : IsCallersToldOf (call_source B M o located stream size) runs told
 
--- what is told of this number of drawn runs of a test with this opening, and whether all keep what callers owe: that something
--- is owed at once, or what is told of the runs
+-- the text for this many drawn runs from this opening, and whether all keep what callers owe: what is owed at the opening
+-- already, or what the runs show
 abbrev pub IsCallersTold : (B M : ℕ) → OpeningValue → Queue → Stream → (runs size : ℕ) → List ℕ × Bool → Type 0
 IsCallersTold B M o queue stream runs size (text, true) = IsToldLocated B M o queue stream runs size (text, true)
 IsCallersTold B M o queue stream runs size (text, false) = IsToldAtOnce M o queue text ⊎ IsToldLocated B M o queue stream runs size (text, false)

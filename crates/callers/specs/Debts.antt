@@ -74,8 +74,8 @@ abbrev pub pc_in : Option HartState → ℕ
 pc_in None = 0
 pc_in (Some s) = s.pc
 
--- of a hart that is in no call, and goes by this entry from one state to the next: it writes to the block, or enters its
--- function with other arguments than it owes
+-- the debt of a hart in no call whose entry leads from one state to the next: it writes to the block, or enters its function
+-- with other arguments than it owes
 abbrev pub idle_debt : SpscQueue → Entry → (before after : Option HartState) → Option Debt
 idle_debt q e before after = option_or (option_map (debt.Wrote (hart_of e) (pc_in before)) (written_at (buffer q) (access_of e)))
     (party_debt q (hart_of e) after)

@@ -1,4 +1,5 @@
-//! A schedule that shows what a test asks about, found by a search over the machine's states.
+//! A schedule that shows what a test asks about, found by a search over the machine's states. A survey by the numbers of
+//! their parts comes first: if it comes to nothing, nothing is searched.
 //!
 //! The contract: where [`find_engine`] says that it found one, what it wrote is the canonical schedule of a
 //! run that is finished and in whose last state the test's condition is as wanted (`IsFindAnswer` of

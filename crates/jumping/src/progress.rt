@@ -15,7 +15,7 @@ pub trait Progress {
     /// `done` of all `runs` are made, and showed this many outcomes, where outcomes are counted.
     fn report(&mut self, done: u32, runs: u32, outcomes: Option<usize>);
 
-    /// In so many of the runs this hart is stopped at the end, for this reason.
+    /// How many of the runs end with this hart stopped, for this reason.
     fn stopped(&mut self, hart: u32, why: Stop, runs: u32);
 
     /// No report follows: all runs are made, no further one is wanted, or memory ran out.

@@ -36,7 +36,7 @@ passes_is the_sender lamport w is = tt
 passes_is the_sender fastforward w is = λ none. (let no : false ≡ true = sym (ap not (eq-eqb w 0 none)) ∙ is in cc)
 passes_is the_receiver K w is = tt
 
-arguments_are : (p : Party) (n : ℕ) (k : Block) (s : HartState) → has_arguments p n k s ≡ true → HasArguments p n k s
+pub arguments_are : (p : Party) (n : ℕ) (k : Block) (s : HartState) → has_arguments p n k s ≡ true → HasArguments p n k s
 arguments_are p n k s is = grind (arith, is, passes_is)
 
 party_owes : (M : ℕ) (o : OpeningValue) (q : SpscQueue) (p : Party) (before done : List Entry) (e : Entry)

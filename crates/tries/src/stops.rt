@@ -103,7 +103,7 @@ impl Stops {
         Stops { times: [0; PLACES] }
     }
 
-    /// Counts that the hart is stopped so many times more.
+    /// Adds runs to those that end with the hart stopped.
     pub fn note(&mut self, stopped: Stopped, more: u32)
         ensures { self.new ≡ slice_set self.old (place_of stopped) (min (slice_index self.old (place_of stopped) + more) MOST_TIMES) }
     {

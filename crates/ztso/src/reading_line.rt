@@ -28,7 +28,7 @@ impl<'a, R: Clock + Eprint> ReadingLine<'a, R> {
         }
     }
 
-    /// So many bytes more were read.
+    /// Counts further bytes that were read.
     pub fn note(&mut self, count: usize)
         ensures bytes { self.new.bytes ≡ min (self.old.bytes + count) 18446744073709551615 }
         ensures shown { self.old.shown ≤ self.new.shown }

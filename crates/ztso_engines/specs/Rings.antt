@@ -49,7 +49,7 @@ pub record IsOwn (place : BlockPlace) (sends receives : List ℕ) (lists : List 
   pub lists_are : lists_of own ≡ lists
   pub lies : own.place ≡ place
 
--- The lists and the place are within the limits, and this is told of the drawn runs of their channel.
+-- The lists and the place are within the limits, and the answer is of the drawn runs of their channel.
 pub record AreTold (d : Draws) (sends receives : List ℕ) (lists : List (List ℕ)) (answer : List ℕ × Bool) : Type 0 where
   pub within : IsWithin (ring_over sends receives) d.M lists (layout_of d.place [])
   pub own : Own
