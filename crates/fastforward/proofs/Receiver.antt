@@ -11,7 +11,7 @@ use Rattle.poll_close.specs.Rankings.{runs}
 use Rattle.poll_close.specs.Invariant.Blocks.{Block, offset, slot}
 use Rattle.poll_close.specs.Invariant.ReceiverState.{ReceiverRegisters, whole_of, receiving}
 use Rattle.poll_close.specs.Invariant.BlockInvariant.{Flag, unread_of}
-use Rattle.poll_close.proofs.Lines.{loads, stores, sum_line, load_line, store_line, same_jumps, other_goes_on}
+use Rattle.step_machine.proofs.Lines.{loads, stores, sum_line, load_line, store_line, same_jumps, other_goes_on}
 use Rattle.poll_close.proofs.Blocks.{IsBlock, offset_low, word_of, word_from, slot_of, slot_at}
 use Rattle.poll_close.proofs.BlockLaws.{found_in, Changes, Right_at}
 use Rattle.poll_close.proofs.Distance.{flags, far_off}

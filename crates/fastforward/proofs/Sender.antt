@@ -11,10 +11,10 @@ use Rattle.hart.proofs.Instructions.{IsAt, exit_need, exit_after}
 use Rattle.poll_close.specs.Invariant.Blocks.{Block, offset, slot}
 use Rattle.poll_close.specs.Invariant.SenderState.{SenderRegisters, fixed, running}
 use Rattle.poll_close.specs.Invariant.BlockInvariant.{unsent_of}
-use Rattle.poll_close.proofs.Lines.{loads, stores, word-plus, add_line, sum_line, load_line, store_line, jump_line}
-use Rattle.poll_close.proofs.Lines.{same_jumps, other_goes_on, other_jumps, same_goes_on}
+use Rattle.step_machine.proofs.Lines.{loads, stores, word-plus, add_line, sum_line, load_line, store_line, jump_line}
+use Rattle.step_machine.proofs.Lines.{same_jumps, other_goes_on, other_jumps, same_goes_on}
 use Rattle.poll_close.proofs.SenderLines.{line_04-word, line_04-none}
-use Rattle.poll_close.proofs.Modulo.{offset_step, offset_wrap}
+use Rattle.step_machine.proofs.Modulo.{offset_step, offset_wrap}
 use Rattle.poll_close.proofs.Found.{in_memory, newest_found}
 use Rattle.poll_close.proofs.Blocks.{IsBlock, IsWordOf, offset_low, word_of, slot_of, slot_at}
 use Rattle.poll_close.proofs.BlockLaws.{found_in}

@@ -4,7 +4,7 @@ use Rattle.std.specs.Prelude.{slice_index}
 use Rattle.std.specs.List.{slice_get}
 use Rattle.std.proofs.Math.Nat.{add-mod_right}
 use Rattle.poll_close.specs.Invariant.Blocks.{Block, offset, slot, slot_store, tail_store}
-use Rattle.poll_close.proofs.Modulo.{mod_apart}
+use Rattle.step_machine.proofs.Modulo.{mod_apart}
 use Rattle.poll_close.proofs.Windows.{Each, single_at, single_last, first_at, second_at, pair_last, pair_is, singles-each, pairs-each}
 use Rattle.poll_close.proofs.Blocks.{IsBlock, IsStore, offset_small, word_of, slot_of}
 use Rattle.fastforward.specs.Invariant.Stores.{null_store, sender_stores, receiver_stores}

@@ -67,7 +67,7 @@ impl<const B: usize, const M: usize> Finish<B, M> for FastForward {
 }
 
 /// Each word of the ring's tables means its line's instruction. It does nothing.
-#[tactic(auto, using(crate::proofs::Means::sender_decoded, crate::proofs::Means::receiver_decoded, poll_close::proofs::Lines::all_mean))]
+#[tactic(auto, using(crate::proofs::Means::sender_decoded, crate::proofs::Means::receiver_decoded, poll_close::proofs::Means::all_mean))]
 pub fn tables_mean()
     ensures sender { AllMean fastforward.sender (lines_of listing.sender) }
     ensures receiver { AllMean fastforward.receiver (lines_of listing.receiver) }

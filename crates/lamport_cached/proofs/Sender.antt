@@ -11,8 +11,8 @@ use Rattle.hart.proofs.Instructions.{IsAt, exit_need, exit_after}
 use Rattle.poll_close.specs.Invariant.Blocks.{Block}
 use Rattle.poll_close.specs.Invariant.SenderState.{SenderRegisters, fixed, running}
 use Rattle.poll_close.specs.Invariant.BlockInvariant.{unsent_of}
-use Rattle.poll_close.proofs.Lines.{loads, stores, add_line, sum_line, load_line, store_line, jump_line}
-use Rattle.poll_close.proofs.Lines.{same_jumps, other_jumps, same_goes_on, other_goes_on, word-plus}
+use Rattle.step_machine.proofs.Lines.{loads, stores, add_line, sum_line, load_line, store_line, jump_line}
+use Rattle.step_machine.proofs.Lines.{same_jumps, other_jumps, same_goes_on, other_goes_on, word-plus}
 use Rattle.poll_close.proofs.SenderLines.{line_04-word, line_04-none}
 use Rattle.poll_close.proofs.Blocks.{IsBlock, offset_low, word_of, slot_at}
 use Rattle.poll_close.proofs.BlockLaws.{found_in}

@@ -14,7 +14,7 @@ use Rattle.poll_close.specs.Rankings.{runs, ready_if, is_ready}
 use Rattle.poll_close.specs.Invariant.Blocks.{Block, offset, slot_store, tail_store, window}
 use Rattle.poll_close.specs.Invariant.Outlines.{Standing}
 use Rattle.poll_close.specs.Invariant.BlockInvariant.{ranking_of}
-use Rattle.poll_close.proofs.Modulo.{same_offset}
+use Rattle.step_machine.proofs.Modulo.{same_offset}
 use Rattle.poll_close.proofs.Windows.{none_left, singles-length, pairs-length}
 use Rattle.poll_close.proofs.Blocks.{IsBlock}
 use Rattle.poll_close.proofs.Outlines.{base_is, has_ended, nearer}

@@ -3,7 +3,7 @@ use Rattle.std.proofs.Common.{ℕ, suc, ◌+◌, ◌*◌, ◌%◌, ◌<◌, ◌�
 use Rattle.std.specs.Prelude.{slice_index}
 use Rattle.std.specs.List.{slice_get}
 use Rattle.std.proofs.lemmas.Bool.{cases_lt, cases_eq}
-use Rattle.poll_close.proofs.Modulo.{mod_apart}
+use Rattle.step_machine.proofs.Modulo.{mod_apart}
 use Rattle.poll_close.proofs.Writes.{IsWrite, hit, miss, same_write}
 use Rattle.lamport_ring.specs.Invariant.Stores.{sender_stores, receiver_stores}
 use Rattle.lamport_ring.proofs.Stores.{store_slot, store_head, store_mark, store_tail, store_done}

@@ -12,8 +12,8 @@ use Rattle.poll_close.specs.Rankings.{runs}
 use Rattle.poll_close.specs.Invariant.Blocks.{Block, offset, slot}
 use Rattle.poll_close.specs.Invariant.ReceiverState.{ReceiverRegisters, whole_of, receiving}
 use Rattle.poll_close.specs.Invariant.BlockInvariant.{Flag}
-use Rattle.poll_close.proofs.Lines.{loads, sum_line, load_line, same_jumps, other_goes_on}
-use Rattle.poll_close.proofs.Modulo.{same_offset}
+use Rattle.step_machine.proofs.Lines.{loads, sum_line, load_line, same_jumps, other_goes_on}
+use Rattle.step_machine.proofs.Modulo.{same_offset}
 use Rattle.poll_close.proofs.Blocks.{IsBlock, offset_low, base_word, word_of, word_from, slot_of, slot_at}
 use Rattle.poll_close.proofs.BlockLaws.{Right_at}
 use Rattle.poll_close.proofs.Distance.{flags, far_off}

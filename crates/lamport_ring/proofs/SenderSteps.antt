@@ -7,8 +7,8 @@ use Rattle.std.specs.Prelude.{slice_index}
 use Rattle.std.proofs.lemmas.Bool.{cases_eq}
 use Rattle.hart.specs.Effects.{word as word_of_sum}
 use Rattle.poll_close.specs.Invariant.Blocks.{Block, offset, slot, slot_store, window, AreNext}
-use Rattle.poll_close.proofs.Lines.{word-plus}
-use Rattle.poll_close.proofs.Modulo.{offset_step, offset_wrap}
+use Rattle.step_machine.proofs.Lines.{word-plus}
+use Rattle.step_machine.proofs.Modulo.{offset_step, offset_wrap}
 use Rattle.poll_close.proofs.Windows.{pairs-each}
 use Rattle.poll_close.proofs.Found.{in_memory}
 use Rattle.poll_close.proofs.Blocks.{IsBlock, offset_low}

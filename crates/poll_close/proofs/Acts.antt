@@ -17,7 +17,7 @@ use Rattle.poll_close.specs.Layout.{Layout}
 use Rattle.poll_close.specs.Touching.{StaysWithin, Touches}
 use Rattle.poll_close.specs.Going.{GoesOn}
 use Rattle.poll_close.specs.Invariant.Blocks.{as_write, as_writes}
-use Rattle.poll_close.proofs.Lines.{loads}
+use Rattle.step_machine.proofs.Lines.{loads}
 use Rattle.step_machine.specs.History.{History, with_entry}
 use Rattle.step_machine.specs.Entries.{hart_of, is_land, store_of, land_of, write_of, report_of, pending, read, reported}
 use Rattle.step_machine.specs.Access.{access_of}
@@ -30,6 +30,7 @@ use Rattle.step_machine.specs.Legal.{Allowed, Legal}
 use Rattle.step_machine.specs.Runs.{CanFollow}
 use Rattle.step_machine.proofs.Appended.{pending-last, reported-last}
 use Rattle.step_machine.proofs.Balanced.{balanced}
+use Rattle.step_machine.proofs.Lists.{some_first}
 use Rattle.step_machine.proofs.Follows.{act_only, state_of-mine, state_of-other, Legal-last}
 use Rattle.step_machine.proofs.Stays.{states_land, pending-land, pending-other, land_of-other}
 
@@ -168,10 +169,6 @@ pub record Landed (M : ℕ) (t new : History) (h : ℕ) (w : Write) (rest : List
   pub buffers : (k : ℕ) → k ≢ h → pending k new.entries ≡ pending k t.entries
   pub memory : (a : ℕ) → word_in_memory new.opening new.entries a ≡ (if w.addr == a then w.value else word_in_memory t.opening t.entries a)
   pub reports : (k : ℕ) → reported k new.entries ≡ reported k t.entries
-
-some_first : (ws : List Write) → 0 < length ws → (w : Write) × (rest : List Write) × (ws ≡ w ∷ rest)
-some_first [] some = absurd (omega arith)
-some_first (w ∷ ws) some = (w, ws, refl)
 
 pub landed : (B M : ℕ) (t : History) (h : ℕ) → Legal B t → CanFollow B M t (entry.Land h)
     → (w : Write) × (rest : List Write) × Landed M t (with_entry t (entry.Land h)) h w rest

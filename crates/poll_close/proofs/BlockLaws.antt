@@ -20,7 +20,7 @@ use Rattle.poll_close.specs.Invariant.ReceiverState.{ReceiverRegisters, receiver
 use Rattle.poll_close.specs.Invariant.BlockInvariant.{BlockInvariant, ReceiverCounts, Count, unsent_of, unread_of, AllReported}
 use Rattle.poll_close.specs.Invariant.BlockInvariant.{ReceiverRow, ReceiverIs, opened_rows, ranking_of}
 use Rattle.poll_close.proofs.Acts.{stored_by, said_by, IsNoAmo}
-use Rattle.poll_close.proofs.Lines.{loads}
+use Rattle.step_machine.proofs.Lines.{loads}
 use Rattle.poll_close.proofs.Windows.{Each, newest_to}
 use Rattle.poll_close.proofs.Writes.{IsWrite}
 use Rattle.poll_close.proofs.Blocks.{IsBlock, Within, IsWordOf, IsStore}

@@ -15,7 +15,7 @@ use Rattle.poll_close.specs.Invariant.Blocks.{Block}
 use Rattle.poll_close.specs.Invariant.Outlines.{Row, Standing, rank_in, left_of}
 use Rattle.poll_close.specs.Invariant.BlockInvariant.{BlockInvariant, Count, unsent_of, unread_of, DistanceToReport}
 use Rattle.poll_close.specs.Invariant.BlockInvariant.{Near, Round, Over, Visit, length_of, opened_rows}
-use Rattle.poll_close.proofs.Lines.{loads}
+use Rattle.step_machine.proofs.Lines.{loads}
 use Rattle.poll_close.proofs.Blocks.{IsBlock, IsWordOf}
 
 -- the receiver is never further away than this

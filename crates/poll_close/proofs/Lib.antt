@@ -1,7 +1,6 @@
 pub mod Acts
-pub mod Lines
+pub mod Means
 pub mod SenderLines
-pub mod Modulo
 pub mod Windows
 pub mod Writes
 pub mod Blocks

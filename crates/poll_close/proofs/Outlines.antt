@@ -19,7 +19,7 @@ use Rattle.poll_close.specs.Invariant.SenderState.{SenderRegisters, fixed, runni
 use Rattle.poll_close.specs.Invariant.BlockInvariant.{BlockInvariant, Count, unsent_of}
 use Rattle.poll_close.specs.Invariant.Outlines.{Row, SenderRow, Reasons, Outline, either, stands, HoldsIn, SenderIs, Standing, left_of}
 use Rattle.poll_close.proofs.Acts.{stored_by, IsNoAmo}
-use Rattle.poll_close.proofs.Lines.{Line, loads, at_line}
+use Rattle.step_machine.proofs.Lines.{Line, loads, at_line}
 use Rattle.poll_close.proofs.Blocks.{IsBlock, IsWordOf}
 use Rattle.poll_close.proofs.BlockLaws.{found_in, Sends}
 

@@ -15,8 +15,8 @@ use Rattle.poll_close.specs.Invariant.Blocks.{Block, offset}
 use Rattle.poll_close.specs.Invariant.ReceiverState.{ReceiverRegisters, ReceiverConstants, whole_of, receiving, receives, closings_due}
 use Rattle.poll_close.specs.Invariant.BlockInvariant.{BlockInvariant, ReceiverCounts, Count, ReceiverIs, Flag, rows_of}
 use Rattle.poll_close.proofs.Acts.{stored_by, said_by, IsNoAmo}
-use Rattle.poll_close.proofs.Lines.{Line, loads, at_line, stores, word-plus, word-minus, add_line, sum_line, load_line}
-use Rattle.poll_close.proofs.Lines.{store_line, jump_line, same_jumps, other_goes_on, other_jumps, same_goes_on}
+use Rattle.step_machine.proofs.Lines.{Line, loads, at_line, stores, word-plus, word-minus, add_line, sum_line, load_line}
+use Rattle.step_machine.proofs.Lines.{store_line, jump_line, same_jumps, other_goes_on, other_jumps, same_goes_on}
 use Rattle.poll_close.proofs.BlockLaws.{Changes, Comes, Says, Nearer, Receives, Decodes, BlockLaws, Runs, Right_at}
 use Rattle.std.proofs.lemmas.Bool.{cases_eq, cases_lt}
 use Rattle.std.proofs.lemmas.Bool.Decides.{nat_tests}
@@ -25,7 +25,7 @@ use Rattle.hart.specs.declared.status.Status.TheVariants as status
 use Rattle.hart.specs.declared.need.Report.TheVariants as report
 use Rattle.poll_close.specs.Rankings.{rest_from, runs}
 use Rattle.poll_close.specs.Plans.{is_closed}
-use Rattle.poll_close.proofs.Modulo.{offset_step, offset_wrap}
+use Rattle.step_machine.proofs.Modulo.{offset_step, offset_wrap}
 use Rattle.poll_close.proofs.Blocks.{IsBlock, IsWordOf, offset_low, word_of, word_from}
 use Rattle.poll_close.proofs.Outlines.{and_intro, found}
 use Rattle.poll_close.proofs.Distance.{flags, not_stale, far_off, arrives, wraps}

@@ -10,7 +10,7 @@ use Rattle.hart.specs.declared.status.Status.TheVariants as status
 use Rattle.hart.specs.declared.need.Need.TheVariants as need
 use Rattle.hart.proofs.Instructions.{IsAt, next_need, next_after}
 use Rattle.poll_close.specs.Invariant.SenderState.{SenderRegisters, SenderConstants, file, running}
-use Rattle.poll_close.proofs.Lines.{Line}
+use Rattle.step_machine.proofs.Lines.{Line}
 
 module _ (code : List ℕ) (long : 2 < length code) (f : SenderConstants) (r : SenderRegisters) where
   -- a pc inside the code leaves it running

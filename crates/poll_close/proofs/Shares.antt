@@ -4,6 +4,7 @@ use Rattle.std.proofs.Common.{ℕ, zero, suc, ◌+◌, ◌-◌, ◌*◌, ◌<◌
 use Rattle.std.proofs.Common.{◌||◌, List, [], ◌∷◌, ◌++◌, length, length-append, Option, Some, None}
 use Rattle.std.proofs.Common.{refl, sym, ◌∙◌, ap, arith, eq-eqb}
 use Rattle.std.specs.List.{slice_get, slice_index_or}
+use Rattle.std.proofs.Math.Bool.{or-false}
 use Rattle.std.proofs.lemmas.Bool.{cases_eq, cases_lt}
 use Rattle.std.proofs.lemmas.Bool.Decides.{nat_tests}
 use Rattle.std.proofs.lemmas.Nat.{row_fits}
@@ -95,14 +96,11 @@ closed_from (x ∷ rs) zero i is = grind (arith, eq-eqb)
 closed_from (report.Took j w ∷ rs) (suc k) i is = closed_from rs k i is
 closed_from (report.Closed j ∷ rs) (suc k) i is = grind (arith, closed_from rs k i is)
 
-or_false : (b : Bool) → (b || false) ≡ b
-or_false b = grind arith
-
 one_most : (b : Bool) → one_if b ≤ 1
 one_most b = grind arith
 
 pub closed_other : (rs : List Report) (x : Report) (i : ℕ) → sender_of x ≢ i → is_closed (rs ++ x ∷ []) i ≡ is_closed rs i
-closed_other rs x i other = grind (arith, closed_more, or_false, nat_tests)
+closed_other rs x i other = grind (arith, closed_more, or-false, nat_tests)
 
 -- one report of a sender more, and less is left of it
 module _ (p : Ranking) (lists : List (List ℕ)) (rs : List Report) (states after : ℕ → Option HartState) (j : ℕ) (same : after (j + 1) ≡ states (j + 1)) where
@@ -116,7 +114,7 @@ module _ (p : Ranking) (lists : List (List ℕ)) (rs : List Report) (states afte
   fewer L a b c d x y most bit more state = omega arith
 
   pub report_falls : (x : Report) → sender_of x ≡ j → Clean (rs ++ x ∷ []) lists → share p lists (rs ++ x ∷ []) after j < share p lists rs states j
-  report_falls (report.Took i w) from clean = grind (arith, nat_tests, taken-took, length-append, closed_more, or_false, fewer, bound, one_most)
+  report_falls (report.Took i w) from clean = grind (arith, nat_tests, taken-took, length-append, closed_more, or-false, fewer, bound, one_most)
   report_falls (report.Closed i) from clean =
       let on : (i == j) ≡ true = grind (arith, nat_tests, from) in
       let words : length (taken (rs ++ report.Closed i ∷ []) j) ≡ length (taken rs j) = ap length (taken-closed rs i j) in

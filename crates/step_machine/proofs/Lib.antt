@@ -28,3 +28,6 @@ pub mod Nexts
 pub mod TakingLaws
 pub mod PositionLaws
 pub mod PartLaws
+pub mod Lines
+pub mod Modulo
+pub mod Lists

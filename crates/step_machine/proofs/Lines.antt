@@ -1,5 +1,5 @@
 -- One line of a program: what a hart wants there, and the state that it leaves.
-use Rattle.std.proofs.Common.{ℕ, ℤ, pos, negsuc, zero, suc, ◌+◌, ◌*◌, ◌%◌, ◌^◌, ◌<◌, ◌≤◌, ◌≡◌, ◌≢◌, ◌==◌, ◌+ℤ◌}
+use Rattle.std.proofs.Common.{ℕ, ℤ, pos, negsuc, zero, suc, ◌+◌, ◌*◌, ◌/◌, ◌%◌, ◌^◌, ◌<◌, ◌≤◌, ◌≡◌, ◌≢◌, ◌==◌, ◌+ℤ◌}
 use Rattle.std.proofs.Common.{true, false, not, List, [], ◌∷◌, length, Some, refl, add-zero, ◌∙◌, ap, arith}
 use Rattle.std.specs.Prelude.{map, slice_index}
 use Rattle.std.specs.List.{slice_get}
@@ -13,17 +13,15 @@ use Rattle.rv_decode.specs.declared.instruction.RegisterOp.TheVariants as regist
 use Rattle.rv_decode.specs.declared.instruction.LoadOp.TheVariants as load
 use Rattle.rv_decode.specs.declared.instruction.StoreOp.TheVariants as store
 use Rattle.rv_decode.specs.declared.instruction.Instr.{Instr}
-use Rattle.rv_decode.specs.declared.instruction.Instr.TheVariants.{Jal, Branch, Load, Store, Immediate, Register}
-use Rattle.rv_decode.proofs.Meanings.{meaning_iff}
+use Rattle.rv_decode.specs.declared.instruction.Instr.TheVariants.{Jal, Jalr, Branch, Load, Store, Immediate, Register}
 use Rattle.hart.specs.State.{HartState}
 use Rattle.hart.specs.declared.need.Need.{Need}
 use Rattle.hart.specs.declared.need.Need.TheVariants as need
 use Rattle.hart.specs.Effects.{read, written, next_pc, address, word}
-use Rattle.hart.specs.Steps.{need_of, advanced, settled}
+use Rattle.hart.specs.Steps.{need_of, advanced, settled, jump_need}
 use Rattle.hart.proofs.Instructions.{IsAt, load_need, load_after, store_need, store_after, immediate_need}
 use Rattle.hart.proofs.Instructions.{immediate_after, branch_on_need, branch_on_after, branch_taken_need}
-use Rattle.hart.proofs.Instructions.{branch_taken_after, register_need, register_after, jal_need, jal_after}
-use Rattle.poll_close.specs.Means.{AllMean}
+use Rattle.hart.proofs.Instructions.{branch_taken_after, register_need, register_after, jal_need, jal_after, need_at, after-at}
 
 -- a state, what it wants, and the state that it leaves when it reads v
 pub record Line (s : HartState) (n : Need) (next : ℕ → HartState) : Type 0 where
@@ -43,13 +41,7 @@ word-plus a k h = omega (arith, ints)
 pub word-minus : (a y : ℕ) → a ≡ y + 1 → y + 1 < 2 ^ 32 → word (pos a +ℤ negsuc 0) ≡ y
 word-minus a y is small = grind (arith, pos, negsuc, ints, word-plus, add-zero)
 
--- a table means a listing where the decoder finds its lines
-pub all_mean : (ws : List ℕ) (is : List Instr) → map meaning ws ≡ map Some is → AllMean ws is
-all_mean [] [] e = tt
-all_mean (w ∷ ws) (i ∷ is) e = grind (arith, meaning_iff, all_mean ws is)
-all_mean x y e = cc
-
--- and such a table has line j at 4 * j
+-- a table of words that mean its lines has line j at 4 * j
 
 at_in : (ws : List ℕ) (j : ℕ) (i : Instr) → slice_get (map meaning ws) j ≡ Some (Some i) → (j < length ws) × (meaning (slice_index ws j) ≡ Some i)
 at_in [] j i is = cc
@@ -111,3 +103,14 @@ module _ {s : HartState} {a b : Reg} {k : ℤ} where
   same_goes_on at known =
       let test : (read s.registers a == read s.registers b) ≡ true = grind (arith, nat_tests) in
       record { wants = branch_on_need at (ap not test); leaves = λ v. branch_on_after at (ap not test) v ∙ rw test refl }
+
+-- a return: x0 stays, and the pc is x1, rounded down to a multiple of 2. A return to no multiple of 4 stops the hart
+-- where it is
+pub return_line : {s : HartState} → IsAt s (Jalr (reg_of 0) (reg_of 1) (pos 0)) → slice_index s.registers 1 < 2 ^ 32
+    → slice_index s.registers 1 / 2 * 2 % 4 ≡ 0 → Line s need.Inner (λ v. goes_to s (slice_index s.registers 1 / 2 * 2))
+return_line {s} at small aligned =
+    let plus : word (pos (slice_index s.registers 1) +ℤ pos 0) ≡ slice_index s.registers 1 =
+    word-plus (slice_index s.registers 1) 0 (omega (arith, small)) ∙ add-zero (slice_index s.registers 1) in
+    let test : (slice_index s.registers 1 / 2 * 2 % 4 == 0) ≡ true = grind (arith, nat_tests) in
+    let wants : need_of s ≡ need.Inner = need_at at ∙ ap (λ a. jump_need (a / 2 * 2)) plus ∙ rw test refl in
+    record { wants = wants; leaves = λ v. after-at at need.Inner wants tt v ∙ ap (λ a. goes_to s (a / 2 * 2)) plus }
