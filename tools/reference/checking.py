@@ -12,20 +12,21 @@ HEAD = re.compile(rb"ztso-schedule 2(?:\r?\n|\Z)")
 
 def texts(lines):
     """The texts of the records: each begins at a line that is the head of version 2. What stands before the first
-    one is a text too, unless its lines are blank and it is no longer than a text may be."""
+    one is a text too, unless its lines are blank and it is no longer than a text may be. If no line is a head, all that
+    was read is one text, also if it is empty."""
     held = []
     for line in lines:
         if HEAD.fullmatch(line):
-            yield from closed(held)
+            text = b"".join(held)
+            if not is_left_out(text):
+                yield text
             held = []
         held.append(line)
-    yield from closed(held)
+    yield b"".join(held)
 
 
-def closed(lines):
-    text = b"".join(lines)
-    if len(text) > TEXT_BYTES or text.replace(b"\r\n", b"\n").strip(b" \t\n"):
-        yield text
+def is_left_out(text):
+    return len(text) <= TEXT_BYTES and not text.replace(b"\r\n", b"\n").strip(b" \t\n")
 
 
 def read(text):

@@ -15,29 +15,31 @@ use Rattle.engine_support.specs.inner.Failures.{IsFailure}
 use Rattle.engine_support.specs.inner.Making.{FindsUpToReads}
 use Rattle.checking.specs.declared.tally.Tally.{Tally}
 use Rattle.engine_support.specs.WholeLines.{whole_lines}
-use Rattle.checking.specs.RecordTexts.{is_left_out, texts_in}
-use Rattle.checking.specs.Judgements.{Judged, IsJudged}
-use Rattle.checking.specs.Reports.{report_line, reports_from}
-use Rattle.checking.specs.Outcomes.{IsTable}
+use Rattle.checking.specs.RecordTexts.{texts_in}
+use Rattle.checking.specs.Judgements.{Judged, IsTextJudged}
+use Rattle.checking.specs.Reports.{judgement_line, judgement_lines}
+use Rattle.checking.specs.Outcomes.{IsOutcomeTable}
 use Rattle.checking.specs.Checking.{IsCheckAnswer, IsChecked, IsCheckFront, IsFront, OfLines}
-use Rattle.checking.specs.inner.Reporting.{AllReported, Closes, SomeReported}
-use Rattle.checking.specs.inner.Reporting.Closes.{reported}
-use Rattle.checking.specs.inner.Tallies.{IsTallyOf, Tallies}
+use Rattle.checking.specs.inner.Reporting.{AllWritten, OneWritten, SomeWritten}
+use Rattle.checking.specs.inner.Tallies.{IsTallyOfTexts, TalliesText}
 use Rattle.engine_support.proofs.Written.{appends_more, appends_nothing}
 
 -- ---- a text
 
-pub closes_by : (B M : ℕ) (test : LitmusTest) (text : List ℕ) (old new : Tally) (before after : Option (List ℕ)) (answer : Judged) (line : List ℕ)
-    → is_left_out text ≡ false → IsJudged B M test text answer → Tallies answer old new → line ≡ report_line new.judged answer
-    → Appends before after line → Closes B M test text old new before after
-closes_by B M test text old new before after answer line not_blank is tallies written appends =
-    reported answer not_blank is tallies
-    (subst (λ (out : List ℕ). Appends before after out) (written ∙ ap (λ (n : ℕ). report_line n answer) tallies.judged_are) appends)
+pub written_by : (B M : ℕ) (test : LitmusTest) (text : List ℕ) (old new : Tally) (before after : Option (List ℕ)) (answer : Judged) (line : List ℕ)
+    → IsTextJudged B M test text answer → TalliesText answer old new → line ≡ judgement_line new.judged answer
+    → Appends before after line → OneWritten B M test text old new before after
+written_by B M test text old new before after answer line is tallies written appends = record {
+  answer = answer;
+  is = is;
+  tallied = tallies;
+  appends = subst (λ (out : List ℕ). Appends before after out) (written ∙ ap (λ (n : ℕ). judgement_line n answer) tallies.judged_are) appends;
+}
 
 -- ---- all texts, and the table
 
 module _ (B M : ℕ) (test : LitmusTest) (tally : Tally) (before mid : Option (List ℕ)) where
-  all_front : (lines : List (List ℕ)) (all : AllReported B M test lines tally before mid) → IsFront B M lines test (reports_from 1 all.answers)
+  all_front : (lines : List (List ℕ)) (all : AllWritten B M test lines tally before mid) → IsFront B M lines test (judgement_lines 1 all.answers)
   all_front lines all = record {
     done = texts_in lines;
     rest = [];
@@ -47,18 +49,18 @@ module _ (B M : ℕ) (test : LitmusTest) (tally : Tally) (before mid : Option (L
     text = refl;
   }
 
-  pub all_reported : (input : Option (List ℕ)) → OfLines input (λ lines. AllReported B M test lines tally before mid) → SomeReported B M test input before mid
-  all_reported None (lines, all) = (reports_from 1 all.answers, all.appends, (lines, all_front lines all))
-  all_reported (Some bytes) all = (reports_from 1 all.answers, all.appends, all_front (whole_lines bytes) all)
+  pub all_written : (input : Option (List ℕ)) → OfLines input (λ lines. AllWritten B M test lines tally before mid) → SomeWritten B M test input before mid
+  all_written None (lines, all) = (judgement_lines 1 all.answers, all.appends, (lines, all_front lines all))
+  all_written (Some bytes) all = (judgement_lines 1 all.answers, all.appends, all_front (whole_lines bytes) all)
 
-  pub all_checked : (input : Option (List ℕ)) → OfLines input (λ lines. AllReported B M test lines tally before mid)
+  pub all_checked : (input : Option (List ℕ)) → OfLines input (λ lines. AllWritten B M test lines tally before mid)
       → (after : Option (List ℕ)) (text : List ℕ) (good : Bool)
-      → ((answers : List Judged) → IsTallyOf answers tally → IsTable test answers text) → good ≡ (tally.refused == 0) → Appends mid after text
+      → ((answers : List Judged) → IsTallyOfTexts answers tally → IsOutcomeTable test answers text) → good ≡ (tally.refused == 0) → Appends mid after text
       → (out : List ℕ) × Appends before after out × OfLines input (λ lines. IsChecked B M lines test (out, good))
   all_checked input reports after text good tabled judged appends = at input reports
     where
-      checked : (lines : List (List ℕ)) (all : AllReported B M test lines tally before mid)
-          → IsChecked B M lines test (reports_from 1 all.answers ++ text, good)
+      checked : (lines : List (List ℕ)) (all : AllWritten B M test lines tally before mid)
+          → IsChecked B M lines test (judgement_lines 1 all.answers ++ text, good)
       checked lines all = record {
         answers = all.answers;
         are = all.are;
@@ -68,19 +70,22 @@ module _ (B M : ℕ) (test : LitmusTest) (tally : Tally) (before mid : Option (L
         good = judged ∙ ap (λ (n : ℕ). n == 0) all.tallied.refused_are;
       }
 
-      at : (input : Option (List ℕ)) → OfLines input (λ lines. AllReported B M test lines tally before mid)
+      at : (input : Option (List ℕ)) → OfLines input (λ lines. AllWritten B M test lines tally before mid)
           → (out : List ℕ) × Appends before after out × OfLines input (λ lines. IsChecked B M lines test (out, good))
-      at None (lines, all) =
-          (reports_from 1 all.answers ++ text, appends_more before mid after (reports_from 1 all.answers) text all.appends appends, (lines, checked lines all))
+      at None (lines, all) = (
+        judgement_lines 1 all.answers ++ text,
+        appends_more before mid after (judgement_lines 1 all.answers) text all.appends appends,
+        (lines, checked lines all),
+      )
       at (Some bytes) all = (
-        reports_from 1 all.answers ++ text,
-        appends_more before mid after (reports_from 1 all.answers) text all.appends appends,
+        judgement_lines 1 all.answers ++ text,
+        appends_more before mid after (judgement_lines 1 all.answers) text all.appends appends,
         checked (whole_lines bytes) all,
       )
 
 -- nothing was written yet
-pub none_reported : (B M : ℕ) (test : LitmusTest) (input known : Option (List ℕ)) → SomeReported B M test input known known
-none_reported B M test input known = ([], appends_nothing known, at input)
+pub none_written : (B M : ℕ) (test : LitmusTest) (input known : Option (List ℕ)) → SomeWritten B M test input known known
+none_written B M test input known = ([], appends_nothing known, at input)
   where
     front : (lines : List (List ℕ)) → IsFront B M lines test []
     front lines = record { done = []; rest = texts_in lines; texts = refl; answers = []; are = refl; text = refl }
@@ -112,7 +117,7 @@ module _ (B M : ℕ) (input known : Option (List ℕ)) {W : Type 0} (contents : 
     ends_checked (Err WriteFailed) old new fails checked = tt
     ends_checked (Err NoMemory) old new fails checked = tt
 
-    pub left_checked : (result : Result Bool Fault) (before after : Option (List ℕ)) → OnStopped result (SomeReported B M test input before after)
+    pub left_checked : (result : Result Bool Fault) (before after : Option (List ℕ)) → OnStopped result (SomeWritten B M test input before after)
         → OnStopped result ((out : List ℕ) × Appends before after out × ((out ≡ []) ⊎ Fronts out))
     left_checked (Ok good) before after is = tt
     left_checked (Err (Refused r)) before after is = tt

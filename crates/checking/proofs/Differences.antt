@@ -10,9 +10,9 @@ use Rattle.recorder.specs.Replaying.{IsRunRecord, DiffersAt}
 use Rattle.texts.proofs.ResultLaws.{some_is}
 use Rattle.litmus.specs.LitmusTests.{LitmusTest}
 use Rattle.checking.specs.EventLines.{line_of_event}
-use Rattle.checking.specs.Judgements.{IsSaidOf}
+use Rattle.checking.specs.Judgements.{IsRecordJudged}
 use Rattle.checking.specs.Judgements.Judged.{differing}
-use Rattle.checking.specs.Judgements.IsSaidOf.{of_difference}
+use Rattle.checking.specs.Judgements.IsRecordJudged.{of_difference}
 
 pub differing_here : (B M : ℕ) (o : OpeningValue) (steps : List Step) (i : ℕ) (d : Step) (mid : History) (out : Outcome) (new : History) → i < length steps
     → IsRunRecord B M o (take i steps) mid → Happens B M mid (get_or steps i d).0 out new → out ≢ (get_or steps i d).1
@@ -31,11 +31,11 @@ differing_here B M o steps i d mid out new within is happens other = (
   refl,
 )
 
--- it is said with its line, the record's step there and the run's outcome
-pub difference_said : (B M : ℕ) (test : LitmusTest) (text : List ℕ) (steps : List Step) (event line : ℕ) (d : Step) (found : Outcome)
+-- it is judged with its line, the record's step there and the run's outcome
+pub difference_judged : (B M : ℕ) (test : LitmusTest) (text : List ℕ) (steps : List Step) (event line : ℕ) (d : Step) (found : Outcome)
     → (f : DiffersAt B M test.opening steps event) → f.outcome ≡ found → event < length steps → line ≡ line_of_event text event
-    → IsSaidOf B M test text steps (differing (record { event = event; line = line; step = get_or steps event d; found = found }))
-difference_said B M test text steps event line d found f same within on_line =
+    → IsRecordJudged B M test text steps (differing (record { event = event; line = line; step = get_or steps event d; found = found }))
+difference_judged B M test text steps event line d found f same within on_line =
     of_difference (record { event = event; line = line; step = get_or steps event d; found = found })
     (record {
       differs = f;
@@ -53,6 +53,10 @@ ok_more (Err e) P Q more holds = tt
 pub ok_any : {X E : Type 0} (result : Result X E) (P : Type 0) → P → OnOk result P
 ok_any (Ok x) P holds = holds
 ok_any (Err e) P holds = tt
+
+pub ok_then : {X E : Type 0} (result : Result X E) (P Q : Type 0) → (P → Q) → OnOk result P → OnOk result Q
+ok_then (Ok x) P Q then holds = then holds
+ok_then (Err e) P Q then holds = tt
 
 pub ok_some : {X E : Type 0} (result : Result X E) (P : X → Type 0) (Q : Type 0) → ((x : X) → P x → Q) → IfOk result P → OnOk result Q
 ok_some (Ok x) P Q more holds = more x holds

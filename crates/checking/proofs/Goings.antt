@@ -12,35 +12,35 @@ use Rattle.engine_support.specs.Input.{kept_of}
 use Rattle.engine_support.specs.WholeLines.{whole_lines}
 use Rattle.engine_support.proofs.LineReading.{first_whole}
 use Rattle.checking.specs.RecordTexts.{begins_record, is_left_out, unless_blank, texts_in}
-use Rattle.checking.specs.Judgements.{Judged, IsJudged, AreJudged}
-use Rattle.checking.specs.Reports.{report_line, reports_from}
+use Rattle.checking.specs.Judgements.{Judged, IsTextJudged, AreTextsJudged}
+use Rattle.checking.specs.Reports.{judgement_line, judgement_lines}
 use Rattle.checking.specs.Checking.{IsFront, OfLines}
 use Rattle.checking.specs.inner.Holding.{IsHeld}
-use Rattle.checking.specs.inner.Reporting.{AllReported, Closes, SomeReported, TakesLine}
-use Rattle.checking.specs.inner.Reporting.Closes.{left_out, reported}
+use Rattle.checking.specs.inner.Reporting.{AllWritten, Closes, OneWritten, SomeWritten, TakesLine}
+use Rattle.checking.specs.inner.Reporting.Closes.{judged, left_out}
 use Rattle.checking.specs.inner.Reporting.TakesLine.{belongs, begins}
-use Rattle.checking.specs.inner.Tallies.{HasRoom, IsTallyOf}
+use Rattle.checking.specs.inner.Tallies.{HasRoomForText, IsTallyOfTexts}
 use Rattle.checking.proofs.TallyLaws.{has_room, tally_more}
 use Rattle.checking.proofs.TextLaws.{begins_kept, texts_from, text_ends, text_goes_on, text_is_last, held_judged, held_kept, held_left_out}
 
 -- ---- one text more
 
 judged_more : (B M : ℕ) (test : LitmusTest) (texts : List (List ℕ)) (answers : List Judged) (text : List ℕ) (answer : Judged)
-    → AreJudged B M test texts answers → IsJudged B M test text answer → AreJudged B M test (texts ++ text ∷ []) (answers ++ answer ∷ [])
+    → AreTextsJudged B M test texts answers → IsTextJudged B M test text answer → AreTextsJudged B M test (texts ++ text ∷ []) (answers ++ answer ∷ [])
 judged_more B M test [] answers text answer is one = (answer, [], ap (λ (list : List Judged). list ++ answer ∷ []) is, one, refl)
 judged_more B M test (first ∷ texts) answers text answer is one =
     (is.0, is.1 ++ answer ∷ [], ap (λ (list : List Judged). list ++ answer ∷ []) is.2, is.3, judged_more B M test texts is.1 text answer is.4 one)
 
-reports_more : (number : ℕ) (answers : List Judged) (answer : Judged)
-    → reports_from number (answers ++ answer ∷ []) ≡ reports_from number answers ++ report_line (number + length answers) answer
-reports_more number [] answer =
+judgement_lines_more : (number : ℕ) (answers : List Judged) (answer : Judged)
+    → judgement_lines number (answers ++ answer ∷ []) ≡ judgement_lines number answers ++ judgement_line (number + length answers) answer
+judgement_lines_more number [] answer =
     let same : number ≡ number + 0 = omega arith in
-    append-nil (report_line number answer) ∙ ap (λ (k : ℕ). report_line k answer) same
-reports_more number (first ∷ answers) answer =
+    append-nil (judgement_line number answer) ∙ ap (λ (k : ℕ). judgement_line k answer) same
+judgement_lines_more number (first ∷ answers) answer =
     let same : number + 1 + length answers ≡ number + length (first ∷ answers) = omega arith in
-    ap (λ (rest : List ℕ). report_line number first ++ rest)
-    (reports_more (number + 1) answers answer ∙ ap (λ (k : ℕ). reports_from (number + 1) answers ++ report_line k answer) same)
-    ∙ sym (append_assoc (report_line number first) (reports_from (number + 1) answers) (report_line (number + length (first ∷ answers)) answer))
+    ap (λ (rest : List ℕ). judgement_line number first ++ rest)
+    (judgement_lines_more (number + 1) answers answer ∙ ap (λ (k : ℕ). judgement_lines (number + 1) answers ++ judgement_line k answer) same)
+    ∙ sym (append_assoc (judgement_line number first) (judgement_lines (number + 1) answers) (judgement_line (number + length (first ∷ answers)) answer))
 
 -- ---- line by line
 
@@ -75,12 +75,12 @@ pub record Going (B M : ℕ) (test : LitmusTest) (input left before after : Opti
   are_done : AreDone input left done
   cut : (more : List (List ℕ)) → texts_in (done ++ more) ≡ closed ++ texts_from text more
   holds : IsHeld text held
-  are : AreJudged B M test closed answers
-  tallied : IsTallyOf answers tally
-  appends : Appends before after (reports_from 1 answers)
+  are : AreTextsJudged B M test closed answers
+  tallied : IsTallyOfTexts answers tally
+  appends : Appends before after (judgement_lines 1 answers)
   few : length answers ≤ count
 
-pub going_nothing : (B M : ℕ) (test : LitmusTest) (input known : Option (List ℕ)) (tally : Tally) → IsTallyOf [] tally
+pub going_nothing : (B M : ℕ) (test : LitmusTest) (input known : Option (List ℕ)) (tally : Tally) → IsTallyOfTexts [] tally
     → Going B M test input input known known [] tally 0
 unfolding texts_in
 going_nothing B M test input known tally is = record {
@@ -104,14 +104,14 @@ going_nothing B M test input known tally is = record {
 module _ {B M : ℕ} {test : LitmusTest} {input left before after : Option (List ℕ)} {held : List ℕ} {tally : Tally} {count : ℕ}
     (t : Going B M test input left before after held tally count) where
   -- there is room for one more
-  pub going_room : count < 18446744073709551615 → HasRoom tally
+  pub going_room : count < 18446744073709551615 → HasRoomForText tally
   going_room few = has_room t.answers tally t.tallied (omega (arith, t.few, few))
 
   -- the lines of the first texts were written
-  pub going_so_far : SomeReported B M test input before after
-  going_so_far = (reports_from 1 t.answers, t.appends, at input left t.are_done)
+  pub going_so_far : SomeWritten B M test input before after
+  going_so_far = (judgement_lines 1 t.answers, t.appends, at input left t.are_done)
     where
-      front : (lines more : List (List ℕ)) → lines ≡ t.done ++ more → IsFront B M lines test (reports_from 1 t.answers)
+      front : (lines more : List (List ℕ)) → lines ≡ t.done ++ more → IsFront B M lines test (judgement_lines 1 t.answers)
       front lines more is = record {
         done = t.closed;
         rest = texts_from t.text more;
@@ -121,53 +121,60 @@ module _ {B M : ℕ} {test : LitmusTest} {input left before after : Option (List
         text = refl;
       }
 
-      at : (input left : Option (List ℕ)) → AreDone input left t.done → OfLines input (λ lines. IsFront B M lines test (reports_from 1 t.answers))
+      at : (input left : Option (List ℕ)) → AreDone input left t.done → OfLines input (λ lines. IsFront B M lines test (judgement_lines 1 t.answers))
       at None left is = (t.done ++ [], front (t.done ++ []) [] refl)
       at (Some bytes) None is = absurd is
       at (Some bytes) (Some rest) is = front (whole_lines bytes) (whole_lines rest) is
 
-  -- the text that was read was closed
+  -- the text that was read was judged
+  written_more : (new : Tally) (later : Option (List ℕ)) → OneWritten B M test held tally new after later
+      → (more : List Judged) × AreTextsJudged B M test (t.closed ++ t.text ∷ []) more × IsTallyOfTexts more new
+      × Appends before later (judgement_lines 1 more) × (length more ≤ count + 1)
+  written_more new later is =
+      let number : tally.judged + 1 ≡ 1 + length t.answers = omega (arith, t.tallied.judged_are) in
+      let counted = length-append t.answers (is.answer ∷ []) in (
+        t.answers ++ is.answer ∷ [],
+        judged_more B M test t.closed t.answers t.text is.answer t.are (held_judged B M test t.text held is.answer t.holds is.is),
+        tally_more t.answers is.answer tally new t.tallied is.tallied,
+        subst (λ (out : List ℕ). Appends before later out)
+            (ap (λ (k : ℕ). judgement_lines 1 t.answers ++ judgement_line k is.answer) number ∙ sym (judgement_lines_more 1 t.answers is.answer))
+            (appends_more before after later (judgement_lines 1 t.answers) (judgement_line (tally.judged + 1) is.answer) t.appends is.appends),
+        omega (arith, counted, t.few),
+      )
+
+  -- or left out where a record follows
   closed_more : (new : Tally) (later : Option (List ℕ)) → Closes B M test held tally new after later
-      → (more : List Judged) × AreJudged B M test (t.closed ++ unless_blank t.text) more × IsTallyOf more new
-      × Appends before later (reports_from 1 more) × (length more ≤ count + 1)
+      → (more : List Judged) × AreTextsJudged B M test (t.closed ++ unless_blank t.text) more × IsTallyOfTexts more new
+      × Appends before later (judgement_lines 1 more) × (length more ≤ count + 1)
   closed_more new later (left_out blank same stays) =
       let is_blank : is_left_out t.text ≡ true = sym (held_left_out t.text held t.holds) ∙ blank in (
         t.answers,
         rw (is_blank, append-nil t.closed) t.are,
-        subst (IsTallyOf t.answers) (sym same) t.tallied,
-        subst (λ (known : Option (List ℕ)). Appends before known (reports_from 1 t.answers)) (sym stays) t.appends,
+        subst (IsTallyOfTexts t.answers) (sym same) t.tallied,
+        subst (λ (known : Option (List ℕ)). Appends before known (judgement_lines 1 t.answers)) (sym stays) t.appends,
         omega (arith, t.few),
       )
-  closed_more new later (reported answer not_blank is tallies appends) =
+  closed_more new later (judged not_blank is) =
       let is_text : is_left_out t.text ≡ false = sym (held_left_out t.text held t.holds) ∙ not_blank in
-      let number : tally.judged + 1 ≡ 1 + length t.answers = omega (arith, t.tallied.judged_are) in
-      let counted = length-append t.answers (answer ∷ []) in (
-        t.answers ++ answer ∷ [],
-        rw is_text (judged_more B M test t.closed t.answers t.text answer t.are (held_judged B M test t.text held answer t.holds is)),
-        tally_more t.answers answer tally new t.tallied tallies,
-        subst (λ (out : List ℕ). Appends before later out)
-            (ap (λ (k : ℕ). reports_from 1 t.answers ++ report_line k answer) number ∙ sym (reports_more 1 t.answers answer))
-            (appends_more before after later (reports_from 1 t.answers) (report_line (tally.judged + 1) answer) t.appends appends),
-        omega (arith, counted, t.few),
-      )
+      let more = written_more new later is in (more.0, rw is_text more.1, more.2, more.3, more.4)
 
-  -- the input has ended, and all is reported
+  -- the input has ended, and all texts are judged
   pub going_ended : (next : Option (List ℕ)) (line : List ℕ) → IsNext left next line → line ≡ [] → (new : Tally) (later : Option (List ℕ))
-      → Closes B M test held tally new after later → OfLines input (λ lines. AllReported B M test lines new before later)
-  going_ended next line is_next none new later closes = at input left t.are_done is_next.0
+      → OneWritten B M test held tally new after later → OfLines input (λ lines. AllWritten B M test lines new before later)
+  going_ended next line is_next none new later is_last = at input left t.are_done is_next.0
     where
-      all : (lines : List (List ℕ)) → lines ≡ t.done ++ [] → AllReported B M test lines new before later
+      all : (lines : List (List ℕ)) → lines ≡ t.done ++ [] → AllWritten B M test lines new before later
       all lines is =
-          let more = closed_more new later closes in record {
+          let more = written_more new later is_last in record {
             answers = more.0;
-            are = subst (λ (texts : List (List ℕ)). AreJudged B M test texts more.0)
+            are = subst (λ (texts : List (List ℕ)). AreTextsJudged B M test texts more.0)
                 (sym (ap texts_in is ∙ t.cut [] ∙ ap (λ (last : List (List ℕ)). t.closed ++ last) (text_is_last t.text))) more.1;
             tallied = more.2;
             appends = more.3;
           }
 
       at : (input left : Option (List ℕ)) → AreDone input left t.done → IfSome left (λ bytes. line ≡ take_through 10 bytes)
-          → OfLines input (λ lines. AllReported B M test lines new before later)
+          → OfLines input (λ lines. AllWritten B M test lines new before later)
       at None left is first = (t.done ++ [], all (t.done ++ []) refl)
       at (Some bytes) None is first = absurd is
       at (Some bytes) (Some rest) is first =

@@ -1,4 +1,4 @@
--- Records answer one text: what is said of them is determined by the test and the input.
+-- One text answers an input: the judgements are determined by the test and the input.
 use Rattle.std.proofs.Common.{◌≡◌, ℕ, Bool, List, [], ◌∷◌, ◌++◌, map, take, count_by, Some, Result, Ok, refl, sym, ap, ap₂, ◌∙◌, subst}
 use Rattle.std.specs.Prelude.{◌==◌}
 use Rattle.std.specs.List.{flat_map, slice_get}
@@ -26,12 +26,13 @@ use Rattle.engine_support.proofs.RunLaws.{one_place}
 use Rattle.checking.specs.EventLines.{line_of_event}
 use Rattle.engine_support.specs.WholeLines.{whole_lines}
 use Rattle.checking.specs.RecordTexts.{texts_in}
-use Rattle.checking.specs.Judgements.{AreJudged, Difference, EndsAs, IsDifference, IsJudged, IsOfRun, IsSaidOf, Judged, judged_run, record_of}
+use Rattle.checking.specs.Judgements.{AreTextsJudged, Difference, EndsAs, IsDifference, IsTextJudged, IsRunJudged}
+use Rattle.checking.specs.Judgements.{IsRecordJudged, Judged, judged_run, record_of}
 use Rattle.checking.specs.Judgements.Judged.{differing, no_record}
-use Rattle.checking.specs.Judgements.IsSaidOf.{of_run, of_difference}
-use Rattle.checking.specs.Judgements.IsJudged.{none, record_is}
-use Rattle.checking.specs.Reports.{reports_from}
-use Rattle.checking.specs.Outcomes.{gave, IsTable, is_refused, is_unfinished, outcome_row, refused_line}
+use Rattle.checking.specs.Judgements.IsRecordJudged.{of_run, of_difference}
+use Rattle.checking.specs.Judgements.IsTextJudged.{none, record_is}
+use Rattle.checking.specs.Reports.{judgement_lines}
+use Rattle.checking.specs.Outcomes.{finished_with, IsOutcomeTable, is_refused, is_unfinished, accepted_row, refused_line}
 use Rattle.checking.specs.Checking.{IsCheckAnswer, IsChecked}
 
 -- ---- one run of a record
@@ -45,9 +46,9 @@ one_history B M o steps others t u same is other =
 one_end : (M : ℕ) (q : LitmusTest) (t : History) (a b : Judged) → EndsAs M q a t → EndsAs M q b t → a ≡ b
 one_end M q t a b is other =
     let verdicts : is.verdict ≡ other.verdict = one_verdict M q t is.verdict other.verdict is.judged other.judged in
-    is.says ∙ ap (λ (v : Verdict). judged_run v (map (final_value M t) (left_sides q.condition))) verdicts ∙ sym other.says
+    is.answer_is ∙ ap (λ (v : Verdict). judged_run v (map (final_value M t) (left_sides q.condition))) verdicts ∙ sym other.answer_is
 
-one_of_run : (B M : ℕ) (q : LitmusTest) (steps : List Step) (a b : Judged) → IsOfRun B M q steps a → IsOfRun B M q steps b → a ≡ b
+one_of_run : (B M : ℕ) (q : LitmusTest) (steps : List Step) (a b : Judged) → IsRunJudged B M q steps a → IsRunJudged B M q steps b → a ≡ b
 one_of_run B M q steps a b is other =
     let same : is.history ≡ other.history = one_history B M q.opening steps steps is.history other.history refl is.ran other.ran in
     one_end M q other.history a b (subst (EndsAs M q a) same is.ends) other.ends
@@ -57,13 +58,13 @@ one_of_run B M q steps a b is other =
 one_differing : (B M : ℕ) (o : OpeningValue) (steps : List Step) (i j : ℕ) → i ≡ j → (x : DiffersAt B M o steps i) (y : DiffersAt B M o steps j)
     → (x.step ≡ y.step) × (x.outcome ≡ y.outcome)
 one_differing B M o steps i j places x y =
-    let said : x.step ≡ y.step = some_is x.step y.step (sym x.stands ∙ ap (slice_get steps) places ∙ y.stands) in
+    let steps_same : x.step ≡ y.step = some_is x.step y.step (sym x.stands ∙ ap (slice_get steps) places ∙ y.stands) in
     let before : x.before ≡ y.before =
     one_history B M o (take i steps) (take j steps) x.before y.before (ap (λ (k : ℕ). take k steps) places) x.is_record y.is_record in
     let here : Happens B M y.before y.step.0 x.outcome x.after =
-    subst (λ (s : Step). Happens B M y.before s.0 x.outcome x.after) said
+    subst (λ (s : Step). Happens B M y.before s.0 x.outcome x.after) steps_same
     (subst (λ (t : History). Happens B M t x.step.0 x.outcome x.after) before x.happens) in
-    (said, (happens-one B M y.before y.step.0 x.outcome y.outcome x.after y.after here y.happens).0)
+    (steps_same, (happens-one B M y.before y.step.0 x.outcome y.outcome x.after y.after here y.happens).0)
 
 one_difference : (B M : ℕ) (q : LitmusTest) (text : List ℕ) (steps : List Step) (d e : Difference)
     → IsDifference B M q text steps d → IsDifference B M q text steps e → d ≡ e
@@ -71,45 +72,45 @@ one_difference B M q text steps d e is other =
     let events : d.event ≡ e.event = one_place B M q.opening steps d.event e.event is.differs other.differs in
     let same = one_differing B M q.opening steps d.event e.event events is.differs other.differs in
     let lines : d.line ≡ e.line = is.line ∙ ap (line_of_event text) events ∙ sym other.line in
-    let said : d.step ≡ e.step = sym is.step ∙ same.0 ∙ other.step in
+    let steps_same : d.step ≡ e.step = sym is.step ∙ same.0 ∙ other.step in
     let found : d.found ≡ e.found = sym is.found ∙ same.1 ∙ other.found in
-    λ i. record { event = events i; line = lines i; step = said i; found = found i }
+    λ i. record { event = events i; line = lines i; step = steps_same i; found = found i }
 
 -- ---- one judgement of a text
 
-one_said : (B M : ℕ) (q : LitmusTest) (text : List ℕ) (steps : List Step) (a b : Judged)
-    → IsSaidOf B M q text steps a → IsSaidOf B M q text steps b → a ≡ b
-one_said B M q text steps a b (of_run x is) (of_run y other) = one_of_run B M q steps x y is other
-one_said B M q text steps a b (of_run x is) (of_difference e other) = absurd (no_other B M q.opening steps is.history e.event is.ran other.differs)
-one_said B M q text steps a b (of_difference d is) (of_run y other) = absurd (no_other B M q.opening steps other.history d.event other.ran is.differs)
-one_said B M q text steps a b (of_difference d is) (of_difference e other) = ap differing (one_difference B M q text steps d e is other)
+one_record_judged : (B M : ℕ) (q : LitmusTest) (text : List ℕ) (steps : List Step) (a b : Judged)
+    → IsRecordJudged B M q text steps a → IsRecordJudged B M q text steps b → a ≡ b
+one_record_judged B M q text steps a b (of_run x is) (of_run y other) = one_of_run B M q steps x y is other
+one_record_judged B M q text steps a b (of_run x is) (of_difference e other) = absurd (no_other B M q.opening steps is.history e.event is.ran other.differs)
+one_record_judged B M q text steps a b (of_difference d is) (of_run y other) = absurd (no_other B M q.opening steps other.history d.event other.ran is.differs)
+one_record_judged B M q text steps a b (of_difference d is) (of_difference e other) = ap differing (one_difference B M q text steps d e is other)
 
 read_record : (text : List ℕ) (steps : List Step) → IsRecordOf text steps → record_of text ≡ Ok steps
 unfolding record_of
 read_record text steps is = let found = settled_only (IsRecordOf text) (record_at text) steps (record_settles text) is in rw found refl
 
-one_judged : (B M : ℕ) (q : LitmusTest) (text : List ℕ) (a b : Judged) → IsJudged B M q text a → IsJudged B M q text b → a ≡ b
+one_judged : (B M : ℕ) (q : LitmusTest) (text : List ℕ) (a b : Judged) → IsTextJudged B M q text a → IsTextJudged B M q text b → a ≡ b
 one_judged B M q text a b (none r refused) (none s other) = ap no_record (one_refusal (decoded record_of text) r s refused other)
-one_judged B M q text a b (none r refused) (record_is steps y also tells) =
+one_judged B M q text a b (none r refused) (record_is steps y also others_judged) =
     absurd (value_or_refusal record_of IsRecordOf text steps r (read_record text steps) also refused)
-one_judged B M q text a b (record_is steps x is says) (none s refused) =
+one_judged B M q text a b (record_is steps x is judged) (none s refused) =
     absurd (value_or_refusal record_of IsRecordOf text steps s (read_record text steps) is refused)
-one_judged B M q text a b (record_is steps x is says) (record_is others y also tells) =
+one_judged B M q text a b (record_is steps x is judged) (record_is others y also others_judged) =
     let same : others ≡ steps = settled_one (IsRecordOf text) (record_at text) others steps (record_settles text) also.value_is is.value_is in
-    one_said B M q text steps x y says (subst (λ (xs : List Step). IsSaidOf B M q text xs y) same tells)
+    one_record_judged B M q text steps x y judged (subst (λ (xs : List Step). IsRecordJudged B M q text xs y) same others_judged)
 
-one_list : (B M : ℕ) (q : LitmusTest) (texts : List (List ℕ)) (xs ys : List Judged) → AreJudged B M q texts xs → AreJudged B M q texts ys → xs ≡ ys
+one_list : (B M : ℕ) (q : LitmusTest) (texts : List (List ℕ)) (xs ys : List Judged) → AreTextsJudged B M q texts xs → AreTextsJudged B M q texts ys → xs ≡ ys
 one_list B M q [] xs ys are others = are ∙ sym others
 one_list B M q (text ∷ texts) xs ys (a, rest, same, is, are) (b, others, equal, also, tell) =
     same ∙ ap₂ (λ (x : Judged) (xs : List Judged). x ∷ xs) (one_judged B M q text a b is also) (one_list B M q texts rest others are tell) ∙ sym equal
 
 -- ---- one table and one text
 
-one_table : (q : LitmusTest) (answers : List Judged) (a b : List ℕ) → IsTable q answers a → IsTable q answers b → a ≡ b
+one_table : (q : LitmusTest) (answers : List Judged) (a b : List ℕ) → IsOutcomeTable q answers a → IsOutcomeTable q answers b → a ≡ b
 one_table q answers a b is other =
-    let outcomes : is.outcomes ≡ other.outcomes = one_outcomes gave answers is.outcomes other.outcomes is.shown other.shown in
+    let outcomes : is.outcomes ≡ other.outcomes = one_outcomes finished_with answers is.outcomes other.outcomes is.shown other.shown in
     is.is
-    ∙ ap (λ (xs : List (List ℕ)). flat_map (outcome_row q answers) xs ++ unfinished_line (count_by is_unfinished answers)
+    ∙ ap (λ (xs : List (List ℕ)). flat_map (accepted_row q answers) xs ++ unfinished_line (count_by is_unfinished answers)
     ++ refused_line (count_by is_refused answers)) outcomes
     ∙ sym other.is
 
@@ -117,8 +118,8 @@ one_checked : (B M : ℕ) (lines : List (List ℕ)) (q : LitmusTest) (a b : List
 one_checked B M lines q a b is other =
     let answers : is.answers ≡ other.answers = one_list B M q (texts_in lines) is.answers other.answers is.are other.are in
     let tables : is.table ≡ other.table =
-    one_table q other.answers is.table other.table (subst (λ (xs : List Judged). IsTable q xs is.table) answers is.tabled) other.tabled in
-    let texts : a.0 ≡ b.0 = is.text ∙ ap₂ (λ (xs : List Judged) (table : List ℕ). reports_from 1 xs ++ table) answers tables ∙ sym other.text in
+    one_table q other.answers is.table other.table (subst (λ (xs : List Judged). IsOutcomeTable q xs is.table) answers is.tabled) other.tabled in
+    let texts : a.0 ≡ b.0 = is.text ∙ ap₂ (λ (xs : List Judged) (table : List ℕ). judgement_lines 1 xs ++ table) answers tables ∙ sym other.text in
     let goods : a.1 ≡ b.1 = is.good ∙ ap (λ (xs : List Judged). count_by is_refused xs == 0) answers ∙ sym other.good in
     λ i. (texts i, goods i)
 

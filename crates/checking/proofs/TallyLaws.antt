@@ -9,8 +9,8 @@ use Rattle.engine_support.specs.Counting.{counted, counted_both, seen_of}
 use Rattle.engine_support.proofs.OutcomeTables.{count_more, seen_few, seen_more, seen_none}
 use Rattle.checking.specs.declared.tally.Tally.{Tally}
 use Rattle.checking.specs.Judgements.{Judged}
-use Rattle.checking.specs.Outcomes.{first_record, gave, is_refused, is_unfinished, record_end}
-use Rattle.checking.specs.inner.Tallies.{HasRoom, IsTallyOf, Tallies}
+use Rattle.checking.specs.Outcomes.{first_record, finished_with, is_refused, is_unfinished, record_end}
+use Rattle.checking.specs.inner.Tallies.{HasRoomForText, IsTallyOfTexts, TalliesText}
 
 -- ---- the first record with an outcome
 
@@ -31,21 +31,21 @@ first_new o b n none given = grind arith
 
 -- ---- one more judgement makes a tally of one more
 
-more_seen : (answers : List Judged) (answer : Judged) (outcome : List ℕ) → seen_of gave first_record (answers ++ answer ∷ []) outcome
-    ≡ cond (gave outcome answer) (counted_both (seen_of gave first_record answers outcome) (Some (1, record_end (length answers + 1))))
-    (seen_of gave first_record answers outcome)
+more_seen : (answers : List Judged) (answer : Judged) (outcome : List ℕ) → seen_of finished_with first_record (answers ++ answer ∷ []) outcome
+    ≡ cond (finished_with outcome answer) (counted_both (seen_of finished_with first_record answers outcome) (Some (1, record_end (length answers + 1))))
+    (seen_of finished_with first_record answers outcome)
 more_seen answers answer outcome =
-    let p : Judged → Bool = gave outcome in
+    let p : Judged → Bool = finished_with outcome in
     let found = found_more p 1 answers answer in
     let number : 1 + length answers ≡ length answers + 1 = omega arith in
-    seen_more gave first_record answers answer outcome (record_end (length answers + 1))
+    seen_more finished_with first_record answers answer outcome (record_end (length answers + 1))
     (λ none given. ap record_end (ap (λ (o : Option ℕ). unwrap_or o 0) found
     ∙ first_new (position_from p 1 answers) (p answer) (1 + length answers) (some_found p 1 answers ∙ none) given ∙ number))
     (λ some. ap record_end (ap (λ (o : Option ℕ). unwrap_or o 0) found
     ∙ first_kept (position_from p 1 answers) (cond (p answer) (Some (1 + length answers)) None) (some_found p 1 answers ∙ some)))
 
-pub tally_more : (answers : List Judged) (answer : Judged) (old new : Tally) → IsTallyOf answers old
-    → Tallies answer old new → IsTallyOf (answers ++ answer ∷ []) new
+pub tally_more : (answers : List Judged) (answer : Judged) (old new : Tally) → IsTallyOfTexts answers old
+    → TalliesText answer old new → IsTallyOfTexts (answers ++ answer ∷ []) new
 tally_more answers answer old new tally more = record {
   counts = λ outcome. more.counts outcome ∙ rw (tally.counts outcome, tally.judged_are) (sym (more_seen answers answer outcome));
   judged_are = more.judged_are ∙ ap (λ (n : ℕ). n + 1) tally.judged_are ∙ (let e = length-append answers (answer ∷ []) in omega (arith, e));
@@ -55,9 +55,9 @@ tally_more answers answer old new tally more = record {
 
 -- ---- there is room for one more
 
-pub has_room : (answers : List Judged) (tally : Tally) → IsTallyOf answers tally → length answers < 18446744073709551615 → HasRoom tally
+pub has_room : (answers : List Judged) (tally : Tally) → IsTallyOfTexts answers tally → length answers < 18446744073709551615 → HasRoomForText tally
 has_room answers tally is few = record {
-  counts = λ outcome. rw (is.counts outcome) (seen_few gave first_record answers outcome 18446744073709551615 few);
+  counts = λ outcome. rw (is.counts outcome) (seen_few finished_with first_record answers outcome 18446744073709551615 few);
   judged = rw is.judged_are few;
   unfinished_are = (let less = count_by-le-length is_unfinished answers in omega (arith, is.unfinished_are, less, few));
   refused_are = (let less = count_by-le-length is_refused answers in omega (arith, is.refused_are, less, few));
@@ -67,10 +67,10 @@ has_room answers tally is few = record {
 
 -- of no text nothing is counted
 pub nothing_counted : (tally : Tally) → ((outcome : List ℕ) → counted tally.outcomes outcome ≡ None)
-    → tally.judged ≡ 0 → tally.unfinished ≡ 0 → tally.refused ≡ 0 → IsTallyOf [] tally
+    → tally.judged ≡ 0 → tally.unfinished ≡ 0 → tally.refused ≡ 0 → IsTallyOfTexts [] tally
 nothing_counted tally nothing none unfinished refused =
     record {
-      counts = λ outcome. nothing outcome ∙ sym (seen_none gave first_record outcome);
+      counts = λ outcome. nothing outcome ∙ sym (seen_none finished_with first_record outcome);
       judged_are = none;
       unfinished_are = unfinished;
       refused_are = refused;

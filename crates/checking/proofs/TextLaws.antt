@@ -17,16 +17,16 @@ use Rattle.recorder.specs.Reading.{ends_line, has_head}
 use Rattle.recorder.specs.Records.{record_head}
 use Rattle.engine_support.specs.Input.{kept_of}
 use Rattle.engine_support.proofs.Judging.{judged-large}
-use Rattle.checking.specs.RecordTexts.{are_blank_lines, begins_record, before_record, records_in, is_left_out, unless_blank}
-use Rattle.checking.specs.Judgements.{Judged, IsJudged, record_of}
-use Rattle.checking.specs.Judgements.IsJudged.{none, record_is}
+use Rattle.checking.specs.RecordTexts.{are_blank_lines, begins_record, before_record, records_in, is_left_out, texts_with, unless_blank}
+use Rattle.checking.specs.Judgements.{Judged, IsTextJudged, record_of}
+use Rattle.checking.specs.Judgements.IsTextJudged.{none, record_is}
 use Rattle.checking.specs.inner.Holding.{held_with, IsHeld}
 
 -- ---- a line more
 
 -- the texts in a text that is being read, and in the lines after it
 abbrev pub texts_from : (text : List ℕ) → (lines : List (List ℕ)) → List (List ℕ)
-texts_from text lines = unless_blank (text ++ before_record lines) ++ records_in lines
+texts_from text lines = texts_with (text ++ before_record lines) (records_in lines)
 
 -- a line at which a record begins has a byte that is no blank
 begins_by : (line : List ℕ) → begins_record line ≡ true → (rest : List ℕ) × (line ≡ 122 ∷ rest)
@@ -57,19 +57,24 @@ not_left_out line more e =
     let (rest, is) = begins_by line e in
     rw is (rw (not_blank (rest ++ more)) (and-false (nat_le (length ((122 ∷ rest) ++ more)) 1048576)))
 
+-- a text that is not left out stands before any records
+texts_kept : (text : List ℕ) (records : List (List ℕ)) → is_left_out text ≡ false → texts_with text records ≡ text ∷ records
+texts_kept text [] e = refl
+texts_kept text (first ∷ others) e = rw e refl
+
 -- where a record begins, the line before ended the text
 pub text_ends : (text line : List ℕ) (lines : List (List ℕ)) → begins_record line ≡ true
     → texts_from text (line ∷ lines) ≡ unless_blank text ++ texts_from line lines
 text_ends text line lines begins =
-    rw (begins, append-nil text, not_left_out line (before_record lines) begins) refl
+    rw (begins, append-nil text, texts_kept (line ++ before_record lines) (records_in lines) (not_left_out line (before_record lines) begins)) refl
 
 -- any other line belongs to it
 pub text_goes_on : (text line : List ℕ) (lines : List (List ℕ)) → begins_record line ≡ false → texts_from text (line ∷ lines) ≡ texts_from (text ++ line) lines
 text_goes_on text line lines other = rw (other, append_assoc text line (before_record lines)) refl
 
--- and so does the end
-pub text_is_last : (text : List ℕ) → texts_from text [] ≡ unless_blank text
-text_is_last text = rw (append-nil text, append-nil (unless_blank text)) refl
+-- at the end it is a text, whatever it is
+pub text_is_last : (text : List ℕ) → texts_from text [] ≡ text ∷ []
+text_is_last text = ap (λ (last : List ℕ). last ∷ []) (append-nil text)
 
 -- ---- a line of which a front is kept
 
@@ -108,8 +113,8 @@ held_left_out text held (inl same) = ap is_left_out same
 held_left_out text held (inr (long, longer)) = rw (lt-leb (length held) 1048576 long, lt-leb (length text) 1048576 longer) refl
 
 pub held_judged : (B M : ℕ) (test : LitmusTest) (text held : List ℕ) (answer : Judged) → IsHeld text held
-    → IsJudged B M test held answer → IsJudged B M test text answer
-held_judged B M test text held answer (inl same) is = subst (λ (xs : List ℕ). IsJudged B M test xs answer) same is
+    → IsTextJudged B M test held answer → IsTextJudged B M test text answer
+held_judged B M test text held answer (inl same) is = subst (λ (xs : List ℕ). IsTextJudged B M test xs answer) same is
 held_judged B M test text held answer (inr (long, longer)) (none refusal refused) =
     none refusal (judged-large record_of text longer ∙ sym (judged-large record_of held long) ∙ refused)
-held_judged B M test text held answer (inr (long, longer)) (record_is steps other accepted said) = absurd (omega (arith, long, accepted.few))
+held_judged B M test text held answer (inr (long, longer)) (record_is steps other accepted judged) = absurd (omega (arith, long, accepted.few))

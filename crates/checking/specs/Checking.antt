@@ -6,18 +6,18 @@ use Rattle.engine_support.specs.Inputs.{After}
 use Rattle.engine_support.specs.Tests.{tests}
 use Rattle.engine_support.specs.WholeLines.{whole_lines}
 use Rattle.checking.specs.RecordTexts.{texts_in}
-use Rattle.checking.specs.Judgements.{Judged, AreJudged}
-use Rattle.checking.specs.Reports.{reports_from}
-use Rattle.checking.specs.Outcomes.{IsTable, is_refused}
+use Rattle.checking.specs.Judgements.{Judged, AreTextsJudged}
+use Rattle.checking.specs.Reports.{judgement_lines}
+use Rattle.checking.specs.Outcomes.{IsOutcomeTable, is_refused}
 
 -- What is written of these lines: a line for each text in them, and then the table. The value beside it is
 -- whether none was refused.
 pub record IsChecked (B M : ℕ) (lines : List (List ℕ)) (test : LitmusTest) (answer : List ℕ × Bool) : Type 0 where
   pub answers : List Judged
-  pub are : AreJudged B M test (texts_in lines) answers
+  pub are : AreTextsJudged B M test (texts_in lines) answers
   pub table : List ℕ
-  pub tabled : IsTable test answers table
-  pub text : answer.0 ≡ reports_from 1 answers ++ table
+  pub tabled : IsOutcomeTable test answers table
+  pub text : answer.0 ≡ judgement_lines 1 answers ++ table
   pub good : answer.1 ≡ (count_by is_refused answers == 0)
 
 -- what is written of the first texts in these lines, each as soon as it was read
@@ -26,8 +26,8 @@ pub record IsFront (B M : ℕ) (lines : List (List ℕ)) (test : LitmusTest) (ou
   pub rest : List (List ℕ)
   pub texts : texts_in lines ≡ done ++ rest
   pub answers : List Judged
-  pub are : AreJudged B M test done answers
-  pub text : out ≡ reports_from 1 answers
+  pub are : AreTextsJudged B M test done answers
+  pub text : out ≡ judgement_lines 1 answers
 
 -- this holds of the lines that a reader gives: those of its bytes where these are known, or else some
 abbrev pub OfLines : (input : Option (List ℕ)) → (List (List ℕ) → Type 0) → Type 0

@@ -1,4 +1,4 @@
--- What is said of a text: whether it is the record of a run of the test, and how the run ends.
+-- How a text is judged: whether it is the record of a run of the test, and how the run ends.
 use Rattle.std.specs.Prelude.{ℕ, ◌≡◌, List, [], ◌∷◌, map, Result, Err}
 use Rattle.litmus.specs.LitmusTests.{LitmusTest, left_sides}
 use Rattle.litmus.specs.Verdicts.{IsVerdict, final_value}
@@ -28,7 +28,7 @@ pub data Judged : Type 0 where
   differing : Difference → Judged
   no_record : Refusal → Judged
 
--- a run of which the test says this
+-- a run with this verdict of the test
 abbrev pub judged_run : Verdict → (values : List ℕ) → Judged
 judged_run Holds values = finished values
 judged_run Fails values = finished values
@@ -38,14 +38,14 @@ judged_run Unfinished values = unfinished
 unfoldable pub record_of : List ℕ → Result (List Step) Refusal
 record_of text = refused_schedule (record_at text)
 
--- this is said of a run of the test that ended with this history
+-- the judgement of a run of the test that ended with this history
 pub record EndsAs (M : ℕ) (test : LitmusTest) (answer : Judged) (history : History) : Type 0 where
   pub verdict : Verdict
   pub judged : IsVerdict M test history verdict
-  pub says : answer ≡ judged_run verdict (map (final_value M history) (left_sides test.condition))
+  pub answer_is : answer ≡ judged_run verdict (map (final_value M history) (left_sides test.condition))
 
--- the steps are the record of a run of the test, and this is said of it
-pub record IsOfRun (B M : ℕ) (test : LitmusTest) (steps : List Step) (answer : Judged) : Type 0 where
+-- the steps are the record of a run of the test, whose judgement is this
+pub record IsRunJudged (B M : ℕ) (test : LitmusTest) (steps : List Step) (answer : Judged) : Type 0 where
   pub history : History
   pub ran : IsRunRecord B M test.opening steps history
   pub ends : EndsAs M test answer history
@@ -57,19 +57,20 @@ pub record IsDifference (B M : ℕ) (test : LitmusTest) (text : List ℕ) (steps
   pub found : differs.outcome ≡ d.found
   pub line : d.line ≡ line_of_event text d.event
 
--- what is said of a record of these steps
-pub data IsSaidOf (B M : ℕ) (test : LitmusTest) (text : List ℕ) (steps : List Step) : Judged → Type 0 where
-  of_run : (answer : Judged) → IsOfRun B M test steps answer → IsSaidOf B M test text steps answer
-  of_difference : (d : Difference) → IsDifference B M test text steps d → IsSaidOf B M test text steps (differing d)
+-- the judgement of a record of these steps
+pub data IsRecordJudged (B M : ℕ) (test : LitmusTest) (text : List ℕ) (steps : List Step) : Judged → Type 0 where
+  of_run : (answer : Judged) → IsRunJudged B M test steps answer → IsRecordJudged B M test text steps answer
+  of_difference : (d : Difference) → IsDifference B M test text steps d → IsRecordJudged B M test text steps (differing d)
 
--- What is said of a text: why it is no record, or what its steps show, over store buffers of B stores and a
--- memory of M words.
-pub data IsJudged (B M : ℕ) (test : LitmusTest) (text : List ℕ) : Judged → Type 0 where
-  none : (refusal : Refusal) → decoded record_of text ≡ Err refusal → IsJudged B M test text (no_record refusal)
-  record_is : (steps : List Step) (answer : Judged) → Accepted IsRecordOf text steps → IsSaidOf B M test text steps answer → IsJudged B M test text answer
+-- The judgement of a text: why it is no record, or what its steps show, over store buffers of B stores and a memory of
+-- M words.
+pub data IsTextJudged (B M : ℕ) (test : LitmusTest) (text : List ℕ) : Judged → Type 0 where
+  none : (refusal : Refusal) → decoded record_of text ≡ Err refusal → IsTextJudged B M test text (no_record refusal)
+  record_is : (steps : List Step) (answer : Judged) → Accepted IsRecordOf text steps
+      → IsRecordJudged B M test text steps answer → IsTextJudged B M test text answer
 
 -- the same of each text, in order
-abbrev pub AreJudged : (B M : ℕ) → LitmusTest → List (List ℕ) → List Judged → Type 0
-AreJudged B M test [] answers = answers ≡ []
-AreJudged B M test (text ∷ texts) answers = (first : Judged) × (others : List Judged) × (answers ≡ first ∷ others)
-    × IsJudged B M test text first × AreJudged B M test texts others
+abbrev pub AreTextsJudged : (B M : ℕ) → LitmusTest → List (List ℕ) → List Judged → Type 0
+AreTextsJudged B M test [] answers = answers ≡ []
+AreTextsJudged B M test (text ∷ texts) answers = (first : Judged) × (others : List Judged) × (answers ≡ first ∷ others)
+    × IsTextJudged B M test text first × AreTextsJudged B M test texts others

@@ -9,9 +9,9 @@ use Rattle.checking.specs.Judgements.{Judged}
 use Rattle.checking.specs.Judgements.Judged.{finished, unfinished, differing, no_record}
 
 -- whether a run finished with this outcome, the list of the left sides' values
-abbrev pub gave : (outcome : List ℕ) → Judged → Bool
-gave outcome (finished values) = are_equal outcome values
-gave outcome other = false
+abbrev pub finished_with : (outcome : List ℕ) → Judged → Bool
+finished_with outcome (finished values) = are_equal outcome values
+finished_with outcome other = false
 
 abbrev pub is_unfinished : Judged → Bool
 is_unfinished unfinished = true
@@ -25,7 +25,7 @@ is_refused other = false
 
 -- the number of the first record whose run gave the outcome, which there is for every outcome
 abbrev pub first_with : (outcome : List ℕ) → List Judged → ℕ
-first_with outcome answers = unwrap_or (position_from (gave outcome) 1 answers) 0
+first_with outcome answers = unwrap_or (position_from (finished_with outcome) 1 answers) 0
 
 -- what a row ends with: the number of the first record
 abbrev pub record_end : (number : ℕ) → List ℕ
@@ -35,14 +35,15 @@ abbrev pub first_record : (outcome : List ℕ) → List Judged → List ℕ
 first_record outcome answers = record_end (first_with outcome answers)
 
 -- the line of an outcome, with how many runs gave it and the number of the first record whose run did
-abbrev pub outcome_row : LitmusTest → List Judged → (outcome : List ℕ) → List ℕ
-outcome_row test answers outcome = line_of test outcome (count_by (gave outcome) answers) (first_record outcome answers)
+abbrev pub accepted_row : LitmusTest → List Judged → (outcome : List ℕ) → List ℕ
+accepted_row test answers outcome = line_of test outcome (count_by (finished_with outcome) answers) (first_record outcome answers)
 
 abbrev pub refused_line : (count : ℕ) → List ℕ
 refused_line count = codes "refused " ++ decimal count ++ 10 ∷ []
 
 -- the table: a row for each outcome, and then how many runs did not finish and how many texts were refused
-pub record IsTable (test : LitmusTest) (answers : List Judged) (text : List ℕ) : Type 0 where
+pub record IsOutcomeTable (test : LitmusTest) (answers : List Judged) (text : List ℕ) : Type 0 where
   pub outcomes : List (List ℕ)
-  pub shown : AreOutcomes gave answers outcomes
-  pub is : text ≡ flat_map (outcome_row test answers) outcomes ++ unfinished_line (count_by is_unfinished answers) ++ refused_line (count_by is_refused answers)
+  pub shown : AreOutcomes finished_with answers outcomes
+  pub is : text ≡ flat_map (accepted_row test answers) outcomes ++ unfinished_line (count_by is_unfinished answers)
+      ++ refused_line (count_by is_refused answers)

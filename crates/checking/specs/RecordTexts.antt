@@ -25,7 +25,7 @@ records_in (line ∷ others) = if begins_record line then (line ++ before_record
 unfoldable pub are_blank_lines : List ℕ → Bool
 are_blank_lines text = list_all (list_all is_blank) (lines text)
 
--- What stands before the first record is left out where its lines are blank, and it is no longer than a text may be.
+-- What stands before a record is left out if its lines are blank, and it is no longer than a text may be.
 abbrev pub is_left_out : List ℕ → Bool
 is_left_out text = nat_le (length text) INPUT_BYTES && are_blank_lines text
 
@@ -33,6 +33,12 @@ is_left_out text = nat_le (length text) INPUT_BYTES && are_blank_lines text
 abbrev pub unless_blank : List ℕ → List (List ℕ)
 unless_blank text = if is_left_out text then [] else text ∷ []
 
--- The texts to be judged: the records in order, and before them what stands before the first one.
+-- these records in order, and before them this text, unless it is left out; without a record it stays, also if it is blank
+abbrev pub texts_with : (before : List ℕ) → (records : List (List ℕ)) → List (List ℕ)
+texts_with before [] = before ∷ []
+texts_with before (first ∷ others) = unless_blank before ++ first ∷ others
+
+-- The texts to be judged: the records, and what stands before the first one. There is at least one: where nothing was
+-- read, or blanks only, that is a text without a head.
 unfoldable pub texts_in : List (List ℕ) → List (List ℕ)
-texts_in all = unless_blank (before_record all) ++ records_in all
+texts_in all = texts_with (before_record all) (records_in all)

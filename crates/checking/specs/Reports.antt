@@ -42,10 +42,10 @@ judged_text (differing d) = difference_text d
 judged_text (no_record refusal) = refusal_text refusal
 
 -- the line of the text of this number, ended by LF (10)
-abbrev pub report_line : (number : ℕ) → Judged → List ℕ
-report_line number answer = decimal number ++ judged_text answer ++ 10 ∷ []
+abbrev pub judgement_line : (number : ℕ) → Judged → List ℕ
+judgement_line number answer = decimal number ++ judged_text answer ++ 10 ∷ []
 
 -- the lines of texts that are numbered from here on
-abbrev pub reports_from : (number : ℕ) → List Judged → List ℕ
-reports_from number [] = []
-reports_from number (answer ∷ answers) = report_line number answer ++ reports_from (number + 1) answers
+abbrev pub judgement_lines : (number : ℕ) → List Judged → List ℕ
+judgement_lines number [] = []
+judgement_lines number (answer ∷ answers) = judgement_line number answer ++ judgement_lines (number + 1) answers

@@ -9,8 +9,8 @@ ghost use Rattle.engine_support.specs.Inputs.{IsRefused};
 ghost use Rattle.engine_support.specs.Tests.{tests};
 ghost use Rattle.engine_support.specs.inner.Failures.{IsFailure};
 ghost use Rattle.checking.specs.Checking.{IsCheckAnswer, IsChecked, IsCheckFront, IsFront, OfLines};
-ghost use Rattle.checking.specs.inner.Reporting.{AllReported, Closes, SomeReported, TakesLine};
-ghost use Rattle.checking.specs.inner.Tallies.{HasRoom};
+ghost use Rattle.checking.specs.inner.Reporting.{AllWritten, Closes, OneWritten, SomeWritten, TakesLine};
+ghost use Rattle.checking.specs.inner.Tallies.{HasRoomForText};
 
 use crate::judging::judge;
 use crate::reading::{begins_record, hold, is_left_out};
@@ -27,7 +27,31 @@ use std::io::{BufRead, Read, Write};
 use std::mem;
 use step_machine::MachineState;
 
-/// Judges a text, unless it is left out, and writes its line.
+/// Judges a text, and writes its line.
+fn judge_text<const B: usize, const M: usize, W: Write>(
+    alloc: Global,
+    test: &Test,
+    machine: &mut MachineState<B, M>,
+    text: &[u8],
+    values: &mut Vec<u32>,
+    tally: &mut Tally,
+    writer: &mut W,
+) -> Result<(), Fault>
+    requires stands { RepresentsRunFrom B M test.now.opening machine.old }
+    requires names { length test.now.names ≤ M }
+    requires room { HasRoomForText tally.old }
+    ensures written { OnOk result (OneWritten B M test.now text.now tally.old tally.new (W.contents writer.old) (W.contents writer.new)) }
+    ensures stands { OnOk result (RepresentsRunFrom B M test.now.opening machine.new) }
+    ensures err { IfErr result IsFailure }
+    ensures left { OnStopped result (writer.new ≡ writer.old) }
+{
+    let judgement = judge(alloc, test, machine, text, values)?;
+    tally.add(alloc, judgement, values)?;
+    let line = report(alloc, tally.judged, judgement)?;
+    end_with(Ok((line, ())), writer)
+}
+
+/// Judges a text that a record follows, and writes its line, unless it is left out.
 fn close<const B: usize, const M: usize, W: Write>(
     alloc: Global,
     test: &Test,
@@ -39,7 +63,7 @@ fn close<const B: usize, const M: usize, W: Write>(
 ) -> Result<(), Fault>
     requires stands { RepresentsRunFrom B M test.now.opening machine.old }
     requires names { length test.now.names ≤ M }
-    requires room { HasRoom tally.old }
+    requires room { HasRoomForText tally.old }
     ensures closed { OnOk result (Closes B M test.now text.now tally.old tally.new (W.contents writer.old) (W.contents writer.new)) }
     ensures stands { OnOk result (RepresentsRunFrom B M test.now.opening machine.new) }
     ensures err { IfErr result IsFailure }
@@ -48,10 +72,7 @@ fn close<const B: usize, const M: usize, W: Write>(
     if is_left_out(text) {
         return Ok(());
     }
-    let judgement = judge(alloc, test, machine, text, values)?;
-    tally.add(alloc, judgement, values)?;
-    let line = report(alloc, tally.judged, judgement)?;
-    end_with(Ok((line, ())), writer)
+    judge_text(alloc, test, machine, text, values, tally, writer)
 }
 
 /// Takes a line after the text that is being read. Where a record begins at it, the text is judged, and the line
@@ -68,7 +89,7 @@ fn take_line<const B: usize, const M: usize, W: Write>(
 ) -> Result<(), Fault>
     requires stands { RepresentsRunFrom B M test.now.opening machine.old }
     requires names { length test.now.names ≤ M }
-    requires room { HasRoom tally.old }
+    requires room { HasRoomForText tally.old }
     ensures taken { OnOk result (TakesLine B M test.now line.old.items text.old.items text.new.items
         tally.old tally.new (W.contents writer.old) (W.contents writer.new)) }
     ensures stands { OnOk result (RepresentsRunFrom B M test.now.opening machine.new) }
@@ -96,9 +117,9 @@ fn judge_all<const B: usize, const M: usize, R: BufRead, W: Write>(
     requires stands { RepresentsRunFrom B M test.now.opening machine.old }
     requires names { length test.now.names ≤ M }
     ensures judged { IfOk result (λ tally. OfLines (R.remaining records.old)
-        (λ lines. AllReported B M test.now lines tally (W.contents writer.old) (W.contents writer.new))) }
+        (λ lines. AllWritten B M test.now lines tally (W.contents writer.old) (W.contents writer.new))) }
     ensures err { IfErr result IsFailure }
-    ensures left { OnStopped result (SomeReported B M test.now (R.remaining records.old) (W.contents writer.old) (W.contents writer.new)) }
+    ensures left { OnStopped result (SomeWritten B M test.now (R.remaining records.old) (W.contents writer.old) (W.contents writer.new)) }
     ensures unwritten { OnUnwritten result ((out : List ℕ) × OfLines (R.remaining records.old) (λ lines. IsFront B M lines test.now out)) }
 {
     let mut tally = Tally::new(alloc);
@@ -108,7 +129,8 @@ fn judge_all<const B: usize, const M: usize, R: BufRead, W: Write>(
     for _ in 0..u64::MAX {
         read_line(records, &mut line)?;
         if line.is_empty() {
-            close(alloc, test, machine, &text, &mut values, &mut tally, writer)?;
+            // whatever it is: of an input without a record its one text is refused, also if it is blank
+            judge_text(alloc, test, machine, &text, &mut values, &mut tally, writer)?;
             return Ok(tally);
         }
         take_line(
@@ -139,7 +161,7 @@ fn check_all<const B: usize, const M: usize, R: BufRead, W: Write>(
     ensures checked { IfOk result (λ good. (out : List ℕ) × Appends (W.contents writer.old) (W.contents writer.new) out
         × OfLines (R.remaining records.old) (λ lines. IsChecked B M lines test.now (out, good))) }
     ensures err { IfErr result IsFailure }
-    ensures left { OnStopped result (SomeReported B M test.now (R.remaining records.old) (W.contents writer.old) (W.contents writer.new)) }
+    ensures left { OnStopped result (SomeWritten B M test.now (R.remaining records.old) (W.contents writer.old) (W.contents writer.new)) }
     ensures unwritten { OnUnwritten result ((out : List ℕ) × OfLines (R.remaining records.old) (λ lines. IsFront B M lines test.now out)) }
 {
     let opening = test.opening(alloc)?;
@@ -154,7 +176,8 @@ fn check_all<const B: usize, const M: usize, R: BufRead, W: Write>(
 /// before anything further is read: whether its outcomes are those of its run on a machine with store buffers of
 /// `B` stores and `M` words of memory, and whether the run finished; else the first event with another outcome,
 /// with both, or why it is no record. After the last line comes the table of the outcomes. It answers whether no
-/// record was refused: docs/formats.md has the lines.
+/// record was refused: docs/formats.md has the lines. An input without a record is one text, also if it is empty, and
+/// so is refused.
 ///
 /// The litmus text is refused as `run` refuses it, before a record is read and with nothing written. The number
 /// of records has no limit. Of a text and of a line no more is held than the largest record has and one byte, which is

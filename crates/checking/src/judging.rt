@@ -1,4 +1,4 @@
-//! What is said of one text.
+//! The judgement of one text.
 
 ghost use Rattle.std.specs.Prelude.{◌≡◌, ◌↔◌, ◌<◌, ◌≤◌, IsTrue, length, IfErr, IfOk, IfSome, OnOk};
 ghost use Rattle.step_machine.specs.History.{OpeningValue};
@@ -8,7 +8,7 @@ ghost use Rattle.recorder.specs.Records.{IsRecordOf};
 ghost use Rattle.engine_support.specs.Engines.{Accepted, decoded};
 ghost use Rattle.engine_support.specs.Faults.{Answers};
 ghost use Rattle.engine_support.specs.declared.fault.Fault.TheVariants.{NoMemory};
-ghost use Rattle.checking.specs.Judgements.{EndsAs, IsJudged, IsSaidOf, record_of};
+ghost use Rattle.checking.specs.Judgements.{EndsAs, IsTextJudged, IsRecordJudged, record_of};
 ghost use Rattle.checking.specs.inner.Holding.{Follows};
 ghost use Rattle.checking.specs.inner.Tallies.{judged_by};
 
@@ -34,7 +34,7 @@ pub struct Difference {
     pub found: Outcome,
 }
 
-/// What is said of a text.
+/// The judgement of a text.
 #[derive(Clone, Copy)]
 pub enum Judgement {
     /// A record of a run that finished.
@@ -81,9 +81,9 @@ fn first_difference<const B: usize, const M: usize>(
 {
     machine.restart();
     for (place, step) in steps.iter().enumerate() {
-        let (event, said) = *step;
+        let (event, recorded) = *step;
         let found = machine.step(event)?;
-        if !are_same_outcomes(found, said) {
+        if !are_same_outcomes(found, recorded) {
             return Ok(Some((place, found)));
         }
     }
@@ -96,7 +96,7 @@ fn is_unfinished(verdict: Verdict) -> bool
     matches!(verdict, Verdict::Unfinished)
 }
 
-/// What is said of a run that stands at its end, whose last values go into `values`.
+/// The judgement of a run that stands at its end, whose last values go into `values`.
 fn judge_end<const B: usize, const M: usize>(
     test: &Test,
     machine: &MachineState<B, M>,
@@ -113,7 +113,7 @@ fn judge_end<const B: usize, const M: usize>(
     Ok(Judgement::Finished)
 }
 
-/// What is said of a record of these steps.
+/// The judgement of a record of these steps.
 fn judge_steps<const B: usize, const M: usize>(
     test: &Test,
     machine: &mut MachineState<B, M>,
@@ -123,7 +123,7 @@ fn judge_steps<const B: usize, const M: usize>(
 ) -> Result<Judgement, AllocError>
     requires stands { RepresentsRunFrom B M test.now.opening machine.old }
     requires names { length test.now.names ≤ M }
-    ensures said { IfOk result (λ judgement. IsSaidOf B M test.now text.now steps.now (judged_by judgement values.new.items)) }
+    ensures judged { IfOk result (λ judgement. IsRecordJudged B M test.now text.now steps.now (judged_by judgement values.new.items)) }
     ensures stands { OnOk result (RepresentsRunFrom B M test.now.opening machine.new) }
 {
     match first_difference(machine, steps)? {
@@ -137,7 +137,7 @@ fn judge_steps<const B: usize, const M: usize>(
     }
 }
 
-/// What is said of a text, on a machine of the test's opening, whatever it did before. The last values of a
+/// The judgement of a text, on a machine of the test's opening, whatever it did before. The last values of a
 /// finished run go into `values`, in the place of what it holds.
 pub fn judge<const B: usize, const M: usize>(
     alloc: Global,
@@ -148,7 +148,7 @@ pub fn judge<const B: usize, const M: usize>(
 ) -> Result<Judgement, Fault>
     requires stands { RepresentsRunFrom B M test.now.opening machine.old }
     requires names { length test.now.names ≤ M }
-    ensures judged { IfOk result (λ judgement. IsJudged B M test.now text.now (judged_by judgement values.new.items)) }
+    ensures judged { IfOk result (λ judgement. IsTextJudged B M test.now text.now (judged_by judgement values.new.items)) }
     ensures stands { OnOk result (RepresentsRunFrom B M test.now.opening machine.new) }
     ensures err { IfErr result (λ fault. fault ≡ NoMemory) }
 {

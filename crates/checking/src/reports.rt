@@ -2,7 +2,7 @@
 
 ghost use Rattle.std.specs.Prelude.{◌≡◌, ◌++◌, List, ℕ, IfOk, OnOk};
 ghost use Rattle.std.specs.String.{string_bytes};
-ghost use Rattle.checking.specs.Reports.{difference_place, difference_text, judged_text, position_text, refusal_text, report_line};
+ghost use Rattle.checking.specs.Reports.{difference_place, difference_text, judged_text, position_text, refusal_text, judgement_line};
 ghost use Rattle.checking.specs.inner.Tallies.{difference_of, judged_by};
 
 use crate::judging::{Difference, Judgement};
@@ -73,7 +73,7 @@ fn push_judgement(out: &mut String, judgement: Judgement) -> Result<(), AllocErr
 
 /// The line of the text of this number.
 pub fn report(alloc: Global, number: u64, judgement: Judgement) -> Result<String, AllocError>
-    ensures { IfOk result (λ text. (values : List ℕ) → string_bytes text ≡ report_line number (judged_by judgement values)) }
+    ensures { IfOk result (λ text. (values : List ℕ) → string_bytes text ≡ judgement_line number (judged_by judgement values)) }
 {
     let mut out = String::new(alloc);
     write!(out, "{number}")?;

@@ -4,7 +4,7 @@ ghost use Rattle.std.specs.Prelude.{◌≡◌, ◌<◌, ℕ, List, [], IfOk, IfS
 ghost use Rattle.std.specs.String.{string_bytes};
 ghost use Rattle.engine_support.specs.Counting.{counted, Counts};
 ghost use Rattle.checking.specs.Outcomes.{record_end as end_of_record};
-ghost use Rattle.checking.specs.inner.Tallies.{CountsAlike, HasRoom, IsTallyOf, judged_by, Tallies};
+ghost use Rattle.checking.specs.inner.Tallies.{CountsAlike, HasRoomForText, IsTallyOfTexts, judged_by, TalliesText};
 
 use crate::judging::Judgement;
 use engine_support::outcomes::Outcomes;
@@ -52,7 +52,7 @@ fn count_outcome(
 impl Tally {
     /// Of no text.
     pub fn new(alloc: Global) -> Tally
-        ensures { IsTallyOf [] result }
+        ensures { IsTallyOfTexts [] result }
     {
         Tally {
             outcomes: Outcomes::new(alloc),
@@ -62,15 +62,15 @@ impl Tally {
         }
     }
 
-    /// Takes in one more text, of which this is said, with these last values.
+    /// Takes in one more text, with this judgement and these last values.
     pub fn add(
         &mut self,
         alloc: Global,
         judgement: Judgement,
         values: &[u32],
     ) -> Result<(), AllocError>
-        requires { HasRoom self.old }
-        ensures tallies { OnOk result (Tallies (judged_by judgement values.now) self.old self.new) }
+        requires { HasRoomForText self.old }
+        ensures tallies { OnOk result (TalliesText (judged_by judgement values.now) self.old self.new) }
         ensures err { OnErr result (CountsAlike self.old self.new) }
     {
         let number = self.judged + 1;

@@ -11,7 +11,7 @@ use Rattle.checking.specs.declared.judging.Judgement.TheVariants as judgement
 use Rattle.checking.specs.declared.judging.Difference.{Difference as CodeDifference}
 use Rattle.checking.specs.Judgements.{Difference, Judged}
 use Rattle.checking.specs.Judgements.Judged.{finished, unfinished, differing, no_record}
-use Rattle.checking.specs.Outcomes.{first_record, gave, is_unfinished, is_refused, record_end, refused_line}
+use Rattle.checking.specs.Outcomes.{first_record, finished_with, is_unfinished, is_refused, record_end, refused_line}
 
 -- what a difference in the code stands for
 abbrev pub difference_of : CodeDifference → Difference
@@ -25,16 +25,18 @@ judged_by (judgement.Differs d) values = differing (difference_of d)
 judged_by (judgement.NoRecord refusal) values = no_record refusal
 
 -- a tally of these judgements
-pub record IsTallyOf (answers : List Judged) (tally : Tally) : Type 0 where
-  pub counts : (outcome : List ℕ) → counted tally.outcomes outcome ≡ seen_of gave first_record answers outcome
+pub record IsTallyOfTexts (answers : List Judged) (tally : Tally) : Type 0 where
+  pub counts : (outcome : List ℕ) → counted tally.outcomes outcome ≡ seen_of finished_with first_record answers outcome
   pub judged_are : tally.judged ≡ length answers
   pub unfinished_are : tally.unfinished ≡ count_by is_unfinished answers
   pub refused_are : tally.refused ≡ count_by is_refused answers
 
 -- one more text was judged
-pub record Tallies (answer : Judged) (old new : Tally) : Type 0 where
+pub record TalliesText (answer : Judged) (old new : Tally) : Type 0 where
   pub counts : (outcome : List ℕ) → counted new.outcomes outcome
-      ≡ (if gave outcome answer then counted_both (counted old.outcomes outcome) (Some (1, record_end (old.judged + 1))) else counted old.outcomes outcome)
+      ≡ (if finished_with outcome answer
+      then counted_both (counted old.outcomes outcome) (Some (1, record_end (old.judged + 1)))
+      else counted old.outcomes outcome)
   pub judged_are : new.judged ≡ old.judged + 1
   pub unfinished_are : new.unfinished ≡ old.unfinished + (if is_unfinished answer then 1 else 0)
   pub refused_are : new.refused ≡ old.refused + (if is_refused answer then 1 else 0)
@@ -47,7 +49,7 @@ pub record CountsAlike (old new : Tally) : Type 0 where
   pub refused_are : new.refused ≡ old.refused
 
 -- one more text can be counted in 64 bits
-pub record HasRoom (tally : Tally) : Type 0 where
+pub record HasRoomForText (tally : Tally) : Type 0 where
   pub counts : (outcome : List ℕ) → IfSome (counted tally.outcomes outcome) (λ seen. seen.0 < 18446744073709551615)
   pub judged : tally.judged < 18446744073709551615
   pub unfinished_are : tally.unfinished < 18446744073709551615

@@ -2,7 +2,7 @@ use Rattle.std.proofs.Common.{arith, lit<, refl}
 use Rattle.step_machine.specs.History.{at_opening}
 use Rattle.engine_support.proofs.Endings.{is_handed}
 use Rattle.checking.specs.declared.tally.Tally.{Tally}
-use Rattle.checking.proofs.Answering.{all_checked, all_reported, none_reported}
+use Rattle.checking.proofs.Answering.{all_checked, all_written, none_written}
 use Rattle.checking.proofs.Differences.{ok_more}
 use Rattle.engine_support.specs.inner.Rows.{lines_in}
 use Rattle.engine_support.proofs.Written.{hands_failure, hands_stop, hands_unwritten, stopped, unwritten, write_fails, write_stops}
@@ -22,12 +22,12 @@ judge_all-requires g c = (
 pub returns-in_err-opening-clause-left : goal.returns-in_err-opening-clause-left
 returns-in_err-opening-clause-left g c =
     stopped c.from_residual.result _
-    (none_reported g.row.B g.row.M c.args.test.now (g.R.Read.remaining c.args.records.now) (g.W.Write.contents c.args.writer.now))
+    (none_written g.row.B g.row.M c.args.test.now (g.R.Read.remaining c.args.records.now) (g.W.Write.contents c.args.writer.now))
 
 pub returns-in_err-machine-clause-left : goal.returns-in_err-machine-clause-left
 returns-in_err-machine-clause-left g c =
     stopped c.from_residual-in_err-machine.result _
-    (none_reported g.row.B g.row.M c.args.test.now (g.R.Read.remaining c.args.records.now) (g.W.Write.contents c.args.writer.now))
+    (none_written g.row.B g.row.M c.args.test.now (g.R.Read.remaining c.args.records.now) (g.W.Write.contents c.args.writer.now))
 
 pub returns-in_err-tally-clause-err : goal.returns-in_err-tally-clause-err
 returns-in_err-tally-clause-err g c =
@@ -62,5 +62,5 @@ returns-clause-left g c = write_stops c.end_with_table.result _ c.end_with_table
 
 pub returns-clause-unwritten : goal.returns-clause-unwritten
 returns-clause-unwritten g c =
-    let some = all_reported g.row.B g.row.M c.args.test.now c.in_ok-tally.tally _ _ (g.R.Read.remaining c.args.records.now) c.in_ok-tally.ensures.judged in
+    let some = all_written g.row.B g.row.M c.args.test.now c.in_ok-tally.tally _ _ (g.R.Read.remaining c.args.records.now) c.in_ok-tally.ensures.judged in
     unwritten c.end_with_table.result _ (some.0, some.2)

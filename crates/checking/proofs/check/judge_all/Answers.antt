@@ -2,7 +2,7 @@ use Rattle.std.proofs.Common.{◌≡◌, ℕ, ◌<◌, List, [], ◌∷◌, leng
 use Rattle.engine_support.specs.Input.{kept_of}
 use Rattle.engine_support.proofs.Endings.{is_handed}
 use Rattle.engine_support.proofs.Written.{hands_read_failure, keeps_written, stopped, unwritten}
-use Rattle.checking.specs.inner.Reporting.{SomeReported, TakesLine}
+use Rattle.checking.specs.inner.Reporting.{SomeWritten, TakesLine}
 use Rattle.checking.proofs.Goings.{going_ended, going_line, going_nothing, going_room, going_so_far, next_whole, whole_of}
 use Rattle.engine_support.proofs.LineReading.{kept_nothing}
 use Rattle.checking.proofs.check.judge_all.Goals as goal
@@ -48,8 +48,8 @@ loop-preserved g c = record {
 pub returns-clause-left : goal.returns-clause-left
 returns-clause-left g c = going_so_far c.loop.invariant.going
 
-pub close-requires : goal.close-requires
-close-requires g c =
+pub judge_text-requires : goal.judge_text-requires
+judge_text-requires g c =
     let few : c.loop.counter < 18446744073709551615 = search rules in
     (lit< tt, (c.loop.invariant.stands, (c.requires.names, going_room c.loop.invariant.going few)))
 
@@ -58,16 +58,17 @@ take_line-requires g c =
     let few : c.loop.counter < 18446744073709551615 = search rules in
     (lit< tt, (c.loop.invariant.stands, (c.requires.names, going_room c.loop.invariant.going few)))
 
-pub returns-in_err-close-clause-left : goal.returns-in_err-close-clause-left
-returns-in_err-close-clause-left g c =
-    keeps_written (Unit {0}) c.from_residual-in_err-close.result _ (is_handed c.from_residual-in_err-close.result _ c.from_residual-in_err-close.ensures.1)
-    c.loop.writer c.close.new.writer
-    (λ w. SomeReported g.row.B g.row.M c.args.test.now (g.R.Read.remaining c.args.records.now) (g.W.Write.contents c.args.writer.now) (g.W.Write.contents w))
-    c.in_err-close.ensures.left (going_so_far c.loop.invariant.going)
+pub returns-in_err-judge_text-clause-left : goal.returns-in_err-judge_text-clause-left
+returns-in_err-judge_text-clause-left g c =
+    keeps_written (Unit {0}) c.from_residual-in_err-judge_text.result _
+    (is_handed c.from_residual-in_err-judge_text.result _ c.from_residual-in_err-judge_text.ensures.1)
+    c.loop.writer c.judge_text.new.writer
+    (λ w. SomeWritten g.row.B g.row.M c.args.test.now (g.R.Read.remaining c.args.records.now) (g.W.Write.contents c.args.writer.now) (g.W.Write.contents w))
+    c.in_err-judge_text.ensures.left (going_so_far c.loop.invariant.going)
 
-pub returns-in_err-close-clause-unwritten : goal.returns-in_err-close-clause-unwritten
-returns-in_err-close-clause-unwritten g c =
-    let so_far = going_so_far c.loop.invariant.going in unwritten c.from_residual-in_err-close.result _ (so_far.0, so_far.2)
+pub returns-in_err-judge_text-clause-unwritten : goal.returns-in_err-judge_text-clause-unwritten
+returns-in_err-judge_text-clause-unwritten g c =
+    let so_far = going_so_far c.loop.invariant.going in unwritten c.from_residual-in_err-judge_text.result _ (so_far.0, so_far.2)
 
 pub returns-then-is_empty-clause-judged : goal.returns-then-is_empty-clause-judged
 returns-then-is_empty-clause-judged g c =
@@ -78,14 +79,14 @@ returns-then-is_empty-clause-judged g c =
     c.in_ok-read_line.ensures.few in
     going_ended c.loop.invariant.going (g.R.Read.remaining c.read_line.new.reader) (whole_of left kept) is.0
     (kept_nothing 1048576 (whole_of left kept) (is.1 ∙ no_items kept len))
-    c.close.new.tally (g.W.Write.contents c.close.new.writer) (rw c.deref.ensures.value at c.in_ok-close.ensures.closed)
+    c.judge_text.new.tally (g.W.Write.contents c.judge_text.new.writer) (rw c.deref.ensures.value at c.in_ok-judge_text.ensures.written)
 
 pub returns-in_err-take_line-clause-left : goal.returns-in_err-take_line-clause-left
 returns-in_err-take_line-clause-left g c =
     keeps_written (Unit {0}) c.from_residual-in_err-take_line.result _
     (is_handed c.from_residual-in_err-take_line.result _ c.from_residual-in_err-take_line.ensures.1)
     c.loop.writer c.take_line.new.writer
-    (λ w. SomeReported g.row.B g.row.M c.args.test.now (g.R.Read.remaining c.args.records.now) (g.W.Write.contents c.args.writer.now) (g.W.Write.contents w))
+    (λ w. SomeWritten g.row.B g.row.M c.args.test.now (g.R.Read.remaining c.args.records.now) (g.W.Write.contents c.args.writer.now) (g.W.Write.contents w))
     c.in_err-take_line.ensures.left (going_so_far c.loop.invariant.going)
 
 pub returns-in_err-take_line-clause-unwritten : goal.returns-in_err-take_line-clause-unwritten

@@ -1,11 +1,11 @@
 use Rattle.std.proofs.Common.{◌≡◌, ◌+◌, ◌≤◌, length}
 use Rattle.std.specs.Str.Lines.{lines}
-use Rattle.checking.specs.EventLines.{line_of_event, line_with}
+use Rattle.checking.specs.EventLines.{line_of_event, line_holding}
 use Rattle.checking.proofs.event_lines.line_of_event.Given as goal
 
 abbrev pub invariant-loop-bytes : goal.invariant-loop-bytes
 invariant-loop-bytes l = record {
-  stands : line_with l.left (lines l.rest) + l.line ≡ line_of_event l.text l.event;
+  stands : line_holding l.left (lines l.rest) + l.line ≡ line_of_event l.text l.event;
   few : l.line + length l.rest ≤ length l.text + 2;
 }
 
