@@ -1,4 +1,4 @@
-"""The archive: what is installed below a prefix, in one folder."""
+"""Archives: files in one folder, with nothing of the machine on which they are made."""
 
 import io
 import lzma
@@ -34,8 +34,9 @@ def content(top, files, epoch):
     return archive.getvalue()
 
 
-def write(folder, program, files, epoch):
-    name = f"ztso-{tree.version()}-{program.machine}-linux"
+def write(folder, what, files, epoch):
+    """Makes the archive `ztso-VERSION-WHAT.tar.xz` of these files."""
+    name = f"ztso-{tree.version()}-{what}"
     path = folder / f"{name}.tar.xz"
     path.write_bytes(lzma.compress(content(name, files, epoch), preset=9 | lzma.PRESET_EXTREME))
     return path

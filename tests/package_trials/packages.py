@@ -1,6 +1,7 @@
-"""The archive and the Debian package: the same bytes twice, and what they hold runs."""
+"""The packages: the same bytes twice, and what they hold runs where nothing else is."""
 
 import os
+import re
 import shutil
 from pathlib import Path
 
@@ -29,7 +30,7 @@ def part(count, program):
         made = below(folder / "first")
         version = tree.version()
         count.same("what is made", [name.replace("aarch64", "x86_64").replace("arm64", "amd64") for name in made],
-                   ["SHA256SUMS", f"ztso-{version}-x86_64-linux.tar.xz", f"ztso_{version}_amd64.deb"])
+                   ["SHA256SUMS", *(f"ztso-{version}-{what}.tar.xz" for what in ("page", "queue", "x86_64-linux")), f"ztso_{version}_amd64.deb"])
         for name in made:
             one, other = (folder / "first" / name).read_bytes(), (folder / "second/deep" / name).read_bytes()
             count.told(f"{name} is the same twice", one == other)
@@ -40,8 +41,13 @@ def part(count, program):
         else:
             there = [name for name in UNCALLED if b"\0%s\0" % name.encode() in alone.read_bytes()]
             count.same("functions that the program calls", there, [])
-        archive(count, folder, folder / "first" / made[1], packed, page)
-        debian(count, folder, folder / "first" / made[2], packed)
+        _, of_page, of_queue, of_program, of_debian = (folder / "first" / name for name in made)
+        archive(count, folder, of_program, packed, page)
+        debian(count, folder, of_debian, packed)
+        page_archive(count, folder, of_page, page)
+        queue_archive(count, folder, of_queue)
+        status, said, faults = package(folder / "without", packed, "--without-page")
+        count.same("without a page", (status, faults, [name for name in below(folder / "without") if "page" in name]), (0, "", []))
 
 
 def package(to, program, *words, **options):
@@ -71,14 +77,49 @@ def refusals(count, folder, packed):
     count.same("nothing is made", (folder / "none").exists(), False)
 
 
+def unpacked(count, folder, path):
+    """The folder of an archive, unpacked in one where nothing else is."""
+    place = folder / f"unpacked-{path.name}"
+    place.mkdir()
+    count.same(f"unpacks {path.name}", call("tar", "-xf", path, "-C", place), (0, "", ""))
+    (top,) = place.iterdir()
+    return top
+
+
 def archive(count, folder, path, packed, page):
     """The archive's commands run where it is unpacked, and it has the files that are installed."""
-    (folder / "unpacked").mkdir()
-    count.same("unpacks", call("tar", "-xf", path, "-C", folder / "unpacked"), (0, "", ""))
-    (top,) = (folder / "unpacked").iterdir()
+    top = unpacked(count, folder, path)
     wanted = {file.place: (file.content, 0o100755 if file.executable else 0o100644) for file in tree.files(packed, page)}
     count.told("the archive's files", prefix.contents(top) == wanted, "other files, contents or rights")
     witness(count, "from the archive", top / "bin/ztso", top / "share/ztso", packed)
+    alone(count, "the archive's program alone", top.parent, top / "lib/ztso/ztso", top / "share/ztso", packed)
+
+
+def page_archive(count, folder, path, page):
+    """The folder that a web host serves, as it was, and each file that its scripts and sheets name is in it."""
+    top = unpacked(count, folder, path)
+    wanted = {file.name: file.read_bytes() for file in page.iterdir()}
+    count.told("the page's files", {file.name: file.read_bytes() for file in top.iterdir()} == wanted, "other files or contents")
+    texts = "\n".join(file.read_text() for file in top.iterdir() if file.suffix in (".html", ".js", ".css"))
+    named = set(re.findall(r"""["'/]([\w-]+\.(?:js|json|wasm|css|svg))["']""", texts))
+    count.same("files that the page names and hasn't", sorted(named - wanted.keys()), [])
+
+
+def queue_archive(count, folder, path):
+    """The header and the functions are those of the repository, and its README's lines compile beside them."""
+    top = unpacked(count, folder, path)
+    for name in ("queue.h", "functions.S"):
+        count.told(f"the archive's {name}", (top / name).read_bytes() == (tree.TOP / "examples/bare-metal" / name).read_bytes(), "other bytes")
+    count.same("the archive's files", below(top), ["README", "functions.S", "queue.h"])
+    lines = (top / "README").read_text().split("\n")
+    uses = [re.sub(r"^hart \d:", "", line.strip()) for line in lines if line.startswith("    ") and "gcc" not in line]
+    code = [line for line in uses if not line.lstrip().startswith(("while", "struct received", "if"))]
+    body = [line for line in uses if line not in code]
+    (top / "mine.c").write_text("\n".join([*code, "void use(uint32_t);", "void run(uint32_t word);", "void run(uint32_t word) {", *body, "}", ""]))
+    flags = ["-march=rv32ima", "-mabi=ilp32", "-ffreestanding", "-std=c11", "-Wall", "-Wextra", "-Werror", "-c", "mine.c", "functions.S"]
+    for compiler in (["riscv64-unknown-elf-gcc"], ["clang", "--target=riscv32-unknown-elf"]):
+        if count.there(compiler[0], "the queue's functions compiled"):
+            count.same(f"{compiler[0]} takes the archive's README", call(*compiler, *flags, folder=top), (0, "", ""))
 
 
 def debian(count, folder, path, packed):
@@ -96,6 +137,7 @@ def debian(count, folder, path, packed):
         status, said, faults = call(*as_root, "dpkg", f"--root={root}", "--force-depends", "--install", path)
         count.told("dpkg --install", status == 0, said + faults)
         witness(count, "from the package", root / "usr/bin/ztso", root / "usr/share/ztso", packed)
+        alone(count, "the package's program alone", root, root / "usr/lib/ztso/ztso", root / "usr/share/ztso", packed)
         prefix.manual(count, root / "usr/share/man", folder)
         status, said, faults = call(*as_root, "dpkg", f"--root={root}", "--purge", "ztso")
         count.told("dpkg --purge", status == 0, said + faults)
@@ -105,6 +147,25 @@ def debian(count, folder, path, packed):
         # it compares with Debian's own rules for the licence and the archive's changes, which are no errors
         status, said, faults = call("lintian", "--allow-root", path)
         count.told("lintian", not any(line.startswith("E:") for line in said.split("\n")) and status == 0, said + faults)
+
+
+def alone(count, name, root, program, share, packed):
+    """The program runs where no file is but those of the package and the libraries that it names."""
+    as_root = ["unshare", "--map-root-user"] if os.geteuid() else []
+    if packed == STAND_IN.resolve() or not (count.there("ldd", name) and count.there("chroot", name)) or as_root and call(*as_root, "true")[0]:
+        return
+    libraries = [Path(library) for library in re.findall(r"(/\S+) \(0x", call("ldd", program)[1])]
+    for library in libraries:
+        (root / library.parent.relative_to("/")).mkdir(parents=True, exist_ok=True)
+        shutil.copy(library, root / library.relative_to("/"))
+    words = [f"/{path.relative_to(root)}" for path in (program, *(share / file for file in SB))]
+    status, said, faults = call(*as_root, "chroot", root, words[0], "run", *words[1:])
+    count.told(name, status == 0 and said.endswith("\nHolds\n"), said + faults)
+    for library in libraries:
+        (root / library.relative_to("/")).unlink()
+    for folder in sorted({above for library in libraries for above in (root / library.relative_to("/")).parents}, reverse=True):
+        if folder != root and folder.is_relative_to(root) and not any(folder.iterdir()):
+            folder.rmdir()
 
 
 def witness(count, name, wrapper, share, packed):
