@@ -7,7 +7,7 @@ use Rattle.step_machine.specs.declared.events.Event.{Event}
 use Rattle.debugger.specs.declared.debugger.Source.TheVariants.{Schedule}
 use Rattle.debugger.specs.DebuggerStates.{DebuggerState}
 use Rattle.debugger.specs.DebugText.{end_line, break_line}
-use Rattle.debugger.specs.Debugging.{stop_before, Does, DoesAll}
+use Rattle.debugger.specs.Debugging.{stop_before, DoesEvent, DoesAll}
 
 -- what is left from a place on, where nothing stands there
 drop_past : {X : Type 0} (xs : List X) (i : ℕ) → slice_get xs i ≡ None → drop i xs ≡ []
@@ -38,7 +38,7 @@ module _ (B M : ℕ) (points : List (ℕ × ℕ)) (first : Bool) (old : Debugger
 
   -- the event is done, and then those after it
   pub runs_more : (ev : Event) (line : List ℕ) (mid : DebuggerState) (later : List ℕ) (new : DebuggerState) → slice_get old.schedule old.place ≡ Some ev
-      → stop_before M points first old.past.history ev ≡ None → Does B M old ev Schedule line mid
+      → stop_before M points first old.past.history ev ≡ None → DoesEvent B M old ev Schedule line mid
       → DoesRest false mid later new → DoesRest first old (line ++ later) new
   runs_more ev line mid later new e stop does then =
       let following : drop mid.place mid.schedule ≡ drop (old.place + 1) old.schedule = rw (does.1.schedule, does.1.place) refl in

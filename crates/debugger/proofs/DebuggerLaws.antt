@@ -9,7 +9,7 @@ use Rattle.step_machine.specs.declared.events.Event.{Event}
 use Rattle.debugger.specs.declared.debugger.Source.{Source}
 use Rattle.debugger.specs.declared.debugger.Source.TheVariants.{Schedule, User}
 use Rattle.debugger.specs.Sessions.{Past, GoesBack}
-use Rattle.debugger.specs.DebuggerStates.{DebuggerState, IsKept, GoesBackBy, scheduled, of_schedule}
+use Rattle.debugger.specs.DebuggerStates.{DebuggerState, IsWellFormed, GoesBackBy, scheduled, of_schedule}
 
 pub scheduled-append : (xs ys : List Source) → scheduled (xs ++ ys) ≡ scheduled xs + scheduled ys
 scheduled-append xs ys = sum_by-append _ xs ys
@@ -56,9 +56,9 @@ done_more w ev User within next =
     (omega arith, append-nil (take w.place w.schedule) ∙ ap (λ (n : ℕ). take n w.schedule) none)
 
 -- an event from this source was done
-pub kept_taken : (w : DebuggerState) (past : Past) (ev : Event) (source : Source) → IsKept w
+pub kept_taken : (w : DebuggerState) (past : Past) (ev : Event) (source : Source) → IsWellFormed w
     → past.events ≡ w.past.events ++ ev ∷ [] → (source ≡ Schedule → slice_get w.schedule w.place ≡ Some ev)
-    → IsKept (record { past = past; schedule = w.schedule; sources = w.sources ++ source ∷ []; place = w.place + scheduled (source ∷ []) })
+    → IsWellFormed (record { past = past; schedule = w.schedule; sources = w.sources ++ source ∷ []; place = w.place + scheduled (source ∷ []) })
 kept_taken w past ev source kept events next =
     let more = done_more w ev source kept.within next in
     record {
@@ -75,7 +75,7 @@ pub undone_of : (xs : List Source) (given : List Source) (left undone : ℕ) →
 undone_of xs given left undone same is = grind (arith, take_all, length-drop)
 
 -- and the schedule's place has at least so many before it
-pub undone_within : (w : DebuggerState) (left undone : ℕ) → IsKept w → undone ≡ scheduled (drop left w.sources) → undone ≤ w.place
+pub undone_within : (w : DebuggerState) (left undone : ℕ) → IsWellFormed w → undone ≡ scheduled (drop left w.sources) → undone ≤ w.place
 undone_within w left undone kept is = omega (arith, is, scheduled-split left w.sources, kept.place)
 
 -- what is left of a debugger where a session went back
@@ -83,8 +83,8 @@ abbrev pub left_of : (w : DebuggerState) (past : Past) (left undone : ℕ) → D
 left_of w past left undone = record { past = past; schedule = w.schedule; sources = take left w.sources; place = w.place - undone }
 
 -- the last k events were undone, and `left` remain
-pub gone_back : (B M : ℕ) (w : DebuggerState) (past : Past) (k left undone : ℕ) → IsKept w → GoesBack B M w.past k past → left ≡ length w.sources - k
-    → undone ≡ scheduled (drop left w.sources) → IsKept (left_of w past left undone) × GoesBackBy B M w k (left_of w past left undone)
+pub gone_back : (B M : ℕ) (w : DebuggerState) (past : Past) (k left undone : ℕ) → IsWellFormed w → GoesBack B M w.past k past → left ≡ length w.sources - k
+    → undone ≡ scheduled (drop left w.sources) → IsWellFormed (left_of w past left undone) × GoesBackBy B M w k (left_of w past left undone)
 gone_back B M w past k left undone kept back is gone =
     let split = scheduled-split left w.sources in
     let below : scheduled (take left w.sources) ≤ w.place = omega (arith, split, kept.place) in

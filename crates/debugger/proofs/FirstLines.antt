@@ -12,8 +12,8 @@ use Rattle.litmus_reader.specs.Marks.{is_line_feed}
 use Rattle.engine_support.specs.WholeLines.{whole_lines}
 use Rattle.engine_support.proofs.LineReading.{first_whole, joined_whole}
 use Rattle.engine_support.proofs.Written.{no_byte}
-use Rattle.debugger.specs.Commands.{said_in}
-use Rattle.debugger.specs.Transcripts.{Leaves, after_last, is_last, quits, unread_of}
+use Rattle.debugger.specs.Commands.{command_of}
+use Rattle.debugger.specs.Transcripts.{Leaves, after_last, is_last, quits, left_unread}
 use Rattle.debugger.specs.declared.debug.command.Command.{Command}
 use Rattle.debugger.specs.declared.debug.command.Command.TheVariants.{Quit}
 use Rattle.debugger.specs.inner.Asking.{AsksNext, TakesAsking}
@@ -75,7 +75,7 @@ first_line_of byte bytes = at (position is_line_feed (byte ∷ bytes)) refl
 -- what was read through the first LF is nothing, so the input has ended
 pub asks_end : (old new : Option (List ℕ)) (read text : List ℕ) → IfSome old (λ bytes. read ≡ take_through 10 bytes) → DropsThrough old new 10
     → text ≡ read → text ≡ [] → AsksNext old new (Some Quit) × TakesAsking old new (Some Quit)
-unfolding unread_of
+unfolding left_unread
 asks_end None new read text is drops whole none = (inl (tt, refl), tt)
 asks_end (Some bytes) new read text is drops whole none =
     let ended = no_byte bytes (sym is ∙ sym whole ∙ none) in
@@ -86,31 +86,31 @@ or_none true = refl
 or_none false = refl
 
 -- the line is the last one exactly where it asks to quit
-last_is : (whole line : List ℕ) (said : Option Command) → lines whole ≡ line ∷ [] → said ≡ said_in line → is_last whole ≡ quits said
-last_is whole line said alone same =
-    ap (list_any (λ (l : List ℕ). quits (said_in l))) alone ∙ or_none (quits (said_in line)) ∙ ap quits (sym same)
+last_is : (whole line : List ℕ) (asked : Option Command) → lines whole ≡ line ∷ [] → asked ≡ command_of line → is_last whole ≡ quits asked
+last_is whole line asked alone same =
+    ap (list_any (λ (l : List ℕ). quits (command_of l))) alone ∙ or_none (quits (command_of line)) ∙ ap quits (sym same)
 
 -- or it is the next line
-pub asks_line : (old new : Option (List ℕ)) (read text line : List ℕ) (others : List (List ℕ)) (said : Option Command)
-    → IfSome old (λ bytes. read ≡ take_through 10 bytes) → DropsThrough old new 10 → text ≡ read → lines text ≡ line ∷ others → said ≡ said_in line
-    → AsksNext old new said × TakesAsking old new said
-unfolding unread_of
-asks_line None new read text line others said is drops whole says asks = (inr (line, asks, tt), tt)
-asks_line (Some []) new read text line others said is drops whole says asks =
+pub asks_line : (old new : Option (List ℕ)) (read text line : List ℕ) (others : List (List ℕ)) (asked : Option Command)
+    → IfSome old (λ bytes. read ≡ take_through 10 bytes) → DropsThrough old new 10 → text ≡ read → lines text ≡ line ∷ others → asked ≡ command_of line
+    → AsksNext old new asked × TakesAsking old new asked
+unfolding left_unread
+asks_line None new read text line others asked is drops whole says asks = (inr (line, asks, tt), tt)
+asks_line (Some []) new read text line others asked is drops whole says asks =
     let none : lines [] ≡ line ∷ others = ap lines (sym is ∙ sym whole) ∙ says in
     absurd cc
-asks_line (Some (byte ∷ bytes)) new read text line others said is drops whole says asks =
+asks_line (Some (byte ∷ bytes)) new read text line others asked is drops whole says asks =
     let first = first_line_of byte bytes in
     let rest = drop_through 10 (byte ∷ bytes) in
     let one : first.line ∷ [] ≡ line ∷ others = sym first.alone ∙ ap lines (sym is ∙ sym whole) ∙ says in
     let here : line ≡ first.line = cc in
-    let same : said ≡ said_in first.line = asks ∙ ap said_in here in
+    let same : asked ≡ command_of first.line = asks ∙ ap command_of here in
     rw drops (
       inr (first.line, same, first.is_first),
       ap after_last (first_whole byte bytes)
           ∙ ap (λ (b : Bool). if b then concat (whole_lines rest) else after_last (whole_lines rest))
-          (last_is (take_through 10 (byte ∷ bytes)) first.line said first.alone same)
-          ∙ ap (λ (xs : List ℕ). if quits said then xs else after_last (whole_lines rest)) (joined_whole rest),
+          (last_is (take_through 10 (byte ∷ bytes)) first.line asked first.alone same)
+          ∙ ap (λ (xs : List ℕ). if quits asked then xs else after_last (whole_lines rest)) (joined_whole rest),
     )
 
 -- ---- what is left of the input
@@ -119,7 +119,7 @@ asks_line (Some (byte ∷ bytes)) new read text line others said is drops whole 
 pub LeavesAs : (input left : Option (List ℕ)) → Type 0
 LeavesAs None left = Unit {0}
 LeavesAs (Some bytes) None = ⊥
-LeavesAs (Some bytes) (Some rest) = unread_of bytes ≡ unread_of rest
+LeavesAs (Some bytes) (Some rest) = left_unread bytes ≡ left_unread rest
 
 pub leaves_itself : (input : Option (List ℕ)) → LeavesAs input input
 unfolding LeavesAs
@@ -127,20 +127,20 @@ leaves_itself None = tt
 leaves_itself (Some bytes) = refl
 
 -- a line was taken that goes on
-pub leaves_on : (input left next : Option (List ℕ)) (said : Option Command) → LeavesAs input left → TakesAsking left next said → quits said ≡ false
+pub leaves_on : (input left next : Option (List ℕ)) (asked : Option Command) → LeavesAs input left → TakesAsking left next asked → quits asked ≡ false
     → LeavesAs input next
 unfolding LeavesAs
-leaves_on None left next said same takes goes = tt
-leaves_on (Some bytes) None next said same takes goes = absurd same
-leaves_on (Some bytes) (Some rest) None said same takes goes = absurd takes
-leaves_on (Some bytes) (Some rest) (Some later) said same takes goes = same ∙ takes ∙ ap (λ (b : Bool). if b then later else unread_of later) goes
+leaves_on None left next asked same takes goes = tt
+leaves_on (Some bytes) None next asked same takes goes = absurd same
+leaves_on (Some bytes) (Some rest) None asked same takes goes = absurd takes
+leaves_on (Some bytes) (Some rest) (Some later) asked same takes goes = same ∙ takes ∙ ap (λ (b : Bool). if b then later else left_unread later) goes
 
 -- or one that quits
-pub leaves_here : (input left next : Option (List ℕ)) (said : Option Command) → LeavesAs input left → TakesAsking left next said → quits said ≡ true
+pub leaves_here : (input left next : Option (List ℕ)) (asked : Option Command) → LeavesAs input left → TakesAsking left next asked → quits asked ≡ true
     → Leaves input next
 unfolding LeavesAs
-leaves_here None left next said same takes quit = tt
-leaves_here (Some bytes) None next said same takes quit = absurd same
-leaves_here (Some bytes) (Some rest) None said same takes quit = absurd takes
-leaves_here (Some bytes) (Some rest) (Some later) said same takes quit =
-    ap Some (sym (same ∙ takes ∙ ap (λ (b : Bool). if b then later else unread_of later) quit))
+leaves_here None left next asked same takes quit = tt
+leaves_here (Some bytes) None next asked same takes quit = absurd same
+leaves_here (Some bytes) (Some rest) None asked same takes quit = absurd takes
+leaves_here (Some bytes) (Some rest) (Some later) asked same takes quit =
+    ap Some (sym (same ∙ takes ∙ ap (λ (b : Bool). if b then later else left_unread later) quit))

@@ -13,10 +13,10 @@ use Rattle.debugger.specs.declared.debug.command.Command.TheVariants as command
 use Rattle.debugger.specs.declared.debugger.Source.{Source}
 use Rattle.debugger.specs.declared.debugger.Source.TheVariants.{Schedule, User}
 use Rattle.debugger.specs.Sessions.{Past}
-use Rattle.debugger.specs.DebuggerStates.{DebuggerState, TakesEvent, GoesBackBy, at_start}
-use Rattle.debugger.specs.Commands.{said_in}
+use Rattle.debugger.specs.DebuggerStates.{DebuggerState, TakesEvent, GoesBackBy, debugger_at_opening}
+use Rattle.debugger.specs.Commands.{command_of}
 use Rattle.recorder.specs.Outcomes.{outcome_line}
-use Rattle.debugger.specs.Debugging.{Breaks, Does, DoesAll, DoesCommand, DoesNext, Toggled, is_point, stop_before}
+use Rattle.debugger.specs.Debugging.{Breaks, DoesEvent, DoesAll, DoesCommand, DoesNext, Toggled, is_point, stop_before}
 use Rattle.debugger.specs.Transcripts.{DoesLine, IsTranscript, Transcript, quits}
 use Rattle.engine_support.specs.Engines.{Output}
 
@@ -62,7 +62,7 @@ one_breaks h hart pc old x y s t a b = grind (arith, by_bool, one_toggled)
 
 module _ (B M : ℕ) where
   one_does : (old : DebuggerState) (ev : Event) (source : Source) (s t : List ℕ) (x y : DebuggerState)
-      → Does B M old ev source s x → Does B M old ev source t y → AreSame s t x y
+      → DoesEvent B M old ev source s x → DoesEvent B M old ev source t y → AreSame s t x y
   one_does old ev source s t x y a b =
       let same = one_way B M old ev source a.0 b.0 x y a.1 b.1 in
       (a.2 ∙ ap (outcome_line ev) same.0 ∙ sym b.2, same.1)
@@ -81,8 +81,8 @@ module _ (B M : ℕ) where
       (e.4 ∙ ap (λ (line : List ℕ). line ++ e.2) here.0 ∙ ap (λ (later : List ℕ). f.0 ++ later) following.0 ∙ sym f.4, following.1))
       (λ point e f. (e.0 ∙ sym f.0, e.1 ∙ sym f.1))
 
-  one_answers : (said : Command) (old x y : DebuggerState) (points p q : List (ℕ × ℕ)) (s t : List ℕ)
-      → DoesCommand B M said old x points p s → DoesCommand B M said old y points q t → AreAlike s t x y p q
+  one_answers : (asked : Command) (old x y : DebuggerState) (points p q : List (ℕ × ℕ)) (s t : List ℕ)
+      → DoesCommand B M asked old x points p s → DoesCommand B M asked old y points q t → AreAlike s t x y p q
   one_answers command.Step old x y points p q s t a b = let same = one_next old s t x y a.0 b.0 in (same.0, same.1, a.1 ∙ sym b.1)
   one_answers command.Go old x y points p q s t a b =
       let same = one_all points (drop old.place old.schedule) true old s t x y a.0 b.0 in
@@ -98,14 +98,14 @@ module _ (B M : ℕ) where
   one_line : (line : List ℕ) (old x y : DebuggerState) (points p q : List (ℕ × ℕ)) (s t : List ℕ)
       → DoesLine B M line old x points p s → DoesLine B M line old y points q t → AreAlike s t x y p q
   one_line line old x y points p q s t a b =
-      by_option (said_in line) (AreAlike s t x y p q) a b
-      (λ e f. (e.0 ∙ sym f.0, e.1 ∙ sym f.1, e.2 ∙ sym f.2)) (λ said. one_answers said old x y points p q s t)
+      by_option (command_of line) (AreAlike s t x y p q) a b
+      (λ e f. (e.0 ∙ sym f.0, e.1 ∙ sym f.1, e.2 ∙ sym f.2)) (λ asked. one_answers asked old x y points p q s t)
 
   one_transcript : (ls : List (List ℕ)) (old : DebuggerState) (points : List (ℕ × ℕ)) (s t : List ℕ)
       → Transcript B M ls old points s → Transcript B M ls old points t → s ≡ t
   one_transcript [] old points s t a b = a ∙ sym b
   one_transcript (line ∷ ls) old points s t a b =
-      by_bool (quits (said_in line)) (s ≡ t) a b (λ e f. e ∙ sym f)
+      by_bool (quits (command_of line)) (s ≡ t) a b (λ e f. e ∙ sym f)
       (λ e f. let here = one_line line old e.1 f.1 points e.2 f.2 e.0 f.0 e.4 f.4 in
       let moved = subst (λ (left : List (ℕ × ℕ)). Transcript B M ls e.1 left f.3) (sym here.2)
       (subst (λ (w : DebuggerState). Transcript B M ls w f.2 f.3) (sym here.1) f.6) in
@@ -115,5 +115,5 @@ module _ (B M : ℕ) where
   pub one_transcript_of : (input : List ℕ) (test : LitmusTest) (events : List Event) (a b : Output)
       → IsTranscript B M (Some input) test events a → IsTranscript B M (Some input) test events b → a ≡ b
   one_transcript_of input test events a b is other =
-      let same = one_transcript (lines input) (at_start test.opening events) [] a.0 b.0 is other in
+      let same = one_transcript (lines input) (debugger_at_opening test.opening events) [] a.0 b.0 is other in
       λ i. (same i, tt)

@@ -12,12 +12,12 @@ use Rattle.std.proofs.lemmas.List.{append-nil, append_assoc}
 use Rattle.litmus.specs.LitmusTests.{LitmusTest}
 use Rattle.step_machine.specs.declared.events.Event.{Event}
 use Rattle.recorder.specs.Versions.{events_said}
-use Rattle.debugger.specs.DebuggerStates.{DebuggerState, at_start}
-use Rattle.debugger.specs.Commands.{said_in}
+use Rattle.debugger.specs.DebuggerStates.{DebuggerState, debugger_at_opening}
+use Rattle.debugger.specs.Commands.{command_of}
 use Rattle.debugger.specs.declared.debug.command.Command.{Command}
 use Rattle.engine_support.specs.declared.fault.Fault.{Fault}
 use Rattle.engine_support.specs.declared.fault.Fault.TheVariants.{ReadFailed, WriteFailed, NoMemory, Refused}
-use Rattle.debugger.specs.Transcripts.{DoesLine, DoesSaid, EndsInteractive, IsDebugAnswer, IsDebugFront}
+use Rattle.debugger.specs.Transcripts.{DoesLine, DoesAsked, EndsInteractive, IsDebugAnswer, IsDebugFront}
 use Rattle.debugger.specs.Transcripts.{IsDebugSome, IsTranscript, OnRefused, OnStopped, OnUnwritten, Prints}
 use Rattle.debugger.specs.Transcripts.{PrintsFront, PrintsSome, Transcript, quits}
 use Rattle.engine_support.specs.inner.Making.{FindsUpToReads, IsEndOf, text_and_value}
@@ -93,84 +93,85 @@ module _ {B M : ℕ} {input left old new : Option (List ℕ)} {start now : Debug
   -- ---- what was asked for next
 
   -- it ends the transcript
-  pub talked_enough : (next : Option (List ℕ)) (said : Option Command) → AsksNext left next said → quits said ≡ true
+  pub talked_enough : (next : Option (List ℕ)) (asked : Option Command) → AsksNext left next asked → quits asked ≡ true
       → Printed old new (Prints B M input start [])
-  talked_enough next said (inl (none, end)) quit = ends [] none refl
-  talked_enough next said (inr (line, asks, is)) quit =
-      let here = at left next is in ends (line ∷ here.0) here.1 (on_true (quits (said_in line)) _ _ (ap quits (sym asks) ∙ quit) refl)
+  talked_enough next asked (inl (none, end)) quit = ends [] none refl
+  talked_enough next asked (inr (line, asks, is)) quit =
+      let here = at left next is in ends (line ∷ here.0) here.1 (on_true (quits (command_of line)) _ _ (ap quits (sym asks) ∙ quit) refl)
     where
       at : (left next : Option (List ℕ)) → IsNextLine left next line → (others : List (List ℕ)) × IfSome left (λ rest. lines rest ≡ line ∷ others)
       at None next is = ([], tt)
       at (Some bytes) None is = absurd is
       at (Some bytes) (Some rest) is = (lines rest, is)
 
-  module _ (next : Option (List ℕ)) (said : Option Command) (asks : AsksNext left next said) (goes : quits said ≡ false) where
+  module _ (next : Option (List ℕ)) (asked : Option Command) (asks : AsksNext left next asked) (goes : quits asked ≡ false) where
     -- a line asked for it
-    asked : (line : List ℕ) × (said ≡ said_in line) × IsNextLine left next line
-    asked = at asks
+    asked_line : (line : List ℕ) × (asked ≡ command_of line) × IsNextLine left next line
+    asked_line = at asks
       where
-        at : AsksNext left next said → (line : List ℕ) × (said ≡ said_in line) × IsNextLine left next line
-        at (inl (none, end)) = absurd (let quit : quits said ≡ true = ap quits end in cc)
+        at : AsksNext left next asked → (line : List ℕ) × (asked ≡ command_of line) × IsNextLine left next line
+        at (inl (none, end)) = absurd (let quit : quits asked ≡ true = ap quits end in cc)
         at (inr by_line) = by_line
 
     -- what it prints, in a transcript whose other lines go on from there
-    prints : (then : DebuggerState) (others : List (ℕ × ℕ)) (text : List ℕ) → DoesSaid B M said now then points others text
+    prints : (then : DebuggerState) (others : List (ℕ × ℕ)) (text : List ℕ) → DoesAsked B M asked now then points others text
         → (more : List (List ℕ)) (later : List ℕ) → Transcript B M more then others later
-        → Transcript B M (t.done ++ asked.0 ∷ more) start [] (t.so_far ++ (text ++ later))
+        → Transcript B M (t.done ++ asked_line.0 ∷ more) start [] (t.so_far ++ (text ++ later))
     prints then others text answers more later talks =
-        let answers_line : DoesLine B M asked.0 now then points others text =
-        subst (λ (o : Option Command). DoesSaid B M o now then points others text) asked.1 answers in
-        t.leads (asked.0 ∷ more) (text ++ later)
-        (on_false (quits (said_in asked.0)) _ _ (ap quits (sym asked.1) ∙ goes) (text, then, others, later, answers_line, refl, talks))
+        let answers_line : DoesLine B M asked_line.0 now then points others text =
+        subst (λ (o : Option Command). DoesAsked B M o now then points others text) asked_line.1 answers in
+        t.leads (asked_line.0 ∷ more) (text ++ later)
+        (on_false (quits (command_of asked_line.0)) _ _ (ap quits (sym asked_line.1) ∙ goes) (text, then, others, later, answers_line, refl, talks))
 
     -- it is answered, whether the writer takes what it prints or not
-    pub talked_some : (then : DebuggerState) (others : List (ℕ × ℕ)) (text : List ℕ) → DoesSaid B M said now then points others text
+    pub talked_some : (then : DebuggerState) (others : List (ℕ × ℕ)) (text : List ℕ) → DoesAsked B M asked now then points others text
         → (out : List ℕ) × PrintsSome B M input start [] out
     talked_some then others text answers =
-        (t.so_far ++ (text ++ []), at input left next t.are_done asked.2 (prints then others text answers [] [] refl))
+        (t.so_far ++ (text ++ []), at input left next t.are_done asked_line.2 (prints then others text answers [] [] refl))
       where
-        at : (input left next : Option (List ℕ)) → AreDone input left t.done → IsNextLine left next asked.0
-            → Transcript B M (t.done ++ asked.0 ∷ []) start [] (t.so_far ++ (text ++ [])) → PrintsSome B M input start [] (t.so_far ++ (text ++ []))
-        at None left next done is talks = (t.done, asked.0, talks)
+        at : (input left next : Option (List ℕ)) → AreDone input left t.done → IsNextLine left next asked_line.0
+            → Transcript B M (t.done ++ asked_line.0 ∷ []) start [] (t.so_far ++ (text ++ [])) → PrintsSome B M input start [] (t.so_far ++ (text ++ []))
+        at None left next done is talks = (t.done, asked_line.0, talks)
         at (Some bytes) None next done is talks = absurd done
         at (Some bytes) (Some rest) None done is talks = absurd is
         at (Some bytes) (Some rest) (Some later) done is talks =
-            (t.done, asked.0, lines later, done ∙ ap (λ (ls : List (List ℕ)). t.done ++ ls) is, talks)
+            (t.done, asked_line.0, lines later, done ∙ ap (λ (ls : List (List ℕ)). t.done ++ ls) is, talks)
 
     -- it is answered, and the writer has got what it prints
-    pub talked_on : (newer : Option (List ℕ)) (then : DebuggerState) (others : List (ℕ × ℕ)) (text : List ℕ) → DoesSaid B M said now then points others text
+    pub talked_on : (newer : Option (List ℕ)) (then : DebuggerState) (others : List (ℕ × ℕ)) (text : List ℕ) → DoesAsked B M asked now then points others text
         → Appends new newer text → Talked B M input next old newer start then others
     talked_on newer then others text answers appends = record {
-      done = t.done ++ asked.0 ∷ [];
+      done = t.done ++ asked_line.0 ∷ [];
       so_far = t.so_far ++ text;
-      are_done = at input left next t.are_done asked.2;
+      are_done = at input left next t.are_done asked_line.2;
       appends = appends_more old new newer t.so_far text t.appends appends;
-      leads = λ more later talks. rw (append_assoc t.done (asked.0 ∷ []) more, append_assoc t.so_far text later)
+      leads = λ more later talks. rw (append_assoc t.done (asked_line.0 ∷ []) more, append_assoc t.so_far text later)
           (prints then others text answers more later talks);
     }
       where
-        at : (input left next : Option (List ℕ)) → AreDone input left t.done → IsNextLine left next asked.0 → AreDone input next (t.done ++ asked.0 ∷ [])
+        at : (input left next : Option (List ℕ)) → AreDone input left t.done → IsNextLine left next asked_line.0
+            → AreDone input next (t.done ++ asked_line.0 ∷ [])
         at None left next done is = tt
         at (Some bytes) None next done is = absurd done
         at (Some bytes) (Some rest) None done is = absurd is
         at (Some bytes) (Some rest) (Some later) done is =
-            done ∙ ap (λ (ls : List (List ℕ)). t.done ++ ls) is ∙ sym (append_assoc t.done (asked.0 ∷ []) (lines later))
+            done ∙ ap (λ (ls : List (List ℕ)). t.done ++ ls) is ∙ sym (append_assoc t.done (asked_line.0 ∷ []) (lines later))
 
 -- ---- a reply
 
 -- what was answered is written, or a write failed
-pub replied : {W : Type 0} (B M : ℕ) (said : Option Command) (old kept : DebuggerState) (points others : List (ℕ × ℕ)) (made : String Global × Unit {0})
+pub replied : {W : Type 0} (B M : ℕ) (asked : Option Command) (old kept : DebuggerState) (points others : List (ℕ × ℕ)) (made : String Global × Unit {0})
     (written : Result (Unit {0}) Fault) (result : Result DebuggerState Fault) (contents : W → Option (List ℕ)) (before after : W) (text : List ℕ)
     → result ≡ result_and written (Ok kept) → IsEndOf text_and_value (Ok made) written contents before after → string_bytes made.0 ≡ text
-    → DoesSaid B M said old kept points others text
-    → IfOk result (λ new. (text : List ℕ) × DoesSaid B M said old new points others text × Appends (contents before) (contents after) text)
+    → DoesAsked B M asked old kept points others text
+    → IfOk result (λ new. (text : List ℕ) × DoesAsked B M asked old new points others text × Appends (contents before) (contents after) text)
     × IfErr result IsFailure × OnStopped result (after ≡ before)
-    × OnUnwritten result ((new : DebuggerState) × (left : List (ℕ × ℕ)) × (text : List ℕ) × DoesSaid B M said old new points left text)
-replied B M said old kept points others made (Ok v) result contents before after text is end whole answers =
+    × OnUnwritten result ((new : DebuggerState) × (left : List (ℕ × ℕ)) × (text : List ℕ) × DoesAsked B M asked old new points left text)
+replied B M asked old kept points others made (Ok v) result contents before after text is end whole answers =
     rw is ((text, answers, subst (Appends (contents before) (contents after)) whole end.1), tt, tt, tt)
-replied B M said old kept points others made (Err WriteFailed) result contents before after text is end whole answers =
+replied B M asked old kept points others made (Err WriteFailed) result contents before after text is end whole answers =
     rw is (tt, tt, tt, (kept, others, text, answers))
-replied B M said old kept points others made (Err other) result contents before after text is end whole answers = absurd end
+replied B M asked old kept points others made (Err other) result contents before after text is end whole answers = absurd end
 
 -- ---- the whole command
 
@@ -184,10 +185,10 @@ module _ (B M : ℕ) (first second input : Option (List ℕ)) {W : Type 0} (cont
 
   -- what holds of the debugger that is opened answers the inputs
   opened : (P : LitmusTest → List Event → Output → Type 0) (debugger : DebuggerState) (answer : Output)
-      → ((test : LitmusTest) (events : List Event) → debugger ≡ at_start test.opening events → P test events answer)
+      → ((test : LitmusTest) (events : List Event) → debugger ≡ debugger_at_opening test.opening events → P test events answer)
       → Opens debugger → ByEvents P first second (Ok answer)
   opened P debugger answer holds =
-      made_both first second (AnswersEvents IsAtStart) (AnswersEvents P) debugger (Ok answer) (λ test said. holds test (events_said said))
+      made_both first second (AnswersEvents IsAtStart) (AnswersEvents P) debugger (Ok answer) (λ test given. holds test (events_said given))
 
   -- a transcript that is over ends the command
   pub transcribed : (result : Result (Unit {0}) Fault) (debugger : DebuggerState) (old new : W) → Opens debugger
@@ -206,7 +207,7 @@ module _ (B M : ℕ) (first second input : Option (List ℕ)) {W : Type 0} (cont
       → FindsUpToReads (ByEvents IsAtStart first second) view (Err fault) → Ends result old old
   not_begun view result (Refused refusal) old is finds =
       rw is (
-        refused_both first second (AnswersEvents IsAtStart) (AnswersEvents (IsTranscript B M input)) refusal (λ test said none. none) finds,
+        refused_both first second (AnswersEvents IsAtStart) (AnswersEvents (IsTranscript B M input)) refusal (λ test given none. none) finds,
         refl,
       )
   not_begun view result other old is finds = rw is tt
@@ -222,7 +223,7 @@ module _ (B M : ℕ) (first second input : Option (List ℕ)) {W : Type 0} (cont
       → OnUnwritten result ((out : List ℕ) × IsDebugSome B M input first second (Ok (out, tt)))
   unwritten_begun (Err WriteFailed) debugger opens (out, prints) = (
     out,
-    opened (λ test events answer. PrintsSome B M input (at_start test.opening events) [] answer.0) debugger (out, tt)
+    opened (λ test events answer. PrintsSome B M input (debugger_at_opening test.opening events) [] answer.0) debugger (out, tt)
         (λ test events set. subst (λ (w : DebuggerState). PrintsSome B M input w [] out) set prints) opens,
   )
   unwritten_begun other debugger opens prints = tt
@@ -235,7 +236,7 @@ module _ (B M : ℕ) (first second input : Option (List ℕ)) {W : Type 0} (cont
   left_of debugger old new opens (out, appends, prints) = (
     out,
     appends,
-    inr (opened (λ test events answer. PrintsFront B M input (at_start test.opening events) [] answer.0) debugger (out, tt)
+    inr (opened (λ test events answer. PrintsFront B M input (debugger_at_opening test.opening events) [] answer.0) debugger (out, tt)
         (λ test events set. subst (λ (w : DebuggerState). PrintsFront B M input w [] out) set prints) opens),
   )
 

@@ -39,5 +39,5 @@ command_in (name ∷ first ∷ second ∷ []) = command_with_two name first seco
 command_in others = None
 
 -- what a line asks for, without its end, if that is anything
-abbrev pub said_in : (line : List ℕ) → Option Command
-said_in line = command_in (tokens line)
+abbrev pub command_of : (line : List ℕ) → Option Command
+command_of line = command_in (tokens line)

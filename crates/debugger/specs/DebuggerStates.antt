@@ -5,7 +5,7 @@ use Rattle.step_machine.specs.declared.events.Event.{Event}
 use Rattle.step_machine.specs.declared.events.Outcome.{Outcome}
 use Rattle.debugger.specs.declared.debugger.Source.{Source}
 use Rattle.debugger.specs.declared.debugger.Source.TheVariants.{Schedule, User}
-use Rattle.debugger.specs.Sessions.{Past, begun, without_last, GoesOn, GoesBack}
+use Rattle.debugger.specs.Sessions.{Past, past_at_opening, without_last, GoesForward, GoesBack}
 
 -- What a contract sees of a debugger: the session, the schedule, where each of the session's events came
 -- from, and how many of the schedule's events were done.
@@ -31,19 +31,19 @@ of_schedule (Schedule ∷ sources) (event ∷ events) = event ∷ of_schedule so
 of_schedule (User ∷ sources) (event ∷ events) = of_schedule sources events
 
 -- Each event has its source, and those that came from the schedule are the schedule's up to its place.
-pub record IsKept (w : DebuggerState) : Type 0 where
+pub record IsWellFormed (w : DebuggerState) : Type 0 where
   pub each : length w.sources ≡ length w.past.events
   pub place : w.place ≡ scheduled w.sources
   pub within : w.place ≤ length w.schedule
   pub done : of_schedule w.sources w.past.events ≡ take w.place w.schedule
 
 -- nothing was done yet
-abbrev pub at_start : OpeningValue → List Event → DebuggerState
-at_start o schedule = record { past = begun o; schedule = schedule; sources = []; place = 0 }
+abbrev pub debugger_at_opening : OpeningValue → List Event → DebuggerState
+debugger_at_opening o schedule = record { past = past_at_opening o; schedule = schedule; sources = []; place = 0 }
 
 -- one more event from this source, with this outcome
 pub record TakesEvent (B M : ℕ) (old : DebuggerState) (event : Event) (source : Source) (outcome : Outcome) (new : DebuggerState) : Type 0 where
-  pub past : GoesOn B M old.past event outcome new.past
+  pub past : GoesForward B M old.past event outcome new.past
   pub schedule : new.schedule ≡ old.schedule
   pub sources : new.sources ≡ old.sources ++ source ∷ []
   pub place : new.place ≡ old.place + scheduled (source ∷ [])

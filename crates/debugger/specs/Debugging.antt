@@ -61,19 +61,19 @@ word_answer M t addr = if (addr % 4 == 0) && nat_lt (addr / 4) M then number_lin
 -- ---- what is done
 
 -- one event, and its outcome is printed
-abbrev pub Does : (B M : ℕ) (old : DebuggerState) → Event → Source → (text : List ℕ) (new : DebuggerState) → Type 0
-Does B M old ev source text new = (outcome : Outcome) × TakesEvent B M old ev source outcome new × (text ≡ outcome_line ev outcome)
+abbrev pub DoesEvent : (B M : ℕ) (old : DebuggerState) → Event → Source → (text : List ℕ) (new : DebuggerState) → Type 0
+DoesEvent B M old ev source text new = (outcome : Outcome) × TakesEvent B M old ev source outcome new × (text ≡ outcome_line ev outcome)
 
 -- the schedule's next event, or the line that there is none
 abbrev pub DoesNext : (B M : ℕ) (old : DebuggerState) (text : List ℕ) (new : DebuggerState) → Type 0
-DoesNext B M old text new = MatchOption (slice_get old.schedule old.place) ((text ≡ end_line) × (new ≡ old)) (λ ev. Does B M old ev Schedule text new)
+DoesNext B M old text new = MatchOption (slice_get old.schedule old.place) ((text ≡ end_line) × (new ≡ old)) (λ ev. DoesEvent B M old ev Schedule text new)
 
 -- The schedule's events from here on, which are these: to its end, or to the next one, other than the
 -- first, that finds its hart at a breakpoint.
 abbrev pub DoesAll : (B M : ℕ) → List (ℕ × ℕ) → List Event → (first : Bool) (old : DebuggerState) (text : List ℕ) (new : DebuggerState) → Type 0
 DoesAll B M points [] first old text new = (text ≡ end_line) × (new ≡ old)
 DoesAll B M points (ev ∷ evs) first old text new = MatchOption (stop_before M points first old.past.history ev)
-    ((line : List ℕ) × (mid : DebuggerState) × (later : List ℕ) × Does B M old ev Schedule line mid
+    ((line : List ℕ) × (mid : DebuggerState) × (later : List ℕ) × DoesEvent B M old ev Schedule line mid
     × (text ≡ line ++ later) × DoesAll B M points evs false mid later new)
     (λ point. (text ≡ break_line point.0 point.1) × (new ≡ old))
 
@@ -87,7 +87,7 @@ Looks shown old text new = (text ≡ shown) × (new ≡ old)
 abbrev pub DoesCommand : (B M : ℕ) → Command → (old new : DebuggerState) (points others : List (ℕ × ℕ)) (text : List ℕ) → Type 0
 DoesCommand B M command.Step old new points others text = DoesNext B M old text new × (others ≡ points)
 DoesCommand B M command.Go old new points others text = DoesAll B M points (drop old.place old.schedule) true old text new × (others ≡ points)
-DoesCommand B M (command.Give ev) old new points others text = Does B M old ev User text new × (others ≡ points)
+DoesCommand B M (command.Give ev) old new points others text = DoesEvent B M old ev User text new × (others ≡ points)
 DoesCommand B M (command.Break hart pc) old new points others text = Breaks old.past.history hart pc points others text × (new ≡ old)
 DoesCommand B M (command.Hart hart) old new points others text = Looks (hart_answer M old.past.history hart) old text new × (others ≡ points)
 DoesCommand B M (command.Pending hart) old new points others text = Looks (pending_answer old.past.history hart) old text new × (others ≡ points)

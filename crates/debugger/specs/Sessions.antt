@@ -12,15 +12,15 @@ pub record Past : Type 0 where
   pub history : History
 
 -- nothing was done yet
-abbrev pub begun : OpeningValue → Past
-begun o = record { opening = o; events = []; history = at_opening o }
+abbrev pub past_at_opening : OpeningValue → Past
+past_at_opening o = record { opening = o; events = []; history = at_opening o }
 
 -- a list without its last k elements, or without all of them where there are fewer
 abbrev pub without_last : {A : Type 0} → ℕ → List A → List A
 without_last k xs = take (length xs - k) xs
 
 -- one more event was done, with this outcome
-pub record GoesOn (B M : ℕ) (old : Past) (event : Event) (outcome : Outcome) (new : Past) : Type 0 where
+pub record GoesForward (B M : ℕ) (old : Past) (event : Event) (outcome : Outcome) (new : Past) : Type 0 where
   pub opening : new.opening ≡ old.opening
   pub events : new.events ≡ old.events ++ event ∷ []
   pub happens : Happens B M old.history event outcome new.history

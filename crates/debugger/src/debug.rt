@@ -32,16 +32,16 @@ mod looking;
 fn debugger_along<const B: usize, const M: usize>(
     alloc: Global,
     test: &Test,
-    said: Schedule,
+    given: Schedule,
 ) -> Result<Debugger<B, M>, Fault>
     requires some_capacity { 1 ≤ B }
     requires capacity { B ≤ 64 }
     requires words { MAX_LOCATIONS ≤ M }
     requires size { M ≤ 65536 }
-    ensures { AnswersAs (AnswersEvents IsAtStart test.now (said_of said)) (λ debugger. debugger) result }
+    ensures { AnswersAs (AnswersEvents IsAtStart test.now (said_of given)) (λ debugger. debugger) result }
 {
     let opening = test.opening(alloc)?;
-    let events = said.into_events(alloc)?;
+    let events = given.into_events(alloc)?;
     Ok(Debugger::open(alloc, opening, events)?)
 }
 
@@ -59,8 +59,8 @@ fn open_debugger<const B: usize, const M: usize, F: Read, S: Read>(
     ensures debugger { FindsUpToReads (ByEvents IsAtStart (F.remaining file.old) (S.remaining schedule.old)) (λ debugger. debugger) result }
     ensures unread { IsRefused tests (F.remaining file.old) → schedule.new ≡ schedule.old }
 {
-    let (test, said) = read_both(alloc, file, schedule)?;
-    debugger_along(alloc, &test, said)
+    let (test, given) = read_both(alloc, file, schedule)?;
+    debugger_along(alloc, &test, given)
 }
 
 /// Reads a litmus text and then a schedule, each to its end, and then answers a user's commands, a line

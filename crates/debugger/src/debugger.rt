@@ -30,17 +30,17 @@ pub struct Debugger<const B: usize, const M: usize> {
 }
 
 impl<const B: usize, const M: usize> Model for Debugger<B, M> {
-    ghost use Rattle.debugger.specs.DebuggerStates.{DebuggerState, IsKept};
+    ghost use Rattle.debugger.specs.DebuggerStates.{DebuggerState, IsWellFormed};
 
     ghost Value = { DebuggerState };
 
     ghost view = { λ w. record { past = w.session; schedule = w.schedule.items; sources = w.sources.items; place = w.place } };
 
-    ghost invariant = { λ w. IsKept (record { past = w.session; schedule = w.schedule.items; sources = w.sources.items; place = w.place }) };
+    ghost invariant = { λ w. IsWellFormed (record { past = w.session; schedule = w.schedule.items; sources = w.sources.items; place = w.place }) };
 }
 
 impl<const B: usize, const M: usize> Debugger<B, M> {
-    ghost use Rattle.debugger.specs.DebuggerStates.{IsKept, TakesEvent, GoesBackBy, at_start};
+    ghost use Rattle.debugger.specs.DebuggerStates.{IsWellFormed, TakesEvent, GoesBackBy, debugger_at_opening};
 
     /// A debugger at the opening, before the schedule's first event.
     pub fn open(alloc: Global, opening: Opening, schedule: Vec<Event>) -> Result<Self, AllocError>
@@ -49,7 +49,7 @@ impl<const B: usize, const M: usize> Debugger<B, M> {
         requires some_word { 1 ≤ M }
         requires size { M ≤ 65536 }
         requires fits { FitsIn M opening }
-        ensures { IfOk result (λ debugger. debugger ≡ at_start opening schedule.items) }
+        ensures { IfOk result (λ debugger. debugger ≡ debugger_at_opening opening schedule.items) }
     {
         let session = Session::open(alloc, opening)?;
         Ok(Debugger {
@@ -63,7 +63,7 @@ impl<const B: usize, const M: usize> Debugger<B, M> {
     /// The session, which has the events of both sources.
     pub fn session(&self) -> &Session<B, M>
         ensures value { result.now ≡ self.now.past }
-        ensures kept { IsKept self.now }
+        ensures kept { IsWellFormed self.now }
     {
         &self.session
     }

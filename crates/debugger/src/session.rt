@@ -5,7 +5,7 @@ ghost use Rattle.std.specs.List.{slice_get};
 ghost use Rattle.step_machine.specs.History.{FitsIn};
 ghost use Rattle.step_machine.specs.Runs.{Happens, Run};
 ghost use Rattle.debugger.specs.inner.SnapshotsHeld.{HasSnapshots};
-ghost use Rattle.debugger.specs.Sessions.{begun, GoesOn, GoesBack};
+ghost use Rattle.debugger.specs.Sessions.{past_at_opening, GoesForward, GoesBack};
 ghost use Rattle.debugger.specs.Nearest.{snapshot_before, IsNearest};
 ghost use Rattle.debugger.specs.declared.session.TheConstants.{SNAPSHOT_EVENTS};
 
@@ -47,7 +47,7 @@ impl<const B: usize, const M: usize> Session<B, M> {
         requires some_word { 1 ≤ M }
         requires size { M ≤ 65536 }
         requires fits { FitsIn M opening }
-        ensures { IfOk result (λ session. session ≡ begun opening) }
+        ensures { IfOk result (λ session. session ≡ past_at_opening opening) }
     {
         let machine = Machine::open(alloc, opening)?;
         let snapshot = machine.snapshot()?;
@@ -62,7 +62,7 @@ impl<const B: usize, const M: usize> Session<B, M> {
 
     /// Does one more event, and answers its outcome. The event counts whatever that is.
     pub fn event(self, event: Event) -> Result<(Self, Outcome), AllocError>
-        ensures { IfOk result (λ done. GoesOn B M self.entry event done.1 done.0) }
+        ensures { IfOk result (λ done. GoesForward B M self.entry event done.1 done.0) }
     {
         let Session {
             mut machine,

@@ -1,10 +1,10 @@
 -- What the user's next line asks for.
 use Rattle.std.specs.Prelude.{ℕ, ◌≡◌, ◌⊎◌, if◌then◌else◌, List, [], ◌∷◌, Option, None, Some, IfSome}
 use Rattle.std.specs.Str.Lines.{lines}
-use Rattle.debugger.specs.Commands.{said_in}
+use Rattle.debugger.specs.Commands.{command_of}
 use Rattle.debugger.specs.declared.debug.command.Command.{Command}
 use Rattle.debugger.specs.declared.debug.command.Command.TheVariants.{Quit}
-use Rattle.debugger.specs.Transcripts.{unread_of, quits}
+use Rattle.debugger.specs.Transcripts.{left_unread, quits}
 
 -- the input's next line, where its bytes are known
 abbrev pub IsNextLine : (old new : Option (List ℕ)) → (line : List ℕ) → Type 0
@@ -14,12 +14,12 @@ IsNextLine (Some bytes) (Some rest) line = lines bytes ≡ line ∷ lines rest
 
 -- what the next line asks for; where there is none, to quit
 abbrev pub AsksNext : (old new : Option (List ℕ)) → Option Command → Type 0
-AsksNext old new said = (IfSome old (λ bytes. lines bytes ≡ []) × (said ≡ Some Quit))
-    ⊎ ((line : List ℕ) × (said ≡ said_in line) × IsNextLine old new line)
+AsksNext old new asked = (IfSome old (λ bytes. lines bytes ≡ []) × (asked ≡ Some Quit))
+    ⊎ ((line : List ℕ) × (asked ≡ command_of line) × IsNextLine old new line)
 
 -- The line that asks was taken from the input. What is left then is what the transcript leaves, or begins with its
 -- next line.
 abbrev pub TakesAsking : (old new : Option (List ℕ)) → Option Command → Type 0
-TakesAsking None new said = Unit {0}
-TakesAsking (Some bytes) None said = ⊥
-TakesAsking (Some bytes) (Some rest) said = unread_of bytes ≡ (if quits said then rest else unread_of rest)
+TakesAsking None new asked = Unit {0}
+TakesAsking (Some bytes) None asked = ⊥
+TakesAsking (Some bytes) (Some rest) asked = left_unread bytes ≡ (if quits asked then rest else left_unread rest)

@@ -6,7 +6,7 @@ ghost use Rattle.std.specs.String.{string_bytes};
 ghost use Rattle.step_machine.specs.Runs.{Run};
 ghost use Rattle.debugger.specs.declared.debugger.Source.TheVariants.{Schedule};
 ghost use Rattle.debugger.specs.DebuggerStates.{DebuggerState};
-ghost use Rattle.debugger.specs.Debugging.{Does, DoesAll, DoesCommand, DoesNext};
+ghost use Rattle.debugger.specs.Debugging.{DoesEvent, DoesAll, DoesCommand, DoesNext};
 
 use crate::debug::breakpoints::{set_breakpoint, stop_before};
 use crate::debug::command::Command;
@@ -25,7 +25,8 @@ fn do_event<const B: usize, const M: usize>(
     source: Source,
 ) -> Result<Debugger<B, M>, AllocError>
     requires { source ≡ Schedule → slice_get debugger.schedule debugger.place ≡ Some event }
-    ensures { IfOk result (λ new. (text : List ℕ) × (string_bytes out.new ≡ string_bytes out.old ++ text) × Does B M debugger.entry event source text new) }
+    ensures { IfOk result (λ new. (text : List ℕ) × (string_bytes out.new ≡ string_bytes out.old ++ text)
+        × DoesEvent B M debugger.entry event source text new) }
 {
     let (debugger, outcome) = debugger.event(event, source)?;
     push_outcome_line(out, event, outcome).and(Ok(debugger))

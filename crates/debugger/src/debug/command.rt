@@ -1,7 +1,7 @@
 //! What a line of the debugger's asks for.
 
 ghost use Rattle.std.specs.Prelude.{◌≡◌};
-ghost use Rattle.debugger.specs.Commands.{command_alone, command_with_one, command_with_two, said_in};
+ghost use Rattle.debugger.specs.Commands.{command_alone, command_with_one, command_with_two, command_of};
 
 use step_machine::Event;
 use texts::{first_token, number, word};
@@ -67,7 +67,7 @@ fn command_with_two(name: &[u8], first: &[u8], second: &[u8]) -> Option<Command>
 
 /// What a line asks for, without its end; `None` where it asks for nothing.
 pub fn command_of(line: &[u8]) -> Option<Command>
-    ensures { result ≡ said_in line.now }
+    ensures { result ≡ command_of line.now }
 {
     let (name, rest) = first_token(line)?;
     let Some((first, rest)) = first_token(rest) else {

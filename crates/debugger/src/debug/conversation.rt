@@ -5,7 +5,7 @@ ghost use Rattle.std.specs.String.{string_bytes};
 ghost use Rattle.std.specs.Io.BufRead.{take_through, DropsThrough};
 ghost use Rattle.std.specs.Io.KnownBytes.{Appends};
 ghost use Rattle.debugger.specs.DebuggerStates.{DebuggerState};
-ghost use Rattle.debugger.specs.Transcripts.{DoesSaid, Leaves, OnStopped, OnUnwritten, Prints, PrintsFront, PrintsSome, quits};
+ghost use Rattle.debugger.specs.Transcripts.{DoesAsked, Leaves, OnStopped, OnUnwritten, Prints, PrintsFront, PrintsSome, quits};
 ghost use Rattle.debugger.specs.inner.Asking.{AsksNext, TakesAsking};
 ghost use Rattle.debugger.specs.inner.Failures.{IsFailure, IsReadFailure};
 
@@ -34,7 +34,7 @@ fn read_command<C: BufRead>(alloc: Global, commands: &mut C) -> Result<Vec<u8>, 
 }
 
 /// What the next line asks for, if anything. The end of the input quits.
-fn next_said<C: BufRead>(alloc: Global, commands: &mut C) -> Result<Option<Command>, Fault>
+fn next_asked<C: BufRead>(alloc: Global, commands: &mut C) -> Result<Option<Command>, Fault>
     ensures asks { IfOk result (AsksNext (C.remaining commands.old) (C.remaining commands.new)) }
     ensures takes { IfOk result (TakesAsking (C.remaining commands.old) (C.remaining commands.new)) }
     ensures err { IfErr result IsReadFailure }
@@ -46,26 +46,26 @@ fn next_said<C: BufRead>(alloc: Global, commands: &mut C) -> Result<Option<Comma
     }
 }
 
-fn does_quit(said: Option<Command>) -> bool
-    ensures { result ≡ quits said }
+fn does_quit(asked: Option<Command>) -> bool
+    ensures { result ≡ quits asked }
 {
-    match said {
+    match asked {
         Some(Command::Quit) => true,
         _ => false,
     }
 }
 
 /// Does what is asked for, and appends what it prints.
-fn answer_said<const B: usize, const M: usize>(
+fn answer_asked<const B: usize, const M: usize>(
     out: &mut String,
     debugger: Debugger<B, M>,
     points: &mut Vec<(u32, u32)>,
-    said: Option<Command>,
+    asked: Option<Command>,
 ) -> Result<Debugger<B, M>, AllocError>
     ensures { IfOk result (λ new. (text : List ℕ) × (string_bytes out.new ≡ string_bytes out.old ++ text)
-        × DoesSaid B M said debugger.entry new points.old.items points.new.items text) }
+        × DoesAsked B M asked debugger.entry new points.old.items points.new.items text) }
 {
-    match said {
+    match asked {
         Some(command) => answer(out, debugger, points, command),
         None => push_unknown_line(out).and(Ok(debugger)),
     }
@@ -76,18 +76,18 @@ fn reply<const B: usize, const M: usize, W: Write>(
     alloc: Global,
     debugger: Debugger<B, M>,
     points: &mut Vec<(u32, u32)>,
-    said: Option<Command>,
+    asked: Option<Command>,
     writer: &mut W,
 ) -> Result<Debugger<B, M>, Fault>
-    ensures answered { IfOk result (λ new. (text : List ℕ) × DoesSaid B M said debugger.entry new points.old.items points.new.items text
+    ensures answered { IfOk result (λ new. (text : List ℕ) × DoesAsked B M asked debugger.entry new points.old.items points.new.items text
         × Appends (W.contents writer.old) (W.contents writer.new) text) }
     ensures err { IfErr result IsFailure }
     ensures left { OnStopped result (writer.new ≡ writer.old) }
     ensures unwritten { OnUnwritten result ((new : DebuggerState) × (others : List (ℕ × ℕ)) × (text : List ℕ)
-        × DoesSaid B M said debugger.entry new points.old.items others text) }
+        × DoesAsked B M asked debugger.entry new points.old.items others text) }
 {
     let mut out = String::new(alloc);
-    let debugger = answer_said(&mut out, debugger, points, said)?;
+    let debugger = answer_asked(&mut out, debugger, points, asked)?;
     end_with(Ok((out, ())), writer).and(Ok(debugger))
 }
 
@@ -109,11 +109,11 @@ pub fn converse<const B: usize, const M: usize, C: BufRead, W: Write>(
     let mut debugger = debugger;
     let mut points = Vec::new(alloc);
     for _ in 0..u64::MAX {
-        let said = next_said(alloc, commands)?;
-        if does_quit(said) {
+        let asked = next_asked(alloc, commands)?;
+        if does_quit(asked) {
             return Ok(());
         }
-        debugger = reply(alloc, debugger, &mut points, said, writer)?;
+        debugger = reply(alloc, debugger, &mut points, asked, writer)?;
     }
     Err(Fault::ReadFailed)
 }

@@ -14,4 +14,4 @@ returns-in_err-test-clause-debugger g c =
 pub returns-clause-debugger : goal.returns-clause-debugger
 returns-clause-debugger g c =
     made_of_read _ _ (AnswersEvents IsAtStart) (λ (debugger : DebuggerState). debugger) c.debugger_along.result c.in_ok-test.test
-    (said_of c.in_ok-test.said) c.in_ok-test.ensures.read c.debugger_along.ensures
+    (said_of c.in_ok-test.given) c.in_ok-test.ensures.read c.debugger_along.ensures

@@ -17,36 +17,36 @@ loop-init g c = record {
 
 pub returns-then-does_quit-clause-printed : goal.returns-then-does_quit-clause-printed
 returns-then-does_quit-clause-printed g c =
-    talked_enough c.loop.invariant.talked (g.C.Read.remaining c.next_said.new.commands) c.in_ok-said.said
-    c.in_ok-said.ensures.asks (sym c.does_quit.ensures ∙ c.if-does_quit.true)
+    talked_enough c.loop.invariant.talked (g.C.Read.remaining c.next_asked.new.commands) c.in_ok-asked.asked
+    c.in_ok-asked.ensures.asks (sym c.does_quit.ensures ∙ c.if-does_quit.true)
 
 pub loop-preserved : goal.loop-preserved
 loop-preserved g c =
     let did = c.in_ok-debugger.ensures.answered in
     let goes = sym c.does_quit.ensures ∙ c.if-does_quit.false in
     record {
-      talked = talked_on c.loop.invariant.talked (g.C.Read.remaining c.next_said.new.commands) c.in_ok-said.said
-          c.in_ok-said.ensures.asks goes
+      talked = talked_on c.loop.invariant.talked (g.C.Read.remaining c.next_asked.new.commands) c.in_ok-asked.asked
+          c.in_ok-asked.ensures.asks goes
           (g.W.Write.contents c.reply.new.writer) c.in_ok-debugger.debugger c.reply.new.points.items did.0 did.1 did.2;
-      leaves = leaves_on (g.C.Read.remaining c.args.commands.now) (g.C.Read.remaining c.loop.commands) (g.C.Read.remaining c.next_said.new.commands)
-          c.in_ok-said.said c.loop.invariant.leaves c.in_ok-said.ensures.takes goes;
+      leaves = leaves_on (g.C.Read.remaining c.args.commands.now) (g.C.Read.remaining c.loop.commands) (g.C.Read.remaining c.next_asked.new.commands)
+          c.in_ok-asked.asked c.loop.invariant.leaves c.in_ok-asked.ensures.takes goes;
     }
 
 pub returns-then-does_quit-clause-rest : goal.returns-then-does_quit-clause-rest
 returns-then-does_quit-clause-rest g c =
-    leaves_here (g.C.Read.remaining c.args.commands.now) (g.C.Read.remaining c.loop.commands) (g.C.Read.remaining c.next_said.new.commands)
-    c.in_ok-said.said c.loop.invariant.leaves c.in_ok-said.ensures.takes (sym c.does_quit.ensures ∙ c.if-does_quit.true)
+    leaves_here (g.C.Read.remaining c.args.commands.now) (g.C.Read.remaining c.loop.commands) (g.C.Read.remaining c.next_asked.new.commands)
+    c.in_ok-asked.asked c.loop.invariant.leaves c.in_ok-asked.ensures.takes (sym c.does_quit.ensures ∙ c.if-does_quit.true)
 
-pub returns-in_err-said-clause-left : goal.returns-in_err-said-clause-left
-returns-in_err-said-clause-left g c = stopped c.from_residual.result _ (talked_so_far c.loop.invariant.talked)
+pub returns-in_err-asked-clause-left : goal.returns-in_err-asked-clause-left
+returns-in_err-asked-clause-left g c = stopped c.from_residual.result _ (talked_so_far c.loop.invariant.talked)
 
-pub returns-in_err-said-clause-err : goal.returns-in_err-said-clause-err
-returns-in_err-said-clause-err g c =
-    hands_read_failure c.from_residual.result c.in_err-said.field-0.0 (is_handed c.from_residual.result _ c.from_residual.ensures.1) c.in_err-said.ensures.err
+pub returns-in_err-asked-clause-err : goal.returns-in_err-asked-clause-err
+returns-in_err-asked-clause-err g c =
+    hands_read_failure c.from_residual.result c.in_err-asked.field-0.0 (is_handed c.from_residual.result _ c.from_residual.ensures.1) c.in_err-asked.ensures.err
 
-pub returns-in_err-said-clause-unwritten : goal.returns-in_err-said-clause-unwritten
-returns-in_err-said-clause-unwritten g c =
-    reads_alone c.from_residual.result c.in_err-said.field-0.0 (is_handed c.from_residual.result _ c.from_residual.ensures.1) c.in_err-said.ensures.err _
+pub returns-in_err-asked-clause-unwritten : goal.returns-in_err-asked-clause-unwritten
+returns-in_err-asked-clause-unwritten g c =
+    reads_alone c.from_residual.result c.in_err-asked.field-0.0 (is_handed c.from_residual.result _ c.from_residual.ensures.1) c.in_err-asked.ensures.err _
 
 pub returns-in_err-debugger-clause-err : goal.returns-in_err-debugger-clause-err
 returns-in_err-debugger-clause-err g c =
@@ -68,7 +68,7 @@ returns-in_err-debugger-clause-unwritten g c =
     hands_unwritten DebuggerState c.from_residual-in_err-debugger.result c.in_err-debugger.field-0.0
     (is_handed c.from_residual-in_err-debugger.result _ c.from_residual-in_err-debugger.ensures.1)
     _ _
-    (λ did. talked_some c.loop.invariant.talked (g.C.Read.remaining c.next_said.new.commands) c.in_ok-said.said c.in_ok-said.ensures.asks
+    (λ did. talked_some c.loop.invariant.talked (g.C.Read.remaining c.next_asked.new.commands) c.in_ok-asked.asked c.in_ok-asked.ensures.asks
     (sym c.does_quit.ensures ∙ c.if-does_quit.false) did.0 did.1 did.2 did.3)
     c.in_err-debugger.ensures.unwritten
 

@@ -1,6 +1,6 @@
 use Rattle.std.proofs.Common.{refl}
 use Rattle.debugger.proofs.FirstLines.{asks_end, asks_line}
-use Rattle.debugger.proofs.debug.conversation.next_said.Goals as goal
+use Rattle.debugger.proofs.debug.conversation.next_asked.Goals as goal
 
 pub returns-clause-asks : goal.returns-clause-asks
 returns-clause-asks g c =
