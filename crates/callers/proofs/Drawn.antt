@@ -1,6 +1,8 @@
--- One drawn run more.
-use Rattle.std.proofs.Common.{arith, ℕ, ◌≡◌, ◌+◌, ◌*◌, ◌<◌, List, length, map, None, Some, ap, subst, ◌∙◌}
-use borrow.Author.Count.{below_none, below_more}
+-- Drawn runs: one more, and those of two parts together.
+use Rattle.std.proofs.Common.{arith, ℕ, ◌≡◌, ◌+◌, ◌*◌, ◌<◌, ◌≤◌, inl, inr, true, false, List, length, map, Option, None, Some, ap, sym, subst, ◌∙◌}
+use Rattle.std.proofs.Math.Nat.{eq-or-lt_of_le}
+use Rattle.std.proofs.lemmas.Bool.{cases_lt}
+use Rattle.std.specs.Prelude.{is_some}
 use Rattle.rand_core.specs.Stream.{Stream}
 use Rattle.step_machine.specs.declared.events.Event.{Event}
 use Rattle.step_machine.specs.History.{OpeningValue, History, history_of}
@@ -10,14 +12,11 @@ use Rattle.step_machine.proofs.Running.{kept-at_opening, kept-run, opening_kept}
 use Rattle.recorder.specs.Drawing.{drawn, words, left_after}
 use Rattle.callers.specs.Queues.{spsc_of, IsLocated}
 use Rattle.callers.specs.Debts.{first_debt}
-use Rattle.callers.specs.Runs.{CallSource, call_schedule, KeepsOwed, AreKept, Owes}
-use Rattle.callers.specs.inner.Finding.{IsOwing}
+use Rattle.callers.specs.Runs.{CallSource, call_schedule, KeepsOwed, AreKept, Owes, IsFirstOwing}
+use Rattle.callers.specs.inner.Finding.{AreKeptFrom, IsOwingFrom, IsFoundFrom}
 use Rattle.callers.specs.declared.debts.Debt.{Debt}
+use Rattle.callers.specs.declared.runs.Owing.{Owing}
 use Rattle.callers.proofs.Sound.{keeps_all}
-
-pub left_none : (size : ℕ) (stream : Stream) → stream ≡ left_after (0 * size) stream
-unfolding left_after
-left_none size stream = let none : 0 ≡ 0 * size = omega arith in ap (λ (n : ℕ). left_after n stream) none
 
 -- a run of the same events from the same opening
 pub run_at : (B M : ℕ) (o p : OpeningValue) (events given : List Event) (u : History) → p ≡ o → given ≡ events → Run B M p given u → Run B M o events u
@@ -40,24 +39,54 @@ module _ (s : CallSource) (events : List Event) (u : History) (run : Run s.B s.M
       (kept-run s.B s.M _ events u (kept-at_opening s.B s.M s.opening) run)
 
   -- a run without a debt
-  pub one_kept : (number : ℕ) → AreKept s number → events ≡ call_schedule s number → IsLocated s.M s.opening s.located.queue s.located
-      → first_debt s.M s.opening (spsc_of s.located) u.entries ≡ None → AreKept s (number + 1)
-  one_kept number kept same located free = below_more _ number kept
-      (subst (λ evs. KeepsOwed s.B s.M s.opening s.located evs) same
-      (record { history = u; run = run; uses = keeps_all s.B s.M s.opening s.located u.entries located formed free }))
+  pub one_kept : (first number : ℕ) → AreKeptFrom s first number → events ≡ call_schedule s number → IsLocated s.M s.opening s.located.queue s.located
+      → first_debt s.M s.opening (spsc_of s.located) u.entries ≡ None → AreKeptFrom s first (number + 1)
+  one_kept first number kept same located free i above below = elim (eq-or-lt_of_le {n = i} {m = number} (omega arith)) [
+    | inl here ↦ subst (λ evs. KeepsOwed s.B s.M s.opening s.located evs) (same ∙ ap (call_schedule s) (sym here))
+        (record { history = u; run = run; uses = keeps_all s.B s.M s.opening s.located u.entries located formed free })
+    | inr less ↦ kept i above less
+  ]
 
   -- and one with a debt, after runs without one
-  pub one_owing : (runs number : ℕ) (debt : Debt) → number < runs → AreKept s number → events ≡ call_schedule s number
-      → first_debt s.M s.opening (spsc_of s.located) u.entries ≡ Some debt → IsOwing s runs events debt
-  one_owing runs number debt within kept same owes = record {
-    number = number;
+  pub one_owing : (first end number : ℕ) (debt : Debt) → number < end → AreKeptFrom s first number → events ≡ call_schedule s number
+      → first_debt s.M s.opening (spsc_of s.located) u.entries ≡ Some debt → IsOwingFrom s first end (record { number = number; debt = debt })
+  one_owing first end number debt within kept same owes = record {
     within = within;
-    events_are = same;
-    first = record {
-      before = kept;
-      owes = subst (λ evs. Owes s.B s.M s.opening s.located evs debt) same (record { history = u; run = run; first = owes });
-    };
+    before = kept;
+    owes = subst (λ evs. Owes s.B s.M s.opening s.located evs debt) same (record { history = u; run = run; first = owes });
   }
 
-pub none_kept : (s : CallSource) → AreKept s 0
-none_kept s = below_none (λ i. KeepsOwed s.B s.M s.opening s.located (call_schedule s i))
+pub none_kept : (s : CallSource) (first : ℕ) → AreKeptFrom s first first
+none_kept s first i above below = absurd (omega arith)
+
+-- ---- runs of two parts
+
+kept_both : (s : CallSource) (first middle end : ℕ) → AreKeptFrom s first middle → AreKeptFrom s middle end → AreKeptFrom s first end
+kept_both s first middle end before after i above below = elim (cases_lt i middle) [
+  | inl early ↦ before i above early
+  | inr late ↦ after i late below
+]
+
+-- what was found first stays, whatever comes after it
+pub found_stays : (s : CallSource) (first end more : ℕ) (whole : Option Owing) → is_some whole ≡ true → end ≤ more → IsFoundFrom s first end whole
+    → IsFoundFrom s first more whole
+found_stays s first end more None some order found = absurd (cc)
+found_stays s first end more (Some owing) some order found = record {
+  within = omega (arith, found.within);
+  before = found.before;
+  owes = found.owes;
+}
+
+-- and where nothing was, what is found after it is the first
+pub found_later : (s : CallSource) (first middle end : ℕ) (whole later : Option Owing) → is_some whole ≡ false → IsFoundFrom s first middle whole
+    → IsFoundFrom s middle end later → IsFoundFrom s first end later
+found_later s first middle end (Some owing) later none before after = absurd (cc)
+found_later s first middle end None None none before after = kept_both s first middle end before after
+found_later s first middle end None (Some owing) none before after = record {
+  within = after.within;
+  before = kept_both s first middle owing.number before after.before;
+  owes = after.owes;
+}
+
+pub first_of_all : (s : CallSource) (end : ℕ) (owing : Owing) → IsOwingFrom s 0 end owing → IsFirstOwing s owing.number owing.debt
+first_of_all s end owing found = record { before = λ i less. found.before i (omega arith) less; owes = found.owes }

@@ -44,10 +44,17 @@ given_right : (p : Party) (n : ℕ) (k : Block) (z : HartState) → HasArguments
 given_right p n k z given = grind (arith, given, eq-eqb, ne_eqb, passes_right p k.kind (slice_index z.registers 11) given.sendable)
 
 arguments_free : (p : Party) (h n : ℕ) (k : Block) (z : HartState) → HasArguments p n k z → arguments_debt p h n k z ≡ None
-arguments_free p h n k z given =
-    ap (λ a. if a then (if has_arguments p n k z then None else Some (debt.PassedReturn h (slice_index z.registers 1)))
-    else Some (debt.PassedBytes h (slice_index z.registers 12))) (eq-eqb (slice_index z.registers 12) (4 * k.size) given.bytes)
-    ∙ ap (λ b. if b then None else Some (debt.PassedReturn h (slice_index z.registers 1))) (given_right p n k z given)
+arguments_free p h n k z given = by (slice_index z.registers 12 == 4 * k.size) (may_pass p k.kind (slice_index z.registers 11)) (has_arguments p n k z)
+    (eq-eqb (slice_index z.registers 12) (4 * k.size) given.bytes) (passes_right p k.kind (slice_index z.registers 11) given.sendable)
+    (given_right p n k z given)
+  where
+    by : (a b c : Bool) → a ≡ true → b ≡ true → c ≡ true
+        → (if a then (if b then (if c then None else Some (debt.PassedReturn h (slice_index z.registers 1))) else Some (debt.PassedWord h))
+        else Some (debt.PassedBytes h (slice_index z.registers 12))) ≡ None
+    by true true true bytes right given = refl
+    by true true false bytes right given = absurd (cc)
+    by true false c bytes right given = absurd (cc)
+    by false b c bytes right given = absurd (cc)
 
 entering_free : (p : Party) (h n : ℕ) (k : Block) (z : HartState) → (enters n k z ≡ true → HasArguments p n k z) → entering_debt p h n k (Some z) ≡ None
 entering_free p h n k z given = by (enters n k z) refl

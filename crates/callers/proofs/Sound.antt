@@ -23,7 +23,7 @@ use Rattle.spsc_queue.proofs.Obligations.{arguments_are}
 use Rattle.spsc_queue.proofs.OwnEntries.{land_is}
 use Rattle.callers.specs.Queues.{spsc_of, IsLocated}
 use Rattle.callers.specs.declared.queue.Located.{Located}
-use Rattle.spsc_queue.specs.Obligations.{has_arguments}
+use Rattle.spsc_queue.specs.Obligations.{may_pass, has_arguments}
 use Rattle.callers.specs.Debts.{is_in_its_call, met_by, written_at, arguments_debt, entering_debt, party_debt, pc_in}
 use Rattle.callers.specs.Debts.{idle_debt, debt_of, debt_after, first_debt}
 use Rattle.callers.specs.declared.debts.Debt.TheVariants as debt
@@ -54,20 +54,15 @@ writes_nothing r (fence full) is = tt
 writes_nothing r land is = tt
 
 arguments_right : (p : Party) (h n : ℕ) (k : Block) (z : HartState) → arguments_debt p h n k z ≡ None → has_arguments p n k z ≡ true
-arguments_right p h n k z is = by (slice_index z.registers 12 == 4 * k.size) refl (has_arguments p n k z) refl
+arguments_right p h n k z is =
+    by (slice_index z.registers 12 == 4 * k.size) (may_pass p k.kind (slice_index z.registers 11)) (has_arguments p n k z) is
   where
-    by : (a : Bool) → (slice_index z.registers 12 == 4 * k.size) ≡ a → (b : Bool) → has_arguments p n k z ≡ b → has_arguments p n k z ≡ true
-    by a bytes true given = given
-    by true bytes false given =
-        let some : Some (debt.PassedReturn h (slice_index z.registers 1)) ≡ None =
-        sym (ap (λ b. if true then (if b then None else Some (debt.PassedReturn h (slice_index z.registers 1)))
-        else Some (debt.PassedBytes h (slice_index z.registers 12))) given)
-        ∙ sym (ap (λ a. if a then (if has_arguments p n k z then None else Some (debt.PassedReturn h (slice_index z.registers 1)))
-        else Some (debt.PassedBytes h (slice_index z.registers 12))) bytes) ∙ is in absurd (cc)
-    by false bytes false given =
-        let some : Some (debt.PassedBytes h (slice_index z.registers 12)) ≡ None =
-        sym (ap (λ a. if a then (if has_arguments p n k z then None else Some (debt.PassedReturn h (slice_index z.registers 1)))
-        else Some (debt.PassedBytes h (slice_index z.registers 12))) bytes) ∙ is in absurd (cc)
+    by : (a b c : Bool) → (if a then (if b then (if c then None else Some (debt.PassedReturn h (slice_index z.registers 1))) else Some (debt.PassedWord h))
+        else Some (debt.PassedBytes h (slice_index z.registers 12))) ≡ None → c ≡ true
+    by true true true free = refl
+    by true true false free = absurd (cc)
+    by true false c free = absurd (cc)
+    by false b c free = absurd (cc)
 
 enters_right : (p : Party) (h n : ℕ) (k : Block) (z : HartState) → entering_debt p h n k (Some z) ≡ None → enters n k z ≡ true → HasArguments p n k z
 enters_right p h n k z is on = arguments_are p n k z (arguments_right p h n k z

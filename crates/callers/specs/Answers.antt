@@ -14,19 +14,29 @@ use Rattle.callers.specs.Debts.{IsOpeningDebt}
 use Rattle.callers.specs.Runs.{CallSource, call_source, call_schedule, AreKept, IsFirstOwing, IsMadeShort}
 use Rattle.callers.specs.declared.debts.Debt.{Debt}
 use Rattle.callers.specs.declared.debts.Debt.TheVariants as debt
+use Rattle.callers.specs.declared.queue.QueueKind.{QueueKind}
+use Rattle.callers.specs.declared.queue.QueueKind.TheVariants as kind
 use Rattle.callers.specs.declared.queue.Queue.{Queue}
 use Rattle.callers.specs.declared.queue.Located.{Located}
+
+-- what a kind's functions are called before `_try_send` and `_try_receive`
+abbrev pub kind_name : QueueKind → List ℕ
+kind_name kind.Lamport = codes "lamport"
+kind_name kind.FastForward = codes "fastforward"
 
 -- the debt in words
 abbrev pub debt_text : Debt → List ℕ
 debt_text debt.NoBlock = codes "the block isn't aligned to 4 bytes, has no slot, or ends past the memory"
 debt_text (debt.OneParty h) = codes "hart " ++ decimal h ++ codes " both sends and receives"
-debt_text (debt.NoSend h) = codes "hart " ++ decimal h ++ codes " has no try_send in its code"
-debt_text (debt.NoReceive h) = codes "hart " ++ decimal h ++ codes " has no try_receive in its code"
-debt_text (debt.NotEmpty a w) = codes "the index at " ++ decimal a ++ codes " opens as " ++ decimal w ++ codes " and not as 0"
+debt_text (debt.NoSend k h) = codes "hart " ++ decimal h ++ codes " has no " ++ kind_name k ++ codes "_try_send in its code"
+debt_text (debt.NoReceive k h) = codes "hart " ++ decimal h ++ codes " has no " ++ kind_name k ++ codes "_try_receive in its code"
+debt_text (debt.NoOffset a w) = codes "the index at " ++ decimal a ++ codes " opens as " ++ decimal w ++ codes ", not as the offset of a slot"
+debt_text (debt.NotEmpty u v) = codes "the indices open as " ++ decimal u ++ codes " and " ++ decimal v ++ codes ", not alike"
+debt_text (debt.NotFree a w) = codes "the slot at " ++ decimal a ++ codes " opens as " ++ decimal w ++ codes " and not as 0"
 debt_text (debt.Wrote h pc a) =
     codes "hart " ++ decimal h ++ codes " wrote to the block at " ++ decimal a ++ codes " outside of a call, at pc " ++ decimal pc
 debt_text (debt.PassedBytes h bytes) = codes "hart " ++ decimal h ++ codes " called with a2 = " ++ decimal bytes ++ codes ", not the bytes of the slots"
+debt_text (debt.PassedWord h) = codes "hart " ++ decimal h ++ codes " called with a1 = 0, which is no word"
 debt_text (debt.PassedReturn h back) = codes "hart " ++ decimal h ++ codes " called with ra = " ++ decimal back ++ codes ", no place to return to"
 
 abbrev pub debt_line : Debt → List ℕ
@@ -40,15 +50,19 @@ pub record IsToldKept (s : CallSource) (runs : ℕ) (text : List ℕ) : Type 0 w
   pub kept : AreKept s runs
   pub text_is : text ≡ kept_text runs
 
+-- the text has a run of these events, whose first debt is this one, made short, and that debt
+pub record IsShortText (B M : ℕ) (o : OpeningValue) (l : Located) (debt : Debt) (given : List Event) (text : List ℕ) : Type 0 where
+  pub part : List Event
+  pub shortened : IsMadeShort B M o l debt given part
+  pub text_is : text ≡ canon part ++ debt_line debt
+
 -- the first run that owes something, made short, and what it owes first
 pub record IsToldOwing (s : CallSource) (runs : ℕ) (text : List ℕ) : Type 0 where
   pub number : ℕ
   pub within : number < runs
   pub debt : Debt
   pub first : IsFirstOwing s number debt
-  pub part : List Event
-  pub shortened : IsMadeShort s.B s.M s.opening s.located debt (call_schedule s number) part
-  pub text_is : text ≡ canon part ++ debt_line debt
+  pub shown : IsShortText s.B s.M s.opening s.located debt (call_schedule s number) text
 
 -- something is owed at the opening already, which a schedule of no events shows
 pub record IsToldAtOnce (M : ℕ) (o : OpeningValue) (queue : Queue) (text : List ℕ) : Type 0 where

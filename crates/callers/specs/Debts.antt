@@ -1,5 +1,5 @@
 -- What callers owe and don't keep: where the queue begins, and the first such debt among the entries of a run.
-use Rattle.std.specs.Prelude.{ℕ, ◌≡◌, ◌≢◌, ◌⊎◌, ◌+◌, ◌*◌, ◌==◌, ◌||◌, Bool, false, if◌then◌else◌, List, [], ◌∷◌, ◌++◌, Option, None, Some}
+use Rattle.std.specs.Prelude.{ℕ, ◌≡◌, ◌≢◌, ◌+◌, ◌*◌, ◌%◌, ◌<◌, ◌==◌, ◌||◌, Bool, false, if◌then◌else◌, List, [], ◌∷◌, ◌++◌, Option, None, Some}
 use Rattle.std.specs.Prelude.{option_map, slice_index}
 use Rattle.std.specs.Option.{option_or}
 use Rattle.memory.specs.declared.writes.Write.{Write}
@@ -10,30 +10,36 @@ use Rattle.step_machine.specs.Access.{Access, store, exchange, access_of}
 use Rattle.step_machine.specs.History.{OpeningValue, history_of}
 use Rattle.step_machine.specs.Entries.{hart_of, is_land, memory_word}
 use Rattle.step_machine.specs.Paths.{state_of}
-use Rattle.spsc_queue.specs.RingBuffers.{RingBuffer, overlaps}
-use Rattle.spsc_queue.specs.Listings.{try_send, try_receive}
+use Rattle.spsc_queue.specs.RingBuffers.{RingBuffer, fastforward, overlaps}
 use Rattle.spsc_queue.specs.Calls.{Block, SpscQueue, Party, the_sender, the_receiver, IsBlock, buffer, enters, is_sender_in_call, is_receiver_in_call}
-use Rattle.spsc_queue.specs.Obligations.{has_arguments}
-use Rattle.callers.specs.Queues.{block_of, HasNoCopy}
+use Rattle.spsc_queue.specs.Obligations.{may_pass, has_arguments}
+use Rattle.callers.specs.Queues.{kind_of, block_at, sends_by, receives_by, HasNoCopy}
 use Rattle.callers.specs.declared.queue.Queue.{Queue}
 use Rattle.callers.specs.declared.debts.Debt.{Debt}
 use Rattle.callers.specs.declared.debts.Debt.TheVariants as debt
 
 -- ---- where the queue begins
 
--- the address is that of an index of the block
-abbrev pub IsIndex : Queue → (a : ℕ) → Type 0
-IsIndex q a = (a ≡ q.base) ⊎ (a ≡ q.base + 64)
+-- the word is the offset of a slot
+abbrev pub IsOffset : Queue → (w : ℕ) → Type 0
+IsOffset q w = (w % 4 ≡ 0) × (w < 4 * q.slots)
+
+-- the address is that of a slot
+abbrev pub IsSlot : Queue → (a : ℕ) → Type 0
+IsSlot q a = (j : ℕ) × (j < q.slots) × (a ≡ q.base + 128 + 4 * j)
 
 -- this is owed at the opening: what the debt says of it is so
 abbrev pub IsOpeningDebt : (M : ℕ) → OpeningValue → Queue → Debt → Type 0
-IsOpeningDebt M o q debt.NoBlock = IsBlock M (block_of q) → ⊥
+IsOpeningDebt M o q debt.NoBlock = IsBlock M (block_at q 0) → ⊥
 IsOpeningDebt M o q (debt.OneParty h) = (h ≡ q.sender) × (h ≡ q.receiver)
-IsOpeningDebt M o q (debt.NoSend h) = (h ≡ q.sender) × HasNoCopy o h try_send
-IsOpeningDebt M o q (debt.NoReceive h) = (h ≡ q.receiver) × HasNoCopy o h try_receive
-IsOpeningDebt M o q (debt.NotEmpty a w) = IsIndex q a × (memory_word o [] a ≡ w) × (w ≢ 0)
+IsOpeningDebt M o q (debt.NoSend k h) = (k ≡ q.kind) × (h ≡ q.sender) × HasNoCopy o h (sends_by k)
+IsOpeningDebt M o q (debt.NoReceive k h) = (k ≡ q.kind) × (h ≡ q.receiver) × HasNoCopy o h (receives_by k)
+IsOpeningDebt M o q (debt.NoOffset a w) = (a ≡ q.base) × (memory_word o [] a ≡ w) × (IsOffset q w → ⊥)
+IsOpeningDebt M o q (debt.NotEmpty head tail) = (memory_word o [] q.base ≡ head) × (memory_word o [] (q.base + 64) ≡ tail) × (head ≢ tail)
+IsOpeningDebt M o q (debt.NotFree a w) = (kind_of q.kind ≡ fastforward) × IsSlot q a × (memory_word o [] a ≡ w) × (w ≢ 0)
 IsOpeningDebt M o q (debt.Wrote h pc a) = ⊥
 IsOpeningDebt M o q (debt.PassedBytes h bytes) = ⊥
+IsOpeningDebt M o q (debt.PassedWord h) = ⊥
 IsOpeningDebt M o q (debt.PassedReturn h back) = ⊥
 
 -- ---- from then on
@@ -54,10 +60,12 @@ written_at r (exchange a old new) = met_by r (write a 4 new)
 written_at r other = None
 
 -- of hart h that enters a party's function, which begins at line n, in this state: it passes another a2 than the bytes of
--- the slots, or an ra that is no return address
+-- the slots, or a word that may not be sent, or an ra that is no return address
 abbrev pub arguments_debt : Party → (h n : ℕ) → Block → HartState → Option Debt
 arguments_debt p h n k z = if slice_index z.registers 12 == 4 * k.size
+    then (if may_pass p k.kind (slice_index z.registers 11)
     then (if has_arguments p n k z then None else Some (debt.PassedReturn h (slice_index z.registers 1)))
+    else Some (debt.PassedWord h))
     else Some (debt.PassedBytes h (slice_index z.registers 12))
 
 -- of hart h that stands in this state

@@ -1,20 +1,37 @@
--- A queue of Lamport's kind that code of two harts calls the functions for, as it is asked for: where its block lies, and
--- which harts send and receive.
+-- A queue that code of two harts calls the functions for, as it is asked for: its kind, where its block lies, and which harts
+-- send and receive.
 use Rattle.std.specs.Prelude.{ℕ, ◌≡◌, ◌≢◌, ◌<◌, List, []}
 use Rattle.step_machine.specs.History.{OpeningValue}
-use Rattle.spsc_queue.specs.RingBuffers.{lamport, IsEmptyAndQuiescent}
-use Rattle.spsc_queue.specs.Listings.{Listed, try_send, try_receive}
-use Rattle.spsc_queue.specs.Calls.{Block, SpscQueue, IsBlock, buffer, HasFunction}
+use Rattle.spsc_queue.specs.RingBuffers.{Kind, lamport, fastforward, IsEmptyAndQuiescent}
+use Rattle.spsc_queue.specs.Listings.{Listed}
+use Rattle.spsc_queue.specs.Calls.{Block, SpscQueue, the_sender, the_receiver, listing_of, IsBlock, buffer, HasFunction}
+use Rattle.callers.specs.declared.queue.QueueKind.{QueueKind}
+use Rattle.callers.specs.declared.queue.QueueKind.TheVariants as kind
 use Rattle.callers.specs.declared.queue.Queue.{Queue}
 use Rattle.callers.specs.declared.queue.Located.{Located}
 
-abbrev pub block_of : Queue → Block
-block_of q = record { kind = lamport; base = q.base; size = q.slots; start = 0 }
+abbrev pub kind_of : QueueKind → Kind
+kind_of kind.Lamport = lamport
+kind_of kind.FastForward = fastforward
 
--- the queue with the lines at which the functions begin
+-- the queue's block, whose indices open at this slot
+abbrev pub block_at : Queue → (start : ℕ) → Block
+block_at q start = record { kind = kind_of q.kind; base = q.base; size = q.slots; start = start }
+
+abbrev pub block_of : Located → Block
+block_of l = block_at l.queue l.start
+
+-- the functions that a queue's sender and its receiver call
+abbrev pub sends_by : QueueKind → List Listed
+sends_by k = listing_of (kind_of k) the_sender
+
+abbrev pub receives_by : QueueKind → List Listed
+receives_by k = listing_of (kind_of k) the_receiver
+
+-- the queue with the slot that its indices open at, and the lines at which the functions begin
 abbrev pub spsc_of : Located → SpscQueue
 spsc_of l = record {
-  block = block_of l.queue;
+  block = block_of l;
   sender = l.queue.sender;
   receiver = l.queue.receiver;
   send_line = l.send_line;
@@ -30,12 +47,13 @@ pub record HasFirstCopy (o : OpeningValue) (h n : ℕ) (listing : List Listed) :
   pub here : HasFunction o h n listing
   pub first : (m : ℕ) → m < n → HasFunction o h m listing → ⊥
 
--- the queue can be used from this opening on: all that a caller owes where the queue begins is so, and the lines are those of
--- the first copies
+-- the queue can be used from this opening on: all that a caller owes where the queue begins is so, the indices open at this slot,
+-- and the lines are those of the first copies
 pub record IsLocated (M : ℕ) (o : OpeningValue) (queue : Queue) (l : Located) : Type 0 where
   pub queue_is : l.queue ≡ queue
-  pub block : IsBlock M (block_of l.queue)
+  pub block : IsBlock M (block_of l)
   pub parties : l.queue.sender ≢ l.queue.receiver
+  pub start : l.start < l.queue.slots
   pub rest : IsEmptyAndQuiescent (buffer (spsc_of l)) o []
-  pub sends : HasFirstCopy o l.queue.sender l.send_line try_send
-  pub receives : HasFirstCopy o l.queue.receiver l.receive_line try_receive
+  pub sends : HasFirstCopy o l.queue.sender l.send_line (sends_by l.queue.kind)
+  pub receives : HasFirstCopy o l.queue.receiver l.receive_line (receives_by l.queue.kind)

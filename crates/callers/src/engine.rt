@@ -1,7 +1,8 @@
 //! An engine: a litmus text in, what is told of its callers out.
 
-ghost use Rattle.std.specs.Prelude.{◌≤◌};
+ghost use Rattle.std.specs.Prelude.{◌≤◌, ◌*◌};
 ghost use Rattle.litmus.specs.declared.litmus_test.TheConstants.{MAX_LOCATIONS};
+ghost use Rattle.recorder.specs.Drawing.{left_after};
 ghost use Rattle.engine_support.specs.Engines.{Ends};
 ghost use Rattle.engine_support.specs.Faults.{AnswersAs};
 ghost use Rattle.engine_support.specs.inner.Making.{FindsUpToReads, text_and_value};
@@ -12,70 +13,95 @@ use crate::telling::told;
 use engine_support::fault::Fault;
 use engine_support::litmus_text::read_test;
 use engine_support::output::end_with;
+use jumping::progress::Progress;
+use jumping::{Jump, Runs};
 use litmus::Test;
-use rand_core::Rng;
 use std::alloc::Global;
 use std::io::{Read, Write};
+use std::thread::Threads;
 
 /// What is to be written for a test.
-fn answer<const B: usize, const M: usize, G: Rng>(
+fn answer<const B: usize, const M: usize, G: Jump + Sync + Drop, T: Threads + Sync, P: Progress>(
+    rt: &T,
     alloc: Global,
     test: &Test,
     queue: Queue,
-    generator: &mut G,
-    runs: u32,
-    size: u32,
+    generator: &G,
+    runs: Runs,
+    progress: &mut P,
 ) -> Result<(String, bool), Fault>
     requires some_capacity { 1 ≤ B }
     requires capacity { B ≤ 64 }
     requires words { MAX_LOCATIONS ≤ M }
     requires size { M ≤ 65536 }
-    ensures { AnswersAs (IsCallersGiven B M queue (G.stream generator.old) runs size test.now) text_and_value result }
+    ensures { AnswersAs
+        (IsCallersGiven B M queue (left_after (runs.skip * runs.length) (G.Rng.stream generator.now)) runs.number runs.length test.now)
+        text_and_value result }
 {
-    Ok(told::<B, M, G>(alloc, test, queue, generator, runs, size)?)
+    Ok(told::<B, M, G, T, P>(rt, alloc, test, queue, generator, runs, progress)?)
 }
 
 /// What is to be written for the input that the reader gives.
-fn made<const B: usize, const M: usize, R: Read, G: Rng>(
+fn made<
+    const B: usize,
+    const M: usize,
+    R: Read,
+    G: Jump + Sync + Drop,
+    T: Threads + Sync,
+    P: Progress,
+>(
+    rt: &T,
     alloc: Global,
     file: &mut R,
     queue: Queue,
-    generator: &mut G,
-    runs: u32,
-    size: u32,
+    generator: &G,
+    runs: Runs,
+    progress: &mut P,
 ) -> Result<(String, bool), Fault>
     requires some_capacity { 1 ≤ B }
     requires capacity { B ≤ 64 }
     requires words { MAX_LOCATIONS ≤ M }
     requires size { M ≤ 65536 }
-    ensures { FindsUpToReads (IsCallersAnswer B M queue (G.stream generator.old) runs size (R.remaining file.old)) text_and_value result }
+    ensures { FindsUpToReads
+        (IsCallersAnswer B M queue (left_after (runs.skip * runs.length) (G.Rng.stream generator.now)) runs.number runs.length
+        (R.remaining file.old)) text_and_value result }
 {
     let test = read_test(alloc, file)?;
-    answer::<B, M, G>(alloc, &test, queue, generator, runs, size)
+    answer::<B, M, G, T, P>(rt, alloc, &test, queue, generator, runs, progress)
 }
 
 /// Reads a litmus text to its end, and writes what [`told`] answers of its test. It answers whether every run keeps what
 /// callers owe.
 ///
 /// The input is refused as `run` refuses it, and then nothing was written.
-pub fn callers_engine<const B: usize, const M: usize, R: Read, G: Rng, W: Write>(
+pub fn callers_engine<
+    const B: usize,
+    const M: usize,
+    R: Read,
+    G: Jump + Sync + Drop,
+    W: Write,
+    T: Threads + Sync,
+    P: Progress,
+>(
+    rt: &T,
     alloc: Global,
     file: &mut R,
     queue: Queue,
-    generator: &mut G,
-    runs: u32,
-    size: u32,
+    generator: &G,
+    runs: Runs,
+    progress: &mut P,
     writer: &mut W,
 ) -> Result<bool, Fault>
     requires some_capacity { 1 ≤ B }
     requires capacity { B ≤ 64 }
     requires words { MAX_LOCATIONS ≤ M }
     requires size { M ≤ 65536 }
-    ensures { Ends (IsCallersAnswer B M queue (G.stream generator.old) runs size (R.remaining file.old))
-        result W.contents writer.old writer.new }
+    ensures { Ends
+        (IsCallersAnswer B M queue (left_after (runs.skip * runs.length) (G.Rng.stream generator.now)) runs.number runs.length
+        (R.remaining file.old)) result W.contents writer.old writer.new }
 {
     end_with(
-        made::<B, M, R, G>(alloc, file, queue, generator, runs, size),
+        made::<B, M, R, G, T, P>(rt, alloc, file, queue, generator, runs, progress),
         writer,
     )
 }

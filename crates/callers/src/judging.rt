@@ -7,22 +7,24 @@ ghost use Rattle.step_machine.specs.declared.events.Event.TheVariants.{Act};
 ghost use Rattle.step_machine.specs.Access.{access_of};
 ghost use Rattle.step_machine.specs.Paths.{state_of};
 ghost use Rattle.step_machine.specs.Runs.{Run};
-ghost use Rattle.spsc_queue.specs.Calls.{the_sender, the_receiver, buffer, enters, is_in_call_after};
-ghost use Rattle.callers.specs.Queues.{block_of, spsc_of};
+ghost use Rattle.spsc_queue.specs.Calls.{Party, buffer, enters, is_in_call_after};
+ghost use Rattle.spsc_queue.specs.Obligations.{is_sendable, may_pass};
+ghost use Rattle.callers.specs.Queues.{kind_of, block_of, spsc_of};
 ghost use Rattle.callers.specs.Debts.{first_debt, idle_debt, met_by, party_debt, pc_in, written_at, arguments_debt, entering_debt};
 ghost use Rattle.callers.specs.inner.Noting.{IsCallState, IsEventNoted, found_by, notes_by, noted_call};
 
 use crate::debts::Debt;
-use crate::queue::Located;
+use crate::queue::{Located, QueueKind};
 use std::alloc::AllocError;
 use step_machine::{Entry, Event, Machine, Outcome};
 
-/// Of a hart's state what its calls depend on: where it goes on, and its registers ra, a0 and a2.
+/// Of a hart's state what its calls depend on: where it goes on, and its registers ra, a0, a1 and a2.
 #[derive(Clone, Copy)]
 pub struct CallState {
     pub pc: u32,
     pub back: u32,
     pub block: u32,
+    pub word: u32,
     pub bytes: u32,
 }
 
@@ -39,12 +41,11 @@ fn call_state<const B: usize, const M: usize>(machine: &Machine<B, M>, hart: u32
     requires { hart < length machine.now.history.opening.harts }
     ensures { (s : HartState) × (state_of M machine.now.history hart ≡ Some s) × IsCallState s result }
 {
-    // a1 is read to know that it holds a word, which a caller owes
-    let _word = machine.register(hart, 11);
     CallState {
         pc: machine.pc(hart),
         back: machine.register(hart, 1),
         block: machine.register(hart, 10),
+        word: machine.register(hart, 11),
         bytes: machine.register(hart, 12),
     }
 }
@@ -76,7 +77,7 @@ fn written_at(located: Located, entry: Entry) -> Option<u32>
 
 /// Whether a hart that stands so enters the function at this line for the block.
 fn enters(located: Located, line: u32, at: CallState) -> bool
-    ensures { (s : HartState) → IsCallState s at → result ≡ enters line (block_of located.queue) s }
+    ensures { (s : HartState) → IsCallState s at → result ≡ enters line (block_of located) s }
 {
     u64::from(at.pc) == 4 * u64::from(line) && at.block == located.queue.base
 }
@@ -92,7 +93,7 @@ fn returns_at(line: u32, pc: u32) -> bool
 /// Whether a hart is in a call of the function at this line after it went on from `pc`.
 fn is_in_call_after(located: Located, line: u32, calling: bool, pc: u32, after: CallState) -> bool
     ensures { (s z : HartState) → s.pc ≡ pc → IsCallState z after
-        → result ≡ is_in_call_after line (block_of located.queue) calling s z }
+        → result ≡ is_in_call_after line (block_of located) calling s z }
 {
     if calling && !returns_at(line, pc) {
         true
@@ -101,16 +102,35 @@ fn is_in_call_after(located: Located, line: u32, calling: bool, pc: u32, after: 
     }
 }
 
-/// What a hart owes that enters the function at this line so, be it the sender's or the receiver's.
-fn arguments_debt(located: Located, hart: u32, line: u32, at: CallState) -> Option<Debt>
-    ensures sender { (s : HartState) → IsCallState s at → result ≡ arguments_debt the_sender hart line (block_of located.queue) s }
-    ensures receiver { (s : HartState) → IsCallState s at → result ≡ arguments_debt the_receiver hart line (block_of located.queue) s }
+/// Whether a sender may send this word by a queue of this kind.
+fn is_sendable(kind: QueueKind, word: u32) -> bool
+    ensures { result ≡ is_sendable (kind_of kind) word }
+{
+    match kind {
+        QueueKind::Lamport => true,
+        QueueKind::FastForward => word != 0,
+    }
+}
+
+/// What a hart owes that enters its function at this line so, where the word that it passes is right or not.
+fn arguments_debt(
+    located: Located,
+    hart: u32,
+    line: u32,
+    at: CallState,
+    is_right: bool,
+) -> Option<Debt>
+    ensures { (p : Party) (s : HartState) → IsCallState s at → is_right ≡ may_pass p (kind_of located.queue.kind) at.word
+        → result ≡ arguments_debt p hart line (block_of located) s }
 {
     if u64::from(at.bytes) != 4 * u64::from(located.queue.slots) {
         return Some(Debt::PassedBytes {
             hart,
             bytes: at.bytes,
         });
+    }
+    if !is_right {
+        return Some(Debt::PassedWord { hart });
     }
     let target = at.back / 2 * 2;
     if u64::from(target) != 4 * u64::from(line) && target % 4 == 0 {
@@ -124,12 +144,18 @@ fn arguments_debt(located: Located, hart: u32, line: u32, at: CallState) -> Opti
 }
 
 /// What it owes if it enters.
-fn entering_debt(located: Located, hart: u32, line: u32, at: CallState) -> Option<Debt>
-    ensures sender { (s : HartState) → IsCallState s at → result ≡ entering_debt the_sender hart line (block_of located.queue) (Some s) }
-    ensures receiver { (s : HartState) → IsCallState s at → result ≡ entering_debt the_receiver hart line (block_of located.queue) (Some s) }
+fn entering_debt(
+    located: Located,
+    hart: u32,
+    line: u32,
+    at: CallState,
+    is_right: bool,
+) -> Option<Debt>
+    ensures { (p : Party) (s : HartState) → IsCallState s at → is_right ≡ may_pass p (kind_of located.queue.kind) at.word
+        → result ≡ entering_debt p hart line (block_of located) (Some s) }
 {
     if enters(located, line, at) {
-        arguments_debt(located, hart, line, at)
+        arguments_debt(located, hart, line, at, is_right)
     } else {
         None
     }
@@ -139,10 +165,22 @@ fn entering_debt(located: Located, hart: u32, line: u32, at: CallState) -> Optio
 fn party_debt(located: Located, hart: u32, at: CallState) -> Option<Debt>
     ensures { (s : HartState) → IsCallState s at → result ≡ party_debt (spsc_of located) hart (Some s) }
 {
-    if hart == located.queue.sender {
-        entering_debt(located, hart, located.send_line, at)
-    } else if hart == located.queue.receiver {
-        entering_debt(located, hart, located.receive_line, at)
+    let Located {
+        queue,
+        send_line,
+        receive_line,
+        ..
+    } = located;
+    if hart == queue.sender {
+        entering_debt(
+            located,
+            hart,
+            send_line,
+            at,
+            is_sendable(queue.kind, at.word),
+        )
+    } else if hart == queue.receiver {
+        entering_debt(located, hart, receive_line, at, true)
     } else {
         None
     }
@@ -202,7 +240,7 @@ fn party_after(
     after: CallState,
 ) -> bool
     ensures { (s z : HartState) → s.pc ≡ pc → IsCallState z after
-        → result ≡ (if is_party then is_in_call_after line (block_of located.queue) calling s z else calling) }
+        → result ≡ (if is_party then is_in_call_after line (block_of located) calling s z else calling) }
 {
     if is_party {
         is_in_call_after(located, line, calling, pc, after)
@@ -220,6 +258,7 @@ fn note_entry(located: Located, notes: Notes, pc: u32, after: CallState, entry: 
         queue,
         send_line,
         receive_line,
+        ..
     } = located;
     let Notes {
         sending,

@@ -1,19 +1,33 @@
-//! Laws of debts.
+//! Laws of debts, and of what is told.
 
-ghost use Rattle.std.specs.Prelude.{◌≡◌, ℕ, List, [], None};
+ghost use Rattle.std.specs.Prelude.{◌≡◌, ℕ, Bool, List, [], None};
+ghost use Rattle.rand_core.specs.Stream.{Stream};
 ghost use Rattle.step_machine.specs.declared.events.Entry.{Entry};
 ghost use Rattle.step_machine.specs.History.{OpeningValue, history_of};
 ghost use Rattle.step_machine.specs.Legal.{WellFormed};
 ghost use Rattle.spsc_queue.specs.Calls.{UsesAsSpscQueue};
 ghost use Rattle.callers.specs.Queues.{spsc_of, IsLocated};
-ghost use Rattle.callers.specs.Debts.{first_debt};
+ghost use Rattle.callers.specs.Debts.{IsOpeningDebt, first_debt};
+ghost use Rattle.callers.specs.Answers.{IsCallersTold};
+ghost use Rattle.callers.specs.declared.debts.Debt.{Debt};
+ghost use Rattle.callers.specs.declared.queue.Queue.{Queue};
 ghost use Rattle.callers.specs.declared.queue.Located.{Located};
 
 /// A run has no debt exactly where it keeps all that callers owe: from an opening at which the queue can be used, a run
-/// without a debt meets the premises of the queue's theorem, and a run that meets them has none. It does nothing.
+/// without a debt meets the premises of the queue's theorem, and a run that meets them has none. At such an opening
+/// nothing is owed. It does nothing.
 pub fn laws_of_debts()
     ensures kept { (B M : ℕ) (o : OpeningValue) (l : Located) (es : List Entry) → IsLocated M o l.queue l → WellFormed B M (history_of o es)
         → first_debt M o (spsc_of l) es ≡ None → UsesAsSpscQueue B M o (spsc_of l) [] es }
     ensures none { (B M : ℕ) (o : OpeningValue) (l : Located) (es : List Entry) → UsesAsSpscQueue B M o (spsc_of l) [] es
         → first_debt M o (spsc_of l) es ≡ None }
+    ensures opening { (M : ℕ) (o : OpeningValue) (q : Queue) (l : Located) (d : Debt) → IsLocated M o q l → IsOpeningDebt M o q d → ⊥ }
+{}
+
+/// Two answers of one test's runs both say that all keep what callers owe, in one text, or both tell a debt. Which one, and
+/// by which of the parts from which no event can go, isn't said. It does nothing.
+#[tactic(auto, using(crate::proofs::Alike::status_alike))]
+pub fn callers_alike()
+    ensures { (B M : ℕ) (o : OpeningValue) (q : Queue) (stream : Stream) (runs size : ℕ) (text other : List ℕ) (a b : Bool)
+        → IsCallersTold B M o q stream runs size (text, a) → IsCallersTold B M o q stream runs size (other, b) → a ≡ b }
 {}

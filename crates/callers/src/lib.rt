@@ -15,11 +15,12 @@ mod locating;
 pub mod queue;
 pub mod runs;
 mod shortening;
+mod spreading;
 pub mod telling;
 mod wording;
 
 pub use debts::Debt;
 pub use engine::callers_engine;
-pub use laws::laws_of_debts;
-pub use queue::Queue;
+pub use laws::{callers_alike, laws_of_debts};
+pub use queue::{Queue, QueueKind};
 pub use telling::told;

@@ -1,19 +1,20 @@
 //! Whether a queue can be used from a machine's opening on, and where its functions stand.
 
-ghost use Rattle.std.specs.Prelude.{◌≡◌, ◌≢◌, ◌≤◌, ◌<◌, ◌↔◌, ℕ, List, All, IsTrue, IfOk, IfErr, OnOk, IfSome, None, [], length};
-ghost use Rattle.memory.specs.Words.{IsAddress};
+ghost use Rattle.std.specs.Prelude.{◌≡◌, ◌+◌, ◌*◌, ◌≤◌, ◌<◌, ◌↔◌, ℕ, List, All, IsTrue, IfOk, IfErr, OnOk, IfSome, None, [], length};
 ghost use Rattle.step_machine.specs.History.{at_opening, IsShort};
 ghost use Rattle.step_machine.specs.Entries.{memory_word};
+ghost use Rattle.spsc_queue.specs.RingBuffers.{fastforward};
 ghost use Rattle.spsc_queue.specs.Listings.{words_of, Listed};
 ghost use Rattle.spsc_queue.specs.Calls.{IsBlock};
-ghost use Rattle.callers.specs.Queues.{block_of, HasNoCopy, HasFirstCopy, IsLocated};
+ghost use Rattle.callers.specs.Queues.{kind_of, block_at, sends_by, receives_by, HasNoCopy, HasFirstCopy, IsLocated};
 ghost use Rattle.callers.specs.Debts.{IsOpeningDebt};
 ghost use Rattle.callers.specs.inner.Locating.{StandsAt};
-ghost use Rattle.callers.specs.declared.debts.Debt.TheVariants.{NotEmpty};
 
 use crate::debts::Debt;
-use crate::queue::{Located, Queue};
-use spsc_queue::{try_receive_words, try_send_words};
+use crate::queue::{Located, Queue, QueueKind};
+use spsc_queue::{
+    fastforward_receive_words, fastforward_send_words, try_receive_words, try_send_words,
+};
 use step_machine::{HartOpening, Machine, Opening};
 
 /// The first line of this code at which these words stand.
@@ -53,31 +54,97 @@ fn function_of(opening: &Opening, hart: u32, words: &[u32]) -> Option<u32>
     }
 }
 
+/// The words of the function that the sender of such a queue calls.
+fn send_words(kind: QueueKind) -> &'static [u32]
+    ensures { result.now ≡ words_of (sends_by kind) }
+{
+    match kind {
+        QueueKind::Lamport => try_send_words(),
+        QueueKind::FastForward => fastforward_send_words(),
+    }
+}
+
+/// The words of the function that its receiver calls.
+fn receive_words(kind: QueueKind) -> &'static [u32]
+    ensures { result.now ≡ words_of (receives_by kind) }
+{
+    match kind {
+        QueueKind::Lamport => try_receive_words(),
+        QueueKind::FastForward => fastforward_receive_words(),
+    }
+}
+
 /// Whether the queue's block is one, in a memory of `M` words.
 fn is_block<const M: usize>(queue: Queue) -> bool
     requires { M ≤ 65536 }
-    ensures { IsTrue result ↔ IsBlock M (block_of queue) }
+    ensures { IsTrue result ↔ IsBlock M (block_at queue 0) }
 {
     let end = u64::from(queue.base) + 128 + 4 * u64::from(queue.slots);
     queue.base % 4 == 0 && queue.slots >= 1 && end <= 4 * M as u64
 }
 
-/// Err if the index at this address doesn't open as 0.
-fn opens_as_0<const B: usize, const M: usize>(
+/// The slot that the queue's indices open at. Err if the sender's is no offset of one, or the receiver's is another.
+fn start_of<const B: usize, const M: usize>(
     machine: &Machine<B, M>,
-    address: u32,
+    queue: Queue,
+) -> Result<u32, Debt>
+    requires opens { machine.now.history ≡ at_opening machine.now.history.opening }
+    requires block { IsBlock M (block_at queue 0) }
+    ensures within { IfOk result (λ start. start < queue.slots) }
+    ensures head { IfOk result (λ start. memory_word machine.now.history.opening [] queue.base ≡ 4 * start) }
+    ensures tail { IfOk result (λ start. memory_word machine.now.history.opening [] (queue.base + 64) ≡ 4 * start) }
+    ensures owes { IfErr result (λ debt. IsOpeningDebt M machine.now.history.opening queue debt) }
+{
+    let head = machine.word(queue.base);
+    if head % 4 != 0 || u64::from(head) >= 4 * u64::from(queue.slots) {
+        return Err(Debt::NoOffset {
+            address: queue.base,
+            word: head,
+        });
+    }
+    let tail = machine.word(queue.base + 64);
+    if head == tail {
+        Ok(head / 4)
+    } else {
+        Err(Debt::NotEmpty { head, tail })
+    }
+}
+
+/// Err with the first slot of the queue that doesn't open as 0.
+fn are_free<const B: usize, const M: usize>(
+    machine: &Machine<B, M>,
+    queue: Queue,
 ) -> Result<(), Debt>
     requires opens { machine.now.history ≡ at_opening machine.now.history.opening }
-    requires address { IsAddress M address }
-    ensures empty { OnOk result (memory_word machine.now.history.opening [] address ≡ 0) }
-    ensures owes { IfErr result (λ debt. debt ≡ NotEmpty address (memory_word machine.now.history.opening [] address)) }
-    ensures another { IfErr result (λ debt. memory_word machine.now.history.opening [] address ≢ 0) }
+    requires block { IsBlock M (block_at queue 0) }
+    requires kind { kind_of queue.kind ≡ fastforward }
+    ensures free { OnOk result ((j : ℕ) → j < queue.slots → memory_word machine.now.history.opening [] (queue.base + 128 + 4 * j) ≡ 0) }
+    ensures owes { IfErr result (λ debt. IsOpeningDebt M machine.now.history.opening queue debt) }
 {
-    let word = machine.word(address);
-    if word == 0 {
-        Ok(())
-    } else {
-        Err(Debt::NotEmpty { address, word })
+    for slot in 0..queue.slots {
+        let address = queue.base + 128 + 4 * slot;
+        let word = machine.word(address);
+        if word != 0 {
+            return Err(Debt::NotFree { address, word });
+        }
+    }
+    Ok(())
+}
+
+/// Err if a slot that must be free where such a queue begins isn't.
+fn are_as_owed<const B: usize, const M: usize>(
+    machine: &Machine<B, M>,
+    queue: Queue,
+) -> Result<(), Debt>
+    requires opens { machine.now.history ≡ at_opening machine.now.history.opening }
+    requires block { IsBlock M (block_at queue 0) }
+    ensures free { OnOk result (kind_of queue.kind ≡ fastforward
+        → (j : ℕ) → j < queue.slots → memory_word machine.now.history.opening [] (queue.base + 128 + 4 * j) ≡ 0) }
+    ensures owes { IfErr result (λ debt. IsOpeningDebt M machine.now.history.opening queue debt) }
+{
+    match queue.kind {
+        QueueKind::Lamport => Ok(()),
+        QueueKind::FastForward => are_free(machine, queue),
     }
 }
 
@@ -93,7 +160,7 @@ pub(crate) fn locate<const B: usize, const M: usize>(
     ensures owes { IfErr result (λ debt. IsOpeningDebt M machine.now.history.opening queue debt) }
 {
     let Queue {
-        base,
+        kind,
         sender,
         receiver,
         ..
@@ -105,16 +172,20 @@ pub(crate) fn locate<const B: usize, const M: usize>(
         return Err(Debt::OneParty { hart: sender });
     }
     let opening = machine.opening();
-    let Some(send_line) = function_of(opening, sender, try_send_words()) else {
-        return Err(Debt::NoSend { hart: sender });
+    let Some(send_line) = function_of(opening, sender, send_words(kind)) else {
+        return Err(Debt::NoSend { kind, hart: sender });
     };
-    let Some(receive_line) = function_of(opening, receiver, try_receive_words()) else {
-        return Err(Debt::NoReceive { hart: receiver });
+    let Some(receive_line) = function_of(opening, receiver, receive_words(kind)) else {
+        return Err(Debt::NoReceive {
+            kind,
+            hart: receiver,
+        });
     };
-    opens_as_0(machine, base)?;
-    opens_as_0(machine, base + 64)?;
+    let start = start_of(machine, queue)?;
+    are_as_owed(machine, queue)?;
     Ok(Located {
         queue,
+        start,
         send_line,
         receive_line,
     })

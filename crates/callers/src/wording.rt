@@ -3,12 +3,23 @@
 ghost use Rattle.std.specs.Prelude.{◌≡◌, ◌++◌, IfOk, OnOk};
 ghost use Rattle.std.specs.String.{string_bytes};
 ghost use Rattle.recorder.specs.Writing.{canon};
-ghost use Rattle.callers.specs.Answers.{debt_text, debt_line, kept_text};
+ghost use Rattle.callers.specs.Answers.{kind_name, debt_text, debt_line, kept_text};
 
 use crate::debts::Debt;
+use crate::queue::QueueKind;
 use recorder::{push_tokens, write_schedule};
 use std::alloc::{AllocError, Global};
 use step_machine::Event;
+
+/// What a kind's functions are called before `_try_send` and `_try_receive`.
+fn kind_name(kind: QueueKind) -> &'static str
+    ensures { result.now ≡ kind_name kind }
+{
+    match kind {
+        QueueKind::Lamport => "lamport",
+        QueueKind::FastForward => "fastforward",
+    }
+}
 
 fn push_debt(out: &mut String, debt: Debt) -> Result<(), AllocError>
     ensures { OnOk result (string_bytes out.new ≡ string_bytes out.old ++ debt_text debt) }
@@ -18,10 +29,29 @@ fn push_debt(out: &mut String, debt: Debt) -> Result<(), AllocError>
             "the block isn't aligned to 4 bytes, has no slot, or ends past the memory",
         ),
         Debt::OneParty { hart } => write!(out, "hart {hart} both sends and receives"),
-        Debt::NoSend { hart } => write!(out, "hart {hart} has no try_send in its code"),
-        Debt::NoReceive { hart } => write!(out, "hart {hart} has no try_receive in its code"),
-        Debt::NotEmpty { address, word } => {
-            write!(out, "the index at {address} opens as {word} and not as 0")
+        Debt::NoSend { kind, hart } => {
+            write!(
+                out,
+                "hart {hart} has no {}_try_send in its code",
+                kind_name(kind)
+            )
+        }
+        Debt::NoReceive { kind, hart } => {
+            write!(
+                out,
+                "hart {hart} has no {}_try_receive in its code",
+                kind_name(kind)
+            )
+        }
+        Debt::NoOffset { address, word } => write!(
+            out,
+            "the index at {address} opens as {word}, not as the offset of a slot"
+        ),
+        Debt::NotEmpty { head, tail } => {
+            write!(out, "the indices open as {head} and {tail}, not alike")
+        }
+        Debt::NotFree { address, word } => {
+            write!(out, "the slot at {address} opens as {word} and not as 0")
         }
         Debt::Wrote { hart, pc, address } => write!(
             out,
@@ -31,6 +61,9 @@ fn push_debt(out: &mut String, debt: Debt) -> Result<(), AllocError>
             out,
             "hart {hart} called with a2 = {bytes}, not the bytes of the slots"
         ),
+        Debt::PassedWord { hart } => {
+            write!(out, "hart {hart} called with a1 = 0, which is no word")
+        }
         Debt::PassedReturn { hart, back } => {
             write!(
                 out,

@@ -1,17 +1,23 @@
--- What is found of drawn runs.
-use Rattle.std.specs.Prelude.{ℕ, ◌≡◌, ◌<◌, List, Option, None, Some}
-use Rattle.step_machine.specs.declared.events.Event.{Event}
-use Rattle.callers.specs.Runs.{CallSource, call_schedule, AreKept, IsFirstOwing}
-use Rattle.callers.specs.declared.debts.Debt.{Debt}
+-- What is found of drawn runs from one number on and before another.
+use Rattle.std.specs.Prelude.{ℕ, ◌<◌, ◌≤◌, Option, None, Some}
+use Rattle.callers.specs.Queues.{IsLocated}
+use Rattle.callers.specs.Runs.{CallSource, call_schedule, KeepsOwed, Owes}
 use Rattle.callers.specs.declared.runs.Owing.{Owing}
 
--- of this number of runs one owes something, the first of which has these events and owes this first
-pub record IsOwing (s : CallSource) (runs : ℕ) (events : List Event) (debt : Debt) : Type 0 where
-  pub number : ℕ
-  pub within : number < runs
-  pub events_are : events ≡ call_schedule s number
-  pub first : IsFirstOwing s number debt
+-- each keeps what callers owe
+abbrev pub AreKeptFrom : CallSource → (first end : ℕ) → Type 0
+AreKeptFrom s first end = (i : ℕ) → first ≤ i → i < end → KeepsOwed s.B s.M s.opening s.located (call_schedule s i)
 
-abbrev pub IsFirstFound : CallSource → (runs : ℕ) → Option Owing → Type 0
-IsFirstFound s runs None = AreKept s runs
-IsFirstFound s runs (Some owing) = IsOwing s runs owing.events.items owing.debt
+-- this is the first one that owes something, and what it owes first
+pub record IsOwingFrom (s : CallSource) (first end : ℕ) (owing : Owing) : Type 0 where
+  pub within : owing.number < end
+  pub before : AreKeptFrom s first owing.number
+  pub owes : Owes s.B s.M s.opening s.located (call_schedule s owing.number) owing.debt
+
+abbrev pub IsFoundFrom : CallSource → (first end : ℕ) → Option Owing → Type 0
+IsFoundFrom s first end None = AreKeptFrom s first end
+IsFoundFrom s first end (Some owing) = IsOwingFrom s first end owing
+
+-- the same, if the queue can be used from the opening on
+abbrev pub IsFoundIn : CallSource → (first end : ℕ) → Option Owing → Type 0
+IsFoundIn s first end found = IsLocated s.M s.opening s.located.queue s.located → IsFoundFrom s first end found

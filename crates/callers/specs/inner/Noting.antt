@@ -21,9 +21,10 @@ pub record IsCallState (s : HartState) (c : CallState) : Type 0 where
   pub pc : s.pc ≡ c.pc
   pub back : slice_index s.registers 1 ≡ c.back
   pub block : slice_index s.registers 10 ≡ c.block
+  pub word : slice_index s.registers 11 ≡ c.word
   pub bytes : slice_index s.registers 12 ≡ c.bytes
   pub back_is_word : slice_index s.registers 1 < 2 ^ 32
-  pub word : slice_index s.registers 11 < 2 ^ 32
+  pub word_is_word : slice_index s.registers 11 < 2 ^ 32
 
 -- what is noted after these entries: the first debt, if there is one, and whether each party is in a call
 pub record AreCallNotes (M : ℕ) (o : OpeningValue) (q : SpscQueue) (es : List Entry) (notes : Notes) : Type 0 where

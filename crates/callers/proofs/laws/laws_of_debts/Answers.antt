@@ -1,6 +1,7 @@
 use Rattle.callers.specs.Queues.{spsc_of}
 use Rattle.callers.proofs.Sound.{keeps_all}
 use Rattle.callers.proofs.Exact.{none_owed}
+use Rattle.callers.proofs.Alike.{owes_nothing_there}
 use Rattle.callers.proofs.laws.laws_of_debts.Goals as goal
 
 pub returns-clause-kept : goal.returns-clause-kept
@@ -8,3 +9,6 @@ returns-clause-kept c = λ B M o l es located run free. keeps_all B M o l es loc
 
 pub returns-clause-none : goal.returns-clause-none
 returns-clause-none c = λ B M o l es uses. none_owed B M o (spsc_of l) es uses
+
+pub returns-clause-opening : goal.returns-clause-opening
+returns-clause-opening c = λ M o q l d located owes. owes_nothing_there M o q l d located owes
