@@ -11,7 +11,8 @@ pub loop-number-init : goal.loop-number-init
 loop-number-init g c =
     let same : c.from.result ≡ c.args.first = search rules in
     record {
-      kept = λ usable. none_kept (call_source g.row.B g.row.M c.args.machine.now.history.opening c.args.located (g.G.Rng.stream c.args.generator.now) c.args.size)
+      kept = λ usable. none_kept (call_source g.row.B g.row.M c.args.machine.now.history.opening c.args.located
+          (g.G.Rng.stream c.args.generator.now) c.args.size)
           c.args.first;
       left = rw same at c.in_ok-there.ensures;
       opening = refl;
