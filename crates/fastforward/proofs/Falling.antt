@@ -27,8 +27,8 @@ use Rattle.fastforward.specs.FastForward.{fastforward_blocks, fastforward_means,
 use Rattle.fastforward.specs.Invariant.Stores.{null_store, sender_stores, receiver_stores}
 use Rattle.fastforward.specs.Invariant.Counters.{Counters, sent, gone, taken, freed, CounterInvariant, Words}
 use Rattle.fastforward.specs.Invariant.Sender.{Marked, sender}
-use Rattle.fastforward.proofs.Sender.{fastforward_sender}
-use Rattle.fastforward.proofs.FastForwardLaws.{laws, reasons}
+use Rattle.fastforward.proofs.Sender.{fastforward_sender, reasons}
+use Rattle.fastforward.proofs.FastForwardLaws.{laws}
 
 -- where nothing is pending all that was stored has landed
 module _ (k : Block) (n : Counters) (order : CounterInvariant k n) where

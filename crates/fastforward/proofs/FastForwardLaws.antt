@@ -1,27 +1,22 @@
 -- The laws of one block, all together, and so the laws of the ring.
 use Rattle.std.proofs.Common.{ℕ, ◌≡◌, refl, arith, lit≤}
 use Rattle.std.proofs.Math.Nat.{zero-mod}
-use Rattle.poll_close.specs.Laws.{AreShort, Opens, Keeps, Cleans, Goes, Stays}
 use Rattle.poll_close.specs.Invariant.Blocks.{Block}
-use Rattle.poll_close.specs.Invariant.SenderState.{SenderRegisters}
 use Rattle.poll_close.proofs.Blocks.{IsBlock, Within, word_of, slot_of}
 use Rattle.poll_close.proofs.BlockLaws.{BlockLaws, Begins, opens_with}
-use Rattle.poll_close.proofs.Outlines.{Right, and_intro, sends}
-use Rattle.poll_close.proofs.ChannelLaws.{opens, keeps, cleans, goes, stays}
+use Rattle.poll_close.proofs.Outlines.{◌&◌, sends}
+use Rattle.poll_close.proofs.ChannelLaws.{AllLaws, all_laws}
 use Rattle.poll_close.specs.Listing.{words_of}
 use Rattle.fastforward.specs.Listing.{listing, fastforward}
 use Rattle.fastforward.specs.FastForward.{fastforward_blocks, fastforward_means}
 use Rattle.fastforward.specs.Invariant.Counters.{Counters, Landed, CounterInvariant, Words}
-use Rattle.fastforward.specs.Invariant.Sender.{sender}
 use Rattle.fastforward.proofs.Means.{receiver_decoded}
 use Rattle.fastforward.proofs.Stores.{sender_stores_are, receiver_stores_are}
 use Rattle.fastforward.proofs.Landings.{sender_lands, receiver_lands}
-use Rattle.fastforward.proofs.Sender.{fastforward_sender}
-use Rattle.fastforward.proofs.Sender as row
+use Rattle.fastforward.proofs.Sender.{fastforward_sender, reasons}
 use Rattle.fastforward.proofs.ReceiverReads.{seen_mark, seen_done}
 use Rattle.fastforward.proofs.ReceiverActs.{stores_tail, stores_done, reported}
 use Rattle.fastforward.proofs.Receiver as between
-use Rattle.poll_close.specs.Invariant.Outlines.{Reasons}
 
 abbrev nothing : Counters
 nothing = record {
@@ -50,26 +45,6 @@ begins k is = record {
 words_same : (k : Block) (n : Landed) (word new : ℕ → ℕ) → IsBlock k → ((a : ℕ) → Within k a → new a ≡ word a) → Words k n word → Words k n new
 words_same k n word new is same w = grind (arith, word_of, slot_of)
 
--- the reason of each row of the sender's outline
-pub reasons : (k : Block) (n : Counters) (word : ℕ → ℕ) (v : ℕ) (r : SenderRegisters) → IsBlock k → CounterInvariant k n
-    → Words k n.landed word → Reasons (Right fastforward_blocks fastforward_sender k n word v r) sender.rows
-reasons k n word v r is order words =
-    and_intro (row.keeps_at_00 k n word v r is order words)
-    (and_intro (row.keeps_at_04 k n word v r is order words)
-    (and_intro (row.keeps_at_08 k n word v r is order words)
-    (and_intro (row.keeps_at_0C k n word v r is order words)
-    (and_intro (row.keeps_at_10 k n word v r is order words)
-    (and_intro (row.keeps_at_14 k n word v r is order words)
-    (and_intro (row.keeps_at_18 k n word v r is order words)
-    (and_intro (row.keeps_at_1C k n word v r is order words)
-    (and_intro (row.keeps_at_20 k n word v r is order words)
-    (and_intro (row.keeps_at_24 k n word v r is order words)
-    (and_intro (row.keeps_at_28 k n word v r is order words)
-    (and_intro (row.keeps_at_2C k n word v r is order words)
-    (and_intro (row.keeps_at_30 k n word v r is order words)
-    (and_intro (row.keeps_at_34 k n word v r is order words)
-    (and_intro (row.keeps_at_38 k n word v r is order words) tt))))))))))))))
-
 pub laws : BlockLaws fastforward_blocks
 laws = record {
   decodes = receiver_decoded;
@@ -95,19 +70,9 @@ laws = record {
   reports = λ k n words closed order level known. reported k n order words closed level known;
   moves_14 = λ k i count n word r v is order words. between.keeps_at_14 k i count n word r v is order words;
   moves = λ k i count n word r v is order words.
-      and_intro (between.keeps_at_18 k i count n word r v is order words)
-      (and_intro (between.keeps_at_1C k i count n word r v is order words)
-      (and_intro (between.keeps_at_20 k i count n word r v is order words)
-      (and_intro (between.keeps_at_24 k i count n word r v is order words) tt)));
+      between.keeps_at_18 k i count n word r v is order words & between.keeps_at_1C k i count n word r v is order words
+      & between.keeps_at_20 k i count n word r v is order words & between.keeps_at_24 k i count n word r v is order words & tt;
 }
 
-pub fastforward_laws : AreShort fastforward × Opens fastforward fastforward_means × Keeps fastforward fastforward_means
-    × Cleans fastforward fastforward_means × Goes fastforward fastforward_means × Stays fastforward fastforward_means
-fastforward_laws = (
-  (lit≤ tt, lit≤ tt),
-  opens fastforward_blocks laws 1 (lit≤ tt),
-  keeps fastforward_blocks laws 1 (lit≤ tt),
-  cleans fastforward_blocks laws 1 (lit≤ tt),
-  goes fastforward_blocks laws 1 (lit≤ tt),
-  stays fastforward_blocks laws 1 (lit≤ tt),
-)
+pub fastforward_laws : AllLaws fastforward fastforward_means
+fastforward_laws = all_laws fastforward_blocks laws 1 (lit≤ tt) (lit≤ tt, lit≤ tt)

@@ -3,15 +3,14 @@ use Rattle.std.proofs.Common.{ℕ, ◌≡◌, refl, ◌∙◌, ap, arith, lit≤
 use Rattle.std.proofs.Math.Nat.{zero-mod}
 use Rattle.std.specs.Prelude.{slice_index}
 use Rattle.hart.specs.State.{HartState}
-use Rattle.poll_close.specs.Laws.{AreShort, Opens, Keeps, Cleans, Goes, Stays}
 use Rattle.poll_close.specs.Rankings.{Decreases, rank_of, next_by}
 use Rattle.poll_close.specs.Invariant.Blocks.{Block}
 use Rattle.poll_close.specs.Invariant.SenderState.{SenderRegisters}
-use Rattle.poll_close.specs.Invariant.Outlines.{Standing, Reasons}
+use Rattle.poll_close.specs.Invariant.Outlines.{Standing}
 use Rattle.poll_close.proofs.Blocks.{IsBlock}
 use Rattle.poll_close.proofs.BlockLaws.{BlockLaws, opens_with}
-use Rattle.poll_close.proofs.Outlines.{Right, and_intro, stands_at}
-use Rattle.poll_close.proofs.ChannelLaws.{opens, keeps, cleans, goes, stays}
+use Rattle.poll_close.proofs.Outlines.{stands_at}
+use Rattle.poll_close.proofs.ChannelLaws.{AllLaws, all_laws}
 use Rattle.poll_close.proofs.Progress.{falls}
 use Rattle.lamport_ring.specs.Invariant.Counters.{Sent, Counters, CounterInvariant, Words}
 use Rattle.lamport_ring.specs.Invariant.Programs.{outline_of}
@@ -21,31 +20,7 @@ use Rattle.lamport_ring.proofs.SenderSteps.{none_read}
 use Rattle.lamport_cached.specs.Listing.{lamport_cached}
 use Rattle.lamport_cached.specs.LamportCached.{lamport_cached_blocks, lamport_cached_means, lamport_cached_ranking}
 use Rattle.lamport_cached.specs.Invariant.Sender.{program}
-use Rattle.lamport_cached.proofs.Sender.{sender}
-use Rattle.lamport_cached.proofs.Sender as row
-
--- the reason of each row of the sender's outline
-reasons : (k : Block) (n : Counters) (word : ℕ → ℕ) (v : ℕ) (r : SenderRegisters) → IsBlock k → CounterInvariant k n
-    → Words k n.landed word → Reasons (Right lamport_cached_blocks sender k n word v r) program.rows
-reasons k n word v r is order words =
-    and_intro (row.keeps_at_00 k n word v r is order words)
-    (and_intro (row.keeps_at_04 k n word v r is order words)
-    (and_intro (row.keeps_at_08 k n word v r is order words)
-    (and_intro (row.keeps_at_0C k n word v r is order words)
-    (and_intro (row.keeps_at_10 k n word v r is order words)
-    (and_intro (row.keeps_at_14 k n word v r is order words)
-    (and_intro (row.keeps_at_18 k n word v r is order words)
-    (and_intro (row.keeps_at_1C k n word v r is order words)
-    (and_intro (row.keeps_at_20 k n word v r is order words)
-    (and_intro (row.keeps_at_24 k n word v r is order words)
-    (and_intro (row.keeps_at_28 k n word v r is order words)
-    (and_intro (row.keeps_at_2C k n word v r is order words)
-    (and_intro (row.keeps_at_30 k n word v r is order words)
-    (and_intro (row.keeps_at_34 k n word v r is order words)
-    (and_intro (row.keeps_at_38 k n word v r is order words)
-    (and_intro (row.keeps_at_3C k n word v r is order words)
-    (and_intro (row.keeps_at_40 k n word v r is order words)
-    (and_intro (row.keeps_at_44 k n word v r is order words) tt)))))))))))))))))
+use Rattle.lamport_cached.proofs.Sender.{sender, reasons}
 
 stands : (k : Block) → IsBlock k → Standing (outline_of program) k nothing.sender (opens_with program.code k)
 stands k is = record {
@@ -74,16 +49,8 @@ owes = record { listed = sender; stands = stands; reasons = reasons; reads = rea
 laws : BlockLaws lamport_cached_blocks
 laws = block_laws program owes
 
-pub lamport_cached_laws : AreShort lamport_cached × Opens lamport_cached lamport_cached_means × Keeps lamport_cached lamport_cached_means
-    × Cleans lamport_cached lamport_cached_means × Goes lamport_cached lamport_cached_means × Stays lamport_cached lamport_cached_means
-lamport_cached_laws = (
-  (lit≤ tt, lit≤ tt),
-  opens lamport_cached_blocks laws 2 (lit≤ tt),
-  keeps lamport_cached_blocks laws 2 (lit≤ tt),
-  cleans lamport_cached_blocks laws 2 (lit≤ tt),
-  goes lamport_cached_blocks laws 2 (lit≤ tt),
-  stays lamport_cached_blocks laws 2 (lit≤ tt),
-)
+pub lamport_cached_laws : AllLaws lamport_cached lamport_cached_means
+lamport_cached_laws = all_laws lamport_cached_blocks laws 2 (lit≤ tt) (lit≤ tt, lit≤ tt)
 
 pub lamport_cached_falls : Decreases lamport_cached lamport_cached_means (rank_of lamport_cached_ranking) (next_by lamport_cached_ranking)
 lamport_cached_falls = falls lamport_cached_blocks laws 2 (lit≤ tt) (progress program owes)

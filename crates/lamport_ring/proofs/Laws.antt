@@ -8,7 +8,7 @@ use Rattle.poll_close.specs.Invariant.SenderState.{SenderRegisters}
 use Rattle.poll_close.specs.Invariant.Outlines.{Standing, Reasons}
 use Rattle.poll_close.proofs.Blocks.{IsBlock, Within, base_word, word_of, slot_of}
 use Rattle.poll_close.proofs.BlockLaws.{BlockLaws, Begins, Stepped, opens_with}
-use Rattle.poll_close.proofs.Outlines.{Sender, Right, and_intro, sends}
+use Rattle.poll_close.proofs.Outlines.{Sender, Right, ◌&◌, sends}
 use Rattle.lamport_ring.specs.Invariant.Programs.{Program, outline_of, blocks_of}
 use Rattle.lamport_ring.specs.Invariant.Counters.{Sent, Counters, Landed, taken, CounterInvariant, Words}
 use Rattle.lamport_ring.proofs.Means.{receiver_decoded}
@@ -114,8 +114,6 @@ block_laws p laws = record {
   reports = λ k n words closed order level known. reported p k n order words closed known;
   moves_14 = λ k i count n word r v is order words. between.keeps_at_14 p k i count n word r v is order words;
   moves = λ k i count n word r v is order words.
-      and_intro (between.keeps_at_18 p k i count n word r v is order words)
-      (and_intro (between.keeps_at_1C p k i count n word r v is order words)
-      (and_intro (between.keeps_at_20 p k i count n word r v is order words)
-      (and_intro (between.keeps_at_24 p k i count n word r v is order words) tt)));
+      between.keeps_at_18 p k i count n word r v is order words & between.keeps_at_1C p k i count n word r v is order words
+      & between.keeps_at_20 p k i count n word r v is order words & between.keeps_at_24 p k i count n word r v is order words & tt;
 }

@@ -1,7 +1,7 @@
 -- The steps of a sender, wherever they stand in its listing: what each leaves of what holds, of the order of the
 -- numbers, and which store it makes.
-use Rattle.std.proofs.Common.{ℕ, pos, suc, ◌+◌, ◌*◌, ◌%◌, ◌<◌, ◌≤◌, ◌≡◌, ◌≢◌, ◌+ℤ◌, inl, inr, [], ◌∷◌, length, drop}
-use Rattle.std.proofs.Common.{length-drop, Some, refl, sym, ◌∙◌, ap, arith, add-zero}
+use Rattle.std.proofs.Common.{ℕ, pos, suc, ◌+◌, ◌*◌, ◌%◌, ◌<◌, ◌≤◌, ◌≡◌, ◌≢◌, ◌+ℤ◌, inl, inr, [], ◌∷◌, length}
+use Rattle.std.proofs.Common.{Some, refl, sym, ◌∙◌, ap, arith, add-zero}
 use Rattle.std.proofs.Math.Nat.{add-mod_right, zero-mod}
 use Rattle.std.specs.Prelude.{slice_index}
 use Rattle.std.proofs.lemmas.Bool.{cases_eq}
@@ -29,44 +29,43 @@ none_read k n is stored seen = record { near = omega (arith, is.some_slot, store
 
 module _ (k : Block) (n : Counters) (is : IsBlock k) (order : CounterInvariant k n) where
   -- it is given a word of its list, or there is none
-  pub given : {x5 : ℕ} → Between k n.sender → x5 ≡ offset k n.sender.stored → n.sender.stored < length k.list
+  pub given : {x5 : ℕ} → Between k n.sender → x5 ≡ offset k n.sender.stored → n.sender.asked < length k.list
       → Asked k (record n.sender { asked = suc n.sender.asked }) x5 (slice_index k.list n.sender.asked) 1
   given b index more = record {
     heads = b.heads;
     unmarked = b.unmarked;
     index = index;
-    answer = inl (refl, omega (arith, b.taken), more, ap (slice_index k.list) b.taken);
+    answer = inl (refl, omega (arith, b.taken), omega (arith, b.taken, more), ap (slice_index k.list) b.taken);
   }
 
-  pub given_none : {x5 x10 : ℕ} → Between k n.sender → x5 ≡ offset k n.sender.stored → length k.list ≤ n.sender.stored
+  pub given_none : {x5 x10 : ℕ} → Between k n.sender → x5 ≡ offset k n.sender.stored → length k.list ≤ n.sender.asked
       → Asked k n.sender x5 x10 0
   given_none b index all = record {
     heads = b.heads;
     unmarked = b.unmarked;
     index = index;
-    answer = inr (refl, b.taken, omega (arith, all, order.stored_all));
+    answer = inr (refl, b.taken, omega (arith, b.taken, all, order.stored_all));
   }
 
-  -- and so one word fewer is left
-  pub one_fewer : Between k n.sender → n.sender.stored < length k.list
-      → length (drop (suc n.sender.asked) k.list) + 1 ≡ length (drop n.sender.asked k.list)
-  one_fewer b more =
-      let before : length (drop n.sender.asked k.list) ≡ _ = length-drop n.sender.asked k.list in
-      let after : length (drop (suc n.sender.asked) k.list) ≡ _ = length-drop (suc n.sender.asked) k.list in
-      omega (arith, before, after, more, b.taken)
-
   -- which of the two it was
-  pub holds : {x5 x10 x11 : ℕ} → Asked k n.sender x5 x10 x11
-      → (n.sender.asked ≡ n.sender.stored + 1) × (n.sender.stored < length k.list) × (x10 ≡ slice_index k.list n.sender.stored)
-      → HoldsWord k n.sender x5 x10
-  holds h some = record { taken = some.0; heads = h.heads; unmarked = h.unmarked; within = some.1; word = some.2; index = h.index }
+  pub holds : {x5 x10 x11 : ℕ} → Asked k n.sender x5 x10 x11 → x11 ≢ 0 → HoldsWord k n.sender x5 x10
+  holds h some = elim h.answer [
+    | inl is_word ↦ record { taken = is_word.1; heads = h.heads; unmarked = h.unmarked; within = is_word.2; word = is_word.3; index = h.index }
+    | inr none ↦ absurd (some none.0)
+  ]
+
+  pub none_left : {x5 x10 x11 : ℕ} → Asked k n.sender x5 x10 x11 → x11 ≡ 0 → Between k n.sender × (n.sender.stored ≡ length k.list)
+  none_left h none = elim h.answer [
+    | inl is_word ↦ absurd (omega (arith, none, is_word.0))
+    | inr all ↦ (record { taken = all.1; heads = h.heads; unmarked = h.unmarked }, all.2)
+  ]
 
   -- the offset after the next word's: one slot on, or the first
   pub sum_of : {x5 : ℕ} → x5 ≡ offset k n.sender.stored → word_of_sum (pos x5 +ℤ pos 4) ≡ x5 + 4
   sum_of {x5} index = word-plus x5 4 (omega (arith, is.inside, is.small, index, offset_low k is n.sender.stored))
 
-  pub same_sum : {x6 : ℕ} → x6 ≡ offset k n.sender.stored → word_of_sum (pos x6 +ℤ pos 0) ≡ x6
-  same_sum {x6} index = word-plus x6 0 (omega (arith, is.inside, is.small, index, offset_low k is n.sender.stored)) ∙ add-zero x6
+  pub same_sum : {x6 : ℕ} → x6 ≡ offset k n.sender.stored → word_of_sum (pos x6 +ℤ pos 0) ≡ offset k n.sender.stored
+  same_sum {x6} index = word-plus x6 0 (omega (arith, is.inside, is.small, index, offset_low k is n.sender.stored)) ∙ add-zero x6 ∙ index
 
   pub one_on : {x5 x6 : ℕ} → x5 ≡ offset k n.sender.stored → x6 ≡ x5 + 4 → x6 ≢ 4 * k.size → x6 ≡ offset k (n.sender.stored + 1)
   one_on index sum other =

@@ -1,7 +1,7 @@
 -- Blocks don't meet: an address in one is in no other, so what concerns one leaves the others.
 use Rattle.std.proofs.Common.{ℕ, ◌+◌, ◌*◌, ◌%◌, ◌^◌, ◌<◌, ◌≤◌, ◌≡◌, ◌≢◌, ◌==◌, ◌⊎◌, inl, inr, Bool, true, false}
 use Rattle.std.proofs.Common.{if◌then◌else◌, List, [], ◌∷◌, ◌++◌, length, Option, Some, refl, sym, ◌∙◌, ap, subst}
-use Rattle.std.proofs.Common.{arith, append-nil, eq-eqb}
+use Rattle.std.proofs.Common.{arith, append-nil, eq-eqb, mod-eq_of_lt}
 use Rattle.std.specs.Prelude.{slice_index}
 use Rattle.std.proofs.lemmas.List.Elements.{filter-append}
 use Rattle.std.proofs.lemmas.Bool.{cases_lt, cases_eq}
@@ -45,6 +45,10 @@ module _ (k : Block) (is : IsBlock k) where
 
   pub offset_small : (j : ℕ) → offset k j < 2 ^ 32
   offset_small j = omega (arith, offset_low j, is.inside, is.small)
+
+  -- what a program's sum of the base and an offset is
+  pub base_plus : (j : ℕ) {x : ℕ} → x ≡ offset k j → (k.base + x) % 2 ^ 32 ≡ k.base + x
+  base_plus j {x} same = mod-eq_of_lt (omega (arith, is.inside, is.small, same, offset_low j))
 
   -- the four words before the slots, and the slots
   pub word_of : (j : ℕ) → j ≤ 12 → j % 4 ≡ 0 → IsWordOf k (k.base + j)

@@ -21,7 +21,7 @@ use Rattle.step_machine.proofs.Appended.{reported-last}
 use Rattle.step_machine.proofs.Follows.{Path-hart, state_of-other}
 use Rattle.step_machine.proofs.Stays.{report_of-other, states_land}
 use Rattle.poll_close.specs.Layout.{Layout, sender_registers, senders_from, opening_at}
-use Rattle.poll_close.specs.Laws.{Ring, AreWords, AcceptedAt, Opens, Keeps, Cleans, Goes, Stays}
+use Rattle.poll_close.specs.Laws.{Ring, Meaning, AreWords, AcceptedAt, AreShort, Opens, Keeps, Cleans, Goes, Stays}
 use Rattle.poll_close.specs.Going.{GoesOn, AllGoOn}
 use Rattle.poll_close.specs.Touching.{Touches, AllTouch}
 use Rattle.poll_close.specs.Invariant.Blocks.{block_of, as_writes}
@@ -37,6 +37,10 @@ use Rattle.poll_close.proofs.AllBlocks.{BlocksAfter, sender_goes_on, sender_acts
 use Rattle.poll_close.proofs.ReceiverStays.{part_stays, reports_stay}
 use Rattle.poll_close.proofs.ReceiverActs.{Received, receiver_goes_on, receiver_acts}
 use Rattle.poll_close.proofs.Delivering.{senders-length}
+
+-- what a ring's kind states of it
+abbrev pub AllLaws : Ring → Meaning → Type 0
+AllLaws ring means = AreShort ring × Opens ring means × Keeps ring means × Cleans ring means × Goes ring means × Stays ring means
 
 -- the blocks of an accepted opening
 pub blocks : (ring : Ring) (M : ℕ) (S : Layout) (lists : List (List ℕ)) → 1 ≤ ring.least → AcceptedAt ring M lists S
@@ -238,3 +242,6 @@ module _ (m : BlockInvariant) (laws : BlockLaws m) (least : ℕ) (some : 1 ≤ l
 
   pub stays : Stays ring_by (means_by m)
   stays B M lists S t accepted ch = ch.touched
+
+  pub all_laws : AreShort ring_by → AllLaws ring_by (means_by m)
+  all_laws short = (short, opens, keeps, cleans, goes, stays)

@@ -1,6 +1,7 @@
 pub mod Acts
 pub mod Means
 pub mod SenderLines
+pub mod SenderRows
 pub mod Windows
 pub mod Writes
 pub mod Blocks

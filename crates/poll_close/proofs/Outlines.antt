@@ -24,8 +24,9 @@ use Rattle.poll_close.proofs.Blocks.{IsBlock, IsWordOf}
 use Rattle.poll_close.proofs.BlockLaws.{found_in, Sends}
 
 -- one reason before others
-abbrev pub and_intro : {A B : Type 0} → A → B → A × B
-and_intro a b = (a, b)
+infixr 5 ◌&◌
+abbrev pub ◌&◌ : {A B : Type 0} → A → B → A × B
+reason & others = (reason, others)
 
 -- where each row is right, what is wanted follows at any offset from what holds there
 pub found : {Rank : Type 0} {Held : Type 1} (holds : Held → Type 0) (Goal : ℕ → Type 0)

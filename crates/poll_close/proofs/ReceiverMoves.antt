@@ -27,7 +27,7 @@ use Rattle.poll_close.specs.Rankings.{rest_from, runs}
 use Rattle.poll_close.specs.Plans.{is_closed}
 use Rattle.step_machine.proofs.Modulo.{offset_step, offset_wrap}
 use Rattle.poll_close.proofs.Blocks.{IsBlock, IsWordOf, offset_low, word_of, word_from}
-use Rattle.poll_close.proofs.Outlines.{and_intro, found}
+use Rattle.poll_close.proofs.Outlines.{◌&◌, found}
 use Rattle.poll_close.proofs.Distance.{flags, not_stale, far_off, arrives, wraps}
 
 -- where a line is that instruction, whatever the ring's own lines
@@ -340,13 +340,10 @@ module _ (m : BlockInvariant) (k : Block) (i count : ℕ) (n : Count m) (order :
     -- wherever it runs, it moves, by what it finds in the block that it visits
     pub receives_on : (here : ℕ) → Right_here here
     receives_on here h =
-        let last = and_intro keeps_at_68 (and_intro keeps_at_6C (and_intro keeps_at_70 (and_intro keeps_at_74
-        (and_intro keeps_at_78 (and_intro keeps_at_7C (and_intro keeps_at_80 (laws.moves k i count n word_at r v is order words))))))) in
-        let close = and_intro keeps_at_48 (and_intro keeps_at_4C (and_intro keeps_at_50 (and_intro keeps_at_54
-        (and_intro keeps_at_58 (and_intro keeps_at_5C (and_intro keeps_at_60 (and_intro keeps_at_64 last))))))) in
-        let take = and_intro keeps_at_28 (and_intro keeps_at_2C (and_intro keeps_at_30 (and_intro keeps_at_34
-        (and_intro keeps_at_38 (and_intro keeps_at_3C (and_intro keeps_at_40 (and_intro keeps_at_44 close))))))) in
+        let last = keeps_at_68 & keeps_at_6C & keeps_at_70 & keeps_at_74 & keeps_at_78 & keeps_at_7C & keeps_at_80
+        & laws.moves k i count n word_at r v is order words in
+        let close = keeps_at_48 & keeps_at_4C & keeps_at_50 & keeps_at_54 & keeps_at_58 & keeps_at_5C & keeps_at_60 & keeps_at_64 & last in
+        let take = keeps_at_28 & keeps_at_2C & keeps_at_30 & keeps_at_34 & keeps_at_38 & keeps_at_3C & keeps_at_40 & keeps_at_44 & close in
         found (λ (H : Block → ℕ → ReceiverCounts m.Own → ReceiverRegisters → Type 0). H k i o r)
         (λ at. Runs m k count at n word_at r v → Receives m k i count at n r v) (rows_of m)
-        (and_intro keeps_at_00 (and_intro keeps_at_04 (and_intro keeps_at_08
-        (and_intro keeps_at_0C (and_intro keeps_at_10 (and_intro (laws.moves_14 k i count n word_at r v is order words) take)))))) here h
+        (keeps_at_00 & keeps_at_04 & keeps_at_08 & keeps_at_0C & keeps_at_10 & laws.moves_14 k i count n word_at r v is order words & take) here h
