@@ -10,7 +10,7 @@ use Rattle.chart.specs.declared.lanes.Held.{Held}
 use Rattle.chart.specs.declared.lanes.Shape.{Shape}
 use Rattle.chart.specs.Rows.{RowOf}
 use Rattle.chart.specs.Lanes.{holds, is_held, in_lane, held_by, others, own_line}
-use Rattle.chart.specs.Lanes.{passing_lines, held_after_entry, laned_row, held_after, lanes_from, lanes_of, AreApart, IsApart}
+use Rattle.chart.specs.Lanes.{passing_lines, held_after_entry, laned_row, held_after, lanes_from, lanes_of, AreLanesApart, IsApart}
 use Rattle.chart.proofs.LaneLaws.{first_free-is}
 
 eqb-swap : (a b : ℕ) → (a == b) ≡ (b == a)
@@ -24,20 +24,20 @@ free_others : (row column lane : ℕ) (hs : List Held) → is_held hs column lan
 free_others row column lane [] free = refl
 free_others row column lane (x ∷ hs) free = grind (arith, or_parts, or_from, free_others row column lane hs)
 
-apart_others : (row : ℕ) (hs : List Held) → AreApart hs → AreApart (others row hs)
+apart_others : (row : ℕ) (hs : List Held) → AreLanesApart hs → AreLanesApart (others row hs)
 apart_others row [] apart = tt
 apart_others row (x ∷ hs) apart = grind (arith, free_others, apart_others row hs apart.1)
 
-apart_last : (hs : List Held) (h : Held) → AreApart hs → is_held hs h.column h.lane ≡ false → AreApart (hs ++ h ∷ [])
+apart_last : (hs : List Held) (h : Held) → AreLanesApart hs → is_held hs h.column h.lane ≡ false → AreLanesApart (hs ++ h ∷ [])
 apart_last [] h apart free = (refl, tt)
 apart_last (x ∷ hs) h apart free = grind (arith, or_parts, or_from, holds-swap, list_any-append, apart_last hs h apart.1)
 
-apart_in_lane : (row column : ℕ) (held : List Held) (o : Option ℕ) → AreApart held → ((j : ℕ) → o ≡ Some j → is_held held column j ≡ false) →
-    AreApart (held ++ option_to_list (in_lane row column o))
+apart_in_lane : (row column : ℕ) (held : List Held) (o : Option ℕ) → AreLanesApart held → ((j : ℕ) → o ≡ Some j → is_held held column j ≡ false) →
+    AreLanesApart (held ++ option_to_list (in_lane row column o))
 apart_in_lane row column held o apart free = grind (arith, append-nil, apart_last)
 
-in_lane-apart : (row column : ℕ) (held : List Held) (o : Option ℕ) → AreApart held → ((j : ℕ) → o ≡ Some j → is_held held column j ≡ false) →
-    AreApart (option_to_list (in_lane row column o) ++ held)
+in_lane-apart : (row column : ℕ) (held : List Held) (o : Option ℕ) → AreLanesApart held → ((j : ℕ) → o ≡ Some j → is_held held column j ≡ false) →
+    AreLanesApart (option_to_list (in_lane row column o) ++ held)
 in_lane-apart row column held o apart free = grind arith
 
 -- ---- the line of a store that lands
@@ -46,24 +46,24 @@ found_free : (row column lane : ℕ) (hs : List Held) (h : Held) → held_by row
 found_free row column lane [] h is free = cc
 found_free row column lane (x ∷ hs) h is free = grind (arith, or_parts, cases_Bool, found_free row column lane hs h)
 
-found_apart : (row : ℕ) (hs : List Held) (h : Held) → held_by row hs ≡ Some h → AreApart hs → is_held (others row hs) h.column h.lane ≡ false
+found_apart : (row : ℕ) (hs : List Held) (h : Held) → held_by row hs ≡ Some h → AreLanesApart hs → is_held (others row hs) h.column h.lane ≡ false
 found_apart row [] h is apart = refl
 found_apart row (x ∷ hs) h is apart = grind (arith, cases_Bool, free_others, or_from, holds-swap, found_free, found_apart row hs h)
 
-landed_apart : (row : ℕ) (held : List Held) (o : Option Held) → held_by row held ≡ o → AreApart held → AreApart (option_to_list o ++ others row held)
+landed_apart : (row : ℕ) (held : List Held) (o : Option Held) → held_by row held ≡ o → AreLanesApart held → AreLanesApart (option_to_list o ++ others row held)
 landed_apart row held o is apart = grind (arith, apart_others, found_apart)
 
 -- ---- rows
 
-row-apart : (shape : Shape) (row : ℕ) (held : List Held) (landed : Option ℕ) (e : Entry) → AreApart held →
-    AreApart (option_to_list (own_line shape row held landed e) ++ passing_lines held landed e)
+row-apart : (shape : Shape) (row : ℕ) (held : List Held) (landed : Option ℕ) (e : Entry) → AreLanesApart held →
+    AreLanesApart (option_to_list (own_line shape row held landed e) ++ passing_lines held landed e)
 row-apart shape row held landed e apart = grind (arith, in_lane-apart, first_free-is, landed_apart)
 
-next_apart : (shape : Shape) (row : ℕ) (held : List Held) (landed : Option ℕ) (e : Entry) → AreApart held →
-    AreApart (held_after_entry shape row held landed e)
+next_apart : (shape : Shape) (row : ℕ) (held : List Held) (landed : Option ℕ) (e : Entry) → AreLanesApart held →
+    AreLanesApart (held_after_entry shape row held landed e)
 next_apart shape row held landed e apart = grind (arith, apart_in_lane, first_free-is, apart_others)
 
-rows_apart : (shape : Shape) (row : ℕ) (held : List Held) (rs : List RowOf) → AreApart held → All IsApart (lanes_from shape row held rs)
+rows_apart : (shape : Shape) (row : ℕ) (held : List Held) (rs : List RowOf) → AreLanesApart held → All IsApart (lanes_from shape row held rs)
 rows_apart shape row held [] apart = All-nil IsApart
 rows_apart shape row held (r ∷ rs) apart =
     All-cons IsApart (laned_row shape row held r) (lanes_from shape (row + 1) (held_after shape row held r) rs)

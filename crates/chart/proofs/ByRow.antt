@@ -14,7 +14,7 @@ use Rattle.step_machine.specs.Access.{Access, access_of}
 use Rattle.step_machine.specs.Entries.{hart_of, stored_by, written_by, store_of, stores, lands, pending, write_of, landed_after, landed}
 use Rattle.step_machine.proofs.Appended.{entry_there, lands-append}
 use Rattle.chart.specs.declared.sources.RowWrite.{RowWrite}
-use Rattle.chart.specs.Sources.{at_row, stores_by_row, pending_by_row, landed_by_row_after, landed_by_row, newest_from, stored_at, written_at}
+use Rattle.chart.specs.Sources.{at_row, stores_by_row, pending_by_row, landed_by_row_after, landed_by_row, newest_from, stored_at, written_in_row}
 
 abbrev pub write_in : RowWrite → Write
 write_in w = w.write
@@ -81,7 +81,7 @@ abbrev pub HasStored : ℕ → List Entry → RowWrite → Type 0
 HasStored h whole w = stored_at h whole w.row ≡ w.write ∷ []
 
 abbrev pub HasWritten : List Entry → RowWrite → Type 0
-HasWritten whole w = written_at whole w.row ≡ w.write ∷ []
+HasWritten whole w = written_in_row whole w.row ≡ w.write ∷ []
 
 stored_from : (h : ℕ) (before es : List Entry) (n : ℕ) → n ≡ length before → All (HasStored h (before ++ es)) (stores_by_row h n es)
 stored_from h before [] n here = All-nil (HasStored h (before ++ []))

@@ -20,7 +20,7 @@ use Rattle.chart.specs.declared.sources.Source.{Source}
 use Rattle.chart.specs.Rows.{RowOf}
 use Rattle.chart.specs.Lanes.{LanedOf}
 use Rattle.chart.specs.Pictures.{MarkOf, strikes, stands_in, IsClear}
-use Rattle.chart.specs.Places.{rank, columns, pitch, begins, lane_cell, memory_cell}
+use Rattle.chart.specs.Places.{rank, columns, pitch, first_cell, lane_cell, memory_cell}
 use Rattle.chart.specs.Lines.{sign_at, across, own_strokes, is_read}
 use Rattle.chart.specs.Lines.{read_strokes, passing_stroke, row_strokes, text_at, number_mark, row_line}
 
@@ -123,7 +123,7 @@ lane_beside : (w text lanes lane a b n : ℕ) → w ≡ text + 2 * lanes + 4 →
 lane_beside w text lanes lane a b n is first second below = grind (arith, room_left, cases_lt, mul-le-mul)
 
 lane_outside : (p : Places) (column : ℕ) (h : Held) → rank p column < columns p → Placed p h →
-    Outside (begins p column) (begins p column + p.text + 2) (memory_cell p) (lane_cell p h)
+    Outside (first_cell p column) (first_cell p column + p.text + 2) (memory_cell p) (lane_cell p h)
 lane_outside p column h shown placed =
     lane_beside (pitch p) p.text p.lanes h.lane (rank p h.column) (rank p column) (columns p) refl placed.0 shown placed.1
 
@@ -134,18 +134,18 @@ IsPlacedIn p column l = IfSome l.own (λ h. Placed p h × (h.column ≡ column))
 
 own-beside : (p : Places) (column cells : ℕ) (own : Option Held) → rank p column < columns p → cells ≤ p.text →
     IfSome own (λ h. Placed p h × (h.column ≡ column)) →
-    IfSome (option_map (lane_cell p) own) (λ l. (begins p column + cells ≤ l) × (l < memory_cell p))
+    IfSome (option_map (lane_cell p) own) (λ l. (first_cell p column + cells ≤ l) × (l < memory_cell p))
 own-beside p column cells None shown short placed = tt
 own-beside p column cells (Some h) shown short placed =
     let there = lane_outside p column h shown placed.0 in
-    let here : begins p h.column ≡ begins p column = ap (begins p) placed.1 in
+    let here : first_cell p h.column ≡ first_cell p column = ap (first_cell p) placed.1 in
     (omega (here, short, arith), there.1)
 
 strokes_avoid : (p : Places) (column cells : ℕ) (r : RowOf) (l : LanedOf) → rank p column < columns p → cells ≤ p.text → IsPlacedIn p column l →
-    All (Avoids (begins p column) (begins p column + cells) (memory_cell p)) (row_strokes p column (begins p column + cells) r l)
+    All (Avoids (first_cell p column) (first_cell p column + cells) (memory_cell p)) (row_strokes p column (first_cell p column + cells) r l)
 strokes_avoid p column cells r l shown short placed =
-    let from = begins p column in
-    let following = begins p column + cells in
+    let from = first_cell p column in
+    let following = first_cell p column + cells in
     let memory = memory_cell p in
     let room : rank p column * pitch p + pitch p ≤ columns p * pitch p = room_left (rank p column) (columns p) (pitch p) shown in
     let low : 7 ≤ from = omega arith in
@@ -169,7 +169,7 @@ pub row_clear : (p : Places) (i column : ℕ) (said kept : List ℕ) (r : RowOf)
 row_clear p i column said kept r l few shown short placed =
     let digits : length (decimal (i + 1)) ≤ 7 = length-decimal-le 7 (i + 1) (omega arith) few (omega (few, arith)) in
     let room : rank p column * pitch p + pitch p ≤ columns p * pitch p = room_left (rank p column) (columns p) (pitch p) shown in
-    pieces_clear (number_mark i) (text_at (begins p column) Loud said) (text_at (memory_cell p) Loud kept)
-    (row_strokes p column (begins p column + length said) r l)
+    pieces_clear (number_mark i) (text_at (first_cell p column) Loud said) (text_at (memory_cell p) Loud kept)
+    (row_strokes p column (first_cell p column + length said) r l)
     (omega (digits, arith)) (omega arith) (omega (room, short, arith))
     (strokes_avoid p column (length said) r l shown short placed)

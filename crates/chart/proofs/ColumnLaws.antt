@@ -10,7 +10,7 @@ use Rattle.chart.specs.Places.{memory_cell}
 use Rattle.chart.specs.Scenes.{SceneOf, least_said, said_cells, kept_cells, least_lanes, used_after, lanes_in, places_of}
 use Rattle.chart.specs.Lines.{heads_line}
 use Rattle.chart.specs.Layout.{AboutOf, FitsColumns, scene_of_run, layout, wide, brief, listed, brief_listed, narrowest}
-use Rattle.chart.specs.Layout.{width_of, form_or, form_of, limit}
+use Rattle.chart.specs.Layout.{width_of, form_or, fitting_form, limit}
 
 module _ (a b : SceneOf) (harts : a.harts ≡ b.harts) (least : a.least ≡ b.least) (fits : (form : Form) → FitsColumns a form)
     (also_fits : (form : Form) → FitsColumns b form) where
@@ -36,7 +36,7 @@ module _ (a b : SceneOf) (harts : a.harts ≡ b.harts) (least : a.least ≡ b.le
       ap (λ (n : ℕ). if nat_le n most then form else other) (same_cells form)
       ∙ ap (λ (f : Form). if nat_le (width_of form b) most then form else f) same
 
-  same_form : (most : ℕ) → form_of a most ≡ form_of b most
+  same_form : (most : ℕ) → fitting_form a most ≡ fitting_form b most
   same_form most =
       let listed_or = same_or most listed (form_or a most brief_listed narrowest) (form_or b most brief_listed narrowest)
       (same_or most brief_listed narrowest narrowest refl) in
@@ -45,21 +45,21 @@ module _ (a b : SceneOf) (harts : a.harts ≡ b.harts) (least : a.least ≡ b.le
       same_or most wide (form_or a most brief (form_or a most listed (form_or a most brief_listed narrowest)))
       (form_or b most brief (form_or b most listed (form_or b most brief_listed narrowest))) brief_or
 
-  same_line : (most : ℕ) → heads_line (places_of (form_of a most) a) ≡ heads_line (places_of (form_of b most) b)
+  same_line : (most : ℕ) → heads_line (places_of (fitting_form a most) a) ≡ heads_line (places_of (fitting_form b most) b)
   same_line most =
-      ap heads_line (same_places (form_of a most)) ∙ ap (λ (form : Form). heads_line (places_of form b)) (same_form most)
+      ap heads_line (same_places (fitting_form a most)) ∙ ap (λ (form : Form). heads_line (places_of form b)) (same_form most)
 
-  same_cells_of_form : (most : ℕ) → width_of (form_of a most) a ≡ width_of (form_of b most) b
-  same_cells_of_form most = same_cells (form_of a most) ∙ ap (λ (form : Form). width_of form b) (same_form most)
+  same_cells_of_form : (most : ℕ) → width_of (fitting_form a most) a ≡ width_of (fitting_form b most) b
+  same_cells_of_form most = same_cells (fitting_form a most) ∙ ap (λ (form : Form). width_of form b) (same_form most)
 
 module _ (s t : Selection) (a b : AboutOf) (es fs : List Entry) (harts : a.harts ≡ b.harts) (least : a.least ≡ b.least)
     (fits : (form : Form) → FitsColumns (scene_of_run s a es) form) (also_fits : (form : Form) → FitsColumns (scene_of_run t b fs) form) where
   pub same_heads : (layout s a es).heads ≡ (layout t b fs).heads
   same_heads =
       same_line (scene_of_run s a es) (scene_of_run t b fs) harts least fits also_fits (limit a.harts)
-      ∙ ap (λ (n : ℕ). heads_line (places_of (form_of (scene_of_run t b fs) (limit n)) (scene_of_run t b fs))) harts
+      ∙ ap (λ (n : ℕ). heads_line (places_of (fitting_form (scene_of_run t b fs) (limit n)) (scene_of_run t b fs))) harts
 
   pub same_width : (layout s a es).width ≡ (layout t b fs).width
   same_width =
       same_cells_of_form (scene_of_run s a es) (scene_of_run t b fs) harts least fits also_fits (limit a.harts)
-      ∙ ap (λ (n : ℕ). width_of (form_of (scene_of_run t b fs) (limit n)) (scene_of_run t b fs)) harts
+      ∙ ap (λ (n : ℕ). width_of (fitting_form (scene_of_run t b fs) (limit n)) (scene_of_run t b fs)) harts

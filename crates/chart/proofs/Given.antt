@@ -12,7 +12,7 @@ use Rattle.step_machine.specs.History.{OpeningValue}
 use Rattle.step_machine.specs.Legal.{Allowed}
 use Rattle.step_machine.specs.Entries.{opening_byte, read_byte, read, write_of}
 use Rattle.chart.specs.declared.sources.RowWrite.{RowWrite}
-use Rattle.chart.specs.Sources.{pending_by_row, newest, named, source_of, row_of, landed_store, stored_at, byte_from}
+use Rattle.chart.specs.Sources.{pending_by_row, newest, source_named, source_of, row_number, landed_store, stored_at, byte_from}
 use Rattle.chart.proofs.ByRow.{writes, byte_by, HasStored, HasWritten, writes-pending, writes-landed, newest-bytes, newest-is, pending_stored, landed_written}
 
 -- the newest write to cover a byte, where the rows have it
@@ -22,7 +22,7 @@ newest-row a ws plain same = ap (λ (vs : List Write). newest_of a None vs) (sym
 given_by : (o : OpeningValue) (es : List Entry) (h a : ℕ) (own memory : Option RowWrite) → IfSome own (HasStored h es)
     → IfSome memory (HasWritten es)
     → unwrap_or (option_map (byte_by a) own) (unwrap_or (option_map (byte_by a) memory) (opening_byte o a))
-    ≡ byte_from o es h a (named own memory)
+    ≡ byte_from o es h a (source_named own memory)
 given_by o es h a own memory stored written = grind arith
 
 -- the byte that a hart reads is the one that its source gives
@@ -46,7 +46,7 @@ amo_given B o before h a old new may = may.1 ∙ read-given o before h a 4
 -- the oldest of some pending stores, where there is one
 oldest_joined : (h : ℕ) (before : List Entry) (ws : List RowWrite) → All (HasStored h before) ws
     → 0 < length (writes ws)
-    → (row : ℕ) × (row_of (slice_get ws 0) ≡ Some row) × (take 1 (writes ws) ≡ stored_at h before row)
+    → (row : ℕ) × (row_number (slice_get ws 0) ≡ Some row) × (take 1 (writes ws) ≡ stored_at h before row)
 oldest_joined h before [] all some = absurd (omega (arith, some))
 oldest_joined h before (w ∷ ws) all some = (w.row, refl, sym (All-head (HasStored h before) w ws all))
 

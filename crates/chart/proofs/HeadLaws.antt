@@ -11,7 +11,7 @@ use Rattle.std.proofs.lemmas.List.Sums.{sum_by-append}
 use Rattle.chart.specs.declared.pictures.Weight.TheVariants.{Bold}
 use Rattle.chart.specs.declared.places.Places.{Places}
 use Rattle.chart.specs.Pictures.{stands_in, IsClear}
-use Rattle.chart.specs.Places.{pitch, begins, memory_cell}
+use Rattle.chart.specs.Places.{pitch, first_cell, memory_cell}
 use Rattle.chart.specs.Scenes.{hart_name}
 use Rattle.chart.specs.Lines.{text_at, head_mark, head_marks, heads_line}
 use Rattle.chart.proofs.Clear.{struck_at, one_of}
@@ -19,7 +19,7 @@ use Rattle.chart.proofs.Clear.{struck_at, one_of}
 abbrev apart : (harts text lanes : ℕ) → Places
 apart harts text lanes = record { listed = false; harts = harts; text = text; lanes = lanes }
 
-starts : (harts text lanes n : ℕ) → n ≤ 255 → begins (apart harts text lanes) n ≡ 7 + n * pitch (apart harts text lanes)
+starts : (harts text lanes n : ℕ) → n ≤ 255 → first_cell (apart harts text lanes) n ≡ 7 + n * pitch (apart harts text lanes)
 starts harts text lanes n few = let least : min n 255 ≡ n = omega (few, arith) in rw least refl
 
 count-append : {X : Type 0} (p : X → Bool) (xs ys : List X) → count_by p (xs ++ ys) ≡ count_by p xs + count_by p ys
@@ -36,7 +36,7 @@ one_more : (before one left length width cell : ℕ) → before ≤ 1 → (7 + l
     (before + one ≤ 1) × (7 + (left + width) ≤ cell → before + one ≡ 0)
 one_more before one left length width cell most past h8 = grind arith
 
-head_there : (p : Places) (n cell : ℕ) → n ≤ 255 → (left : ℕ) → begins p n ≡ 7 + left →
+head_there : (p : Places) (n cell : ℕ) → n ≤ 255 → (left : ℕ) → first_cell p n ≡ 7 + left →
     ((count_by (stands_in cell) (head_mark p n ∷ []) ≡ 1) × (7 + left ≤ cell) × (cell < 7 + left + length (hart_name n)) × (length (hart_name n) ≤ pitch p))
     ⊎ (count_by (stands_in cell) (head_mark p n ∷ []) ≡ 0)
 head_there p n cell few left at = grind (arith, cases_Bool, struck_at, short_name)

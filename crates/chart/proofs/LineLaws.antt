@@ -4,10 +4,10 @@ use Rattle.chart.specs.declared.places.Places.{Places}
 use Rattle.chart.specs.declared.scenes.Form.{Form}
 use Rattle.chart.specs.Lanes.{LanedOf}
 use Rattle.chart.specs.Scenes.{SceneOf}
-use Rattle.chart.specs.Lines.{drawn_at, lines_of, head_mark, head_marks}
+use Rattle.chart.specs.Lines.{drawn_at, first_row_lines, head_mark, head_marks}
 
 pub lines_more : (form : Form) (scene : SceneOf) (p : Places) (lanes : List LanedOf) (n : ℕ) →
-    lines_of form scene p lanes (n + 1) ≡ lines_of form scene p lanes n ++ drawn_at form scene p lanes n
+    first_row_lines form scene p lanes (n + 1) ≡ first_row_lines form scene p lanes n ++ drawn_at form scene p lanes n
 lines_more form scene p lanes n = let more : n + 1 ≡ suc n = omega arith in rw more refl
 
 pub heads_more : (p : Places) (n : ℕ) → head_marks p (n + 1) ≡ head_marks p n ++ head_mark p n ∷ []

@@ -16,9 +16,9 @@ use Rattle.chart.specs.declared.scenes.Selection.{Selection}
 use Rattle.chart.specs.Rows.{RowOf, rows_of}
 use Rattle.chart.specs.Lanes.{LanedOf, held_at_end}
 use Rattle.chart.specs.Pictures.{LineOf, strikes, IsClear}
-use Rattle.chart.specs.Scenes.{SceneOf, scene_of, said_at, widest_said, said_cells, shape_of, least_lanes, lanes_in, places_of, used_after}
-use Rattle.chart.specs.Lines.{laned_line, line_in, line_at, is_without_line, drawn_at, lines_of, open_lines}
-use Rattle.chart.specs.Layout.{AboutOf, layout, limit, form_or, form_of, body_of}
+use Rattle.chart.specs.Scenes.{SceneOf, scene_of, said_by_row, widest_said, said_cells, shape_of, least_lanes, lanes_in, places_of, used_after}
+use Rattle.chart.specs.Lines.{laned_line, line_in, picture_line, is_without_line, drawn_at, first_row_lines, open_lines}
+use Rattle.chart.specs.Layout.{AboutOf, layout, limit, form_or, fitting_form, body_of}
 use Rattle.chart.proofs.Clear.{row_clear}
 use Rattle.chart.proofs.Placed.{RowFits, row_fits, columns_there}
 use Rattle.chart.proofs.HeadLaws.{heads_clear}
@@ -30,16 +30,16 @@ no_texts : (ss : List Stroke) → IsClear (record { marks = []; strokes = ss })
 no_texts ss cell = elim (list_any (λ s. strikes s cell) ss) as (λ b. 0 + (if b then 1 else 0) ≤ 1) [ true ↦ omega arith | false ↦ omega arith ]
 
 laned_clear : (form : Form) (scene : SceneOf) (p : Places) (i : ℕ) (r : RowOf) (lo : Option LanedOf) → i + 1 < 10 ^ 7 →
-    length (said_at form scene i) ≤ p.text → RowFits p (shape_of form) (Some r) lo → IsClear (laned_line form scene p i r lo)
+    length (said_by_row form scene i) ≤ p.text → RowFits p (shape_of form) (Some r) lo → IsClear (laned_line form scene p i r lo)
 laned_clear form scene p i r lo few room fits = grind (arith, no_texts, row_clear)
 
 line_clear : (form : Form) (scene : SceneOf) (p : Places) (lanes : List LanedOf) (i : ℕ) (ro : Option RowOf) → i + 1 < 10 ^ 7 →
-    length (said_at form scene i) ≤ p.text → RowFits p (shape_of form) ro (slice_get lanes i) → IsClear (line_in form scene p lanes i ro)
+    length (said_by_row form scene i) ≤ p.text → RowFits p (shape_of form) ro (slice_get lanes i) → IsClear (line_in form scene p lanes i ro)
 line_clear form scene p lanes i ro few room fits = grind (arith, no_texts, laned_clear)
 
 -- ---- all lines
 
-said_most : (form : Form) (scene : SceneOf) (i n : ℕ) → i < n → length (said_at form scene i) ≤ widest_said form scene n
+said_most : (form : Form) (scene : SceneOf) (i n : ℕ) → i < n → length (said_by_row form scene i) ≤ widest_said form scene n
 said_most form scene i zero below = absurd (omega (below, arith))
 said_most form scene i (suc n) below = grind (arith, cases_eq, said_most form scene i n)
 
@@ -49,13 +49,13 @@ drawn_clear false line clear = All-cons IsClear line [] clear (All-nil IsClear)
 
 lines_clear : (form : Form) (scene : SceneOf) (p : Places) (lanes : List LanedOf) (n : ℕ) → n ≤ length scene.rows → length scene.rows < 10 ^ 7 →
     p.text ≡ said_cells form scene → ((i : ℕ) → RowFits p (shape_of form) (slice_get scene.rows i) (slice_get lanes i)) →
-    All IsClear (lines_of form scene p lanes n)
+    All IsClear (first_row_lines form scene p lanes n)
 lines_clear form scene p lanes zero within few room fits = All-nil IsClear
 lines_clear form scene p lanes (suc n) within few room fits =
-    let said : length (said_at form scene n) ≤ said_cells form scene = said_most form scene n (length scene.rows) (omega (within, arith)) in
-    All-append IsClear (lines_of form scene p lanes n) (drawn_at form scene p lanes n)
+    let said : length (said_by_row form scene n) ≤ said_cells form scene = said_most form scene n (length scene.rows) (omega (within, arith)) in
+    All-append IsClear (first_row_lines form scene p lanes n) (drawn_at form scene p lanes n)
     (lines_clear form scene p lanes n (omega (within, arith)) few room fits)
-    (drawn_clear (is_without_line scene (slice_get scene.rows n)) (line_at form scene p lanes n)
+    (drawn_clear (is_without_line scene (slice_get scene.rows n)) (picture_line form scene p lanes n)
     (line_clear form scene p lanes n (slice_get scene.rows n) (omega (within, few, arith)) (omega (said, room, arith)) (fits n)))
 
 open_clear : (p : Places) (hs : List Held) → All IsClear (open_lines p hs)
@@ -66,7 +66,7 @@ open_clear p hs = grind (arith, All-nil, All-cons, no_texts)
 form_or-lanes : (scene : SceneOf) (most : ℕ) (form other : Form) → form.lanes ≤ 6 → other.lanes ≤ 6 → (form_or scene most form other).lanes ≤ 6
 form_or-lanes scene most form other first second = grind arith
 
-form_lanes : (scene : SceneOf) (most : ℕ) → (form_of scene most).lanes ≤ 6
+form_lanes : (scene : SceneOf) (most : ℕ) → (fitting_form scene most).lanes ≤ 6
 form_lanes scene most = grind (arith, form_or-lanes)
 
 rows_count : (es : List Entry) → length (rows_of es) ≡ length es
@@ -80,7 +80,7 @@ form_clear form selection names instructions es harts least lanes few below rows
     let free = least_lanes form least in
     let p = places_of form scene in
     let count : length (rows_of es) ≡ length es = rows_count es in
-    All-append IsClear (lines_of form scene p (lanes_in form scene) (length scene.rows)) (open_lines p (held_at_end (shape_of form) scene.rows))
+    All-append IsClear (first_row_lines form scene p (lanes_in form scene) (length scene.rows)) (open_lines p (held_at_end (shape_of form) scene.rows))
     (lines_clear form scene p (lanes_in form scene) (length scene.rows) (omega arith) (omega (count, rows, arith)) refl
     (λ i. row_fits p (shape_of form) es free i refl
     (columns_there es harts form.listed (said_cells form scene) (used_after free (lanes_in form scene)) form.lanes few below) (omega (lanes, arith))))
@@ -90,11 +90,11 @@ pub picture_clear : (selection : Selection) (about : AboutOf) (es : List Entry) 
     length es < 10 ^ 7 → All IsClear (layout selection about es).body
 picture_clear selection about es few below rows =
     let scene = scene_of selection about.names about.instructions es about.harts about.least in
-    let form = form_of scene (limit about.harts) in
+    let form = fitting_form scene (limit about.harts) in
     form_clear form selection about.names about.instructions es about.harts about.least (form_lanes scene (limit about.harts)) few below rows
 
 pub heads_of_picture : (selection : Selection) (about : AboutOf) (es : List Entry) → about.harts ≤ 255 → IsClear (layout selection about es).heads
 heads_of_picture selection about es few =
     let scene = scene_of selection about.names about.instructions es about.harts about.least in
-    let form = form_of scene (limit about.harts) in
+    let form = fitting_form scene (limit about.harts) in
     heads_clear about.harts form.listed (said_cells form scene) (used_after (least_lanes form about.least) (lanes_in form scene)) few

@@ -17,9 +17,9 @@ use Rattle.chart.specs.declared.lanes.Held.{Held}
 use Rattle.chart.specs.declared.lanes.Shape.{Shape}
 use Rattle.chart.specs.declared.places.Places.{Places}
 use Rattle.chart.specs.declared.sources.RowWrite.{RowWrite}
-use Rattle.chart.specs.Sources.{pending_by_row, row_of, landed_store, stored_at}
+use Rattle.chart.specs.Sources.{pending_by_row, row_number, landed_store, stored_at}
 use Rattle.chart.specs.Rows.{RowOf, row_after, rows_after}
-use Rattle.chart.specs.Lanes.{LanedOf, column_of, first_free, in_lane, held_by, own_line, passing_lines}
+use Rattle.chart.specs.Lanes.{LanedOf, hart_column, first_free, in_lane, held_by, own_line, passing_lines}
 use Rattle.chart.specs.Lanes.{laned_row, held_after_entry, held_after, lanes_from}
 use Rattle.chart.specs.Places.{rank, columns}
 use Rattle.chart.specs.Scenes.{lanes_to, lanes_at, used_after}
@@ -31,7 +31,7 @@ use Rattle.chart.proofs.LaneLaws.{first_free-is}
 
 -- the entry of the row is of a hart with this column
 abbrev InItsColumn : Shape → List Entry → Held → Type 0
-InItsColumn shape before h = (e : Entry) × (slice_get before h.row ≡ Some e) × (h.column ≡ column_of shape (hart_of e))
+InItsColumn shape before h = (e : Entry) × (slice_get before h.row ≡ Some e) × (h.column ≡ hart_column shape (hart_of e))
 
 record Kept (p : Places) (shape : Shape) (before : List Entry) (h : Held) : Type 0 where
   placed : Placed p h
@@ -82,7 +82,7 @@ not_stored x = grind arith
 hart_stored : (h : ℕ) (e : Entry) (w : Write) → store_of h e ≡ w ∷ [] → hart_of e ≡ h
 hart_stored h e w is = grind (arith, cases_eq, ne_eqb, not_stored)
 
-oldest_stored : (h : ℕ) (before : List Entry) (ws : List RowWrite) (row : ℕ) → All (HasStored h before) ws → row_of (slice_get ws 0) ≡ Some row →
+oldest_stored : (h : ℕ) (before : List Entry) (ws : List RowWrite) (row : ℕ) → All (HasStored h before) ws → row_number (slice_get ws 0) ≡ Some row →
     (w : Write) × (stored_at h before row ≡ w ∷ [])
 oldest_stored h before [] row all is = cc
 oldest_stored h before (w ∷ ws) row all is =
@@ -91,28 +91,28 @@ oldest_stored h before (w ∷ ws) row all is =
     (w.write, subst (λ (n : ℕ). stored_at h before n ≡ w.write ∷ []) same (All-head (HasStored h before) w ws all))
 
 column_same : (shape : Shape) (before : List Entry) (h row : ℕ) (w : Write) (k : Held) → stored_at h before row ≡ w ∷ [] → k.row ≡ row →
-    InItsColumn shape before k → k.column ≡ column_of shape h
+    InItsColumn shape before k → k.column ≡ hart_column shape h
 column_same shape before h row w k stored same its = grind (arith, hart_stored)
 
 landed_placed : (p : Places) (shape : Shape) (before : List Entry) (h row : ℕ) (held : List Held) →
     landed_store before (entry.Land h) ≡ Some row → All (Kept p shape before) held →
-    IfSome (held_by row held) (λ k. Placed p k × (k.column ≡ column_of shape h))
+    IfSome (held_by row held) (λ k. Placed p k × (k.column ≡ hart_column shape h))
 landed_placed p shape before h row held landed all =
     let stored = oldest_stored h before (pending_by_row h before) row (pending_stored h before) landed in
-    IfSome_then (held_by row held) {P = λ k. Kept p shape before k × (k.row ≡ row)} {Q = λ k. Placed p k × (k.column ≡ column_of shape h)}
+    IfSome_then (held_by row held) {P = λ k. Kept p shape before k × (k.row ≡ row)} {Q = λ k. Placed p k × (k.column ≡ hart_column shape h)}
     (found_held (Kept p shape before) row held all)
     (λ k found. (found.0.placed, column_same shape before h row stored.0 k stored.1 found.1 found.0.column))
 
 -- ---- rows
 
 row-placed : (p : Places) (shape : Shape) (before : List Entry) (row : ℕ) (held : List Held) (landed : Option ℕ) (e : Entry) →
-    landed_store before e ≡ landed → All (Kept p shape before) held → rank p (column_of shape (hart_of e)) < columns p → shape.lanes ≤ 254 →
+    landed_store before e ≡ landed → All (Kept p shape before) held → rank p (hart_column shape (hart_of e)) < columns p → shape.lanes ≤ 254 →
     lanes_to (own_line shape row held landed e) ≤ p.lanes →
-    IfSome (own_line shape row held landed e) (λ h. Placed p h × (h.column ≡ column_of shape (hart_of e))) × All (Placed p) (passing_lines held landed e)
+    IfSome (own_line shape row held landed e) (λ h. Placed p h × (h.column ≡ hart_column shape (hart_of e))) × All (Placed p) (passing_lines held landed e)
 row-placed p shape before row held landed (entry.Store h a width v) is all shown few used = (
-  IfSome_then (in_lane row (column_of shape h) (first_free held (column_of shape h) 0 shape.lanes))
-      {P = Taken p row (column_of shape h)} {Q = λ k. Placed p k × (k.column ≡ column_of shape h)}
-      (taken_placed p shape row (column_of shape h) held shown few used) (λ k taken. (taken.placed, taken.in_column)),
+  IfSome_then (in_lane row (hart_column shape h) (first_free held (hart_column shape h) 0 shape.lanes))
+      {P = Taken p row (hart_column shape h)} {Q = λ k. Placed p k × (k.column ≡ hart_column shape h)}
+      (taken_placed p shape row (hart_column shape h) held shown few used) (λ k taken. (taken.placed, taken.in_column)),
   all_placed p shape before held all,
 )
 row-placed p shape before row held None (entry.Land h) is all shown few used = (tt, all_placed p shape before held all)
@@ -123,14 +123,14 @@ row-placed p shape before row held (Some made) (entry.Land h) is all shown few u
 row-placed p shape before row held landed other is all shown few used = (tt, all_placed p shape before held all)
 
 next_kept : (p : Places) (shape : Shape) (before : List Entry) (row : ℕ) (held : List Held) (landed : Option ℕ) (e : Entry) →
-    row ≡ length before → All (Kept p shape before) held → rank p (column_of shape (hart_of e)) < columns p → shape.lanes ≤ 254 →
+    row ≡ length before → All (Kept p shape before) held → rank p (hart_column shape (hart_of e)) < columns p → shape.lanes ≤ 254 →
     lanes_to (own_line shape row held landed e) ≤ p.lanes →
     All (Kept p shape (before ++ e ∷ [])) (held_after_entry shape row held landed e)
 next_kept p shape before row held landed (entry.Store h a width v) here all shown few used =
-    let own = in_lane row (column_of shape h) (first_free held (column_of shape h) 0 shape.lanes) in
+    let own = in_lane row (hart_column shape h) (first_free held (hart_column shape h) 0 shape.lanes) in
     let P = Kept p shape (before ++ entry.Store h a width v ∷ []) in
     All-append P held (option_to_list own) (kept_more p shape before (entry.Store h a width v) held all)
-    (one_held P own (IfSome_then own {P = Taken p row (column_of shape h)} {Q = P} (taken_placed p shape row (column_of shape h) held shown few used)
+    (one_held P own (IfSome_then own {P = Taken p row (hart_column shape h)} {Q = P} (taken_placed p shape row (hart_column shape h) held shown few used)
     (λ k taken. let there : k.row ≡ length before = taken.of_row ∙ here in record {
       placed = taken.placed;
       column = (entry.Store h a width v, rw there (entry_there before (entry.Store h a width v) []), taken.in_column);
@@ -144,10 +144,10 @@ next_kept p shape before row held landed other here all shown few used = kept_mo
 abbrev pub RowFits : Places → Shape → Option RowOf → Option LanedOf → Type 0
 RowFits p shape None l = Unit {0}
 RowFits p shape (Some r) None = Unit {0}
-RowFits p shape (Some r) (Some l) = (rank p (column_of shape (hart_of r.entry)) < columns p) × IsPlacedIn p (column_of shape (hart_of r.entry)) l
+RowFits p shape (Some r) (Some l) = (rank p (hart_column shape (hart_of r.entry)) < columns p) × IsPlacedIn p (hart_column shape (hart_of r.entry)) l
 
 abbrev pub HasColumn : Places → Shape → Entry → Type 0
-HasColumn p shape e = rank p (column_of shape (hart_of e)) < columns p
+HasColumn p shape e = rank p (hart_column shape (hart_of e)) < columns p
 
 abbrev pub UsesLanes : Places → LanedOf → Type 0
 UsesLanes p l = lanes_at l ≤ p.lanes
@@ -189,7 +189,7 @@ row_fits p shape es least i lanes shown few = grind (arith, rows-fit, All-nil, u
 -- ---- columns
 
 column_there : (listed : Bool) (harts text lanes most h : ℕ) → harts ≤ 255 → h < harts →
-    rank (record { listed = listed; harts = harts; text = text; lanes = lanes }) (column_of (record { listed = listed; lanes = most }) h)
+    rank (record { listed = listed; harts = harts; text = text; lanes = lanes }) (hart_column (record { listed = listed; lanes = most }) h)
     < columns (record { listed = listed; harts = harts; text = text; lanes = lanes })
 column_there listed harts text lanes most h few below = grind arith
 

@@ -11,8 +11,8 @@ use Rattle.chart.specs.declared.lanes.Shape.{Shape}
 use Rattle.chart.specs.Rows.{RowOf}
 
 -- which column a hart has: one for all harts has number 0
-abbrev pub column_of : Shape → ℕ → ℕ
-column_of shape h = if shape.listed then 0 else h
+abbrev pub hart_column : Shape → ℕ → ℕ
+hart_column shape h = if shape.listed then 0 else h
 
 abbrev pub holds : (column lane : ℕ) → Held → Bool
 holds column lane h = (h.column == column) && (h.lane == lane)
@@ -31,8 +31,8 @@ in_lane row column None = None
 in_lane row column (Some lane) = Some (record { row = row; column = column; lane = lane })
 
 -- what a hart's store of this row holds from now on
-abbrev pub taken : Shape → (row h : ℕ) → List Held → Option Held
-taken shape row h held = in_lane row (column_of shape h) (first_free held (column_of shape h) 0 shape.lanes)
+abbrev pub lane_for : Shape → (row h : ℕ) → List Held → Option Held
+lane_for shape row h held = in_lane row (hart_column shape h) (first_free held (hart_column shape h) 0 shape.lanes)
 
 -- what the store of this row holds
 abbrev pub held_by : ℕ → List Held → Option Held
@@ -57,7 +57,7 @@ pub record LanedOf : Type 0 where
   pub passing : List Held
 
 abbrev pub own_line : Shape → (row : ℕ) → List Held → Option ℕ → Entry → Option Held
-own_line shape row held landed (entry.Store h a width v) = taken shape row h held
+own_line shape row held landed (entry.Store h a width v) = lane_for shape row h held
 own_line shape row held landed (entry.Land h) = held_by_landed landed held
 own_line shape row held landed other = None
 
@@ -69,7 +69,7 @@ abbrev pub laned_row : Shape → (row : ℕ) → List Held → RowOf → LanedOf
 laned_row shape row held r = record { own = own_line shape row held r.landed r.entry; passing = passing_lines held r.landed r.entry }
 
 abbrev pub held_after_entry : Shape → (row : ℕ) → List Held → Option ℕ → Entry → List Held
-held_after_entry shape row held landed (entry.Store h a width v) = held ++ option_to_list (taken shape row h held)
+held_after_entry shape row held landed (entry.Store h a width v) = held ++ option_to_list (lane_for shape row h held)
 held_after_entry shape row held landed (entry.Land h) = without_landed landed held
 held_after_entry shape row held landed other = held
 
@@ -95,10 +95,10 @@ held_at_end shape rows = held_from shape 0 [] rows
 -- ---- the law
 
 -- no two of these have one lane
-abbrev pub AreApart : List Held → Type 0
-AreApart [] = Unit {0}
-AreApart (h ∷ hs) = (is_held hs h.column h.lane ≡ false) × AreApart hs
+abbrev pub AreLanesApart : List Held → Type 0
+AreLanesApart [] = Unit {0}
+AreLanesApart (h ∷ hs) = (is_held hs h.column h.lane ≡ false) × AreLanesApart hs
 
 -- no two lines that stand at one row, its own with them, have one lane
 abbrev pub IsApart : LanedOf → Type 0
-IsApart l = AreApart (option_to_list l.own ++ l.passing)
+IsApart l = AreLanesApart (option_to_list l.own ++ l.passing)

@@ -8,7 +8,7 @@ use Rattle.chart.specs.declared.sources.RowWrite.{RowWrite}
 use Rattle.chart.specs.declared.least_widths.LeastWidths.{LeastWidths}
 use Rattle.chart.specs.declared.scenes.Form.{Form}
 use Rattle.chart.specs.declared.scenes.Selection.{Selection}
-use Rattle.chart.specs.Names.{part_text}
+use Rattle.chart.specs.Names.{part_name}
 use Rattle.chart.specs.Sources.{pending_by_row}
 use Rattle.chart.specs.Lanes.{held_at_end}
 use Rattle.chart.specs.Pictures.{LineOf, PictureOf, picture_text}
@@ -39,7 +39,7 @@ pub record AboutOf : Type 0 where
 -- `still pending: P0 x := 1 [1]`
 abbrev pub pending_line : AboutOf → (h : ℕ) → RowWrite → List ℕ
 pending_line about h w =
-    codes "still pending: P" ++ decimal h ++ codes " " ++ part_text about.names w.write.addr w.write.width
+    codes "still pending: P" ++ decimal h ++ codes " " ++ part_name about.names w.write.addr w.write.width
     ++ codes " := " ++ decimal w.write.value ++ codes " [" ++ decimal (w.row + 1) ++ codes "]"
 
 abbrev pub pending_text : AboutOf → (h : ℕ) → Option RowWrite → List ℕ
@@ -60,18 +60,18 @@ pending_lines about es zero = []
 pending_lines about es (suc n) = pending_lines about es n ++ pending_of_hart about n (pending_by_row n es)
 
 -- `last value: 0:x7 = 0`
-abbrev pub value_text : List ℕ → ℕ → List ℕ
-value_text left value = codes "last value: " ++ left ++ codes " = " ++ decimal value
+abbrev pub last_value_text : List ℕ → ℕ → List ℕ
+last_value_text left value = codes "last value: " ++ left ++ codes " = " ++ decimal value
 
 abbrev pub value_line : LastValueOf → List ℕ
-value_line v = value_text v.left v.value
+value_line v = last_value_text v.left v.value
 
 -- `Holds: exists (0:x7=0 /\\ 1:x7=0)`
 abbrev pub verdict_text : (verdict condition : List ℕ) → List ℕ
 verdict_text verdict condition = verdict ++ codes ": " ++ condition
 
-abbrev pub verdict_line : AboutOf → List ℕ
-verdict_line about = verdict_text about.verdict about.condition
+abbrev pub verdict_foot : AboutOf → List ℕ
+verdict_foot about = verdict_text about.verdict about.condition
 
 abbrev pub head_of : AboutOf → List (List ℕ)
 head_of about = about.name ∷ []
@@ -80,7 +80,7 @@ abbrev pub pending_of_run : AboutOf → List Entry → List (List ℕ)
 pending_of_run about es = pending_lines about es about.harts
 
 abbrev pub foot_of : AboutOf → List Entry → List (List ℕ)
-foot_of about es = pending_of_run about es ++ map value_line about.values ++ verdict_line about ∷ []
+foot_of about es = pending_of_run about es ++ map value_line about.values ++ verdict_foot about ∷ []
 
 -- ---- forms
 
@@ -111,8 +111,8 @@ limit harts = if nat_le harts 2 then 110 else min (20 + 40 * harts) 200
 abbrev pub form_or : SceneOf → (most : ℕ) → (form other : Form) → Form
 form_or scene most form other = if nat_le (width_of form scene) most then form else other
 
-abbrev pub form_of : SceneOf → (most : ℕ) → Form
-form_of scene most =
+abbrev pub fitting_form : SceneOf → (most : ℕ) → Form
+fitting_form scene most =
     form_or scene most wide (form_or scene most brief (form_or scene most listed (form_or scene most brief_listed narrowest)))
 
 -- ---- the picture
@@ -143,7 +143,7 @@ picture_in form scene head foot = record {
 }
 
 abbrev pub picture_of : (harts : ℕ) → SceneOf → (head foot : List (List ℕ)) → PictureOf
-picture_of harts scene head foot = picture_in (form_of scene (limit harts)) scene head foot
+picture_of harts scene head foot = picture_in (fitting_form scene (limit harts)) scene head foot
 
 abbrev pub scene_of_run : Selection → AboutOf → List Entry → SceneOf
 scene_of_run selection about es = scene_of selection about.names about.instructions es about.harts about.least

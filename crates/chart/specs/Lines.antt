@@ -19,10 +19,10 @@ use Rattle.chart.specs.declared.pictures.Weight.{Weight}
 use Rattle.chart.specs.declared.pictures.Weight.TheVariants.{Quiet, Loud, Bold}
 use Rattle.chart.specs.declared.scenes.Form.{Form}
 use Rattle.chart.specs.Rows.{RowOf}
-use Rattle.chart.specs.Lanes.{LanedOf, column_of}
+use Rattle.chart.specs.Lanes.{LanedOf, hart_column}
 use Rattle.chart.specs.Pictures.{MarkOf, LineOf}
-use Rattle.chart.specs.Places.{begins, lane_cell, memory_cell}
-use Rattle.chart.specs.Scenes.{SceneOf, is_left_out, said_at, kept_at, hart_name, shape_of}
+use Rattle.chart.specs.Places.{first_cell, lane_cell, memory_cell}
+use Rattle.chart.specs.Scenes.{SceneOf, has_no_row, said_by_row, kept_at, hart_name, shape_of}
 
 -- ---- strokes
 
@@ -55,13 +55,13 @@ own_strokes column following memory lane (entry.Amo h a old new) = amo_strokes c
 own_strokes column following memory lane other = []
 
 -- whether a source is the pending store of this row
-abbrev pub is_own : ℕ → Source → Bool
-is_own row (Own other) = other == row
-is_own row (Memory other) = false
-is_own row Opening = false
+abbrev pub is_store_of_row : ℕ → Source → Bool
+is_store_of_row row (Own other) = other == row
+is_store_of_row row (Memory other) = false
+is_store_of_row row Opening = false
 
 abbrev pub is_read : List Source → Held → Bool
-is_read sources h = list_any (is_own h.row) sources
+is_read sources h = list_any (is_store_of_row h.row) sources
 
 -- the line of what a row reads from a pending store
 abbrev pub read_strokes : Places → List Source → (column following : ℕ) → Held → List Stroke
@@ -90,42 +90,42 @@ number_mark i = text_at (5 - length (decimal (i + 1))) Quiet (decimal (i + 1))
 -- the line of row i, in this column, with what it says there and in memory
 abbrev pub row_line : Places → (i column : ℕ) → (said kept : List ℕ) → RowOf → LanedOf → LineOf
 row_line p i column said kept r l = record {
-  marks = number_mark i ∷ text_at (begins p column) Loud said ∷ text_at (memory_cell p) Loud kept ∷ [];
-  strokes = row_strokes p column (begins p column + length said) r l;
+  marks = number_mark i ∷ text_at (first_cell p column) Loud said ∷ text_at (memory_cell p) Loud kept ∷ [];
+  strokes = row_strokes p column (first_cell p column + length said) r l;
 }
 
 abbrev pub empty_line : LineOf
 empty_line = record { marks = []; strokes = [] }
 
-abbrev pub line_with : Form → SceneOf → Places → ℕ → RowOf → LanedOf → LineOf
-line_with form scene p i r l = row_line p i (column_of (shape_of form) (hart_of r.entry)) (said_at form scene i) (kept_at form scene i) r l
+abbrev pub scene_line : Form → SceneOf → Places → ℕ → RowOf → LanedOf → LineOf
+scene_line form scene p i r l = row_line p i (hart_column (shape_of form) (hart_of r.entry)) (said_by_row form scene i) (kept_at form scene i) r l
 
 abbrev pub laned_line : Form → SceneOf → Places → ℕ → RowOf → Option LanedOf → LineOf
 laned_line form scene p i r None = empty_line
-laned_line form scene p i r (Some l) = line_with form scene p i r l
+laned_line form scene p i r (Some l) = scene_line form scene p i r l
 
 abbrev pub line_in : Form → SceneOf → Places → List LanedOf → ℕ → Option RowOf → LineOf
 line_in form scene p lanes i None = empty_line
 line_in form scene p lanes i (Some r) = laned_line form scene p i r (slice_get lanes i)
 
-abbrev pub line_at : Form → SceneOf → Places → List LanedOf → ℕ → LineOf
-line_at form scene p lanes i = line_in form scene p lanes i (slice_get scene.rows i)
+abbrev pub picture_line : Form → SceneOf → Places → List LanedOf → ℕ → LineOf
+picture_line form scene p lanes i = line_in form scene p lanes i (slice_get scene.rows i)
 
 abbrev pub is_without_line : SceneOf → Option RowOf → Bool
 is_without_line scene None = false
-is_without_line scene (Some r) = is_left_out scene.selection r.entry
+is_without_line scene (Some r) = has_no_row scene.selection r.entry
 
 -- the line of row i, if it is drawn
 abbrev pub drawn_at : Form → SceneOf → Places → List LanedOf → ℕ → List LineOf
-drawn_at form scene p lanes i = if is_without_line scene (slice_get scene.rows i) then [] else line_at form scene p lanes i ∷ []
+drawn_at form scene p lanes i = if is_without_line scene (slice_get scene.rows i) then [] else picture_line form scene p lanes i ∷ []
 
 -- the lines of the first n rows
-abbrev pub lines_of : Form → SceneOf → Places → List LanedOf → ℕ → List LineOf
-lines_of form scene p lanes zero = []
-lines_of form scene p lanes (suc n) = lines_of form scene p lanes n ++ drawn_at form scene p lanes n
+abbrev pub first_row_lines : Form → SceneOf → Places → List LanedOf → ℕ → List LineOf
+first_row_lines form scene p lanes zero = []
+first_row_lines form scene p lanes (suc n) = first_row_lines form scene p lanes n ++ drawn_at form scene p lanes n
 
 abbrev pub row_lines : Form → SceneOf → Places → List LanedOf → List LineOf
-row_lines form scene p lanes = lines_of form scene p lanes (length scene.rows)
+row_lines form scene p lanes = first_row_lines form scene p lanes (length scene.rows)
 
 abbrev pub open_stroke : Places → Held → Stroke
 open_stroke p h = sign_at Open (lane_cell p h) h.column
@@ -135,7 +135,7 @@ open_lines p [] = []
 open_lines p (h ∷ hs) = record { marks = []; strokes = map (open_stroke p) (h ∷ hs) } ∷ []
 
 abbrev pub head_mark : Places → ℕ → MarkOf
-head_mark p h = text_at (begins p h) Bold (hart_name h)
+head_mark p h = text_at (first_cell p h) Bold (hart_name h)
 
 -- the heads of the first n harts
 abbrev pub head_marks : Places → ℕ → List MarkOf

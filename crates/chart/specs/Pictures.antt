@@ -54,36 +54,36 @@ struck cell found (s ∷ ss) = struck cell (if strikes s cell then sign_byte s.s
 abbrev pub byte_of_mark : MarkOf → ℕ → Option ℕ
 byte_of_mark m cell = if nat_lt cell m.at then None else slice_get m.text (cell - m.at)
 
-abbrev pub marked : (cell found : ℕ) → List MarkOf → ℕ
-marked cell found [] = found
-marked cell found (m ∷ ms) = marked cell (unwrap_or (byte_of_mark m cell) found) ms
+abbrev pub mark_byte : (cell found : ℕ) → List MarkOf → ℕ
+mark_byte cell found [] = found
+mark_byte cell found (m ∷ ms) = mark_byte cell (unwrap_or (byte_of_mark m cell) found) ms
 
 -- each byte outside of 32 to 126 is shown as `?`
-abbrev pub shown : ℕ → ℕ
-shown byte = if nat_lt 31 byte && nat_lt byte 127 then byte else 63
+abbrev pub shown_byte : ℕ → ℕ
+shown_byte byte = if nat_lt 31 byte && nat_lt byte 127 then byte else 63
 
 -- what a line shows in a cell: a text, else a stroke, else a blank
-abbrev pub cell_of : LineOf → ℕ → ℕ
-cell_of line cell = shown (marked cell (struck cell 32 line.strokes) line.marks)
+abbrev pub line_cell : LineOf → ℕ → ℕ
+line_cell line cell = shown_byte (mark_byte cell (struck cell 32 line.strokes) line.marks)
 
 -- ---- the text
 
 -- the end of what isn't blank in the line's first n cells
-abbrev pub end_of : LineOf → ℕ → ℕ
-end_of line zero = 0
-end_of line (suc n) = if cell_of line n == 32 then end_of line n else suc n
+abbrev pub text_end : LineOf → ℕ → ℕ
+text_end line zero = 0
+text_end line (suc n) = if line_cell line n == 32 then text_end line n else suc n
 
 -- the first n cells
-abbrev pub cells_of : LineOf → ℕ → List ℕ
-cells_of line zero = []
-cells_of line (suc n) = cells_of line n ++ cell_of line n ∷ []
+abbrev pub first_cells : LineOf → ℕ → List ℕ
+first_cells line zero = []
+first_cells line (suc n) = first_cells line n ++ line_cell line n ∷ []
 
 -- a line, without the blanks at its end
 abbrev pub line_text : ℕ → LineOf → List ℕ
-line_text width line = cells_of line (end_of line width) ++ 10 ∷ []
+line_text width line = first_cells line (text_end line width) ++ 10 ∷ []
 
 abbrev pub plain_line : List ℕ → List ℕ
-plain_line text = map shown text ++ 10 ∷ []
+plain_line text = map shown_byte text ++ 10 ∷ []
 
 abbrev pub picture_text : PictureOf → List ℕ
 picture_text p =

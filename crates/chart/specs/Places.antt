@@ -16,12 +16,12 @@ abbrev pub pitch : Places → ℕ
 pitch p = p.text + 2 * p.lanes + 4
 
 -- a column's first cell
-abbrev pub begins : Places → ℕ → ℕ
-begins p column = 7 + rank p column * pitch p
+abbrev pub first_cell : Places → ℕ → ℕ
+first_cell p column = 7 + rank p column * pitch p
 
 -- the cell of a lane, of which the rightmost one has number 0
 abbrev pub lane_cell : Places → Held → ℕ
-lane_cell p h = begins p h.column + p.text + 2 * (p.lanes - h.lane)
+lane_cell p h = first_cell p h.column + p.text + 2 * (p.lanes - h.lane)
 
 -- memory's first cell, two to the right of where a further column would begin
 abbrev pub memory_cell : Places → ℕ

@@ -13,9 +13,9 @@ pub record RowTextOf : Type 0 where
   pub tag : List ℕ
   pub memory : List ℕ
 
-abbrev pub row_text : List (List ℕ) → List Entry → RowOf → RowTextOf
-row_text names es r =
+abbrev pub text_of_row : List (List ℕ) → List Entry → RowOf → RowTextOf
+text_of_row names es r =
     record { hart = hart_of r.entry; effect = effect_text names r.entry; tag = tag_text r.sources; memory = memory_text names es r.landed r.entry }
 
 abbrev pub row_texts : List (List ℕ) → List Entry → List RowOf → List RowTextOf
-row_texts names es rows = map (row_text names es) rows
+row_texts names es rows = map (text_of_row names es) rows

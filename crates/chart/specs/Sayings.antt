@@ -7,7 +7,7 @@ use Rattle.hart.specs.declared.status.Stop.{Stop}
 use Rattle.hart.specs.declared.status.Stop.TheVariants as stop
 use Rattle.step_machine.specs.declared.events.Entry.{Entry}
 use Rattle.step_machine.specs.declared.events.Entry.TheVariants as entry
-use Rattle.chart.specs.Names.{word_text, part_text}
+use Rattle.chart.specs.Names.{word_name, part_name}
 
 -- why a hart stopped
 abbrev pub stop_name : Stop → List ℕ
@@ -30,14 +30,14 @@ next_text (Some w) = codes "next " ++ decimal w
 
 -- `x = 1`: `width` bytes from address a on have this value
 abbrev pub holds_text : List (List ℕ) → (a width v : ℕ) → List ℕ
-holds_text names a width v = part_text names a width ++ codes " = " ++ decimal v
+holds_text names a width v = part_name names a width ++ codes " = " ++ decimal v
 
 -- what an entry did, as its row says it; a landing says it in memory's column alone
 abbrev pub effect_text : List (List ℕ) → Entry → List ℕ
 effect_text names (entry.Inner h) = []
 effect_text names (entry.Load h a width v) = holds_text names a width v
-effect_text names (entry.Store h a width v) = part_text names a width ++ codes " := " ++ decimal v
-effect_text names (entry.Amo h a old new) = word_text names a ++ codes ": " ++ decimal old ++ codes " -> " ++ decimal new
+effect_text names (entry.Store h a width v) = part_name names a width ++ codes " := " ++ decimal v
+effect_text names (entry.Amo h a old new) = word_name names a ++ codes ": " ++ decimal old ++ codes " -> " ++ decimal new
 effect_text names (entry.Fence h full) = fence_text full
 effect_text names (entry.Next h w) = next_text w
 effect_text names (entry.Took h i w) = codes "took " ++ decimal i ++ codes " " ++ decimal w

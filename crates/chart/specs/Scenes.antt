@@ -14,7 +14,7 @@ use Rattle.chart.specs.declared.scenes.Selection.{Selection}
 use Rattle.chart.specs.declared.scenes.Selection.TheVariants.{EveryRow, MemoryRows}
 use Rattle.chart.specs.declared.scenes.TheConstants.{LONGEST_TEXT}
 use Rattle.chart.specs.Rows.{RowOf, rows_of}
-use Rattle.chart.specs.RowTexts.{RowTextOf, row_text}
+use Rattle.chart.specs.RowTexts.{RowTextOf, text_of_row}
 use Rattle.chart.specs.Lanes.{LanedOf, lanes_of}
 
 -- an instruction that neither touches memory nor waits for it, ends its hart or reports
@@ -23,9 +23,9 @@ is_inner (entry.Inner h) = true
 is_inner other = false
 
 -- which entries have no row in the picture; the rows of the others keep their numbers
-abbrev pub is_left_out : Selection → Entry → Bool
-is_left_out EveryRow e = false
-is_left_out MemoryRows e = is_inner e
+abbrev pub has_no_row : Selection → Entry → Bool
+has_no_row EveryRow e = false
+has_no_row MemoryRows e = is_inner e
 
 -- whose rows are drawn though they have nothing except an instruction to show
 abbrev pub is_bare : Selection → Entry → Bool
@@ -71,13 +71,13 @@ abbrev pub shown_instruction : Form → List ℕ → List ℕ
 shown_instruction form instruction = if form.instructions then instruction else []
 
 -- a text, or `...` where it is too long
-unfoldable pub shortened : List ℕ → List ℕ
-shortened text = if nat_lt LONGEST_TEXT (length text) then codes "..." else text
+unfoldable pub cut_text : List ℕ → List ℕ
+cut_text text = if nat_lt LONGEST_TEXT (length text) then codes "..." else text
 
 -- `P0  sw x5,0(x6)  x := 1` or `lw x7,0(x8)  y = 0 [init]`
 abbrev pub said : Form → (instruction : List ℕ) → RowTextOf → List ℕ
 said form instruction t =
-    shortened (beside (codes " ") (beside (codes "  ") (beside (codes "  ") (caller form t.hart) (shown_instruction form instruction)) t.effect) t.tag)
+    cut_text (beside (codes " ") (beside (codes "  ") (beside (codes "  ") (caller form t.hart) (shown_instruction form instruction)) t.effect) t.tag)
 
 -- a landing in memory names the row of its store: `x = 1 [1]`
 abbrev pub of_row : Form → Option ℕ → List ℕ
@@ -85,20 +85,20 @@ of_row form None = []
 of_row form (Some row) = if form.stores then codes " [" ++ decimal (row + 1) ++ codes "]" else []
 
 -- the instruction of row i, if there is one
-abbrev pub instruction_at : SceneOf → ℕ → List ℕ
-instruction_at scene i = unwrap_or (slice_get scene.instructions i) []
+abbrev pub row_instruction : SceneOf → ℕ → List ℕ
+row_instruction scene i = unwrap_or (slice_get scene.instructions i) []
 
-abbrev pub said_in : Form → SceneOf → ℕ → Option RowOf → List ℕ
-said_in form scene i None = []
-said_in form scene i (Some r) = if is_left_out scene.selection r.entry then []
-    else said form (instruction_at scene i) (row_text scene.names scene.entries r)
+abbrev pub said_by_drawn : Form → SceneOf → ℕ → Option RowOf → List ℕ
+said_by_drawn form scene i None = []
+said_by_drawn form scene i (Some r) = if has_no_row scene.selection r.entry then []
+    else said form (row_instruction scene i) (text_of_row scene.names scene.entries r)
 
-abbrev pub said_at : Form → SceneOf → ℕ → List ℕ
-said_at form scene i = said_in form scene i (slice_get scene.rows i)
+abbrev pub said_by_row : Form → SceneOf → ℕ → List ℕ
+said_by_row form scene i = said_by_drawn form scene i (slice_get scene.rows i)
 
 abbrev pub kept_in : Form → SceneOf → Option RowOf → List ℕ
 kept_in form scene None = []
-kept_in form scene (Some r) = shortened ((row_text scene.names scene.entries r).memory ++ of_row form r.landed)
+kept_in form scene (Some r) = cut_text ((text_of_row scene.names scene.entries r).memory ++ of_row form r.landed)
 
 abbrev pub kept_at : Form → SceneOf → ℕ → List ℕ
 kept_at form scene i = kept_in form scene (slice_get scene.rows i)
@@ -119,7 +119,7 @@ least_said form scene = min 255 (caller_cells form scene.harts + least_own form 
 -- the most cells that one of the first n rows takes, and no less than a column has
 abbrev pub widest_said : Form → SceneOf → ℕ → ℕ
 widest_said form scene zero = least_said form scene
-widest_said form scene (suc n) = max (widest_said form scene n) (length (said_at form scene n))
+widest_said form scene (suc n) = max (widest_said form scene n) (length (said_by_row form scene n))
 
 abbrev pub widest_kept : Form → SceneOf → ℕ → ℕ
 widest_kept form scene zero = max 6 scene.least.kept

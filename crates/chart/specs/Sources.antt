@@ -42,21 +42,21 @@ newest_from a found (w ∷ ws) = newest_from a (if covers w.write a then Some w 
 abbrev pub newest : ℕ → List RowWrite → Option RowWrite
 newest a ws = newest_from a None ws
 
-abbrev pub named : (own memory : Option RowWrite) → Source
-named (Some w) memory = Own w.row
-named None (Some w) = Memory w.row
-named None None = Opening
+abbrev pub source_named : (own memory : Option RowWrite) → Source
+source_named (Some w) memory = Own w.row
+source_named None (Some w) = Memory w.row
+source_named None None = Opening
 
 -- where the byte at address a comes from that hart h reads after these entries
 abbrev pub source_of : List Entry → (h a : ℕ) → Source
-source_of es h a = named (newest a (pending_by_row h es)) (newest a (landed_by_row es))
+source_of es h a = source_named (newest a (pending_by_row h es)) (newest a (landed_by_row es))
 
-abbrev pub row_of : Option RowWrite → Option ℕ
-row_of found = option_map (λ w. w.row) found
+abbrev pub row_number : Option RowWrite → Option ℕ
+row_number found = option_map (λ w. w.row) found
 
 -- for a landing after these entries, the row of the store that lands: its hart's oldest pending one
 abbrev pub landed_store : List Entry → Entry → Option ℕ
-landed_store before e = if is_land e then row_of (slice_get (pending_by_row (hart_of e) before) 0) else None
+landed_store before e = if is_land e then row_number (slice_get (pending_by_row (hart_of e) before) 0) else None
 
 -- ---- what a row named as a source gives
 
@@ -73,15 +73,15 @@ abbrev pub stored_at : ℕ → List Entry → ℕ → List Write
 stored_at h es row = stored_in h (slice_get es row)
 
 -- what was written to memory in this row
-abbrev pub written_at : List Entry → ℕ → List Write
-written_at es row = written_in (take row es) (slice_get es row)
+abbrev pub written_in_row : List Entry → ℕ → List Write
+written_in_row es row = written_in (take row es) (slice_get es row)
 
-abbrev pub byte_in : ℕ → List Write → ℕ
-byte_in a [] = 0
-byte_in a (w ∷ ws) = byte_at (a - w.addr) w.value
+abbrev pub byte_of_first : ℕ → List Write → ℕ
+byte_of_first a [] = 0
+byte_of_first a (w ∷ ws) = byte_at (a - w.addr) w.value
 
 -- the byte at address a that a source gives hart h
 abbrev pub byte_from : OpeningValue → List Entry → (h a : ℕ) → Source → ℕ
-byte_from o es h a (Own row) = byte_in a (stored_at h es row)
-byte_from o es h a (Memory row) = byte_in a (written_at es row)
+byte_from o es h a (Own row) = byte_of_first a (stored_at h es row)
+byte_from o es h a (Memory row) = byte_of_first a (written_in_row es row)
 byte_from o es h a Opening = opening_byte o a

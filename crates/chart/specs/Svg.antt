@@ -13,7 +13,7 @@ use Rattle.chart.specs.declared.pictures.Weight.TheVariants.{Quiet, Loud, Bold}
 use Rattle.chart.specs.declared.scenes.Selection.{Selection}
 use Rattle.chart.specs.declared.svg.Layer.{Layer}
 use Rattle.chart.specs.declared.svg.Layer.TheVariants.{Below, Above}
-use Rattle.chart.specs.Pictures.{MarkOf, LineOf, PictureOf, shown}
+use Rattle.chart.specs.Pictures.{MarkOf, LineOf, PictureOf, shown_byte}
 use Rattle.chart.specs.Layout.{AboutOf, layout}
 
 -- where a cell begins, the middle of a line, and where its texts stand
@@ -39,7 +39,7 @@ escaped byte =
     if byte == 38 then codes "&amp;"
     else if byte == 60 then codes "&lt;"
     else if byte == 62 then codes "&gt;"
-    else shown byte ∷ []
+    else shown_byte byte ∷ []
 
 unfoldable pub text_open : List ℕ
 text_open = codes "<text xml:space='preserve' lengthAdjust='spacingAndGlyphs' textLength='"

@@ -47,9 +47,9 @@ with_part line name (row ∷ rows) = with_rows (spaced line name) (row ∷ rows)
 abbrev pub with_opening : List ℕ → Bool → List ℕ
 with_opening line opening = if opening then spaced line (codes "init") else line
 
-abbrev pub inside : NamedOf → List ℕ
-inside named = with_opening (with_part (with_part [] (codes "own") named.own) (codes "mem") named.memory) named.opening
+abbrev pub tag_words : NamedOf → List ℕ
+tag_words named = with_opening (with_part (with_part [] (codes "own") named.own) (codes "mem") named.memory) named.opening
 
 abbrev pub tag_text : List Source → List ℕ
 tag_text [] = []
-tag_text (s ∷ ss) = codes "[" ++ inside (named_by (s ∷ ss)) ++ codes "]"
+tag_text (s ∷ ss) = codes "[" ++ tag_words (named_by (s ∷ ss)) ++ codes "]"

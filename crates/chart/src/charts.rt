@@ -6,8 +6,8 @@ ghost use Rattle.std.specs.String.{string_bytes};
 ghost use Rattle.chart.specs.Sources.{pending_by_row as pending_of_rows};
 ghost use Rattle.chart.specs.Svg.{chart_svg as svg_of_chart};
 ghost use Rattle.chart.specs.Layout.{pending_line as line_of_pending, pending_text, pending_of_hart, pending_of_run};
-ghost use Rattle.chart.specs.Layout.{value_text, value_line as line_of_value, verdict_text};
-ghost use Rattle.chart.specs.Layout.{verdict_line as line_of_verdict, head_of, foot_of, layout as layout_of_run};
+ghost use Rattle.chart.specs.Layout.{last_value_text, value_line as line_of_value, verdict_text};
+ghost use Rattle.chart.specs.Layout.{verdict_foot as line_of_verdict, head_of, foot_of, layout as layout_of_run};
 ghost use Rattle.chart.specs.Layout.{chart_text as text_of_chart};
 
 use crate::layout::picture_of;
@@ -151,7 +151,7 @@ fn pending_lines(alloc: Global, about: &About, entries: &[Entry]) -> Result<Vec<
 }
 
 fn value_text(alloc: Global, left: &str, value: u32) -> Result<String, AllocError>
-    ensures { IfOk result (λ line. string_bytes line ≡ value_text left.now value) }
+    ensures { IfOk result (λ line. string_bytes line ≡ last_value_text left.now value) }
 {
     let mut line = String::new(alloc);
     write!(line, "last value: {left} = {value}")?;

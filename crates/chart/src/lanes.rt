@@ -1,7 +1,7 @@
 //! Lanes: the vertical lines of pending stores.
 
 ghost use Rattle.std.specs.Prelude.{◌≡◌, ◌+◌, ◌<◌, ◌^◌, ◌++◌, length, option_to_list, IfOk, OnOk};
-ghost use Rattle.chart.specs.Lanes.{column_of, is_held, first_free, in_lane, taken, held_by, held_by_landed, others};
+ghost use Rattle.chart.specs.Lanes.{hart_column, is_held, first_free, in_lane, lane_for, held_by, held_by_landed, others};
 ghost use Rattle.chart.specs.Lanes.{without_landed, laned_row, held_after, own_line, passing_lines, held_after_entry};
 ghost use Rattle.chart.specs.Lanes.{lanes_of as lanes_of_rows, held_at_end as held_after_rows};
 
@@ -43,7 +43,7 @@ impl Model for Laned {
 impl Shape {
     /// The number of a hart's column; one for all harts has number 0.
     pub fn column_of(self, hart: u32) -> u32
-        ensures { result ≡ column_of self hart }
+        ensures { result ≡ hart_column self hart }
     {
         if self.listed { 0 } else { hart }
     }
@@ -71,7 +71,7 @@ fn first_free(held: &[Held], column: u32, lanes: usize) -> Option<usize>
 
 /// What a hart's store of this row holds from now on.
 fn taken(shape: Shape, row: usize, hart: u32, held: &[Held]) -> Option<Held>
-    ensures { result ≡ taken shape row hart held.now }
+    ensures { result ≡ lane_for shape row hart held.now }
 {
     let column = shape.column_of(hart);
     match first_free(held, column, shape.lanes) {

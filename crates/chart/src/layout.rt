@@ -6,10 +6,10 @@ ghost use Rattle.std.specs.String.{string_bytes};
 ghost use Rattle.chart.specs.declared.scenes.TheConstants.{LONGEST_TEXT};
 ghost use Rattle.chart.specs.declared.pictures.Weight.TheVariants.{Bold};
 ghost use Rattle.chart.specs.Lines.{text_at, number_mark as mark_of_number, row_line as line_of_row, empty_line};
-ghost use Rattle.chart.specs.Lines.{line_with, laned_line, line_at, is_without_line, drawn_at};
+ghost use Rattle.chart.specs.Lines.{scene_line, laned_line, picture_line, is_without_line, drawn_at};
 ghost use Rattle.chart.specs.Lines.{row_lines as lines_of_rows, open_stroke, open_lines, head_mark};
 ghost use Rattle.chart.specs.Lines.{head_marks as marks_of_heads, hart_marks, heads_line as line_of_heads};
-ghost use Rattle.chart.specs.Layout.{width_of as width_in, limit as limit_of, form_of as form_for};
+ghost use Rattle.chart.specs.Layout.{width_of as width_in, limit as limit_of, fitting_form as form_for};
 ghost use Rattle.chart.specs.Layout.{bare_hints, has_bare as scene_has_bare, hints_of, picture_in as picture_in_form, picture_of as picture_of_scene};
 
 use crate::lanes::{Held, Laned, held_at_end, lanes_of};
@@ -71,7 +71,7 @@ fn line_with(
     row: &Row,
     laned: &Laned,
 ) -> Result<Line, AllocError>
-    ensures { IfOk result (λ line. line ≡ line_with form scene.now places.now i row.now laned.now) }
+    ensures { IfOk result (λ line. line ≡ scene_line form scene.now places.now i row.now laned.now) }
 {
     let column = form.shape().column_of(row.entry.hart());
     let said = said_at(alloc, form, scene, i)?;
@@ -113,7 +113,7 @@ fn line_at(
     lanes: &[Laned],
     i: usize,
 ) -> Result<Line, AllocError>
-    ensures { IfOk result (λ line. line ≡ line_at form scene.now places.now lanes.now i) }
+    ensures { IfOk result (λ line. line ≡ picture_line form scene.now places.now lanes.now i) }
 {
     match scene.rows.get(i) {
         Some(row) => laned_line(alloc, form, scene, places, i, row, lanes),

@@ -4,7 +4,7 @@ ghost use Rattle.std.specs.Prelude.{◌≡◌, ◌++◌, ◌/◌, ◌*◌, map, 
 ghost use Rattle.std.specs.List.{slice_get};
 ghost use Rattle.std.specs.Option.{option_copied};
 ghost use Rattle.std.specs.String.{string_bytes};
-ghost use Rattle.chart.specs.Names.{named_word, word_text, part_text};
+ghost use Rattle.chart.specs.Names.{named_word, word_name, part_name};
 
 use std::alloc::AllocError;
 
@@ -32,7 +32,7 @@ fn push_named(out: &mut String, name: Option<&str>, address: u32) -> Result<(), 
 /// Appends the name of the word in which an address is: its location's, if that isn't too long, else
 /// `@` and the word's address.
 pub fn push_word(out: &mut String, names: &[String], addr: u32) -> Result<(), AllocError>
-    ensures { OnOk result (string_bytes out.new ≡ string_bytes out.old ++ word_text (map string_bytes names.now) addr) }
+    ensures { OnOk result (string_bytes out.new ≡ string_bytes out.old ++ word_name (map string_bytes names.now) addr) }
 {
     push_named(out, name_at(names, (addr / 4) as usize), addr / 4 * 4)
 }
@@ -45,7 +45,7 @@ pub fn push_part(
     addr: u32,
     width: u32,
 ) -> Result<(), AllocError>
-    ensures { OnOk result (string_bytes out.new ≡ string_bytes out.old ++ part_text (map string_bytes names.now) addr width) }
+    ensures { OnOk result (string_bytes out.new ≡ string_bytes out.old ++ part_name (map string_bytes names.now) addr width) }
 {
     push_word(out, names, addr)?;
     if width == 4 {

@@ -1,7 +1,7 @@
 //! Where the columns, lanes and texts of a picture stand.
 
 ghost use Rattle.std.specs.Prelude.{◌≡◌, ◌<◌, ◌≤◌, ◌^◌, ◌*◌, min};
-ghost use Rattle.chart.specs.Places.{rank, columns, pitch, begins, lane_cell, memory_cell};
+ghost use Rattle.chart.specs.Places.{rank, columns, pitch, first_cell, lane_cell, memory_cell};
 
 use crate::lanes::Held;
 
@@ -53,7 +53,7 @@ impl Places {
 
     /// A column's first cell.
     pub(crate) fn begins(&self, column: u32) -> u32
-        ensures value { result ≡ begins self.now column }
+        ensures value { result ≡ first_cell self.now column }
         ensures most { result < 2 ^ 25 }
     {
         7 + columns_on(self.rank(column), self.pitch())

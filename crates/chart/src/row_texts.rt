@@ -4,7 +4,7 @@ ghost use Rattle.std.specs.Prelude.{◌≡◌, map, IfOk};
 ghost use Rattle.std.specs.String.{string_bytes};
 ghost use Rattle.step_machine.specs.Entries.{hart_of};
 ghost use Rattle.chart.specs.Sayings.{effect_text, memory_text};
-ghost use Rattle.chart.specs.RowTexts.{row_text as text_of_row, row_texts as texts_of_rows};
+ghost use Rattle.chart.specs.RowTexts.{text_of_row, row_texts as texts_of_rows};
 
 use crate::rows::Row;
 use crate::saying::{push_effect, push_memory};

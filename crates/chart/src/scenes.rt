@@ -3,8 +3,8 @@
 ghost use Rattle.std.specs.Prelude.{◌≡◌, ◌≤◌, ◌<◌, ◌+◌, ◌^◌, ◌++◌, length, codes, map, IfOk, OnOk};
 ghost use Rattle.std.specs.String.{string_bytes};
 ghost use Rattle.chart.specs.declared.scenes.TheConstants.{LONGEST_TEXT};
-ghost use Rattle.chart.specs.Scenes.{is_bare, is_left_out, scene_of, beside, caller, shown_instruction, shortened as short_text};
-ghost use Rattle.chart.specs.Scenes.{said as said_by, of_row, instruction_at as instruction_of, said_at as said_of_row};
+ghost use Rattle.chart.specs.Scenes.{is_bare, has_no_row, scene_of, beside, caller, shown_instruction, cut_text as short_text};
+ghost use Rattle.chart.specs.Scenes.{said as said_by, of_row, row_instruction as instruction_of, said_by_row as said_of_row};
 ghost use Rattle.chart.specs.Scenes.{kept_at as kept_of_row, caller_cells as cells_of_caller, least_own};
 ghost use Rattle.chart.specs.Scenes.{least_said as least_of_rows, said_cells, kept_cells, least_lanes, lanes_in};
 ghost use Rattle.chart.specs.Scenes.{lanes_to, lanes_at as lanes_of_line, used_after, shape_of, places_of as places_in};
@@ -133,7 +133,7 @@ fn push_instruction(out: &mut String, form: Form, instruction: &str) -> Result<(
 }
 
 /// A text, or three dots where it is too long.
-#[tactic(auto, unfolding(crate::specs::Scenes::shortened))]
+#[tactic(auto, unfolding(crate::specs::Scenes::cut_text))]
 fn shortened(alloc: Global, text: String) -> Result<String, AllocError>
     ensures value { IfOk result (λ out. string_bytes out ≡ short_text (string_bytes text)) }
     ensures short { IfOk result (λ out. length (string_bytes out) ≤ LONGEST_TEXT) }
@@ -184,7 +184,7 @@ fn instruction_at(scene: &Scene, i: usize) -> &str
 impl Selection {
     /// Whether an entry has no row in the picture.
     pub(crate) fn leaves_out(self, entry: Entry) -> bool
-        ensures { result ≡ is_left_out self entry }
+        ensures { result ≡ has_no_row self entry }
     {
         match self {
             Selection::EveryRow => false,

@@ -4,7 +4,7 @@ ghost use Rattle.std.specs.Prelude.{◌≡◌, ◌++◌, map, option_map, IfOk, 
 ghost use Rattle.std.specs.List.{flat_map};
 ghost use Rattle.chart.specs.Places.{lane_cell};
 ghost use Rattle.chart.specs.Lines.{sign_at as stroke_at, across as stroke_across, store_strokes, land_strokes};
-ghost use Rattle.chart.specs.Lines.{amo_strokes, own_strokes, is_own, is_read, read_strokes, passing_stroke};
+ghost use Rattle.chart.specs.Lines.{amo_strokes, own_strokes, is_store_of_row, is_read, read_strokes, passing_stroke};
 ghost use Rattle.chart.specs.Lines.{row_strokes as strokes_of_row};
 
 use crate::lanes::{Held, Laned};
@@ -111,7 +111,7 @@ fn push_own(
 }
 
 fn is_own(row: usize, source: Source) -> bool
-    ensures { result ≡ is_own row source }
+    ensures { result ≡ is_store_of_row row source }
 {
     match source {
         Source::Own { row: other } => other == row,

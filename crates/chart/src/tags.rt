@@ -4,7 +4,7 @@ ghost use Rattle.std.specs.List.{list_any};
 ghost use Rattle.std.specs.Prelude.{◌≡◌, ◌==◌, ◌∷◌, [], ◌++◌, OnOk, IfOk};
 ghost use Rattle.std.specs.String.{string_bytes};
 ghost use Rattle.chart.specs.Tags.{with_row, with_source, named_by as named_by_sources, none_named, spaced, with_rows};
-ghost use Rattle.chart.specs.Tags.{with_part, inside, tag_text as text_of_tag};
+ghost use Rattle.chart.specs.Tags.{with_part, tag_words, tag_text as text_of_tag};
 
 use crate::sources::Source;
 use std::alloc::{AllocError, Global};
@@ -108,7 +108,7 @@ fn push_part(alloc: Global, out: &mut String, name: &str, rows: &[usize]) -> Res
 }
 
 fn inside(alloc: Global, named: &Named) -> Result<String, AllocError>
-    ensures { IfOk result (λ text. string_bytes text ≡ inside named.now) }
+    ensures { IfOk result (λ text. string_bytes text ≡ tag_words named.now) }
 {
     let mut out = String::new(alloc);
     push_part(alloc, &mut out, "own", &named.own)?;

@@ -4,8 +4,8 @@ ghost use Rattle.std.specs.Prelude.{◌≡◌, ◌==◌, ◌+◌, ◌^◌, ◌<�
 ghost use Rattle.std.specs.List.{flat_map};
 ghost use Rattle.std.specs.String.{string_bytes};
 ghost use Rattle.chart.specs.Pictures.{sign_byte, strikes, struck as struck_by, byte_of_mark as byte_in_mark};
-ghost use Rattle.chart.specs.Pictures.{marked as marked_by, shown as shown_byte, cell_of as shown_cell};
-ghost use Rattle.chart.specs.Pictures.{end_of as end_of_line, cells_of, line_text, plain_line, picture_text};
+ghost use Rattle.chart.specs.Pictures.{mark_byte as marked_by, shown_byte, line_cell as shown_cell};
+ghost use Rattle.chart.specs.Pictures.{text_end as end_of_line, first_cells, line_text, plain_line, picture_text};
 
 use crate::pictures::{Line, Mark, Picture, Stroke};
 use std::alloc::{AllocError, Global};
@@ -100,7 +100,7 @@ pub(crate) fn push_byte(out: &mut String, byte: u8) -> Result<(), AllocError>
 
 #[tactic(auto, using(crate::proofs::CellLaws::cells_more))]
 fn push_cells(out: &mut String, line: &Line, end: usize) -> Result<(), AllocError>
-    ensures { OnOk result (string_bytes out.new ≡ string_bytes out.old ++ cells_of line.now end) }
+    ensures { OnOk result (string_bytes out.new ≡ string_bytes out.old ++ first_cells line.now end) }
 {
     for cell in 0..end {
         push_byte(out, cell_of(line, cell))?;

@@ -4,16 +4,16 @@ use Rattle.step_machine.specs.History.{History}
 use Rattle.litmus.specs.declared.verdict.Verdict.{Verdict}
 use Rattle.litmus.specs.LitmusTests.{LitmusTest, left_sides}
 use Rattle.litmus_reader.specs.Headings.{HeadingOf}
-use Rattle.chart.specs.Pictures.{shown}
+use Rattle.chart.specs.Pictures.{shown_byte}
 use Rattle.chart.specs.Layout.{AboutOf}
 use Rattle.view_engines.specs.LeastWidths.{least_widths}
-use Rattle.view_engines.specs.About.{instructions_of, last_value, verdict_text, about_of}
+use Rattle.view_engines.specs.About.{row_instructions, last_value, verdict_name, about_of}
 
 pub about_is : (M : ℕ) (q : LitmusTest) (heading : HeadingOf) (t : History) (verdict : Verdict) (about : AboutOf)
-    → about.name ≡ map shown heading.name → about.harts ≡ length t.opening.harts
-    → about.least ≡ least_widths q.names t.opening.harts → about.names ≡ q.names → about.instructions ≡ instructions_of M t
-    → about.values ≡ map (last_value M q.names t) (left_sides q.condition) → about.verdict ≡ verdict_text verdict
-    → about.condition ≡ map shown heading.condition → about ≡ about_of M q heading t verdict
+    → about.name ≡ map shown_byte heading.name → about.harts ≡ length t.opening.harts
+    → about.least ≡ least_widths q.names t.opening.harts → about.names ≡ q.names → about.instructions ≡ row_instructions M t
+    → about.values ≡ map (last_value M q.names t) (left_sides q.condition) → about.verdict ≡ verdict_name verdict
+    → about.condition ≡ map shown_byte heading.condition → about ≡ about_of M q heading t verdict
 about_is M q heading t verdict about name harts least names instructions values told condition =
     λ i. record {
       name = name i;

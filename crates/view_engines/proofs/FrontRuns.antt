@@ -16,7 +16,7 @@ use Rattle.step_machine.specs.Legal.{WellFormed}
 use Rattle.step_machine.specs.Runs.{Happens, Run, event_of}
 use Rattle.step_machine.proofs.OwnRuns.{kept-front, own_run}
 use Rattle.step_machine.proofs.Running.{RunFrom-more, run-one}
-use Rattle.view_engines.specs.About.{instruction_of, instruction_after, instruction_at}
+use Rattle.view_engines.specs.About.{instruction_of, instruction_after, instruction_of_row}
 
 module _ (B M : ℕ) (o : OpeningValue) (es : List Entry) (kept : WellFormed B M (history_of o es)) where
   front_kept : (k : ℕ) → WellFormed B M (history_of o (take k es))
@@ -42,14 +42,14 @@ module _ (B M : ℕ) (o : OpeningValue) (es : List Entry) (kept : WellFormed B M
 
     -- and its instruction is the next one
     pub text_more : (texts more : List (String Global)) (text : String Global) → more ≡ texts ++ text ∷ []
-        → map string_bytes texts ≡ map (instruction_at M (history_of o es)) (range_with_len 0 i)
+        → map string_bytes texts ≡ map (instruction_of_row M (history_of o es)) (range_with_len 0 i)
         → string_bytes text ≡ instruction_of M t (get_or es i d)
-        → map string_bytes more ≡ map (instruction_at M (history_of o es)) (range_with_len 0 (i + 1))
+        → map string_bytes more ≡ map (instruction_of_row M (history_of o es)) (range_with_len 0 (i + 1))
     text_more texts more text is before holds =
         let front : History = history_of o (take i es) in
-        let next : string_bytes text ≡ instruction_at M (history_of o es) i =
+        let next : string_bytes text ≡ instruction_of_row M (history_of o es) i =
         holds ∙ ap (λ (u : History). instruction_of M u (get_or es i d)) here
         ∙ sym (ap (λ (e : Option Entry). instruction_after M front e) (slice_get-get_or es i d within)) in
         ap (map string_bytes) is ∙ map-append string_bytes texts (text ∷ [])
         ∙ ap₂ (λ (xs : List (List ℕ)) (x : List ℕ). xs ++ x ∷ []) before next
-        ∙ sym (map-range_with_len_more (instruction_at M (history_of o es)) 0 i i (omega arith))
+        ∙ sym (map-range_with_len_more (instruction_of_row M (history_of o es)) 0 i i (omega arith))

@@ -14,7 +14,7 @@ use Rattle.litmus.specs.declared.verdict.Verdict.TheVariants.{Holds, Fails, Unfi
 use Rattle.litmus.specs.LitmusTests.{LitmusTest, left_sides}
 use Rattle.litmus.specs.Verdicts.{IsVerdict, final_value}
 use Rattle.litmus_reader.specs.Headings.{HeadingOf}
-use Rattle.chart.specs.Pictures.{shown}
+use Rattle.chart.specs.Pictures.{shown_byte}
 use Rattle.chart.specs.Layout.{AboutOf, LastValueOf}
 use Rattle.engine_support.specs.Places.{place_text}
 use Rattle.view_engines.specs.LeastWidths.{least_widths}
@@ -32,13 +32,13 @@ word_meant None = []
 word_meant (Some word) = meant (meaning word)
 
 -- the word at a pc of a hart's code
-abbrev pub word_at : Option HartOpeningValue → (pc : ℕ) → Option ℕ
-word_at None pc = None
-word_at (Some hart) pc = slice_get hart.code (pc / 4)
+abbrev pub word_at_pc : Option HartOpeningValue → (pc : ℕ) → Option ℕ
+word_at_pc None pc = None
+word_at_pc (Some hart) pc = slice_get hart.code (pc / 4)
 
 abbrev pub instruction_there : Option HartOpeningValue → (pc : Option ℕ) → List ℕ
 instruction_there hart None = []
-instruction_there hart (Some pc) = word_meant (word_at hart pc)
+instruction_there hart (Some pc) = word_meant (word_at_pc hart pc)
 
 -- the instruction at hart h's pc, which is nothing where the pc is past the hart's code
 abbrev pub next_instruction : (M : ℕ) → History → (h : ℕ) → List ℕ
@@ -53,12 +53,12 @@ instruction_after M t None = []
 instruction_after M t (Some e) = instruction_of M t e
 
 -- the instruction of a row's entry, which comes after those of the rows before it
-abbrev pub instruction_at : (M : ℕ) → History → (row : ℕ) → List ℕ
-instruction_at M t row = instruction_after M (up_to row t) (slice_get t.entries row)
+abbrev pub instruction_of_row : (M : ℕ) → History → (row : ℕ) → List ℕ
+instruction_of_row M t row = instruction_after M (up_to row t) (slice_get t.entries row)
 
 -- the instruction of each entry
-abbrev pub instructions_of : (M : ℕ) → History → List (List ℕ)
-instructions_of M t = map (instruction_at M t) (range_with_len 0 (length t.entries))
+abbrev pub row_instructions : (M : ℕ) → History → List (List ℕ)
+row_instructions M t = map (instruction_of_row M t) (range_with_len 0 (length t.entries))
 
 -- ---- what the condition asks for
 
@@ -66,24 +66,24 @@ instructions_of M t = map (instruction_at M t) (range_with_len 0 (length t.entri
 abbrev pub last_value : (M : ℕ) → (names : List (List ℕ)) → History → Place → LastValueOf
 last_value M names t p = record { left = place_text names p; value = final_value M t p }
 
-abbrev pub verdict_text : Verdict → List ℕ
-verdict_text Holds = codes "Holds"
-verdict_text Fails = codes "Fails"
-verdict_text Unfinished = codes "Unfinished"
+abbrev pub verdict_name : Verdict → List ℕ
+verdict_name Holds = codes "Holds"
+verdict_name Fails = codes "Fails"
+verdict_name Unfinished = codes "Unfinished"
 
 -- ---- all of it
 
 -- what is known of a test with this heading after a history, on which this is the verdict
 abbrev pub about_of : (M : ℕ) → LitmusTest → HeadingOf → History → Verdict → AboutOf
 about_of M test heading t verdict = record {
-  name = map shown heading.name;
+  name = map shown_byte heading.name;
   harts = length t.opening.harts;
   least = least_widths test.names t.opening.harts;
   names = test.names;
-  instructions = instructions_of M t;
+  instructions = row_instructions M t;
   values = map (last_value M test.names t) (left_sides test.condition);
-  verdict = verdict_text verdict;
-  condition = map shown heading.condition;
+  verdict = verdict_name verdict;
+  condition = map shown_byte heading.condition;
 }
 
 abbrev pub IsAbout : (M : ℕ) → LitmusTest → HeadingOf → History → AboutOf → Type 0

@@ -11,7 +11,7 @@ use Rattle.rv_decode.specs.declared.instruction.Instr.TheVariants.{Load, Store, 
 use Rattle.hart.specs.Effects.{load_width, store_width}
 use Rattle.step_machine.specs.History.{HartOpeningValue}
 use Rattle.chart.specs.declared.least_widths.LeastWidths.{LeastWidths}
-use Rattle.chart.specs.Names.{word_text}
+use Rattle.chart.specs.Names.{word_name}
 
 -- ---- an instruction, with a name of `name` cells and a row's number of `number` cells
 
@@ -30,32 +30,32 @@ effect_cells name number Ecall = length (codes "ended")
 effect_cells name number other = 0
 
 -- its row: the instruction, a gap and what the row says after it
-abbrev pub said_cells : (name number : ℕ) → Instr → ℕ
-said_cells name number instr = length (text_of instr) + 2 + effect_cells name number instr
+abbrev pub row_cells : (name number : ℕ) → Instr → ℕ
+row_cells name number instr = length (text_of instr) + 2 + effect_cells name number instr
 
 -- what it leaves in memory's column
-abbrev pub kept_cells : (name number : ℕ) → Instr → ℕ
-kept_cells name number (Store op rs1 rs2 offset) = name + offset_cells (store_width op) + length (codes " = 1 []") + number
-kept_cells name number (Amo op rd rs1 rs2 aq rl) = name + length (codes " = 1")
-kept_cells name number other = 0
+abbrev pub memory_column_cells : (name number : ℕ) → Instr → ℕ
+memory_column_cells name number (Store op rs1 rs2 offset) = name + offset_cells (store_width op) + length (codes " = 1 []") + number
+memory_column_cells name number (Amo op rd rs1 rs2 aq rl) = name + length (codes " = 1")
+memory_column_cells name number other = 0
 
-abbrev pub is_store : Instr → Bool
-is_store (Store op rs1 rs2 offset) = true
-is_store other = false
+abbrev pub is_store_instruction : Instr → Bool
+is_store_instruction (Store op rs1 rs2 offset) = true
+is_store_instruction other = false
 
 -- ---- a word of code, which may mean no instruction
 
 abbrev pub said_of_word : (name number word : ℕ) → ℕ
-said_of_word name number word = unwrap_or (option_map (said_cells name number) (meaning word)) 0
+said_of_word name number word = unwrap_or (option_map (row_cells name number) (meaning word)) 0
 
 abbrev pub brief_of_word : (name number word : ℕ) → ℕ
 brief_of_word name number word = unwrap_or (option_map (effect_cells name number) (meaning word)) 0
 
 abbrev pub kept_of_word : (name number word : ℕ) → ℕ
-kept_of_word name number word = unwrap_or (option_map (kept_cells name number) (meaning word)) 0
+kept_of_word name number word = unwrap_or (option_map (memory_column_cells name number) (meaning word)) 0
 
-abbrev pub stores : ℕ → Bool
-stores word = unwrap_or (option_map is_store (meaning word)) false
+abbrev pub is_store_word : ℕ → Bool
+is_store_word word = unwrap_or (option_map is_store_instruction (meaning word)) false
 
 -- ---- a test
 
@@ -66,13 +66,13 @@ most f (x ∷ xs) = max (f x) (most f xs)
 
 -- the locations' names, as rows write them
 abbrev pub written_names : List (List ℕ) → List (List ℕ)
-written_names names = map (λ place. word_text names (4 * place)) (range_with_len 0 (length names))
+written_names names = map (λ place. word_name names (4 * place)) (range_with_len 0 (length names))
 
 abbrev pub name_cells : List (List ℕ) → ℕ
 name_cells names = min (most length (written_names names)) 255
 
 abbrev pub store_count : List ℕ → ℕ
-store_count words = count_by stores words
+store_count words = count_by is_store_word words
 
 -- the cells of the number of the last row, where each instruction has a row and each store lands
 abbrev pub number_cells : List ℕ → ℕ
@@ -87,10 +87,10 @@ widths_with name number lanes words = record {
   listed_lanes = min (store_count words) 255;
 }
 
-abbrev pub words_of : List HartOpeningValue → List ℕ
-words_of harts = flat_map (λ hart. hart.code) harts
+abbrev pub all_code : List HartOpeningValue → List ℕ
+all_code harts = flat_map (λ hart. hart.code) harts
 
 -- a lane for each store of one hart, and of all
 abbrev pub least_widths : (names : List (List ℕ)) → List HartOpeningValue → LeastWidths
 least_widths names harts =
-    widths_with (name_cells names) (number_cells (words_of harts)) (min (most (λ hart. store_count hart.code) harts) 255) (words_of harts)
+    widths_with (name_cells names) (number_cells (all_code harts)) (min (most (λ hart. store_count hart.code) harts) 255) (all_code harts)

@@ -9,11 +9,11 @@ ghost use Rattle.step_machine.specs.Legal.{IsOfHarts, WellFormed};
 ghost use Rattle.litmus.specs.LitmusTests.{IsThere, left_sides};
 ghost use Rattle.litmus.specs.Verdicts.{final_value};
 ghost use Rattle.litmus_reader.specs.Headings.{heading_of};
-ghost use Rattle.chart.specs.Pictures.{shown as shown_byte};
+ghost use Rattle.chart.specs.Pictures.{shown_byte};
 ghost use Rattle.engine_support.specs.Places.{place_text};
 ghost use Rattle.view_engines.specs.LeastWidths.{least_widths as widths_of_test};
-ghost use Rattle.view_engines.specs.About.{IsAbout, instruction_of, instructions_of, last_value as value_of_left};
-ghost use Rattle.view_engines.specs.About.{meant, next_instruction, verdict_text, word_at, word_meant};
+ghost use Rattle.view_engines.specs.About.{IsAbout, instruction_of, row_instructions, last_value as value_of_left};
+ghost use Rattle.view_engines.specs.About.{meant, next_instruction, verdict_name, word_at_pc, word_meant};
 
 use crate::least_widths::least_widths;
 use assembler::write_instr;
@@ -51,7 +51,7 @@ pub fn word_text(alloc: Global, word: Option<u32>) -> Result<String, AllocError>
 
 /// The word at a pc of a hart's code.
 fn word_of(opening: &Opening, hart: u32, pc: u32) -> Option<u32>
-    ensures { result ≡ word_at (slice_get opening.now.harts hart) pc }
+    ensures { result ≡ word_at_pc (slice_get opening.now.harts hart) pc }
 {
     match opening.harts.get(hart as usize) {
         None => None,
@@ -95,7 +95,7 @@ fn instructions<const B: usize, const M: usize>(
     entries: &[Entry],
 ) -> Result<Vec<String>, AllocError>
     requires { WellFormed B M (history_of machine.old.history.opening entries.now) }
-    ensures { IfOk result (λ texts. map string_bytes texts.items ≡ instructions_of M (history_of machine.old.history.opening entries.now)) }
+    ensures { IfOk result (λ texts. map string_bytes texts.items ≡ row_instructions M (history_of machine.old.history.opening entries.now)) }
 {
     machine.restart();
     let mut texts = Vec::new(alloc);
@@ -187,7 +187,7 @@ fn last_values<const B: usize, const M: usize>(
 }
 
 fn verdict_name(alloc: Global, verdict: Verdict) -> Result<String, AllocError>
-    ensures { IfOk result (λ text. string_bytes text ≡ verdict_text verdict) }
+    ensures { IfOk result (λ text. string_bytes text ≡ verdict_name verdict) }
 {
     match verdict {
         Verdict::Holds => String::from_str(alloc, "Holds"),

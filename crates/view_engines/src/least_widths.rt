@@ -4,12 +4,12 @@ ghost use Rattle.std.specs.Prelude.{◌≡◌, ◌<◌, ◌≤◌, ◌==◌, ◌
 ghost use Rattle.std.specs.List.{count_by, range_with_len};
 ghost use Rattle.std.specs.String.{string_bytes};
 ghost use Rattle.hart.specs.Effects.{load_width, store_width};
-ghost use Rattle.chart.specs.Names.{word_text as text_of_word};
-ghost use Rattle.view_engines.specs.LeastWidths.{offset_cells, effect_cells, said_of_word, kept_cells, is_store};
-ghost use Rattle.view_engines.specs.LeastWidths.{brief_of_word, kept_of_word, stores, most};
+ghost use Rattle.chart.specs.Names.{word_name as text_of_word};
+ghost use Rattle.view_engines.specs.LeastWidths.{offset_cells, effect_cells, said_of_word, memory_column_cells, is_store_instruction};
+ghost use Rattle.view_engines.specs.LeastWidths.{brief_of_word, kept_of_word, is_store_word, most};
 ghost use Rattle.view_engines.specs.LeastWidths.{name_cells as cells_of_names, store_count};
 ghost use Rattle.view_engines.specs.LeastWidths.{number_cells as cells_of_numbers, widths_with};
-ghost use Rattle.view_engines.specs.LeastWidths.{words_of as words_of_harts, least_widths as widths_of_test};
+ghost use Rattle.view_engines.specs.LeastWidths.{all_code as words_of_harts, least_widths as widths_of_test};
 
 use crate::about::word_text;
 use chart::charts::LeastWidths;
@@ -57,7 +57,7 @@ fn effect_cells(name: u8, number: u8, instr: &Instr) -> usize
 
 /// The cells of what it leaves in memory's column.
 fn kept_cells(name: u8, number: u8, instr: &Instr) -> usize
-    ensures { result ≡ kept_cells name number instr.now }
+    ensures { result ≡ memory_column_cells name number instr.now }
 {
     let (name, number) = (usize::from(name), usize::from(number));
     match *instr {
@@ -98,7 +98,7 @@ fn kept_of_word(name: u8, number: u8, word: u32) -> usize
 }
 
 fn stores(word: u32) -> bool
-    ensures { result ≡ stores word }
+    ensures { result ≡ is_store_word word }
 {
     match decode(word) {
         None => false,

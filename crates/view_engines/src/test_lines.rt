@@ -8,8 +8,8 @@ ghost use Rattle.step_machine.specs.History.{IsShort};
 ghost use Rattle.litmus.specs.LitmusTests.{IsThere, left_sides};
 ghost use Rattle.litmus_reader.specs.Headings.{heading_of};
 ghost use Rattle.engine_support.specs.OpeningTexts.{numbered};
-ghost use Rattle.view_engines.specs.TestLines.{cell_in, column_lines, hart_lines, label_line, left_line, line_with};
-ghost use Rattle.view_engines.specs.TestLines.{location_line, test_lines as lines_of, word_line, word_lines};
+ghost use Rattle.view_engines.specs.TestLines.{cell_in, column_lines, hart_lines, label_line, left_line, text_line};
+ghost use Rattle.view_engines.specs.TestLines.{location_line, test_lines as lines_of, code_word_line, code_word_lines};
 ghost use Rattle.rv_decode.specs.declared.instruction.TheConstants.{MAX_CODE};
 
 use crate::about::push_meant;
@@ -47,7 +47,7 @@ fn push_word_line(
     line: usize,
     word: u32,
 ) -> Result<(), AllocError>
-    ensures { OnOk result (string_bytes out.new ≡ string_bytes out.old ++ word_line hart pc line word) }
+    ensures { OnOk result (string_bytes out.new ≡ string_bytes out.old ++ code_word_line hart pc line word) }
 {
     write!(out, "code {hart} {pc} {line} ")?;
     push_hex_word(out, word)?;
@@ -65,7 +65,7 @@ fn push_word_lines(
     words: &[u32],
 ) -> Result<(), AllocError>
     requires { pc + 4 * length words.now < 2 ^ 64 }
-    ensures { OnOk result (string_bytes out.new ≡ string_bytes out.old ++ word_lines hart pc line words.now) }
+    ensures { OnOk result (string_bytes out.new ≡ string_bytes out.old ++ code_word_lines hart pc line words.now) }
 {
     let mut at = pc;
     for word in words {
@@ -208,7 +208,7 @@ fn push_lefts(out: &mut String, test: &Test) -> Result<(), AllocError>
 
 /// A line of a word and of bytes of the text.
 fn push_line_with(out: &mut String, word: &str, bytes: &[u8]) -> Result<(), AllocError>
-    ensures { OnOk result (string_bytes out.new ≡ string_bytes out.old ++ line_with word.now bytes.now) }
+    ensures { OnOk result (string_bytes out.new ≡ string_bytes out.old ++ text_line word.now bytes.now) }
 {
     out.push_str(word)?;
     push_shown(out, bytes)?;
