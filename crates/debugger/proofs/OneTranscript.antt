@@ -1,5 +1,5 @@
 -- What a user's lines print is one text.
-use Rattle.std.proofs.Common.{◌≡◌, ℕ, Bool, true, false, List, [], ◌∷◌, ◌++◌, drop, Option, Some, sym, ap, subst, ◌∙◌, arith}
+use Rattle.std.proofs.Common.{◌≡◌, ℕ, Bool, true, false, List, [], ◌∷◌, ◌++◌, drop, Option, Some, Result, sym, ap, subst, ◌∙◌, arith}
 use Rattle.std.specs.Prelude.{MatchOption, MatchBool, position}
 use Rattle.std.specs.List.{slice_get}
 use Rattle.step_machine.specs.History.{History}
@@ -8,6 +8,7 @@ use Rattle.step_machine.specs.declared.events.Outcome.{Outcome}
 use Rattle.step_machine.proofs.Running.{happens-one, run-one}
 use Rattle.std.specs.Str.Lines.{lines}
 use Rattle.litmus.specs.LitmusTests.{LitmusTest}
+use Rattle.recorder.specs.Versions.{events_said}
 use Rattle.debugger.specs.declared.debug.command.Command.{Command}
 use Rattle.debugger.specs.declared.debug.command.Command.TheVariants as command
 use Rattle.debugger.specs.declared.debugger.Source.{Source}
@@ -17,8 +18,12 @@ use Rattle.debugger.specs.DebuggerStates.{DebuggerState, TakesEvent, GoesBackBy,
 use Rattle.debugger.specs.Commands.{command_of}
 use Rattle.recorder.specs.Outcomes.{outcome_line}
 use Rattle.debugger.specs.Debugging.{Breaks, DoesEvent, DoesAll, DoesCommand, DoesNext, Toggled, is_point, stop_before}
-use Rattle.debugger.specs.Transcripts.{DoesLine, IsTranscript, Transcript, quits}
-use Rattle.engine_support.specs.Engines.{Output}
+use Rattle.debugger.specs.Transcripts.{DoesLine, IsDebugAnswer, IsTranscript, Transcript, quits}
+use Rattle.engine_support.specs.declared.fault.Refusal.{Refusal}
+use Rattle.engine_support.specs.Engines.{AreOneAnswer, Output}
+use Rattle.engine_support.specs.Histories.{AnswersEvents}
+use Rattle.engine_support.proofs.InputLaws.{alike_by_schedule, one_made}
+use Rattle.engine_support.proofs.OneInput.{equal_alike}
 
 -- ---- each case of a choice
 
@@ -112,8 +117,16 @@ module _ (B M : ℕ) where
       e.5 ∙ ap (λ (text : List ℕ). text ++ e.3) here.0 ∙ ap (λ (later : List ℕ). f.0 ++ later) (one_transcript ls e.1 e.2 e.3 f.3 e.6 moved) ∙ sym f.5)
 
   -- of a test, its events and a user's lines
-  pub one_transcript_of : (input : List ℕ) (test : LitmusTest) (events : List Event) (a b : Output)
+  one_transcript_of : (input : List ℕ) (test : LitmusTest) (events : List Event) (a b : Output)
       → IsTranscript B M (Some input) test events a → IsTranscript B M (Some input) test events b → a ≡ b
   one_transcript_of input test events a b is other =
       let same = one_transcript (lines input) (debugger_at_opening test.opening events) [] a.0 b.0 is other in
       λ i. (same i, tt)
+
+  -- ---- an answer
+
+  pub one_debug : (input file schedule : List ℕ) (a b : Result Output Refusal)
+      → IsDebugAnswer B M (Some input) (Some file) (Some schedule) a → IsDebugAnswer B M (Some input) (Some file) (Some schedule) b → AreOneAnswer a b
+  one_debug input = alike_by_schedule AreOneAnswer (λ r s e. e) (AnswersEvents (IsTranscript B M (Some input)))
+      (λ q said a b is other. equal_alike a b
+      (one_made (IsTranscript B M (Some input) q (events_said said)) (one_transcript_of input q (events_said said)) a b is other))

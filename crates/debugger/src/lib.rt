@@ -9,4 +9,5 @@
 
 pub mod debug;
 pub mod debugger;
+pub mod laws;
 pub mod session;

@@ -1,7 +1,8 @@
 -- Inputs that are read one after the other: what is answered is one, and what a function leaves that reads them.
-use Rattle.std.proofs.Common.{arith, ◌≡◌, ℕ, List, Result, Ok, Err, refl, ap, subst}
+use Rattle.std.proofs.Common.{arith, ◌≡◌, ℕ, List, Result, Ok, Err, refl, sym, ap, ◌∙◌, subst}
 use Rattle.std.specs.Prelude.{Option, Some, None, IsErrAnd, IsOkAnd}
 use Rattle.std.specs.Result.{IsErr}
+use Rattle.texts.specs.Results.{map_err}
 use Rattle.engine_support.specs.declared.fault.Fault.{Fault}
 use Rattle.engine_support.specs.declared.fault.Refusal.{Refusal}
 use Rattle.engine_support.specs.Engines.{Accepted, decoded}
@@ -13,6 +14,7 @@ use Rattle.engine_support.specs.Histories.{BySchedule}
 use Rattle.engine_support.proofs.Endings.{answered_by, handed_on, is_handed}
 use Rattle.engine_support.specs.Schedules.{schedule_of, schedules}
 use Rattle.engine_support.specs.Tests.{litmus_texts, tests, tests_with}
+use Rattle.engine_support.proofs.Judging.{decoded-text}
 use Rattle.engine_support.proofs.OneInput.{one_number, one_refusal, said-or_refusal, test_or_refusal, value_or_refusal}
 use Rattle.litmus.specs.LitmusTests.{LitmusTest}
 use Rattle.recorder.specs.Versions.{ScheduleValue}
@@ -36,6 +38,21 @@ is_one Says value_at one only = record {
   one_value = one;
   one_reason = λ input r s. one_refusal (decoded value_at input) r s;
   never_both = λ input v r. value_or_refusal value_at Says input v r (only input v);
+}
+
+-- and one that is refused for the fault of a reader which has no value of a text where that says none
+refused_without : {W E : Type 0} (refusal_of : E → Refusal) (answer : Result W E) (r : Refusal) → map_err refusal_of answer ≡ Err r → IsErr answer
+refused_without refusal_of answer r e = grind arith
+
+pub is_one_without : {V W E : Type 0} (Says : List ℕ → V → Type 0) (refusal_of : E → Refusal) (value_at : List ℕ → Result W E)
+    → ((input : List ℕ) (v w : V) → Says input v → Says input w → v ≡ w)
+    → ((input : List ℕ) → IsErr (value_at input) → (v : V) → Says input v → ⊥) → IsOne (format Says (λ text. map_err refusal_of (value_at text))) (λ r s. r ≡ s)
+is_one_without Says refusal_of value_at one none = record {
+  one_value = one;
+  one_reason = λ input r s. one_refusal (decoded (λ text. map_err refusal_of (value_at text)) input) r s;
+  never_both = λ input v r is fault.
+      let unread = sym (decoded-text (λ text. map_err refusal_of (value_at text)) input is.few is.text) ∙ fault in
+      none input (refused_without refusal_of (value_at input) r unread) v is.value_is;
 }
 
 -- schedules are, and litmus texts, whose refusals are the same if their numbers are

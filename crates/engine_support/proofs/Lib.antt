@@ -5,7 +5,6 @@ pub mod Endings
 pub mod Written
 pub mod LineFaulted
 pub mod TestTexts
-pub mod ThreadRuns
 pub mod RunLaws
 pub mod ScheduleLaws
 pub mod OneInput

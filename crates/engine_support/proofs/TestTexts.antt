@@ -12,10 +12,10 @@ use Rattle.engine_support.specs.declared.fault.Fault.{Fault}
 use Rattle.engine_support.specs.declared.fault.Fault.TheVariants.{ReadFailed, WriteFailed, NoMemory, Refused}
 use Rattle.engine_support.specs.declared.fault.Refusal.{Refusal}
 use Rattle.engine_support.specs.Faults.{Answers, AnswersAs, fault_for, refused_at}
-use Rattle.engine_support.specs.Engines.{decoded, OfInput}
+use Rattle.engine_support.specs.Engines.{decoded}
 use Rattle.engine_support.specs.Inputs.{IsReadAs, Reads}
 use Rattle.engine_support.specs.Tests.{litmus_texts, refused_test, test_of}
-use Rattle.engine_support.specs.inner.Inputs.{IsReadAsText}
+use Rattle.engine_support.specs.inner.Inputs.{ReadsText}
 use Rattle.engine_support.specs.inner.Making.{FindsUpToReads}
 use Rattle.engine_support.proofs.Judging.{decoded-text, decoded-well}
 use Rattle.engine_support.proofs.TextInputs.{answered_text}
@@ -40,7 +40,7 @@ test_or_none input line other test refusal e f = grind (arith, decoded-well, wel
 
 -- what is read of a text with a test answers the input that the text was read of
 pub litmus_read : {V X : Type 0} (Says : List ℕ → V → Type 0) (view : X → V) (seen : X → Content) (known : Option (List ℕ)) (text : List ℕ)
-    (result : Result X Fault) → OfInput known (λ bytes. IsReadAsText bytes (Ok text)) → IfOk result (λ x. Says text (view x))
+    (result : Result X Fault) → ReadsText known (Ok text) → IfOk result (λ x. Says text (view x))
     → (line : ℕ) × Answers seen result (test_of line text) → FindsUpToReads (Reads (litmus_texts Says) known) view result
 litmus_read Says view seen known text result read found exact =
     answered_text (IsReadAs (litmus_texts Says)) view known text result read (λ few is_text. at few is_text result found exact)

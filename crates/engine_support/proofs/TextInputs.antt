@@ -9,8 +9,8 @@ use Rattle.engine_support.specs.Engines.{OfInput, decoded}
 use Rattle.engine_support.specs.Faults.{Answers, AnswersAs, not_text, too_large}
 use Rattle.engine_support.specs.Inputs.{After, Format, IsReadAs, Reads, format}
 use Rattle.engine_support.specs.Inputs as after
-use Rattle.engine_support.specs.inner.Inputs.{IsReadAsText}
-use Rattle.engine_support.specs.inner.Making.{FindsByUpToReads, FindsUpToReads}
+use Rattle.engine_support.specs.inner.Inputs.{IsReadAsText, ReadsText}
+use Rattle.engine_support.specs.inner.Making.{FindsUpToReads}
 use Rattle.engine_support.proofs.Endings.{answered_by, handed_on, is_handed, weaker}
 use Rattle.engine_support.proofs.Judging.{decoded-as_text, decoded-no_text, decoded-text}
 
@@ -20,19 +20,19 @@ some_bytes known P is = grind arith
 
 -- what was read of an input is its text, or it is none
 module _ (known : Option (List ℕ)) (input : List ℕ) (read : OfInput known (λ bytes. input ≡ bytes)) (few : length input ≤ 1048576) where
-  pub text_read : (text : List ℕ) → text ≡ input → IsUtf8 text → OfInput known (λ bytes. IsReadAsText bytes (Ok text))
+  pub text_read : (text : List ℕ) → text ≡ input → IsUtf8 text → ReadsText known (Ok text)
   text_read text is is_text =
       weaker known _ _ (λ bytes e. rw (← e, ← is) (decoded-text (λ b. Ok b) text (rw is few) is_text)) read
 
-  pub no_text_read : (IsUtf8 input → ⊥) → OfInput known (λ bytes. IsReadAsText bytes (Err not_text))
+  pub no_text_read : (IsUtf8 input → ⊥) → ReadsText known (Err not_text)
   no_text_read none = weaker known _ _ (λ bytes e. rw (← e) (decoded-no_text (λ b. Ok b) input few none)) read
 
 -- what answers the text that was read answers the input
 pub answered_text : {X Y : Type 0} (IsAnswer : List ℕ → Result Y Refusal → Type 0) (view : X → Y)
     (known : Option (List ℕ)) (text : List ℕ) (result : Result X Fault)
-    → OfInput known (λ bytes. IsReadAsText bytes (Ok text))
+    → ReadsText known (Ok text)
     → (length text ≤ 1048576 → IsUtf8 text → AnswersAs (IsAnswer text) view result)
-    → FindsByUpToReads IsAnswer view known result
+    → FindsUpToReads (λ answer. OfInput known (λ bytes. IsAnswer bytes answer)) view result
 answered_text IsAnswer view known text result read answers =
     let (bytes, is) = some_bytes known _ read in
     let text_is = decoded-as_text bytes text is in
@@ -42,7 +42,7 @@ answered_text IsAnswer view known text result read answers =
 
 -- so does its value, or why it has none
 pub format_read : {V W X : Type 0} (Says : List ℕ → V → Type 0) (value_at : List ℕ → Result W Refusal) (view : X → V) (seen : X → W)
-    (known : Option (List ℕ)) (text : List ℕ) (result : Result X Fault) → OfInput known (λ bytes. IsReadAsText bytes (Ok text))
+    (known : Option (List ℕ)) (text : List ℕ) (result : Result X Fault) → ReadsText known (Ok text)
     → IfOk result (λ x. Says text (view x)) → Answers seen result (value_at text) → FindsUpToReads (Reads (format Says value_at) known) view result
 format_read Says value_at view seen known text result read found exact =
     answered_text (IsReadAs (format Says value_at)) view known text result read (λ few is_text. at few is_text result found exact)
@@ -57,7 +57,7 @@ format_read Says value_at view seen known text result read found exact =
 
 -- as where it is judged, and what is judged to have a value has it
 pub judged_read : {V X : Type 0} (Says : List ℕ → V → Type 0) (value_at : List ℕ → Result V Refusal) (view : X → V) (known : Option (List ℕ))
-    (text : List ℕ) (result : Result X Fault) → OfInput known (λ bytes. IsReadAsText bytes (Ok text))
+    (text : List ℕ) (result : Result X Fault) → ReadsText known (Ok text)
     → ((v : V) → value_at text ≡ Ok v → Says text v) → Answers view result (value_at text) → FindsUpToReads (Reads (format Says value_at) known) view result
 judged_read Says value_at view known text result is found answers =
     format_read Says value_at view view known text result is (at result answers) answers
@@ -80,9 +80,9 @@ no_text_judged value_at bytes refusal e = refused_first (nat_lt 1048576 (length 
 
 pub no_text_read_as : {V X Y : Type 0} (form : Format V) (view : X → V) (seen : Y → List ℕ) (known : Option (List ℕ)) (result : Result X Fault) (fault : Fault)
     → ((bytes : List ℕ) (refusal : Refusal) → IsReadAsText bytes (Err refusal) → form.Refuses bytes refusal) → IsErrAnd result (λ e. e ≡ fault)
-    → FindsByUpToReads IsReadAsText seen known (Err fault) → FindsUpToReads (Reads form known) view result
+    → FindsUpToReads (ReadsText known) seen (Err fault) → FindsUpToReads (Reads form known) view result
 no_text_read_as form view seen known result fault refuses is =
-    handed_on (λ a. OfInput known (λ bytes. IsReadAsText bytes a)) (Reads form known) seen view result fault
+    handed_on (ReadsText known) (Reads form known) seen view result fault
     (λ refusal. weaker known _ _ (λ bytes. refuses bytes refusal)) (is_handed result fault is)
 
 -- what answers the text that was read answers the reader's input
@@ -93,7 +93,7 @@ of_known form Next None answer (bytes, after.After.read v _ is holds) = after.Af
 of_known form Next (Some bytes) answer is = is
 
 pub text_after : {V A X : Type 0} (form : Format V) (Next : V → Result A Refusal → Type 0) (view : X → A) (known : Option (List ℕ)) (text : List ℕ)
-    (result : Result X Fault) → OfInput known (λ bytes. IsReadAsText bytes (Ok text))
+    (result : Result X Fault) → ReadsText known (Ok text)
     → (length text ≤ 1048576 → IsUtf8 text → AnswersAs (After form (Some text) Next) view result) → FindsUpToReads (After form known Next) view result
 text_after form Next view known text result is answers =
     let (bytes, same) = some_bytes known _ is in

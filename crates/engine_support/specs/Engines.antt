@@ -38,11 +38,6 @@ Ends IsAnswer (Err ReadFailed) contents old new = new ≡ old
 Ends IsAnswer (Err NoMemory) contents old new = new ≡ old
 Ends {V = V} IsAnswer (Err WriteFailed) contents old new = (answer : List ℕ × V) × IsAnswer (Ok answer)
 
--- how an engine with one input ends
-abbrev pub EndsBy : {V W : Type 0} → (List ℕ → Result (List ℕ × V) Refusal → Type 0) → Result V Fault
-    → (input : Option (List ℕ)) → (contents : W → Option (List ℕ)) → (old new : W) → Type 0
-EndsBy IsAnswer result input contents old new = Ends (λ answer. OfInput input (λ bytes. IsAnswer bytes answer)) result contents old new
-
 -- Two answers are both outputs, or one refusal.
 abbrev pub AreAlike : {A : Type 0} → Result A Refusal → Result A Refusal → Type 0
 AreAlike (Ok a) (Ok b) = Unit {0}

@@ -1,5 +1,5 @@
 -- Inputs that are litmus texts.
-use Rattle.std.specs.Prelude.{ℕ, ◌≡◌, List, Some, Result, Err}
+use Rattle.std.specs.Prelude.{ℕ, ◌≡◌, List, Result, Err}
 use Rattle.texts.specs.Results.{map_err}
 use Rattle.litmus.specs.LitmusTests.{LitmusTest}
 use Rattle.litmus_reader.specs.declared.faults.LitmusFault.{LitmusFault}
@@ -9,7 +9,7 @@ use Rattle.litmus_reader.specs.Grammar.{IsTestOf}
 use Rattle.engine_support.specs.declared.fault.Refusal.{Refusal}
 use Rattle.engine_support.specs.Faults.{refused_at}
 use Rattle.engine_support.specs.Engines.{decoded}
-use Rattle.engine_support.specs.Inputs.{After, Format}
+use Rattle.engine_support.specs.Inputs.{Format}
 
 -- a fault of a litmus text, refused by its number at this line
 abbrev pub refused_test : {V : Type 0} → (line : ℕ) → Result V LitmusFault → Result V Refusal
@@ -33,7 +33,3 @@ tests = litmus_texts IsTestOf
 
 abbrev pub tests_with : {X : Type 0} → (Tells : List ℕ → X → Type 0) → Format (LitmusTest × X)
 tests_with Tells = litmus_texts (λ text read. IsTestOf text read.0 × Tells text read.1)
-
--- what answers an input that is to be a test, where this holds of the test and of the answer
-abbrev pub ByTest : {A : Type 0} → (LitmusTest → Result A Refusal → Type 0) → (input : List ℕ) → Result A Refusal → Type 0
-ByTest IsAnswer input = After tests (Some input) IsAnswer

@@ -5,8 +5,8 @@ ghost use Rattle.std.specs.String.{string_bytes};
 ghost use Rattle.std.specs.Io.KnownBytes.{IsAtEnd};
 ghost use Rattle.engine_support.specs.Engines.{OfInput};
 ghost use Rattle.engine_support.specs.Input.{IsInput, TakesFew};
-ghost use Rattle.engine_support.specs.inner.Inputs.{IsReadAsText};
-ghost use Rattle.engine_support.specs.inner.Making.{FindsByUpToReads};
+ghost use Rattle.engine_support.specs.inner.Inputs.{ReadsText};
+ghost use Rattle.engine_support.specs.inner.Making.{FindsUpToReads};
 ghost use Rattle.engine_support.specs.declared.input.TheConstants.{INPUT_BYTES};
 
 use crate::fault::{Fault, NOT_TEXT, Position, TOO_LARGE};
@@ -45,7 +45,7 @@ fn read_input<R: Read>(alloc: Global, reader: &mut R) -> Result<Vec<u8>, Fault>
 
 /// All that the reader gives, where that is a text. No more than one chunk is taken past the limit.
 pub fn read_text<R: Read>(alloc: Global, reader: &mut R) -> Result<String, Fault>
-    ensures text { FindsByUpToReads IsReadAsText string_bytes (R.remaining reader.old) result }
+    ensures text { FindsUpToReads (ReadsText (R.remaining reader.old)) string_bytes result }
     ensures taken { TakesFew (R.remaining reader.old) (R.remaining reader.new) }
     ensures end { IfOk result (λ text. IsAtEnd (R.remaining reader.new)) }
 {

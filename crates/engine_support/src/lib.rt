@@ -18,3 +18,4 @@ pub mod places;
 pub mod running;
 pub mod schedule;
 pub mod state_text;
+pub mod words;

@@ -1,5 +1,5 @@
 -- The command `find`: a schedule that shows what a test asks about, where a search met one.
-use Rattle.std.specs.Prelude.{ℕ, ◌≡◌, ◌≤◌, ◌<◌, ◌⊎◌, Bool, true, false, List, [], length, map, Result, Ok, Err}
+use Rattle.std.specs.Prelude.{ℕ, ◌≡◌, ◌≤◌, ◌<◌, ◌⊎◌, Bool, true, false, List, [], length, map, IsOkAnd, Option, Result}
 use Rattle.step_machine.specs.declared.events.Event.{Event}
 use Rattle.step_machine.specs.History.{History, at_opening}
 use Rattle.step_machine.specs.Positions.{Position}
@@ -12,7 +12,8 @@ use Rattle.litmus.specs.declared.verdict.Quantifier.TheVariants.{Exists, NotExis
 use Rattle.recorder.specs.Writing.{canon}
 use Rattle.recorder.specs.declared.reading.TheConstants.{MAX_EVENTS}
 use Rattle.engine_support.specs.declared.fault.Refusal.{Refusal}
-use Rattle.engine_support.specs.Tests.{ByTest}
+use Rattle.engine_support.specs.Inputs.{After}
+use Rattle.engine_support.specs.Tests.{tests}
 use Rattle.finding.specs.declared.finds.Found.{Found}
 use Rattle.finding.specs.declared.finds.Found.TheVariants.{Shown, AllSeen, Cut}
 
@@ -57,11 +58,6 @@ IsFound B M limit test out (AllSeen states) =
     (out ≡ []) × (1 ≤ states) × (states < limit) × (EndsAsWanted M test (at_opening test.opening) → ⊥)
 IsFound B M limit test out (Cut states) = (out ≡ []) × IsCut limit states × (EndsAsWanted M test (at_opening test.opening) → ⊥)
 
--- what answers a test; none is refused
-abbrev pub IsFoundOf : (B M limit : ℕ) → LitmusTest → Result (List ℕ × Found) Refusal → Type 0
-IsFoundOf B M limit test (Ok answer) = IsFound B M limit test answer.0 answer.1
-IsFoundOf B M limit test (Err refusal) = ⊥
-
--- what answers a litmus text
-abbrev pub IsFindAnswer : (B M limit : ℕ) → (file : List ℕ) → Result (List ℕ × Found) Refusal → Type 0
-IsFindAnswer B M limit file answer = ByTest (IsFoundOf B M limit) file answer
+-- What answers a litmus text: no test is refused.
+abbrev pub IsFindAnswer : (B M limit : ℕ) → (file : Option (List ℕ)) → Result (List ℕ × Found) Refusal → Type 0
+IsFindAnswer B M limit file = After tests file (λ test given. IsOkAnd given (λ answer. IsFound B M limit test answer.0 answer.1))

@@ -4,8 +4,8 @@ ghost use Rattle.std.specs.Prelude.{◌≡◌, ◌≤◌, ◌↔◌, if◌then�
 ghost use Rattle.std.specs.String.{string_bytes};
 ghost use Rattle.step_machine.specs.Positions.{position_of};
 ghost use Rattle.step_machine.specs.Standing.{ForEachHistory};
-ghost use Rattle.engine_support.specs.Engines.{EndsBy};
-ghost use Rattle.engine_support.specs.inner.Making.{FindsByUpToReads, text_and_value};
+ghost use Rattle.engine_support.specs.Engines.{Ends};
+ghost use Rattle.engine_support.specs.inner.Making.{FindsUpToReads, text_and_value};
 ghost use Rattle.finding.specs.declared.finds.Found.TheVariants.{AllSeen, Cut};
 ghost use Rattle.finding.specs.Find.{EndsAsWanted, IsFindAnswer, IsFound, IsWantedAt, Shows};
 ghost use Rattle.litmus.specs.declared.litmus_test.TheConstants.{MAX_LOCATIONS};
@@ -154,7 +154,7 @@ fn made<const B: usize, const M: usize, R: Read, P: SearchProgress>(
     requires words { MAX_LOCATIONS ≤ M }
     requires size { M ≤ 65536 }
     requires some_states { 1 ≤ states }
-    ensures { FindsByUpToReads (IsFindAnswer B M states) text_and_value (R.remaining file.old) result }
+    ensures { FindsUpToReads (IsFindAnswer B M states (R.remaining file.old)) text_and_value result }
 {
     let test = read_test(alloc, file)?;
     let answered = answer_or_none::<B, M, P>(alloc, &test, states, progress)?;
@@ -183,7 +183,7 @@ pub fn find_engine<const B: usize, const M: usize, R: Read, P: SearchProgress, W
     requires words { MAX_LOCATIONS ≤ M }
     requires size { M ≤ 65536 }
     requires some_states { 1 ≤ states }
-    ensures { EndsBy (IsFindAnswer B M states) result (R.remaining file.old) W.contents writer.old writer.new }
+    ensures { Ends (IsFindAnswer B M states (R.remaining file.old)) result W.contents writer.old writer.new }
 {
     end_with(made::<B, M, R, P>(alloc, file, states, progress), writer)
 }

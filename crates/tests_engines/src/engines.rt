@@ -1,7 +1,13 @@
 //! The engines under one call.
 
 use crate::devices::{Reader, Writer};
+use channel_engines::channel::channel_engine;
+use channel_engines::own_channel::own_channel_engine;
+use channel_engines::ring::ring_engine;
 use checking::check_engine;
+use code_engines::asm::asm_engine;
+use code_engines::dis::dis_engine;
+use code_engines::steps::steps_engine;
 use debugger::debug::debug_engine;
 use engine_support::fault::Fault;
 use finding::{SearchProgress, find_engine};
@@ -10,23 +16,17 @@ use jumping::progress::Progress;
 use lamport_ring::Lamport;
 use poll_close::BlockPlace;
 use rand_pcg::Pcg32;
+use run_engines::moving::move_engine;
+use run_engines::replay::replay_engine;
+use run_engines::run::run_engine;
 use std::io::BufReader;
 use std::sync::Wait;
 use std::thread::Threads;
+use threading::threads::threads_engine;
 use tries::trials::{Runs, try_engine};
 use view_engines::charting::{Selection, Style, chart_engine};
 use view_engines::showing::{Form, show_engine};
 use view_engines::shrinking::shrink_engine;
-use ztso_engines::asm::asm_engine;
-use ztso_engines::channel::channel_engine;
-use ztso_engines::dis::dis_engine;
-use ztso_engines::moving::move_engine;
-use ztso_engines::own_channel::own_channel_engine;
-use ztso_engines::replay::replay_engine;
-use ztso_engines::ring::ring_engine;
-use ztso_engines::run::run_engine;
-use ztso_engines::steps::steps_engine;
-use ztso_engines::threads::threads_engine;
 
 /// An engine, with buffers of 4 pairs and 4,096 words of memory.
 #[derive(Clone, Copy)]

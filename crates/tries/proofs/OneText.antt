@@ -1,5 +1,5 @@
 -- Runs answer one text: what they show is determined by the test and the schedules.
-use Rattle.std.proofs.Common.{◌≡◌, ℕ, Bool, List, [], ◌∷◌, ◌++◌, map, All, refl, sym, ap, ◌∙◌, subst, arith}
+use Rattle.std.proofs.Common.{◌≡◌, ℕ, Bool, List, [], ◌∷◌, ◌++◌, map, All, Some, Result, refl, sym, ap, ◌∙◌, subst, arith}
 use Rattle.std.specs.List.{flat_map}
 use Rattle.std.proofs.lemmas.List.Elements.{All-tail}
 use Rattle.rand_core.specs.Stream.{Stream}
@@ -11,10 +11,15 @@ use Rattle.litmus.specs.LitmusTests.{LitmusTest, left_sides}
 use Rattle.litmus.specs.Verdicts.{IsVerdict, final_value}
 use Rattle.litmus.specs.declared.verdict.Verdict.{Verdict}
 use Rattle.litmus.proofs.VerdictLaws.{one_verdict}
+use Rattle.engine_support.specs.declared.fault.Refusal.{Refusal}
+use Rattle.engine_support.specs.Engines.{AreOneAnswer}
 use Rattle.engine_support.specs.Outcomes.{AreOutcomes, unfinished_line}
+use Rattle.engine_support.specs.Tests.{tests}
+use Rattle.engine_support.proofs.InputLaws.{alike_after, one_litmus_text, one_made}
+use Rattle.engine_support.proofs.OneInput.{equal_alike}
 use Rattle.engine_support.proofs.OutcomeTables.{one_outcomes}
 use Rattle.tries.specs.Trials.{Trial, IsTrial, are_good, gave}
-use Rattle.tries.specs.Outcomes.{outcome_line, unfinished, IsTried}
+use Rattle.tries.specs.Outcomes.{outcome_line, unfinished, IsTried, IsTryAnswer}
 
 -- ---- one run of each schedule
 
@@ -46,9 +51,9 @@ one_list B M q x y are others same = absurd cc
 
 -- ---- one text
 
-pub one_try : (B M : ℕ) (stream : Stream) (runs size : ℕ) (q : LitmusTest) (a b : List ℕ × Bool)
+one_text : (B M : ℕ) (stream : Stream) (runs size : ℕ) (q : LitmusTest) (a b : List ℕ × Bool)
     → IsTried B M stream runs size q a → IsTried B M stream runs size q b → a ≡ b
-one_try B M stream runs size q a b is other =
+one_text B M stream runs size q a b is other =
     let trials : is.trials ≡ other.trials = one_list B M q is.trials other.trials is.are.ran other.are.ran (is.are.schedules ∙ sym other.are.schedules) in
     let outcomes : is.outcomes ≡ other.outcomes = one_outcomes gave is.trials is.outcomes other.outcomes is.shown
     (subst (λ (ts : List Trial). AreOutcomes gave ts other.outcomes) (sym trials) other.shown) in
@@ -58,3 +63,9 @@ one_try B M stream runs size q a b is other =
     ∙ sym other.text in
     let goods : a.1 ≡ b.1 = is.good ∙ ap (are_good q.quantifier) trials ∙ sym other.good in
     λ i. (texts i, goods i)
+
+pub one_try : (B M : ℕ) (stream : Stream) (runs size : ℕ) (file : List ℕ) (a b : Result (List ℕ × Bool) Refusal)
+    → IsTryAnswer B M stream runs size (Some file) a → IsTryAnswer B M stream runs size (Some file) b → AreOneAnswer a b
+one_try B M stream runs size file =
+    alike_after tests (λ r s. r.number ≡ s.number) one_litmus_text AreOneAnswer (λ r s e. e) file _
+    (λ q a b is other. equal_alike a b (one_made (IsTried B M stream runs size q) (one_text B M stream runs size q) a b is other))

@@ -1,14 +1,15 @@
 -- The command `try`: the outcomes of a test's runs, each with how many runs gave it and the schedule of
 -- the first one, and how many runs did not finish.
 use Rattle.std.specs.Prelude.{ℕ, ◌≡◌, ◌==◌, if◌then◌else◌, Bool, not, List, [], ◌++◌, length, find, flat_map, count_by}
-use Rattle.std.specs.Prelude.{Option, Some, None, Result, Ok, Err, codes}
+use Rattle.std.specs.Prelude.{IsOkAnd, Option, Some, None, Result, codes}
 use Rattle.rand_core.specs.Stream.{Stream}
 use Rattle.step_machine.specs.declared.events.Event.{Event}
 use Rattle.litmus.specs.LitmusTests.{LitmusTest}
 use Rattle.recorder.specs.Writing.{tokens_of}
 use Rattle.engine_support.specs.declared.fault.Refusal.{Refusal}
 use Rattle.engine_support.specs.Outcomes.{AreOutcomes, line_of, unfinished_line}
-use Rattle.engine_support.specs.Tests.{ByTest}
+use Rattle.engine_support.specs.Inputs.{After}
+use Rattle.engine_support.specs.Tests.{tests}
 use Rattle.tries.specs.Trials.{Trial, AreTrials, is_finished, gave, are_good}
 
 -- a schedule's tokens after a space, where it has any
@@ -42,10 +43,6 @@ pub record IsTried (B M : ℕ) (stream : Stream) (runs size : ℕ) (test : Litmu
   pub text : answer.0 ≡ flat_map (outcome_line test trials) outcomes ++ unfinished_line (unfinished trials)
   pub good : answer.1 ≡ are_good test.quantifier trials
 
-abbrev pub IsTriedOf : (B M : ℕ) → Stream → (runs size : ℕ) → LitmusTest → Result (List ℕ × Bool) Refusal → Type 0
-IsTriedOf B M stream runs size test (Ok answer) = IsTried B M stream runs size test answer
-IsTriedOf B M stream runs size test (Err refusal) = ⊥
-
--- what answers a test, where the generator gives this stream
-abbrev pub IsTryAnswer : (B M : ℕ) → Stream → (runs size : ℕ) → (file : List ℕ) → Result (List ℕ × Bool) Refusal → Type 0
-IsTryAnswer B M stream runs size file answer = ByTest (IsTriedOf B M stream runs size) file answer
+-- What answers a litmus text, where the generator gives this stream.
+abbrev pub IsTryAnswer : (B M : ℕ) → Stream → (runs size : ℕ) → (file : Option (List ℕ)) → Result (List ℕ × Bool) Refusal → Type 0
+IsTryAnswer B M stream runs size file = After tests file (λ test given. IsOkAnd given (IsTried B M stream runs size test))

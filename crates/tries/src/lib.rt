@@ -6,5 +6,6 @@
 
 #![tactic(auto)]
 
+pub mod laws;
 pub mod stops;
 pub mod trials;

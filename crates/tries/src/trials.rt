@@ -1,9 +1,9 @@
 //! The command `try`: runs of a litmus test from schedules that a generator draws, and their outcomes.
 
 ghost use Rattle.std.specs.Prelude.{◌≤◌, ◌*◌, IfOk};
-ghost use Rattle.engine_support.specs.Engines.{EndsBy};
+ghost use Rattle.engine_support.specs.Engines.{Ends};
 ghost use Rattle.tries.specs.Outcomes.{IsTried, IsTryAnswer};
-ghost use Rattle.engine_support.specs.inner.Making.{FindsByUpToReads};
+ghost use Rattle.engine_support.specs.inner.Making.{FindsUpToReads};
 ghost use Rattle.tries.specs.inner.Tallies.{text_and_good};
 ghost use Rattle.recorder.specs.Drawing.{left_after};
 ghost use Rattle.litmus.specs.declared.litmus_test.TheConstants.{MAX_LOCATIONS};
@@ -79,9 +79,8 @@ fn made<
     requires capacity { B ≤ 64 }
     requires words { MAX_LOCATIONS ≤ M }
     requires size { M ≤ 65536 }
-    ensures { FindsByUpToReads
-        (IsTryAnswer B M (left_after (runs.skip * runs.length) (G.Rng.stream generator.now)) runs.number runs.length)
-        text_and_good (R.remaining file.old) result }
+    ensures { FindsUpToReads (IsTryAnswer B M (left_after (runs.skip * runs.length) (G.Rng.stream generator.now)) runs.number runs.length
+        (R.remaining file.old)) text_and_good result }
 {
     let test = read_test(alloc, file)?;
     let tally = drawn::<B, M, G, T, P>(rt, alloc, &test, generator, runs, progress)?;
@@ -120,9 +119,8 @@ pub fn try_engine<
     requires capacity { B ≤ 64 }
     requires words { MAX_LOCATIONS ≤ M }
     requires size { M ≤ 65536 }
-    ensures { EndsBy
-        (IsTryAnswer B M (left_after (runs.skip * runs.length) (G.Rng.stream generator.now)) runs.number runs.length)
-        result (R.remaining file.old) W.contents writer.old writer.new }
+    ensures { Ends (IsTryAnswer B M (left_after (runs.skip * runs.length) (G.Rng.stream generator.now)) runs.number runs.length
+        (R.remaining file.old)) result W.contents writer.old writer.new }
 {
     end_with_tally(
         made::<B, M, R, G, T, P>(rt, alloc, file, generator, runs, progress),

@@ -9,14 +9,14 @@ use Rattle.recorder.specs.Drawing.{left_after}
 use Rattle.engine_support.specs.declared.fault.Fault.{Fault}
 use Rattle.engine_support.specs.declared.fault.Fault.TheVariants.{Refused}
 use Rattle.engine_support.specs.declared.fault.Refusal.{Refusal}
-use Rattle.engine_support.specs.Engines.{Ends, OfInput}
+use Rattle.engine_support.specs.Engines.{Ends}
 use Rattle.engine_support.specs.Inputs.{IsRefused}
-use Rattle.ztso_engines.specs.Asm.{IsAsmAnswer}
-use Rattle.ztso_engines.specs.Dis.{IsDisAnswer}
-use Rattle.ztso_engines.specs.Steps.{IsStepsAnswer}
+use Rattle.code_engines.specs.Asm.{IsAsmAnswer}
+use Rattle.code_engines.specs.Dis.{IsDisAnswer}
+use Rattle.code_engines.specs.Steps.{IsStepsAnswer}
 use Rattle.engine_support.specs.Tests.{tests}
-use Rattle.ztso_engines.specs.Run.{IsRunAnswer}
-use Rattle.ztso_engines.specs.Move.{IsMoveAnswer}
+use Rattle.run_engines.specs.Run.{IsRunAnswer}
+use Rattle.run_engines.specs.Move.{IsMoveAnswer}
 use Rattle.checking.specs.Checking.{IsCheckAnswer, IsCheckFront}
 use Rattle.finding.specs.Find.{IsFindAnswer}
 use Rattle.view_engines.specs.Chart.{IsChartAnswer, drawing}
@@ -24,19 +24,19 @@ use Rattle.view_engines.specs.Show.{IsShowAnswer}
 use Rattle.view_engines.specs.Shrink.{IsShrinkAnswer}
 use Rattle.view_engines.specs.declared.showing.Form.{Form}
 use Rattle.view_engines.specs.declared.showing.Form.TheVariants as form
-use Rattle.ztso_engines.specs.Replay.{IsReplayAnswer}
+use Rattle.run_engines.specs.Replay.{IsReplayAnswer}
 use Rattle.debugger.specs.Transcripts.{EndsInteractive, IsDebugAnswer, IsDebugFront, IsDebugSome, OnStopped, OnUnwritten}
 use Rattle.tries.specs.Outcomes.{IsTryAnswer}
 use Rattle.engine_support.specs.Schedules.{schedules}
 use Rattle.poll_close.specs.Places.{layout_of}
 use Rattle.poll_close.specs.declared.place.BlockPlace.{BlockPlace}
 use Rattle.jumping.specs.declared.Runs.{Runs}
-use Rattle.ztso_engines.specs.Channels.{IsChannelAnswer}
-use Rattle.ztso_engines.specs.Threads.{IsThreadsAnswer}
-use Rattle.ztso_engines.specs.OwnChannels.{IsOwnAnswer}
-use Rattle.ztso_engines.specs.Programs.{programs}
+use Rattle.channel_engines.specs.Channels.{IsChannelAnswer}
+use Rattle.threading.specs.Threads.{IsThreadsAnswer}
+use Rattle.channel_engines.specs.OwnChannels.{IsOwnAnswer}
+use Rattle.channel_engines.specs.Programs.{programs}
 use Rattle.engine_support.specs.declared.fault.Role.TheVariants.{Sender, Receiver}
-use Rattle.ztso_engines.specs.Rings.{Draws, draws, IsRingAnswer}
+use Rattle.channel_engines.specs.Rings.{Draws, draws, IsRingAnswer}
 use Rattle.poll_close.specs.Laws.{Ring as RingTables}
 use Rattle.lamport_ring.specs.Listing.{lamport}
 use Rattle.fastforward.specs.Listing.{fastforward}
@@ -114,10 +114,6 @@ DoneAlong {V = V} exit IsAnswer IsFront IsSome result contents old new = (ended 
     × OnStopped ended ((out : List ℕ) × Appends (contents old) (contents new) out × ((out ≡ []) ⊎ IsFront out))
     × OnUnwritten ended ((out : List ℕ) × IsSome out)
 
--- this answers an input, by its bytes
-abbrev pub OfBytes : {A : Type 0} → (input : Option (List ℕ)) → (List ℕ → A → Type 0) → A → Type 0
-OfBytes input IsAnswer answer = OfInput input (λ bytes. IsAnswer bytes answer)
-
 -- The table of all commands, over buffers of B stores and a memory of 4,096 words. The debugger and `check` alone write as
 -- they read. A search sees the opening's state, whatever the limit.
 abbrev pub Does : {W : Type 0} → (B : ℕ) → Command → Result ℕ Failure → Given → (contents : W → Option (List ℕ)) → (old new : W) → Type 0
@@ -137,10 +133,10 @@ Does B (Machine Debug capacity) result given = DoneAlong done_exit (IsDebugAnswe
     (λ out. IsDebugFront B WORDS given.commands given.first given.second (Ok (out, tt)))
     (λ out. IsDebugSome B WORDS given.commands given.first given.second (Ok (out, tt))) result
 Does B (Machine (Try seed runs) capacity) result given = Done good_exit
-    (OfBytes given.first (IsTryAnswer B WORDS (left_after (runs.skip * runs.length) (drawn_from seed)) runs.number runs.length)) result
+    (IsTryAnswer B WORDS (left_after (runs.skip * runs.length) (drawn_from seed)) runs.number runs.length given.first) result
 Does B (Machine (Channel ring place finish) capacity) result given =
     Done done_exit (IsChannelAnswer (tables_of ring) B WORDS (layout_of place []) finish given.first given.second) result
-Does B (Find states capacity) result given = Done found_exit (OfBytes given.first (IsFindAnswer B WORDS (max states 1))) result
+Does B (Find states capacity) result given = Done found_exit (IsFindAnswer B WORDS (max states 1) given.first) result
 Does B (Threads turns capacity) result given = Done verdict_exit (IsThreadsAnswer B WORDS turns given.first) result
 Does B (Own place capacity) result given =
     Done done_exit (IsOwnAnswer B WORDS (layout_of place []) given.first given.second given.third given.fourth) result

@@ -5,11 +5,11 @@ ghost use Rattle.std.specs.Io.KnownBytes.{Appends};
 ghost use Rattle.ztso.specs.declared.work.TheConstants.{WORDS};
 ghost use Rattle.command_line.specs.declared.job.Capacity.{Capacity};
 ghost use Rattle.command_line.specs.declared.job.Command.TheVariants.{Code, Machine};
-ghost use Rattle.ztso.specs.Work.{Does, LeavesCommands, LeavesFourth, LeavesSecond, LeavesThird, OfBytes};
+ghost use Rattle.ztso.specs.Work.{Does, LeavesCommands, LeavesFourth, LeavesSecond, LeavesThird};
 ghost use Rattle.ztso.specs.Work.{capacity_of as stated_capacity, drawn_from, drawn_runs, form_of, stores_of, tables_of};
 ghost use Rattle.recorder.specs.Drawing.{left_after};
 ghost use Rattle.poll_close.specs.Places.{layout_of};
-ghost use Rattle.ztso_engines.specs.Channels.{IsChannelAnswer};
+ghost use Rattle.channel_engines.specs.Channels.{IsChannelAnswer};
 ghost use Rattle.engine_support.specs.Engines.{Ends};
 ghost use Rattle.engine_support.specs.Inputs.{IsRefused};
 ghost use Rattle.engine_support.specs.Schedules.{schedules};
@@ -19,11 +19,17 @@ ghost use Rattle.finding.specs.Find.{IsFindAnswer};
 ghost use Rattle.debugger.specs.Transcripts.{EndsInteractive, IsDebugAnswer, IsDebugFront, IsDebugSome, OnRefused, OnStopped, OnUnwritten};
 ghost use Rattle.tries.specs.Outcomes.{IsTryAnswer};
 ghost use Rattle.engine_support.specs.declared.fault.Role.TheVariants.{Sender, Receiver};
-ghost use Rattle.ztso_engines.specs.Programs.{programs};
-ghost use Rattle.ztso_engines.specs.Rings.{IsRingAnswer};
+ghost use Rattle.channel_engines.specs.Programs.{programs};
+ghost use Rattle.channel_engines.specs.Rings.{IsRingAnswer};
 
 use crate::failure::{Failure, after, after_run, after_runs, after_search};
+use channel_engines::channel::channel_engine;
+use channel_engines::own_channel::own_channel_engine;
+use channel_engines::ring::ring_engine;
 use checking::check_engine;
+use code_engines::asm::asm_engine;
+use code_engines::dis::dis_engine;
+use code_engines::steps::steps_engine;
 use command_line::job::{Capacity, CodeCommand, Command, MachineCommand, Ring};
 use debugger::debug::debug_engine;
 use engine_support::fault::Fault;
@@ -36,24 +42,18 @@ use lamport_ring::Lamport;
 use poll_close::BlockPlace;
 use rand_core::SeedableRng;
 use rand_pcg::Lcg64Xsh32;
+use run_engines::moving::move_engine;
+use run_engines::replay::replay_engine;
+use run_engines::run::run_engine;
 use std::alloc::Global;
 use std::io::{BufReader, Read, Write};
 use std::sync::Wait;
 use std::thread::Threads;
+use threading::threads::threads_engine;
 use tries::trials::try_engine;
 use view_engines::charting::chart_engine;
 use view_engines::showing::{Form, show_engine};
 use view_engines::shrinking::shrink_engine;
-use ztso_engines::asm::asm_engine;
-use ztso_engines::channel::channel_engine;
-use ztso_engines::dis::dis_engine;
-use ztso_engines::moving::move_engine;
-use ztso_engines::own_channel::own_channel_engine;
-use ztso_engines::replay::replay_engine;
-use ztso_engines::ring::ring_engine;
-use ztso_engines::run::run_engine;
-use ztso_engines::steps::steps_engine;
-use ztso_engines::threads::threads_engine;
 
 /// The words of the program's memory.
 pub const WORDS: usize = 4096;
@@ -134,9 +134,8 @@ fn try_drawn<const B: usize, F: Read, W: Write, T: Threads + Sync, P: Progress>(
 ) -> Result<bool, Fault>
     requires some_capacity { 1 ≤ B }
     requires capacity { B ≤ 64 }
-    ensures { Ends (OfBytes (F.remaining file.old)
-        (IsTryAnswer B WORDS (left_after (runs.skip * runs.length) (drawn_from seed)) runs.number runs.length)) result
-        W.contents writer.old writer.new }
+    ensures { Ends (IsTryAnswer B WORDS (left_after (runs.skip * runs.length) (drawn_from seed)) runs.number runs.length
+        (F.remaining file.old)) result W.contents writer.old writer.new }
 {
     let generator = Lcg64Xsh32::seed_from_u64(seed);
     try_engine::<B, WORDS, _, _, _, _, _>(rt, alloc, file, &generator, runs, progress, writer)
@@ -189,7 +188,7 @@ fn find<const B: usize, F: Read, W: Write, P: SearchProgress>(
 ) -> Result<Found, Fault>
     requires some_capacity { 1 ≤ B }
     requires capacity { B ≤ 64 }
-    ensures { Ends (OfBytes (F.remaining file.old) (IsFindAnswer B WORDS (max states 1))) result W.contents writer.old writer.new }
+    ensures { Ends (IsFindAnswer B WORDS (max states 1) (F.remaining file.old)) result W.contents writer.old writer.new }
 {
     find_engine::<B, WORDS, _, _, _>(alloc, file, states.max(1), progress, writer)
 }

@@ -7,7 +7,6 @@ use Rattle.std.specs.Io.KnownBytes.{Appends}
 use Rattle.engine_support.specs.declared.fault.Fault.{Fault}
 use Rattle.engine_support.specs.declared.fault.Fault.TheVariants.{ReadFailed, WriteFailed, NoMemory, Refused}
 use Rattle.engine_support.specs.declared.fault.Refusal.{Refusal}
-use Rattle.engine_support.specs.Engines.{OfInput}
 
 -- What a function that reads and doesn't write returned, seen by view, is an answer, unless a read failed
 -- or memory ran out.
@@ -17,10 +16,6 @@ FindsUpToReads IsAnswer view (Err (Refused refusal)) = IsAnswer (Err refusal)
 FindsUpToReads IsAnswer view (Err NoMemory) = Unit {0}
 FindsUpToReads IsAnswer view (Err ReadFailed) = Unit {0}
 FindsUpToReads IsAnswer view (Err WriteFailed) = ⊥
-
--- the same of a function that reads one input
-abbrev pub FindsByUpToReads : {X Y : Type 0} → (List ℕ → Result Y Refusal → Type 0) → (X → Y) → (input : Option (List ℕ)) → Result X Fault → Type 0
-FindsByUpToReads IsAnswer view input result = FindsUpToReads (λ answer. OfInput input (λ bytes. IsAnswer bytes answer)) view result
 
 -- A command ended that had made this: the text that is seen in it was written and the value returned, or
 -- the write failed; where it had made nothing, nothing was written.

@@ -1,18 +1,14 @@
 use Rattle.std.proofs.Common.{Ok}
-use Rattle.std.proofs.lemmas.Result.{err_from_is_err_and}
 use Rattle.litmus.specs.LitmusTests.{LitmusTest}
-use Rattle.finding.specs.Find.{IsFoundOf}
+use Rattle.engine_support.specs.Tests.{tests}
 use Rattle.engine_support.specs.inner.Making.{text_and_value}
-use Rattle.engine_support.proofs.ThreadRuns.{by_test, by_no_test}
+use Rattle.engine_support.proofs.InputLaws.{read_after, refused_after}
 use Rattle.finding.proofs.finds.made.Goals as goal
 
 pub returns-in_err-test : goal.returns-in_err-test
 returns-in_err-test g c =
-    let p = err_from_is_err_and c.from_residual.result c.from_residual.ensures.1 in
-    by_no_test (IsFoundOf g.row.B g.row.M c.args.states) text_and_value _ (λ (q : LitmusTest). q) c.from_residual.result
-    c.in_err-test.field-0.0 (rw p.2 at p.1) c.in_err-test.ensures.test
+    refused_after tests _ _ (λ (q : LitmusTest). q) text_and_value c.from_residual.result c.in_err-test.field-0.0
+    c.from_residual.ensures.1 c.in_err-test.ensures.test
 
 pub returns : goal.returns
-returns g c =
-    by_test (IsFoundOf g.row.B g.row.M c.args.states) text_and_value _ c.in_ok-test.test (Ok c.in_ok-answered.answered)
-    c.in_ok-test.ensures.test c.in_ok-answered.ensures
+returns g c = read_after tests _ _ text_and_value (Ok c.in_ok-answered.answered) c.in_ok-test.test c.in_ok-test.ensures.test c.in_ok-answered.ensures

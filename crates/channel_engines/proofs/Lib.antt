@@ -1,0 +1,7 @@
+mod ListTexts
+pub mod ProgramLaws
+pub mod OneChannel
+pub mod ChannelLaws
+pub mod RingLaws
+pub mod OneOwn
+pub mod OneRing

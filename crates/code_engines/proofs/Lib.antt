@@ -1,0 +1,10 @@
+pub mod Registers
+pub mod NumberWords
+pub mod Lines
+pub mod Describing
+pub mod Limits
+pub mod Answered
+pub mod HexTexts
+pub mod CodeTexts
+pub mod OneAnswer
+pub mod ShownSteps

@@ -1,0 +1,7 @@
+pub mod Code
+pub mod ScriptValue
+pub mod StepsText
+pub mod StepsReading
+pub mod Steps
+pub mod Asm
+pub mod Dis

@@ -1,0 +1,47 @@
+-- What answers `run`, `replay` and `move` is one answer.
+use Rattle.std.proofs.Common.{arith, ◌≡◌, ℕ, List, Some, Result, Ok, Err, sym, ap, ◌∙◌}
+use Rattle.std.specs.List.{flat_map}
+use Rattle.step_machine.specs.History.{History}
+use Rattle.recorder.specs.Outcomes.{entry_line}
+use Rattle.recorder.specs.Records.{record_text}
+use Rattle.recorder.specs.Versions.{ScheduleValue}
+use Rattle.litmus.specs.LitmusTests.{LitmusTest}
+use Rattle.litmus.specs.declared.verdict.Verdict.{Verdict}
+use Rattle.litmus.proofs.VerdictLaws.{one_verdict}
+use Rattle.engine_support.specs.declared.fault.Refusal.{Refusal}
+use Rattle.engine_support.specs.Engines.{Output, AreOneAnswer}
+use Rattle.engine_support.specs.Histories.{AnswersRun}
+use Rattle.engine_support.proofs.InputLaws.{alike_by_schedule}
+use Rattle.engine_support.proofs.OneInput.{equal_alike, one_of_history, same_output}
+use Rattle.engine_support.proofs.RunLaws.{one_record}
+use Rattle.run_engines.specs.Run.{IsJudged, IsRunAnswer}
+use Rattle.run_engines.specs.Move.{IsMoved, IsMoveAnswer}
+use Rattle.run_engines.specs.Replay.{IsReplay, IsReplayAnswer}
+
+one_judged : (M : ℕ) (q : LitmusTest) (t : History) (a b : List ℕ × Verdict) → IsJudged M q t a → IsJudged M q t b → a ≡ b
+one_judged M q t a b is other = grind (arith, one_verdict)
+
+one_replayed : (q : LitmusTest) (t : History) (a b : Output) → IsReplay q t a → IsReplay q t b → a ≡ b
+one_replayed q t a b is other = same_output a b (is ∙ sym other)
+
+module _ (B M : ℕ) where
+  one_moved : (q : LitmusTest) (said : ScheduleValue) (a b : Result Output Refusal) → IsMoved B M q said a → IsMoved B M q said b → AreOneAnswer a b
+  one_moved q said (Ok a) (Ok b) (steps, records, is, read) (others, also, other, again) =
+      let records_same = one_record B M q.opening said (Ok steps) (Ok others) records also in
+      let same : steps ≡ others = cc in
+      same_output a b (is ∙ ap record_text same ∙ sym other)
+  one_moved q said (Ok a) (Err s) (steps, records, is, read) differs = equal_alike _ _ (one_record B M q.opening said (Ok steps) (Err s) records differs)
+  one_moved q said (Err r) (Ok b) differs (steps, records, is, read) = equal_alike _ _ (one_record B M q.opening said (Err r) (Ok steps) differs records)
+  one_moved q said (Err r) (Err s) differs other = equal_alike _ _ (one_record B M q.opening said (Err r) (Err s) differs other)
+
+  pub one_run : (file schedule : List ℕ) (a b : Result (List ℕ × Verdict) Refusal) → IsRunAnswer B M (Some file) (Some schedule) a
+      → IsRunAnswer B M (Some file) (Some schedule) b → AreOneAnswer a b
+  one_run = alike_by_schedule AreOneAnswer (λ r s e. e) (AnswersRun B M (IsJudged M)) (one_of_history B M (IsJudged M) (one_judged M))
+
+  pub one_replay : (file schedule : List ℕ) (a b : Result Output Refusal) → IsReplayAnswer B M (Some file) (Some schedule) a
+      → IsReplayAnswer B M (Some file) (Some schedule) b → AreOneAnswer a b
+  one_replay = alike_by_schedule AreOneAnswer (λ r s e. e) (AnswersRun B M IsReplay) (one_of_history B M IsReplay one_replayed)
+
+  pub one_move : (file schedule : List ℕ) (a b : Result Output Refusal)
+      → IsMoveAnswer B M (Some file) (Some schedule) a → IsMoveAnswer B M (Some file) (Some schedule) b → AreOneAnswer a b
+  one_move = alike_by_schedule AreOneAnswer (λ r s e. e) (IsMoved B M) one_moved

@@ -1,0 +1,2 @@
+pub mod SeatsComplete
+pub mod ThreadRuns
