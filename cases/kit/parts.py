@@ -15,9 +15,9 @@ ROLES = ("sender", "receiver")
 # the program that a ring shares with another one, by that one's name
 SHARED = {(name, "receiver"): f"{ring.receiver}_receiver" for name, ring in RINGS.items() if ring.receiver != name}
 # the queue's functions, each with its table, which stands in one of FUNCTION_WORDS
-FUNCTIONS = {"lamport_try_send": "TRY_SEND", "lamport_try_receive": "TRY_RECEIVE",
+FUNCTIONS = {"lamport_try_send": "TRY_SEND", "lamport_try_receive": "TRY_RECEIVE", "cached_try_send": "CACHED_SEND",
              "fastforward_try_send": "FASTFORWARD_SEND", "fastforward_try_receive": "FASTFORWARD_RECEIVE"}
-FUNCTION_WORDS = [ROOT / "crates/spsc_queue/src/lib.rt", ROOT / "crates/spsc_queue/src/fastforward.rt"]
+FUNCTION_WORDS = [ROOT / "crates/spsc_queue/src" / name for name in ("lib.rt", "cached.rt", "fastforward.rt")]
 # the words that all receivers share
 RECEIVER = ROOT / "crates/poll_close/src/listing.rt"
 

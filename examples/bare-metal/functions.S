@@ -49,6 +49,34 @@ lamport_try_receive:
     jalr x0,0(x1)
     .size lamport_try_receive, . - lamport_try_receive
 
+    .section .text.cached_try_send, "ax", @progbits
+    .balign 4
+    .globl cached_try_send
+    .type cached_try_send, @function
+cached_try_send:
+    lw x5,0(x10)                              # its own head, maybe of its own pending store
+    lw x6,4(x10)                              # its copy of the tail, likewise
+    addi x7,x5,4                              # the head after this word: one slot on,
+    bne x7,x12,.Lcached_try_send_test         # and if that is past the last slot
+    addi x7,x0,0                              # the first one
+.Lcached_try_send_test:
+    beq x6,x7,.Lcached_try_send_look          # by the copy the head would meet the tail
+.Lcached_try_send_store:
+    add x5,x10,x5
+    sw x11,128(x5)                            # the word into its slot,
+    sw x7,0(x10)                              # then the head
+    addi x10,x0,1
+    jalr x0,0(x1)
+.Lcached_try_send_full:
+    addi x10,x0,0
+    jalr x0,0(x1)
+.Lcached_try_send_look:
+    lw x6,64(x10)                             # the tail itself
+    beq x6,x7,.Lcached_try_send_full          # the head would meet it
+    sw x6,4(x10)                              # the new copy, before the word
+    jal x0,.Lcached_try_send_store
+    .size cached_try_send, . - cached_try_send
+
     .section .text.fastforward_try_send, "ax", @progbits
     .balign 4
     .globl fastforward_try_send

@@ -7,6 +7,12 @@
  *     QUEUE_TRY_SEND(&queue, word)                on the hart that sends: 1, or 0 if it found the queue full
  *     QUEUE_TRY_RECEIVE(&queue)                   on the hart that receives: ok is 1, or 0 if it found it empty
  *
+ * With a cached tail the sender reads the receiver's index only where its copy of it says that the queue is full:
+ *
+ *     CACHED_QUEUE(orders, 8);                    a block for 8 slots: at most 7 words wait in it
+ *     CACHED_TRY_SEND(&queue, word)
+ *     CACHED_TRY_RECEIVE(&queue)
+ *
  * For words that are never 0 there is FastForward's queue, in which no hart reads the other's index and all slots serve:
  *
  *     FASTFORWARD_QUEUE(answers, 8);              a block for 8 slots: at most 8 words wait in it; 1 slot is enough
@@ -42,6 +48,21 @@
     QUEUE_ASSERT(offsetof(struct name, slots) == 128, "the functions have the slots at 128");                              \
     QUEUE_ASSERT(sizeof(((struct name *)0)->slots) == 4 * (count), "a slot has 4 bytes")
 
+/* The same with a cached tail: the sender keeps a copy of the tail beside the head. */
+#define CACHED_QUEUE(name, count)                                                                                          \
+    struct name {                                                                                                          \
+        QUEUE_ALIGNAS(64) uint32_t head; /* written by the sender's calls */                                               \
+        uint32_t copy;                   /* of the tail, the same */                                                       \
+        QUEUE_ALIGNAS(64) uint32_t tail; /* written by the receiver's calls */                                             \
+        QUEUE_ALIGNAS(64) uint32_t cached_slots[count];                                                                    \
+    };                                                                                                                     \
+    QUEUE_ASSERT((count) >= 2, "a queue has at least 2 slots");                                                            \
+    QUEUE_ASSERT(offsetof(struct name, head) == 0, "the functions have the head at 0");                                    \
+    QUEUE_ASSERT(offsetof(struct name, copy) == 4, "the functions have the copy of the tail at 4");                        \
+    QUEUE_ASSERT(offsetof(struct name, tail) == 64, "the functions have the tail at 64");                                  \
+    QUEUE_ASSERT(offsetof(struct name, cached_slots) == 128, "the functions have the slots at 128");                       \
+    QUEUE_ASSERT(sizeof(((struct name *)0)->cached_slots) == 4 * (count), "a slot has 4 bytes")
+
 /* The same for FastForward's, with at least 1 slot. A slot that holds 0 is free. */
 #define FASTFORWARD_QUEUE(name, count)                                                                                     \
     struct name {                                                                                                          \
@@ -57,6 +78,7 @@
 
 /* The bytes of a queue's slots: what its functions take in a2. */
 #define QUEUE_BYTES(queue) ((uint32_t)sizeof((queue)->slots))
+#define CACHED_BYTES(queue) ((uint32_t)sizeof((queue)->cached_slots))
 #define FASTFORWARD_BYTES(queue) ((uint32_t)sizeof((queue)->words_or_0))
 
 /* What a receive returns, in a0 and a1. */
@@ -85,6 +107,9 @@ uint32_t lamport_try_send(void *block, uint32_t word, uint32_t bytes);
  * sent j + S words, if nobody writes there since; S is the count of slots. */
 struct received lamport_try_receive(void *block, uint32_t unused, uint32_t bytes);
 
+/* The same of a block of CACHED_QUEUE, whose words lamport_try_receive receives. */
+uint32_t cached_try_send(void *block, uint32_t word, uint32_t bytes);
+
 /* The same of a block of FASTFORWARD_QUEUE, and of words that aren't 0. What the receiver's hart stored before a call, after
  * j words were received, the sender's hart reads once it has sent j + S + 1 words. */
 uint32_t fastforward_try_send(void *block, uint32_t word, uint32_t bytes);
@@ -98,6 +123,10 @@ struct received fastforward_try_receive(void *block, uint32_t unused, uint32_t b
 #define QUEUE_TRY_SEND(queue, word) lamport_try_send((queue), (word), QUEUE_BYTES(queue))
 #define QUEUE_TRY_RECEIVE(queue) lamport_try_receive((queue), 0, QUEUE_BYTES(queue))
 
+/* `queue` points to a struct of CACHED_QUEUE. */
+#define CACHED_TRY_SEND(queue, word) cached_try_send((queue), (word), CACHED_BYTES(queue))
+#define CACHED_TRY_RECEIVE(queue) lamport_try_receive((queue), 0, CACHED_BYTES(queue))
+
 /* `queue` points to a struct of FASTFORWARD_QUEUE. */
 #define FASTFORWARD_TRY_SEND(queue, word) fastforward_try_send((queue), (word), FASTFORWARD_BYTES(queue))
 #define FASTFORWARD_TRY_RECEIVE(queue) fastforward_try_receive((queue), 0, FASTFORWARD_BYTES(queue))
@@ -107,6 +136,8 @@ struct received fastforward_try_receive(void *block, uint32_t unused, uint32_t b
 /* No such name is declared: it is what the compiler complains of. */
 #define QUEUE_TRY_SEND(queue, word) queue_h_has_functions_for_RV32_only
 #define QUEUE_TRY_RECEIVE(queue) queue_h_has_functions_for_RV32_only
+#define CACHED_TRY_SEND(queue, word) queue_h_has_functions_for_RV32_only
+#define CACHED_TRY_RECEIVE(queue) queue_h_has_functions_for_RV32_only
 #define FASTFORWARD_TRY_SEND(queue, word) queue_h_has_functions_for_RV32_only
 #define FASTFORWARD_TRY_RECEIVE(queue) queue_h_has_functions_for_RV32_only
 

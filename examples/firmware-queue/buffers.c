@@ -15,11 +15,15 @@
 
 enum { BUFFERS = SLOTS + 1, WORDS = 8 };
 
-/* Either kind of queue does. */
+/* Each kind of queue does. */
 #ifdef FASTFORWARD
 FASTFORWARD_QUEUE(queue, SLOTS);
 #define TRY_SEND(queue, index) FASTFORWARD_TRY_SEND((queue), (index) + 1)
 #define TRY_RECEIVE FASTFORWARD_TRY_RECEIVE
+#elif defined CACHED
+CACHED_QUEUE(queue, SLOTS);
+#define TRY_SEND(queue, index) CACHED_TRY_SEND((queue), (index) + 1)
+#define TRY_RECEIVE CACHED_TRY_RECEIVE
 #else
 LAMPORT_QUEUE(queue, SLOTS);
 #define TRY_SEND(queue, index) QUEUE_TRY_SEND((queue), (index) + 1)

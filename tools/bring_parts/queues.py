@@ -6,8 +6,10 @@ import assembly
 
 # where the parts of a block lie, as queue.h has them; the slots have a name for each kind of queue
 HEAD, TAIL, SLOTS = 0, 64, 128
-KINDS = {"slots": ("Lamport's", "lamport"), "words_or_0": ("FastForward's", "fastforward")}
-ROLES = (("sends", "try_send"), ("receives", "try_receive"))
+KINDS = {"slots": ("Lamport's", "lamport_try_send", "lamport_try_receive"),
+         "cached_slots": ("Lamport's with a cached tail", "cached_try_send", "lamport_try_receive"),
+         "words_or_0": ("FastForward's", "fastforward_try_send", "fastforward_try_receive")}
+ROLES = ("sends", "receives")
 # what a call may change: ra, t0 to t6, a0 to a7
 CHANGED = {f"x{number}" for number in (1, *range(5, 8), *range(10, 18), *range(28, 32))}
 BLOCK = "x10"
@@ -24,25 +26,24 @@ def lines(symbols, parts_of, calls):
     found = []
     for address, _, name in symbols:
         places = {part.name[len(name):]: part.at for part in parts_of(name)}
-        for slots, (kind, prefix) in KINDS.items():
+        for slots, (kind, *functions) in KINDS.items():
             if [places.get(part) for part in (".head", ".tail", f".{slots}[0]")] == [HEAD, TAIL, SLOTS]:
                 count = sum(1 for part in places if re.fullmatch(rf"\.{slots}\[[0-9]+\]", part))
-                found.append((address, prefix, f"queue {name}: {kind}, block at {address}, {count} slots"))
-    for address, prefix, line in found:
-        alone = [each for _, each, _ in found].count(prefix) == 1
-        yield line + users(prefix, address, alone, calls)
+                found.append((address, functions, f"queue {name}: {kind}, block at {address}, {count} slots"))
+    for address, functions, line in found:
+        for role, function in zip(ROLES, functions):
+            alone = sum(function in each for _, each, _ in found) == 1
+            line += user(role, function, address, alone, calls)
+        yield line
 
 
-def users(prefix, address, alone, calls):
-    """The harts that use the queue there. If more than one hart has a role, or a call may be for this queue or for another
-    of its kind, nothing is said of that role."""
-    text = ""
-    for role, end in ROLES:
-        blocks = [{block for name, block in each if name == f"{prefix}_{end}"} for each in calls]
-        harts = [hart for hart, each in enumerate(blocks) if address in each or alone and None in each]
-        if len(harts) == 1 and (alone or not any(None in each for each in blocks)):
-            text += f", hart {harts[0]} {role}"
-    return text
+def user(role, function, address, alone, calls):
+    """The hart that has this role for the queue there. If more than one has it, or a call of its function may be for this queue or for
+    another one, nothing is said."""
+    blocks = [{block for name, block in each if name == function} for each in calls]
+    harts = [hart for hart, each in enumerate(blocks) if address in each or alone and None in each]
+    known = len(harts) == 1 and (alone or not any(None in each for each in blocks))
+    return f", hart {harts[0]} {role}" if known else ""
 
 
 def calls_of(names, functions):

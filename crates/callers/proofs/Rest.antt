@@ -1,10 +1,11 @@
 -- A queue whose indices open at one slot, and whose slots are free where they must be, is empty and at rest.
-use Rattle.std.proofs.Common.{ℕ, ◌≡◌, ◌+◌, ◌*◌, ◌%◌, ◌<◌, [], ap, refl, sym, ◌∙◌, arith, add-zero}
+use Rattle.std.proofs.Common.{ℕ, ◌≡◌, ◌+◌, ◌*◌, ◌%◌, ◌<◌, false, [], ap, refl, sym, ◌∙◌, arith, add-zero}
 use Rattle.std.proofs.Math.Nat.{mod-eq_of_lt, mod-lt}
 use Rattle.step_machine.specs.History.{OpeningValue}
 use Rattle.step_machine.specs.Entries.{memory_word}
 use Rattle.spsc_queue.specs.RingBuffers.{fastforward, IsEmptyAndQuiescent}
 use Rattle.spsc_queue.specs.Calls.{IsBlock, buffer}
+use Rattle.spsc_queue.proofs.Parts.{copied_in}
 use Rattle.callers.specs.Queues.{kind_of, block_at, spsc_of}
 use Rattle.callers.specs.declared.queue.Queue.{Queue}
 use Rattle.callers.specs.declared.queue.Located.{Located}
@@ -18,6 +19,7 @@ at_rest o l within head tail free = record {
   tail = tail ∙ here;
   pending = λ h. refl;
   slots = λ is j below. free is ((l.start + j) % l.queue.slots) (mod-lt (l.start + j) (omega (arith, within)));
+  copy = λ c is. absurd (let no = copied_in (kind_of l.queue.kind) false l.queue.base c is in cc);
 }
   where
     here : 4 * l.start ≡ 4 * ((l.start + 0) % l.queue.slots)

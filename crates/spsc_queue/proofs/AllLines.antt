@@ -1,5 +1,6 @@
 -- What the functions' lines share: how a line's effect leads to the next line's row, and the returns.
-use Rattle.std.proofs.Common.{ℕ, pos, ◌+◌, ◌*◌, ◌/◌, ◌%◌, ◌^◌, ◌<◌, ◌≤◌, ◌≡◌, ◌≢◌, ◌==◌, Bool, true, false, if◌then◌else◌, List, [], ◌∷◌, ◌++◌, Some, refl, sym}
+use Rattle.std.proofs.Common.{ℕ, pos, ◌+◌, ◌*◌, ◌/◌, ◌%◌, ◌^◌, ◌<◌, ◌≤◌, ◌≡◌, ◌≢◌, ◌==◌, ◌&&◌, Bool, true, false}
+use Rattle.std.proofs.Common.{if◌then◌else◌, Option, Some, None, List, [], ◌∷◌, ◌++◌, refl, sym}
 use Rattle.std.proofs.Common.{◌∙◌, ap, subst, arith, append-nil, append_assoc}
 use Rattle.std.specs.Prelude.{slice_index, slice_set, map}
 use Rattle.std.specs.List.{slice_get}
@@ -20,17 +21,18 @@ use Rattle.hart.proofs.Instructions.{IsAt}
 use Rattle.step_machine.specs.Access.{nothing, load, store, access_of}
 use Rattle.step_machine.specs.Paths.{entry_of}
 use Rattle.spsc_queue.specs.RingBuffers.{Kind, RingBuffer, next, overlaps}
-use Rattle.spsc_queue.specs.Protocol.{ProtocolState, next_by}
-use Rattle.spsc_queue.specs.Listings.{lines_of}
+use Rattle.spsc_queue.specs.Protocol.{ProtocolState, room_at, says_full, next_by}
+use Rattle.spsc_queue.specs.Listings.{Listed, words_of, lines_of}
 use Rattle.spsc_queue.specs.Calls.{Block, IsBlock, Party, the_sender, the_receiver, listing_of, ring_of, is_in_call_after, completed_at}
-use Rattle.spsc_queue.specs.CallEffects.{IsPlainNeed, completed_word, take_accesses}
-use Rattle.spsc_queue.proofs.Lines.{Line, word-plus, at_line, add_line, return_line, loads, stores, goes_to, leaves_in}
+use Rattle.spsc_queue.specs.CallEffects.{longest_send, longest, IsPlainNeed, sees_full, look_accesses, completed_word, take_accesses}
+use Rattle.step_machine.proofs.Lines.{Line, word-plus, at_line, add_line, return_line, loads, stores, goes_to, leaves_in}
 use Rattle.spsc_queue.proofs.Registers.{set-same, set-other, decoded, thirteen, code_line, code_room, next_line, line_on}
-use Rattle.spsc_queue.proofs.Courses.{At, number, Equipped, Course, went, left_on, left_set, frame_on, frame_set, more_frame, back_of, returned, free_5, free_7}
+use Rattle.spsc_queue.proofs.Courses.{At, number, Equipped, Course, went, left_on, left_set, frame_on, frame_set}
+use Rattle.spsc_queue.proofs.Courses.{more_frame, back_of, returned, Left, free_5, free_7}
 use Rattle.spsc_queue.proofs.Courses.{free_10, goes_on, completes_none, ends_10, ends_12, completes_one, completes_no_word}
 use Rattle.spsc_queue.proofs.Outline.{Part, part, role, Level, IsOffset, index_at, look_at, says_no, Knows, Looked, MayStore, Stored, Word, Found, looked}
 use Rattle.spsc_queue.proofs.Outline.{ready, put, all_accesses, Effect, Fresh, Indexed, Seen, Ready, Half, Finished, Ended, Row, CourseStands, IsStore, Does}
-use Rattle.spsc_queue.proofs.Outline.{Moves}
+use Rattle.spsc_queue.proofs.Outline.{Moves, first_look, detour}
 use Rattle.spsc_queue.proofs.Parts.{level-next, inner-leaves, first-load, look-load, load-words, index-stored}
 
 -- of a result that chose by a test
@@ -44,15 +46,48 @@ word_same : (p : Party) (s : HartState) (w : ℕ) → w ≡ slice_index s.regist
 word_same the_sender s w is = is
 word_same the_receiver s w is = tt
 
-no_accesses : (p : Party) (K : Kind) (r : RingBuffer) (w u v : ℕ) → says_no p K r u v ≡ true → looked p K r u v ≡ all_accesses p K r w u v
-no_accesses the_sender K r w u v says = ap (λ ys. looked the_sender K r u v ++ ys) (if_true (says_no the_sender K r u v) [] (
-    store (write (r.slots + u) 4 w) ∷ store (write r.head 4 (next r u)) ∷ []
-    ) says)
-no_accesses the_receiver K r w u v says =
+-- what it saw at its first look says that there is no room, or no word: then it makes no other access
+none_more : (p : Party) (K : Kind) (r : RingBuffer) (w u v : ℕ) → (p ≡ the_sender → r.copy ≡ None) → says_no p K r u v v ≡ true
+    → looked p K r u v ≡ all_accesses p K r w u v v
+none_more the_sender K r w u v plain says = at r.copy (plain refl) says
+  where
+    at : (q : Option ℕ) → q ≡ None → sees_full q K r u v v ≡ true
+        → load r.head 4 u ∷ load (first_look q (room_at K r u)) 4 v ∷ []
+        ≡ load r.head 4 u ∷ (look_accesses q K r u v v
+        ++ (if sees_full q K r u v v then [] else store (write (r.slots + u) 4 w) ∷ store (write r.head 4 (next r u)) ∷ []))
+    at None plain says = ap (λ ys. load r.head 4 u ∷ load (room_at K r u) 4 v ∷ ys)
+        (if_true (says_full K r u v) [] (store (write (r.slots + u) 4 w) ∷ store (write r.head 4 (next r u)) ∷ []) says)
+    at (Some c) plain says = absurd (cc)
+none_more the_receiver K r w u v plain says =
     sym (ap (λ b. looked the_receiver K r u v ++ (if b then [] else take_accesses K r w u)) says)
 
+-- a copy that says that there is room, or else the tail or the slot
+pub found_room : (q : Option ℕ) (K : Kind) (r : RingBuffer) (u v : ℕ) → says_full K r u v ≡ false → sees_full q K r u v v ≡ false
+found_room None K r u v some = some
+found_room (Some c) K r u v some = ap (λ b. b && says_full K r u v) some
+
+pub looked_once : (K : Kind) (r : RingBuffer) (u v : ℕ) → says_full K r u v ≡ false
+    → looked the_sender K r u v ≡ load r.head 4 u ∷ look_accesses r.copy K r u v v
+looked_once K r u v some = at r.copy
+  where
+    at : (q : Option ℕ) → load r.head 4 u ∷ load (first_look q (room_at K r u)) 4 v ∷ [] ≡ load r.head 4 u ∷ look_accesses q K r u v v
+    at None = refl
+    at (Some c) = ap (λ ys. load r.head 4 u ∷ load c 4 v ∷ ys)
+        (if_false (says_full K r u v) (load (room_at K r u) 4 v ∷ (if says_full K r u v then [] else store (write c 4 v) ∷ [])) [] some)
+
+-- a detour leaves a call short enough
+pub short : (q : Option ℕ) → 10 + detour q < longest_send q
+short None = omega arith
+short (Some c) = omega arith
+
+-- line j of a listing that stands in a hart's code
+pub line_of : (M n : ℕ) (listing : List Listed) (s : HartState) (has : Equipped M n listing s)
+    → map meaning (words_of listing) ≡ map Some (lines_of listing) → (j : ℕ) → s.pc ≡ 4 * (n + j) → {i : Instr}
+    → slice_get (map Some (lines_of listing) ++ map meaning has.code.back) j ≡ Some (Some i) → IsAt s i
+line_of M n listing s has decoded j place found = at_line s (n + j) place (code_line s.code n listing has.code decoded j ∙ found)
+
 module _ (M n a b : ℕ) (p : Party) (K : Kind) (k : Block) (is : IsBlock M k) (h : ℕ) (s : HartState) (t : ProtocolState) (v : ℕ)
-    (has : Equipped M n (listing_of K p) s) (c : Course) (ws : List ℕ) where
+    (has : Equipped M n (listing_of K k.caches p) s) (c : Course) (ws : List ℕ) where
   abbrev pub r : RingBuffer
   r = ring_of k a b
 
@@ -94,11 +129,12 @@ module _ (M n a b : ℕ) (p : Party) (K : Kind) (k : Block) (is : IsBlock M k) (
       by_line (stores a w) (λ q. goes_to s (next_pc s.pc)) does tt rule (record { line = line; place = place; row = row })
 
   room : 4 * (n + 13) < 2 ^ 32
-  room = omega (arith, code_room s.code n (listing_of K p) has.code, thirteen K p, has.code.small)
+  room = omega (arith, code_room s.code n (listing_of K k.caches p) has.code, (thirteen K k.caches p).0, has.code.small)
 
-  pub line_at : (j : ℕ) → s.pc ≡ 4 * (n + j) → {i : Instr} → slice_get (map Some (lines_of (listing_of K p)) ++ map meaning has.code.back) j ≡ Some (Some i)
+  pub line_at : (j : ℕ) → s.pc ≡ 4 * (n + j) → {i : Instr}
+      → slice_get (map Some (lines_of (listing_of K k.caches p)) ++ map meaning has.code.back) j ≡ Some (Some i)
       → IsAt s i
-  line_at j place found = at_line s (n + j) place (code_line s.code n (listing_of K p) has.code (decoded K p) j ∙ found)
+  line_at j place found = line_of M n (listing_of K k.caches p) s has (decoded K k.caches p) j place found
 
   -- the next line, and one further on
   pub on : (j : ℕ) → s.pc ≡ 4 * (n + j) → j ≤ 12 → next_pc s.pc ≡ 4 * (n + (j + 1))
@@ -171,10 +207,12 @@ module _ (M n a b : ℕ) (p : Party) (K : Kind) (k : Block) (is : IsBlock M k) (
       }
 
   -- what it saw says that there is no room, or no word
-  pub to_no : {m i : ℕ} → says_no p K r (slice_index x 5) (slice_index x i) ≡ true → Found p K (slice_index x i) (slice_index x 11)
+  pub to_no : {m i : ℕ} → (p ≡ the_sender → r.copy ≡ None) → says_no p K r (slice_index x 5) (slice_index x i) (slice_index x i) ≡ true
+      → Found p K (slice_index x i) (slice_index x 11)
       → IsOffset k (slice_index x 5) → Seen n p K k r c m i ws x (part p t) → Finished n p K k r (went c nothing) (m + 1) ws x (part p t) 0
-  to_no {m} {i} says found among f = record {
+  to_no {m} {i} plain says found among f = record {
     place = slice_index x 5;
+    copy = slice_index x i;
     seen = slice_index x i;
     left = left_on nothing f.frame.left;
     word = f.word;
@@ -182,19 +220,21 @@ module _ (M n a b : ℕ) (p : Party) (K : Kind) (k : Block) (is : IsBlock M k) (
     level = f.level;
     among = among;
     words = f.words;
-    did = append-nil c.did ∙ f.did ∙ no_accesses p K r (slice_index x 11) (slice_index x 5) (slice_index x i) says;
-    answers = if_true (says_no p K r (slice_index x 5) (slice_index x i)) 0 1 says;
+    did = append-nil c.did ∙ f.did ∙ none_more p K r (slice_index x 11) (slice_index x 5) (slice_index x i) plain says;
+    answers = if_true (says_no p K r (slice_index x 5) (slice_index x i) (slice_index x i)) 0 1 says;
   }
 
   -- or that there is one, and it may store
-  pub to_ready : {m i : ℕ} (seven : ℕ → ℕ) → says_no p K r (slice_index x 5) (slice_index x i) ≡ false → Found p K (slice_index x i) (slice_index x 11)
+  pub to_ready : {m i : ℕ} (seven : ℕ → ℕ) (l : ℕ) → m + 1 ≤ l → says_no p K r (slice_index x 5) (slice_index x i) (slice_index x i) ≡ false
+      → Found p K (slice_index x i) (slice_index x 11)
       → MayStore p (slice_index x 5) (slice_index x 11) (part p t) → slice_index x 7 ≡ seven (slice_index x 5)
-      → looked p K r (slice_index x 5) (slice_index x i) ≡ ready p K r (slice_index x 5) (slice_index x i) (slice_index x 11)
-      → Seen n p K k r c m i ws x (part p t) → Ready n p K k r (went c nothing) (m + 1) ws x (part p t) (λ u. u) seven
-  to_ready {m} {i} seven some found knows x7 same f = record {
+      → looked p K r (slice_index x 5) (slice_index x i) ≡ ready p K r (slice_index x 5) (slice_index x i) (slice_index x i) (slice_index x 11)
+      → Seen n p K k r c m i ws x (part p t) → Ready n p K k r (went c nothing) l ws x (part p t) (λ u. u) seven
+  to_ready {m} {i} seven l le some found knows x7 same f = record {
     place = slice_index x 5;
+    copy = slice_index x i;
     seen = slice_index x i;
-    frame = frame_on nothing f.frame;
+    frame = more_frame le (frame_on nothing f.frame);
     word = f.word;
     found = found;
     knows = knows;
@@ -213,6 +253,7 @@ module _ (M n a b : ℕ) (p : Party) (K : Kind) (k : Block) (is : IsBlock M k) (
       let same : slice_index x 11 ≡ slice_index (slice_set x 5 w) 11 = eleven 5 w (λ e. omega arith) in
       record {
         place = q.place;
+        copy = q.copy;
         seen = q.seen;
         frame = frame_set nothing 5 w free_5 (λ e. omega arith) q.frame;
         word = word_set 5 w (λ e. omega arith) q.word;
@@ -223,13 +264,14 @@ module _ (M n a b : ℕ) (p : Party) (K : Kind) (k : Block) (is : IsBlock M k) (
         x5 = set-same x 5 w (omega (arith, has.size)) ∙ is_new;
         x7 = set-other x 5 7 w (λ e. omega arith) ∙ q.x7;
         words = q.words;
-        did = append-nil c.did ∙ q.did ∙ ap (ready p K r q.place q.seen) same;
+        did = append-nil c.did ∙ q.did ∙ ap (ready p K r q.place q.copy q.seen) same;
       }
 
   pub ready_on : {m l : ℕ} (five seven new : ℕ → ℕ) → m + 1 ≤ l → (q : Ready n p K k r c m ws x (part p t) five seven) → five q.place ≡ new q.place
       → Ready n p K k r (went c nothing) l ws x (part p t) new seven
   ready_on five seven new le q same = record {
     place = q.place;
+    copy = q.copy;
     seen = q.seen;
     frame = more_frame le (frame_on nothing q.frame);
     word = q.word;
@@ -251,6 +293,7 @@ module _ (M n a b : ℕ) (p : Party) (K : Kind) (k : Block) (is : IsBlock M k) (
       → Half n p K k r (went c (store made)) (m + 1) i ws x (part p (next_by K r (role p) t (store made)))
   to_half made i five seven q is_made after knows words = record {
     place = q.place;
+    copy = q.copy;
     seen = q.seen;
     frame = frame_on (store made) q.frame;
     word = q.word;
@@ -259,19 +302,20 @@ module _ (M n a b : ℕ) (p : Party) (K : Kind) (k : Block) (is : IsBlock M k) (
     some = q.some;
     after = after;
     words = words ∙ ap (λ ys. ys ++ slice_index x 11 ∷ []) q.words;
-    did = ap (λ ys. ys ++ store made ∷ []) q.did ∙ ap (λ y. ready p K r q.place q.seen (slice_index x 11) ++ store y ∷ []) is_made;
+    did = ap (λ ys. ys ++ store made ∷ []) q.did ∙ ap (λ y. ready p K r q.place q.copy q.seen (slice_index x 11) ++ store y ∷ []) is_made;
   }
 
   -- the index is stored
   pub to_finished : {m i : ℕ} (made : Write) → overlaps r made ≡ true → (q : Half n p K k r c m i ws x (part p t))
       → made ≡ write (index_at p r) 4 (next r q.place) → IsOffset k q.place
-      → ready p K r q.place q.seen (slice_index x 11) ++ store (write (r.slots + q.place) 4 (put p (slice_index x 11))) ∷
-      store (write (index_at p r) 4 (next r q.place)) ∷ [] ≡ all_accesses p K r (slice_index x 11) q.place q.seen
+      → ready p K r q.place q.copy q.seen (slice_index x 11) ++ store (write (r.slots + q.place) 4 (put p (slice_index x 11))) ∷
+      store (write (index_at p r) 4 (next r q.place)) ∷ [] ≡ all_accesses p K r (slice_index x 11) q.place q.copy q.seen
       → Finished n p K k r (went c (store made)) (m + 1) (ws ++ slice_index x 11 ∷ []) x (part p (next_by K r (role p) t (store made))) 1
   to_finished made hits q is_made among whole =
       let becomes = index-stored K r made hits p t q.place q.knows in
       record {
         place = q.place;
+        copy = q.copy;
         seen = q.seen;
         left = left_on (store made) q.frame.left;
         word = q.word;
@@ -280,11 +324,12 @@ module _ (M n a b : ℕ) (p : Party) (K : Kind) (k : Block) (is : IsBlock M k) (
         among = among;
         words = ap (λ (y : Part). y.words) becomes ∙ q.words;
         did = ap (λ ys. ys ++ store made ∷ []) q.did
-            ∙ append_assoc (ready p K r q.place q.seen (slice_index x 11))
+            ∙ append_assoc (ready p K r q.place q.copy q.seen (slice_index x 11))
             (store (write (r.slots + q.place) 4 (put p (slice_index x 11))) ∷ []) (store made ∷ [])
-            ∙ ap (λ y. ready p K r q.place q.seen (slice_index x 11) ++ store (write (r.slots + q.place) 4 (put p (slice_index x 11))) ∷ store y ∷ []) is_made
+            ∙ ap (λ y. ready p K r q.place q.copy q.seen (slice_index x 11)
+            ++ store (write (r.slots + q.place) 4 (put p (slice_index x 11))) ∷ store y ∷ []) is_made
             ∙ whole;
-        answers = if_false (says_no p K r q.place q.seen) 0 1 q.some;
+        answers = if_false (says_no p K r q.place q.copy q.seen) 0 1 q.some;
       }
 
   -- a0 is written
@@ -294,6 +339,7 @@ module _ (M n a b : ℕ) (p : Party) (K : Kind) (k : Block) (is : IsBlock M k) (
       let same : slice_index x 11 ≡ slice_index (slice_set x 10 y) 11 = eleven 10 y (λ e. omega arith) in
       record {
         place = f.place;
+        copy = f.copy;
         seen = f.seen;
         left = left_set nothing 10 y free_10 f.left;
         word = word_set 10 y (λ e. omega arith) f.word;
@@ -301,7 +347,7 @@ module _ (M n a b : ℕ) (p : Party) (K : Kind) (k : Block) (is : IsBlock M k) (
         level = f.level;
         among = f.among;
         words = f.words;
-        did = append-nil c.did ∙ f.did ∙ ap (λ w. all_accesses p K r w f.place f.seen) same;
+        did = append-nil c.did ∙ f.did ∙ ap (λ w. all_accesses p K r w f.place f.copy f.seen) same;
         answers = f.answers;
       }
 
@@ -338,7 +384,7 @@ module _ (M n a b : ℕ) (p : Party) (K : Kind) (k : Block) (is : IsBlock M k) (
       answered true [] (goes_on n k s (advanced s v) (number line) place ten twelve) (completes_none n k s (advanced s v) (number line) place ten twelve) refl
       (subst (λ ys. Moves n p K k r true ys c h s t v) (sym (append-nil ws)) moves)
 
-  module _ {m answer : ℕ} {ys : List ℕ} (le : m ≤ 10) (here : IsAt s (Jalr (reg_of 0) (reg_of 1) (pos 0)))
+  module _ {m answer : ℕ} {ys : List ℕ} (le : m < longest p r) (here : IsAt s (Jalr (reg_of 0) (reg_of 1) (pos 0)))
       (f : Ended n p K k r c m ys x (part p t) answer) where
     abbrev back : HartState
     back = goes_to s (slice_index x 1 / 2 * 2)
@@ -348,23 +394,25 @@ module _ (M n a b : ℕ) (p : Party) (K : Kind) (k : Block) (is : IsBlock M k) (
         (subst (λ y. y / 2 * 2 % 4 ≡ 0) (sym (back_of f.0.left)) f.0.left.args.back_aligned)
 
     effect : Effect p K r c.entry back (c.count + 1) (c.did ++ [])
-    effect = at p K f.0.word f.0.found f.0.did f.0.answers
+    effect = at p K le f.0.left f.0.word f.0.found f.0.did f.0.answers
       where
-        at : (p : Party) (K : Kind) → Word p c.entry (slice_index x 11) → Found p K f.0.seen (slice_index x 11)
-            → c.did ≡ all_accesses p K r (slice_index x 11) f.0.place f.0.seen → answer ≡ (if says_no p K r f.0.place f.0.seen then 0 else 1)
-            → Effect p K r c.entry back (c.count + 1) (c.did ++ [])
-        at the_sender K word found did answers = record {
-          returns = returned back le refl refl f.0.left;
+        at : (p2 : Party) (K : Kind) → m < longest p2 r → Left n p k c m x → Word p2 c.entry (slice_index x 11) → Found p2 K f.0.seen (slice_index x 11)
+            → c.did ≡ all_accesses p2 K r (slice_index x 11) f.0.place f.0.copy f.0.seen
+            → answer ≡ (if says_no p2 K r f.0.place f.0.copy f.0.seen then 0 else 1)
+            → Effect p2 K r c.entry back (c.count + 1) (c.did ++ [])
+        at the_sender K le left word found did answers = record {
+          returns = returned (longest the_sender r) back le refl refl left;
           word = word;
           head = f.0.place;
+          copy = f.0.copy;
           seen = f.0.seen;
           among = f.0.among.0;
           aligned = f.0.among.1;
-          accesses = append-nil c.did ∙ did ∙ ap (λ w. all_accesses the_sender K r w f.0.place f.0.seen) word;
+          accesses = append-nil c.did ∙ did ∙ ap (λ w. all_accesses the_sender K r w f.0.place f.0.copy f.0.seen) word;
           answer = f.1 ∙ answers;
         }
-        at the_receiver K word found did answers = record {
-          returns = returned back le refl refl f.0.left;
+        at the_receiver K le left word found did answers = record {
+          returns = returned (longest the_receiver r) back le refl refl left;
           tail = f.0.place;
           seen = f.0.seen;
           among = f.0.among.0;
@@ -386,13 +434,14 @@ module _ (M n a b : ℕ) (p : Party) (K : Kind) (k : Block) (is : IsBlock M k) (
     left_word : completed_word (advanced s v) ≡ (if slice_index x 10 == 1 then slice_index x 11 ∷ [] else [])
     left_word = ap completed_word (line.leaves v)
 
-  pub returns_1 : {m : ℕ} → m ≤ 10 → s.pc ≡ 4 * (n + 10) → IsAt s (Jalr (reg_of 0) (reg_of 1) (pos 0))
+  pub returns_1 : {m : ℕ} → m < longest p r → s.pc ≡ 4 * (n + 10) → IsAt s (Jalr (reg_of 0) (reg_of 1) (pos 0))
       → Ended n p K k r c m (ws ++ slice_index x 11 ∷ []) x (part p t) 1 → Answered
   returns_1 le place here f = answered false (slice_index x 11 ∷ []) (ends_10 n k s (advanced s v) place (goes_elsewhere le here f))
       (completes_one n k s (advanced s v) place f.1)
       (sym (left_word le here f ∙ ap (λ b. if b then slice_index x 11 ∷ [] else []) (eq-eqb (slice_index x 10) 1 f.1))) (goes_back le here f)
 
-  pub returns_0 : {m : ℕ} → m ≤ 10 → s.pc ≡ 4 * (n + 12) → IsAt s (Jalr (reg_of 0) (reg_of 1) (pos 0)) → Ended n p K k r c m ws x (part p t) 0 → Answered
+  pub returns_0 : {m : ℕ} → m < longest p r → s.pc ≡ 4 * (n + 12) → IsAt s (Jalr (reg_of 0) (reg_of 1) (pos 0))
+      → Ended n p K k r c m ws x (part p t) 0 → Answered
   returns_0 le place here f = answered false [] (ends_12 n k s (advanced s v) place (goes_elsewhere le here f))
       (completes_no_word n k s (advanced s v) place f.1)
       (sym (left_word le here f ∙ ap (λ b. if b then slice_index x 11 ∷ [] else []) (ne_eqb (slice_index x 10) 1 (λ e. omega (arith, f.1, e)))))

@@ -12,7 +12,8 @@ use Rattle.step_machine.specs.Entries.{hart_of, stores, lands, pending, read_byt
 use Rattle.step_machine.specs.Paths.{state_of}
 use Rattle.step_machine.specs.Legal.{Legal}
 use Rattle.spsc_queue.specs.RingBuffers.{Kind, lamport, fastforward, RingBuffer, capacity, writes_to}
-use Rattle.spsc_queue.specs.Protocol.{SenderState, resting, placed, roomy, filled, asked, ProtocolState, at_start, protocol_after, room_at, says_full, word_at}
+use Rattle.spsc_queue.specs.Protocol.{SenderState, resting, placed, renewing, roomy, filled, asked, ProtocolState}
+use Rattle.spsc_queue.specs.Protocol.{at_start, protocol_after, room_at, says_full, word_at}
 use Rattle.spsc_queue.specs.Protocol.{says_empty}
 use Rattle.spsc_queue.specs.Laws.{IsPrefix, FollowsSpscProtocol, available_of, available_count, available_words}
 use Rattle.spsc_queue.specs.StoreBuffers.{IsOnlyWriter, AllLeaveByte}
@@ -31,6 +32,7 @@ use Rattle.spsc_queue.proofs.Calls.{Stand, stands-at, calls_follow, here, was_he
 level-counts : (r : RingBuffer) (stored published : ℕ) (p : SenderState) → IsLevel p → IsPlaced r stored published p → stored ≡ published
 level-counts r stored published resting l h = h
 level-counts r stored published (placed u) l h = h.0
+level-counts r stored published (renewing u v) l h = h.0
 level-counts r stored published (roomy u) l h = h.0
 level-counts r stored published (filled u) l h = absurd l
 

@@ -43,10 +43,10 @@ module _ (B M : ℕ) (o : OpeningValue) (q : SpscQueue) (before es : List Entry)
 
   -- a party's state where it is known
   abbrev pub here : Party → List Entry → HartState
-  here p done = state_here M o (party_hart q p) (party_line q p) (listing_of K p) (has_of c p) (before ++ done)
+  here p done = state_here M o (party_hart q p) (party_line q p) (listing_of K k.caches p) (has_of c p) (before ++ done)
 
   pub was_here : (p : Party) (done : List Entry) → state_of M (history_of o (before ++ done)) (party_hart q p) ≡ Some (here p done)
-  was_here p done = is_here M o (party_hart q p) (party_line q p) (listing_of K p) (has_of c p) (before ++ done)
+  was_here p done = is_here M o (party_hart q p) (party_line q p) (listing_of K k.caches p) (has_of c p) (before ++ done)
 
   -- the protocol is kept so far, and each party stands in its code or in its function
   pub record Stand (done : List Entry) : Type 0 where
@@ -114,7 +114,7 @@ module _ (B M : ℕ) (o : OpeningValue) (q : SpscQueue) (before es : List Entry)
       moves : Moves n p K k r (is_in_call_after n k true s z) (A p ++ completed_at n true s) d (hart_of e) s T (value_of e)
           × (completed_at n true s ≡ (if is_in_call_after n k true s z then [] else completed_word z))
       moves = moves_at M n q.sender q.receiver p K k c.block (hart_of e) s T (value_of e) refl
-          (equipped M o (party_hart q p) n (listing_of K p) (has_of c p) (before ++ done) s was) (near p) d (A p) inside.line inside.place inside.row
+          (equipped M o (party_hart q p) n (listing_of K k.caches p) (has_of c p) (before ++ done) s was) (near p) d (A p) inside.line inside.place inside.row
 
       own_e : is_own (party_hart q p) e ≡ true
       own_e = own_is (party_hart q p) e mine act

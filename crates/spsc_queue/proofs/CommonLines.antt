@@ -1,5 +1,6 @@
 -- Lines that several of the functions have: each leads to a line `to`, whose row is what the line makes of its own.
-use Rattle.std.proofs.Common.{ℕ, pos, ◌+◌, ◌*◌, ◌%◌, ◌^◌, ◌<◌, ◌≤◌, ◌≡◌, ◌≢◌, ◌⊎◌, inl, inr, true, false, List, [], ◌∷◌, ◌++◌, refl, sym, ◌∙◌, ap, subst, arith}
+use Rattle.std.proofs.Common.{ℕ, pos, ◌+◌, ◌*◌, ◌%◌, ◌^◌, ◌<◌, ◌≤◌, ◌≡◌, ◌≢◌, ◌⊎◌, inl, inr, true, false, Some, List}
+use Rattle.std.proofs.Common.{[], ◌∷◌, ◌++◌, refl, sym, ◌∙◌, ap, subst, arith}
 use Rattle.std.specs.Prelude.{slice_index, slice_set}
 use Rattle.std.proofs.lemmas.Bool.{cases_eq}
 use Rattle.rv_decode.specs.Meaning.{reg_of}
@@ -16,15 +17,15 @@ use Rattle.hart.specs.Effects.{next_pc, address, read}
 use Rattle.hart.proofs.Instructions.{IsAt}
 use Rattle.step_machine.specs.Access.{nothing, load, store}
 use Rattle.spsc_queue.specs.RingBuffers.{Kind, RingBuffer, IsWordIn, next, overlaps}
-use Rattle.spsc_queue.specs.Protocol.{roomy, filled, ProtocolState, sends, next_by, room_at, says_full, IsWordAt, IsSendable, IsSenderStore}
-use Rattle.spsc_queue.specs.Calls.{Block, IsBlock, Party, the_sender, the_receiver, listing_of, ring_of}
-use Rattle.spsc_queue.specs.CallEffects.{send_accesses}
-use Rattle.spsc_queue.proofs.Lines.{word-plus, add_line, load_line, store_line, other_jumps, same_goes_on, goes_to, leaves_in}
+use Rattle.spsc_queue.specs.Protocol.{roomy, filled, ProtocolState, sends, next_by, IsWordAt, IsSendable, IsSenderStore}
+use Rattle.spsc_queue.specs.Calls.{Block, IsBlock, Party, the_sender, the_receiver, copy_in, listing_of, ring_of}
+use Rattle.spsc_queue.specs.CallEffects.{sees_full, look_accesses, send_accesses}
+use Rattle.step_machine.proofs.Lines.{word-plus, add_line, load_line, store_line, other_jumps, same_goes_on, goes_to, leaves_in}
 use Rattle.spsc_queue.proofs.Courses.{At, number, Equipped, Course, went, bytes_of}
-use Rattle.spsc_queue.proofs.Steps.{word_on}
+use Rattle.spsc_queue.proofs.Words.{word_overlaps}
 use Rattle.spsc_queue.proofs.Outline.{part, role, IsOffset, Near, index_at, ready, put, all_accesses, Fresh, Indexed, Ready, Half, Finished, Ended, Row}
 use Rattle.spsc_queue.proofs.Outline.{IsStore, Moves, Part, Stored}
-use Rattle.spsc_queue.proofs.Parts.{ready-offset, stored-offset, slot-sent}
+use Rattle.spsc_queue.proofs.Parts.{copied, ready-offset, stored-offset, slot-sent}
 use Rattle.spsc_queue.proofs.AllLines.{to_line, loads_to, stores_to, on, over, wraps_not, wraps, to_indexed, ready_5, ready_on, to_half, to_finished}
 use Rattle.spsc_queue.proofs.AllLines.{to_answer_1, to_answer_0, sets_10, if_false}
 
@@ -37,12 +38,18 @@ index_is : (k : Block) (a b : ℕ) (p : Party) → index_at p (ring_of k a b) �
 index_is k a b the_sender = omega arith
 index_is k a b the_receiver = refl
 
+off_index : (k : Block) (a b : ℕ) (p : Party) (c : ℕ) → copy_in k.kind k.caches k.base ≡ Some c
+    → (c + 4 ≤ index_at p (ring_of k a b)) ⊎ (index_at p (ring_of k a b) + 4 ≤ c)
+off_index k a b the_sender c at = inr (omega (arith, copied k c at))
+off_index k a b the_receiver c at = inl (omega (arith, copied k c at))
+
 gap_low : (p : Party) → (gap p ≤ 64) × (gap p % 4 ≡ 0)
 gap_low the_sender = (omega arith, refl)
 gap_low the_receiver = (omega arith, refl)
 
 module _ (M n a b : ℕ) (p : Party) (K : Kind) (k : Block) (is : IsBlock M k) (h : ℕ) (s : HartState) (t : ProtocolState) (v : ℕ)
-    (has : Equipped M n (listing_of K p) s) (near : Near k (part p t)) (c : Course) (ws : List ℕ) (j : ℕ) (place : s.pc ≡ 4 * (n + j)) (below : j ≤ 11) where
+    (has : Equipped M n (listing_of K k.caches p) s) (near : Near k (part p t)) (c : Course) (ws : List ℕ) (j : ℕ)
+    (place : s.pc ≡ 4 * (n + j)) (below : j ≤ 11) where
   abbrev r : RingBuffer
   r = ring_of k a b
 
@@ -122,8 +129,13 @@ module _ (M n a b : ℕ) (p : Party) (K : Kind) (k : Block) (is : IsBlock M k) (
         let made : Write = write (read x rs + 128) 4 (read x from) in
         let is_made : made ≡ write (r.slots + u) 4 (put p (slice_index x 11)) =
         ap (λ y. write y 4 (read x from)) (omega (arith, base)) ∙ ap (write (r.slots + u) 4) value in
-        let inside : IsWordIn r (r.slots + u) = record { above = omega arith; below = omega (arith, bound.0); aligned = omega (arith, is.aligned, bound.1) } in
-        let hits : overlaps r made ≡ true = word_on r made (r.slots + u) inside (record { place = omega (arith, base); width = refl }) in
+        let inside : IsWordIn r (r.slots + u) = record {
+          above = omega arith;
+          below = omega (arith, bound.0);
+          aligned = omega (arith, is.aligned, bound.1);
+          no_copy = λ d at. inl (omega (arith, copied k d at));
+        } in
+        let hits : overlaps r made ≡ true = word_overlaps r made (r.slots + u) inside (record { place = omega (arith, base); width = refl }) in
         let made_so = makes made hits is_made in
         stores_to M n a b p K k is h s t v has c ws to (read x rs + 128) (read x from)
         (store_line here (omega (arith, base, is.aligned, bound.1)) refl
@@ -134,8 +146,8 @@ module _ (M n a b : ℕ) (p : Party) (K : Kind) (k : Block) (is : IsBlock M k) (
     pub index_stores : {m i : ℕ} (from : Reg) → number to ≡ j + 1 → IsAt s (Store store_op.Word (reg_of 10) from (pos (gap p)))
         → (row : Half n p K k r c m i ws x (part p t)) → read x from ≡ slice_index x i
         → ((made : Write) → IsWordAt made (index_at p r) → made.value ≡ next r row.place → IsStore p K r t made)
-        → ready p K r row.place row.seen (slice_index x 11) ++ store (write (r.slots + row.place) 4 (put p (slice_index x 11))) ∷
-        store (write (index_at p r) 4 (next r row.place)) ∷ [] ≡ all_accesses p K r (slice_index x 11) row.place row.seen
+        → ready p K r row.place row.copy row.seen (slice_index x 11) ++ store (write (r.slots + row.place) 4 (put p (slice_index x 11))) ∷
+        store (write (index_at p r) 4 (next r row.place)) ∷ [] ≡ all_accesses p K r (slice_index x 11) row.place row.copy row.seen
         → ((made : Write) → Finished n p K k r (went c (store made)) (m + 1) (ws ++ slice_index x 11 ∷ []) x (part p (next_by K r (role p) t (store made))) 1
         → Row n p K k r (went c (store made)) ws to x (part p (next_by K r (role p) t (store made)))) → Moves n p K k r true ws c h s t v
     index_stores from is_next here row from_is rule whole so =
@@ -148,12 +160,13 @@ module _ (M n a b : ℕ) (p : Party) (K : Kind) (k : Block) (is : IsBlock M k) (
           above = omega (arith, index_is k a b p);
           below = omega (arith, index_is k a b p, (gap_low p).0);
           aligned = omega (arith, index_is k a b p, is.aligned, (gap_low p).1);
+          no_copy = λ d at. off_index k a b p d at;
         } in
         stores_to M n a b p K k is h s t v has c ws to (slice_index x 10 + gap p) (read x from)
         (store_line here (omega (arith, row.frame.block, is.aligned)) (gap_low p).1
         (omega (arith, row.frame.block, is.inside, has.words, (gap_low p).0)) (omega (arith, has.words, is.small)))
         (ahead (number to) is_next) (rule made word value)
-        (so made (to_finished M n a b p K k is h s t v has c ws made (word_on r made (index_at p r) inside word) row
+        (so made (to_finished M n a b p K k is h s t v has c ws made (word_overlaps r made (index_at p r) inside word) row
         (ap (λ y. write y 4 (read x from)) at ∙ ap (write (index_at p r) 4) value) bound whole))
 
     -- addi x10,x0,1 and addi x10,x0,0
@@ -193,7 +206,7 @@ module _ (K : Kind) (r : RingBuffer) (t : ProtocolState) (u : ℕ) where
   pub sender_publishes : t.sending ≡ filled u → (made : Write) → IsWordAt made r.head → made.value ≡ next r u → IsStore the_sender K r t made
   sender_publishes knows made word value = subst (λ q. IsSenderStore K r q made) (sym knows) (word, value)
 
-  pub send_whole : (v w : ℕ) → says_full K r u v ≡ false
-      → ready the_sender K r u v w ++ store (write (r.slots + u) 4 w) ∷ store (write r.head 4 (next r u)) ∷ [] ≡ send_accesses K r w u v
-  send_whole v w some = ap (λ ys. load r.head 4 u ∷ load (room_at K r u) 4 v ∷ ys)
-      (if_false (says_full K r u v) [] (store (write (r.slots + u) 4 w) ∷ store (write r.head 4 (next r u)) ∷ []) some)
+  pub send_whole : (d v w : ℕ) → sees_full r.copy K r u d v ≡ false
+      → ready the_sender K r u d v w ++ store (write (r.slots + u) 4 w) ∷ store (write r.head 4 (next r u)) ∷ [] ≡ send_accesses K r w u d v
+  send_whole d v w some = ap (λ ys. load r.head 4 u ∷ (look_accesses r.copy K r u d v ++ ys))
+      (if_false (sees_full r.copy K r u d v) [] (store (write (r.slots + u) 4 w) ∷ store (write r.head 4 (next r u)) ∷ []) some)

@@ -1,5 +1,6 @@
 -- What both functions' outlines share: the lines, the course of a call so far, and where a call goes on or ends.
-use Rattle.std.proofs.Common.{ℕ, ◌+◌, ◌*◌, ◌/◌, ◌≤◌, ◌≡◌, ◌≢◌, ◌==◌, ◌&&◌, ◌||◌, true, false, if◌then◌else◌, List, [], ◌∷◌, ◌++◌, length, sym, ◌∙◌, ap, subst}
+use Rattle.std.proofs.Common.{ℕ, ◌+◌, ◌*◌, ◌/◌, ◌<◌, ◌≤◌, ◌≡◌, ◌≢◌, ◌==◌, ◌&&◌, ◌||◌, true, false, if◌then◌else◌, List}
+use Rattle.std.proofs.Common.{[], ◌∷◌, ◌++◌, length, sym, ◌∙◌, ap, subst}
 use Rattle.std.proofs.Common.{arith}
 use Rattle.std.specs.Prelude.{slice_index, slice_set}
 use Rattle.std.proofs.lemmas.Bool.{eq-eqb, ne_eqb}
@@ -26,6 +27,10 @@ pub data At : Type 0 where
   at_28 : At
   at_2C : At
   at_30 : At
+  at_34 : At
+  at_38 : At
+  at_3C : At
+  at_40 : At
 
 abbrev pub number : At → ℕ
 number at_00 = 0
@@ -41,6 +46,10 @@ number at_24 = 9
 number at_28 = 10
 number at_2C = 11
 number at_30 = 12
+number at_34 = 13
+number at_38 = 14
+number at_3C = 15
+number at_40 = 16
 
 -- a hart that has a function in its code, as its opening left it
 pub record Equipped (M n : ℕ) (listing : List Listed) (s : HartState) : Type 0 where
@@ -105,8 +114,9 @@ module _ {n : ℕ} {p : Party} {k : Block} {c : Course} {m : ℕ} {x : List ℕ}
   back_of f = f.kept 1 (λ e. omega arith) (λ e. omega arith) (λ e. omega arith) (λ e. omega arith) (λ e. omega arith)
 
   -- a return
-  pub returned : (z : HartState) → m ≤ 10 → z.pc ≡ slice_index x 1 / 2 * 2 → z.registers ≡ x → Left n p k c m x → Returns c.entry z (c.count + 1)
-  returned z le place same f = record {
+  pub returned : (most : ℕ) (z : HartState) → m < most → z.pc ≡ slice_index x 1 / 2 * 2 → z.registers ≡ x → Left n p k c m x
+      → Returns most c.entry z (c.count + 1)
+  returned most z le place same f = record {
     back = place ∙ ap (λ y. y / 2 * 2) (back_of f);
     registers = subst (KeepsOtherRegisters c.entry.registers) (sym same) f.kept;
     short = omega (arith, f.count, le);

@@ -12,8 +12,8 @@ use Rattle.step_machine.specs.History.{OpeningValue}
 use Rattle.step_machine.specs.Entries.{store_of, land_of, write_of, pending, memory_byte, memory_word, read, stores, lands}
 use Rattle.step_machine.proofs.Appended.{pending-last}
 use Rattle.step_machine.proofs.Stays.{memory_byte-other, memory_byte-write}
-use Rattle.spsc_queue.specs.RingBuffers.{RingBuffer, IsWordIn, overlaps, writes_to}
-use Rattle.spsc_queue.proofs.Words.{seen, Tidy, off_word, whole_word, read_through}
+use Rattle.spsc_queue.specs.RingBuffers.{RingBuffer, IsWordIn}
+use Rattle.spsc_queue.proofs.Words.{shared, row_of, seen, Tidy, off_word, whole_word, read_through}
 
 -- ---- words of memory
 
@@ -28,7 +28,7 @@ module _ (o : OpeningValue) (es : List Entry) (e : Entry) where
       (λ i lt. memory_byte-write o es e w (a + i) is)
 
   -- a write off the block, of bytes or of a word
-  pub memory-off : (r : RingBuffer) (a : ℕ) (w : Write) → write_of es e ≡ w ∷ [] → IsWordIn r a → overlaps r w ≡ false
+  pub memory-off : (r : RingBuffer) (a : ℕ) (w : Write) → write_of es e ≡ w ∷ [] → IsWordIn r a → shared r w ≡ false
       → memory_word o (es ++ e ∷ []) a ≡ memory_word o es a
   memory-off r a w is word off = memory-after a w is ∙ off_word r w a (memory_byte o es) word off
 
@@ -38,30 +38,30 @@ module _ (o : OpeningValue) (es : List Entry) (e : Entry) where
 
 -- ---- what is pending
 
-pub on-append : (r : RingBuffer) (ws vs : List Write) → writes_to r (ws ++ vs) ≡ writes_to r ws ++ writes_to r vs
-on-append r ws vs = filter-append (overlaps r) ws vs
+pub on-append : (r : RingBuffer) (ws vs : List Write) → row_of r (ws ++ vs) ≡ row_of r ws ++ row_of r vs
+on-append r ws vs = filter-append (shared r) ws vs
 
-pub on-one : (r : RingBuffer) (w : Write) → overlaps r w ≡ true → writes_to r (w ∷ []) ≡ w ∷ []
+pub on-one : (r : RingBuffer) (w : Write) → shared r w ≡ true → row_of r (w ∷ []) ≡ w ∷ []
 on-one r w on = ap (λ b. if b then w ∷ [] else []) on
 
-pub on-none : (r : RingBuffer) (w : Write) → overlaps r w ≡ false → writes_to r (w ∷ []) ≡ []
+pub on-none : (r : RingBuffer) (w : Write) → shared r w ≡ false → row_of r (w ∷ []) ≡ []
 on-none r w off = ap (λ b. if b then w ∷ [] else []) off
 
 -- where what goes to the block is of whole words, all is tidy
-pub tidy-from : (r : RingBuffer) (ws : List Write) → All IsWholeWord (writes_to r ws) → All (Tidy r) ws
+pub tidy-from : (r : RingBuffer) (ws : List Write) → All IsWholeWord (row_of r ws) → All (Tidy r) ws
 tidy-from r [] all = All-nil (Tidy r)
-tidy-from r (w ∷ ws) all = at (overlaps r w) refl (λ more. tidy-from r ws more)
+tidy-from r (w ∷ ws) all = at (shared r w) refl (λ more. tidy-from r ws more)
   where
-    at : (b : Bool) → overlaps r w ≡ b → (All IsWholeWord (writes_to r ws) → All (Tidy r) ws) → All (Tidy r) (w ∷ ws)
+    at : (b : Bool) → shared r w ≡ b → (All IsWholeWord (row_of r ws) → All (Tidy r) ws) → All (Tidy r) (w ∷ ws)
     at false off rest =
-        All-cons (Tidy r) w ws (inl off) (rest (subst (All IsWholeWord) (ap (λ b. if b then w ∷ writes_to r ws else writes_to r ws) off) all))
+        All-cons (Tidy r) w ws (inl off) (rest (subst (All IsWholeWord) (ap (λ b. if b then w ∷ row_of r ws else row_of r ws) off) all))
     at true on rest =
-        let both : All IsWholeWord (w ∷ writes_to r ws) = subst (All IsWholeWord) (ap (λ b. if b then w ∷ writes_to r ws else writes_to r ws) on) all in
-        All-cons (Tidy r) w ws (inr (All-head IsWholeWord w (writes_to r ws) both)) (rest (All-tail IsWholeWord w (writes_to r ws) both))
+        let both : All IsWholeWord (w ∷ row_of r ws) = subst (All IsWholeWord) (ap (λ b. if b then w ∷ row_of r ws else row_of r ws) on) all in
+        All-cons (Tidy r) w ws (inr (All-head IsWholeWord w (row_of r ws) both)) (rest (All-tail IsWholeWord w (row_of r ws) both))
 
 -- what a hart reads in a word of the block: the last of its own pending stores there, else the word of memory
-pub reads-word : (r : RingBuffer) (o : OpeningValue) (es : List Entry) (h a : ℕ) → IsWordIn r a → All IsWholeWord (writes_to r (pending h es))
-    → read o es h a 4 ≡ seen a (memory_word o es a) (writes_to r (pending h es))
+pub reads-word : (r : RingBuffer) (o : OpeningValue) (es : List Entry) (h a : ℕ) → IsWordIn r a → All IsWholeWord (row_of r (pending h es))
+    → read o es h a 4 ≡ seen a (memory_word o es a) (row_of r (pending h es))
 reads-word r o es h a is all = read_through r a (memory_byte o es) (pending h es) is (tidy-from r (pending h es) all)
 
 module _ (es : List Entry) (e : Entry) (h : ℕ) (le : lands h es ≤ length (stores h es)) where

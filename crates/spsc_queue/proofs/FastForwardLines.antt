@@ -1,5 +1,6 @@
 -- FastForward's functions, line by line: what each line does keeps the protocol, and leads to the next line of the outline.
-use Rattle.std.proofs.Common.{ℕ, pos, ◌+◌, ◌*◌, ◌%◌, ◌^◌, ◌<◌, ◌≤◌, ◌≡◌, ◌≢◌, ◌==◌, not, ◌⊎◌, inl, inr, true, false, if◌then◌else◌, List, [], ◌∷◌, ◌++◌, refl}
+use Rattle.std.proofs.Common.{ℕ, pos, ◌+◌, ◌*◌, ◌%◌, ◌^◌, ◌<◌, ◌≤◌, ◌≡◌, ◌≢◌, ◌==◌, not, ◌⊎◌, inl, inr, true, false}
+use Rattle.std.proofs.Common.{if◌then◌else◌, None, List, [], ◌∷◌, ◌++◌, refl}
 use Rattle.std.proofs.Common.{sym, ◌∙◌, ap, subst, arith}
 use Rattle.std.specs.Prelude.{slice_index}
 use Rattle.std.proofs.lemmas.Bool.{cases_eq, eq-eqb, ne_eqb}
@@ -15,15 +16,18 @@ use Rattle.step_machine.specs.Access.{load, store}
 use Rattle.spsc_queue.specs.RingBuffers.{fastforward, RingBuffer, next, overlaps}
 use Rattle.spsc_queue.specs.Protocol.{placed, roomy, asked, holding, ProtocolState, receives, next_by, IsSendable, IsReceiverStore}
 use Rattle.spsc_queue.specs.FastForward.{fastforward_send, fastforward_receive}
-use Rattle.spsc_queue.specs.Calls.{Block, IsBlock, Party, the_sender, the_receiver, listing_of, ring_of}
-use Rattle.spsc_queue.specs.CallEffects.{take_accesses, receive_accesses}
-use Rattle.spsc_queue.proofs.Lines.{sum_line, load_line, same_jumps, other_goes_on, other_jumps, same_goes_on, goes_to, leaves_in}
+use Rattle.spsc_queue.specs.Calls.{Block, IsBlock, Party, the_sender, the_receiver, copy_in, listing_of, ring_of}
+use Rattle.spsc_queue.specs.CallEffects.{sees_full, take_accesses, receive_accesses}
+use Rattle.step_machine.proofs.Lines.{sum_line, load_line, same_jumps, other_goes_on, other_jumps, same_goes_on, goes_to, leaves_in}
 use Rattle.spsc_queue.proofs.Registers.{set-same, set-other}
-use Rattle.spsc_queue.proofs.Courses.{At, at_00, at_04, at_08, at_0C, at_10, at_14, at_18, at_1C, at_20, at_24, at_28, at_2C, at_30, number, Equipped, Course}
+use Rattle.spsc_queue.proofs.Courses.{At, at_00, at_04, at_08, at_0C, at_10, at_14, at_18, at_1C, at_20, at_24, at_28}
+use Rattle.spsc_queue.proofs.Courses.{at_2C, at_30, at_34, at_38, at_3C, at_40, number, Equipped}
+use Rattle.spsc_queue.proofs.Courses.{Course}
 use Rattle.spsc_queue.proofs.Courses.{free_6, free_11}
-use Rattle.spsc_queue.proofs.Outline.{Part, part, IsOffset, Near, Stored, IsStore, Row, Moves}
+use Rattle.spsc_queue.proofs.Outline.{Part, part, IsOffset, Near, first_look, Stored, IsStore, Row, Moves}
 use Rattle.spsc_queue.proofs.Parts.{slot-taken, knows-offset, looked-offset}
 use Rattle.spsc_queue.proofs.AllLines.{to_line, to_ready, loads_to, line_at, on, over, indexed_7, to_seen, to_no, word_set, if_false, Answered, none, returns_1}
+use Rattle.spsc_queue.proofs.AllLines.{found_room, looked_once, short}
 use Rattle.spsc_queue.proofs.AllLines.{returns_0}
 use Rattle.spsc_queue.proofs.CommonLines.{index_loads, bumps, zeroes, tests, slot_stores, index_stores, answers_1, answers_0, sender_puts, sender_publishes}
 use Rattle.spsc_queue.proofs.CommonLines.{send_whole}
@@ -36,7 +40,7 @@ module _ (M n a b : ℕ) (k : Block) (is : IsBlock M k) (h : ℕ) (s : HartState
   x = s.registers
 
   -- add x7,x10,x5
-  at-04 : (p : Party) (has : Equipped M n (listing_of fastforward p) s) → Near k (part p t) → (c : Course) (ws : List ℕ)
+  at-04 : (p : Party) (has : Equipped M n (listing_of fastforward k.caches p) s) → Near k (part p t) → (c : Course) (ws : List ℕ)
       → IsAt s (Register register.Add (reg_of 7) (reg_of 10) (reg_of 5)) → s.pc ≡ 4 * (n + 1)
       → Row n p fastforward k r c ws at_04 x (part p t) → Moves n p fastforward k r true ws c h s t v
   at-04 p has near c ws here place row =
@@ -51,7 +55,7 @@ module _ (M n a b : ℕ) (k : Block) (is : IsBlock M k) (h : ℕ) (s : HartState
       )
 
   -- where x7 leads to the slot
-  slot_below : (p : Party) (has : Equipped M n (listing_of fastforward p) s) → Near k (part p t) → (c : Course) (ws : List ℕ)
+  slot_below : (p : Party) (has : Equipped M n (listing_of fastforward k.caches p) s) → Near k (part p t) → (c : Course) (ws : List ℕ)
       → Row n p fastforward k r c ws at_08 x (part p t)
       → (slice_index x 7 % 4 ≡ 0) × (slice_index x 7 + 128 < 4 * s.words) × (4 * s.words ≤ 2 ^ 32)
   slot_below p has near c ws row =
@@ -61,9 +65,15 @@ module _ (M n a b : ℕ) (k : Block) (is : IsBlock M k) (h : ℕ) (s : HartState
   -- ---- fastforward_send
 
   module _ (kind : k.kind ≡ fastforward) (has : Equipped M n fastforward_send s) (near : Near k (part the_sender t)) (c : Course) (ws : List ℕ) where
+    no_copy : r.copy ≡ None
+    no_copy = ap (λ q. copy_in q k.caches k.base) kind
+
     abbrev Sends : At → Type 0
     Sends line = s.pc ≡ 4 * (n + number line) → Row n the_sender fastforward k r c ws line x (part the_sender t)
         → Moves n the_sender fastforward k r true ws c h s t v
+
+    look : (d : ℕ) → d ≡ r.slots + slice_index x 5 → d ≡ first_look r.copy (r.slots + slice_index x 5)
+    look d here = here ∙ sym (ap (λ q. first_look q (r.slots + slice_index x 5)) no_copy)
 
     sends_08 : Sends at_08  -- lw x6,128(x7)
     sends_08 place row =
@@ -73,7 +83,7 @@ module _ (M n a b : ℕ) (k : Block) (is : IsBlock M k) (h : ℕ) (s : HartState
         (on M n a b the_sender fastforward k is h s t v has c ws 2 place (omega arith)) (
           to_seen M n a b the_sender fastforward k is h s t v has c ws (slice_index x 7 + 128) 6 free_6 (λ e. omega arith) (λ e. omega arith) (omega arith)
               (word_set M n a b the_sender fastforward k is h s t v has c ws 6 v (λ e. omega arith) row.0.word)
-              (λ e. omega (arith, row.1)) (omega (arith, row.1)) row.0,
+              (λ e. omega (arith, row.1)) (look (slice_index x 7 + 128) (omega (arith, row.1))) row.0,
           set-other x 6 7 v (λ e. omega arith) ∙ row.1 ∙ ap (λ q. k.base + q) (sym (set-other x 6 5 v (λ e. omega arith))),
         )
 
@@ -86,15 +96,18 @@ module _ (M n a b : ℕ) (k : Block) (is : IsBlock M k) (h : ℕ) (s : HartState
             to_line M n a b the_sender fastforward k is h s t v has c ws at_10 (goes_to s (next_pc s.pc))
             (same_goes_on (line_at M n a b the_sender fastforward k is h s t v has c ws 3 place refl) equal)
             (on M n a b the_sender fastforward k is h s t v has c ws 3 place (omega arith))
-            (to_ready M n a b the_sender fastforward k is h s t v has c ws (λ u. k.base + u) some tt
-            (row.0.knows ∙ ap (λ q. if q then placed (slice_index x 5) else roomy (slice_index x 5)) some) row.1 refl row.0)
+            (to_ready M n a b the_sender fastforward k is h s t v has c ws (λ u. k.base + u) 4 (omega arith)
+            (found_room r.copy fastforward r (slice_index x 5) (slice_index x 6) some) tt
+            (row.0.knows ∙ ap (λ q. if q then placed (slice_index x 5) else roomy (slice_index x 5)) some) row.1
+            (looked_once fastforward r (slice_index x 5) (slice_index x 6) some) row.0)
         at (inr other) =
             let full : not (slice_index x 6 == 0) ≡ true = ap not (ne_eqb (slice_index x 6) 0 (λ e. other (e ∙ sym has.zero))) in
             to_line M n a b the_sender fastforward k is h s t v has c ws at_2C (goes_to s (address s.pc (pos 32)))
             (other_jumps (line_at M n a b the_sender fastforward k is h s t v has c ws 3 place refl) other
             (omega (arith, over M n a b the_sender fastforward k is h s t v has c ws 3 8 place (omega arith))))
             (over M n a b the_sender fastforward k is h s t v has c ws 3 8 place (omega arith))
-            (to_no M n a b the_sender fastforward k is h s t v has c ws full tt
+            (to_no M n a b the_sender fastforward k is h s t v has c ws (λ e. no_copy)
+            (ap (λ q. sees_full q fastforward r (slice_index x 5) (slice_index x 6) (slice_index x 6)) no_copy ∙ full) tt
             (looked-offset k the_sender fastforward r (slice_index x 5) (slice_index x 6) (part the_sender t) row.0.knows near) row.0)
 
     -- a line that doesn't return
@@ -130,17 +143,22 @@ module _ (M n a b : ℕ) (k : Block) (is : IsBlock M k) (h : ℕ) (s : HartState
     sends_at at_20 place row = sends at_20 (λ e. omega arith) (λ e. omega arith) place
         (index_stores M n a b the_sender fastforward k is h s t v has near c ws 8 place (omega arith) at_24 (reg_of 5) refl
         (line_at M n a b the_sender fastforward k is h s t v has c ws 8 place refl) row refl
-        (sender_publishes fastforward r t row.place row.knows) (send_whole fastforward r t row.place row.seen (slice_index x 11) row.some) (λ made q. q))
+        (sender_publishes fastforward r t row.place row.knows)
+        (send_whole fastforward r t row.place row.copy row.seen (slice_index x 11) row.some) (λ made q. q))
     sends_at at_24 place row = sends at_24 (λ e. omega arith) (λ e. omega arith) place
         (answers_1 M n a b the_sender fastforward k is h s t v has near c ws 9 place (omega arith) at_28 refl
         (line_at M n a b the_sender fastforward k is h s t v has c ws 9 place refl) row (λ q. q))
-    sends_at at_28 place row = returns_1 M n a b the_sender fastforward k is h s t v has c ws (omega arith) place
+    sends_at at_28 place row = returns_1 M n a b the_sender fastforward k is h s t v has c ws (omega (arith, short r.copy)) place
         (line_at M n a b the_sender fastforward k is h s t v has c ws 10 place refl) row
     sends_at at_2C place row = sends at_2C (λ e. omega arith) (λ e. omega arith) place
         (answers_0 M n a b the_sender fastforward k is h s t v has near c ws 11 place (omega arith) at_30 refl
         (line_at M n a b the_sender fastforward k is h s t v has c ws 11 place refl) row (λ q. q))
-    sends_at at_30 place row = returns_0 M n a b the_sender fastforward k is h s t v has c ws (omega arith) place
+    sends_at at_30 place row = returns_0 M n a b the_sender fastforward k is h s t v has c ws (omega (arith, short r.copy)) place
         (line_at M n a b the_sender fastforward k is h s t v has c ws 12 place refl) row
+    sends_at at_34 place row = absurd row
+    sends_at at_38 place row = absurd row
+    sends_at at_3C place row = absurd row
+    sends_at at_40 place row = absurd row
 
   -- ---- fastforward_receive
 
@@ -169,14 +187,14 @@ module _ (M n a b : ℕ) (k : Block) (is : IsBlock M k) (h : ℕ) (s : HartState
             (same_jumps (line_at M n a b the_receiver fastforward k is h s t v has c ws 3 place refl) equal
             (omega (arith, over M n a b the_receiver fastforward k is h s t v has c ws 3 8 place (omega arith))))
             (over M n a b the_receiver fastforward k is h s t v has c ws 3 8 place (omega arith))
-            (to_no M n a b the_receiver fastforward k is h s t v has c ws (eq-eqb (slice_index x 11) 0 (equal ∙ has.zero)) refl
+            (to_no M n a b the_receiver fastforward k is h s t v has c ws (λ e. cc) (eq-eqb (slice_index x 11) 0 (equal ∙ has.zero)) refl
             (looked-offset k the_receiver fastforward r (slice_index x 5) (slice_index x 11) (part the_receiver t) row.0.knows near) row.0)
         at (inr other) =
             let some : (slice_index x 11 == 0) ≡ false = ne_eqb (slice_index x 11) 0 (λ e. other (e ∙ sym has.zero)) in
             to_line M n a b the_receiver fastforward k is h s t v has c ws at_10 (goes_to s (next_pc s.pc))
             (other_goes_on (line_at M n a b the_receiver fastforward k is h s t v has c ws 3 place refl) other)
             (on M n a b the_receiver fastforward k is h s t v has c ws 3 place (omega arith))
-            (to_ready M n a b the_receiver fastforward k is h s t v has c ws (λ u. k.base + u) some refl
+            (to_ready M n a b the_receiver fastforward k is h s t v has c ws (λ u. k.base + u) 4 (omega arith) some refl
             (row.0.knows ∙ ap (λ q. if q then asked (slice_index x 5) else holding (slice_index x 5) (slice_index x 11)) some) row.1 refl row.0)
 
     -- the 0 goes to the slot, of which the word is taken
@@ -239,3 +257,7 @@ module _ (M n a b : ℕ) (k : Block) (is : IsBlock M k) (h : ℕ) (s : HartState
         (line_at M n a b the_receiver fastforward k is h s t v has c ws 11 place refl) row (λ q. q))
     takes_at at_30 place row = returns_0 M n a b the_receiver fastforward k is h s t v has c ws (omega arith) place
         (line_at M n a b the_receiver fastforward k is h s t v has c ws 12 place refl) row
+    takes_at at_34 place row = absurd row
+    takes_at at_38 place row = absurd row
+    takes_at at_3C place row = absurd row
+    takes_at at_40 place row = absurd row

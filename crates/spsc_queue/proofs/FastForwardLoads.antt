@@ -9,10 +9,11 @@ use Rattle.memory.specs.Writes.{write, IsWholeWord}
 use Rattle.step_machine.specs.declared.events.Entry.{Entry}
 use Rattle.step_machine.specs.History.{OpeningValue}
 use Rattle.step_machine.specs.Entries.{pending, memory_word, read}
-use Rattle.spsc_queue.specs.RingBuffers.{lamport, fastforward, RingBuffer, IsRingBuffer, offset, slot, writes_to}
-use Rattle.spsc_queue.specs.Protocol.{SenderState, resting, placed, roomy, filled, ReceiverState, idle, asked, waiting, holding, cleared, ProtocolState}
-use Rattle.spsc_queue.specs.Protocol.{send_look, send_load, receive_look, receive_load}
-use Rattle.spsc_queue.proofs.Words.{seen}
+use Rattle.spsc_queue.specs.RingBuffers.{lamport, fastforward, RingBuffer, IsRingBuffer, offset, slot}
+use Rattle.spsc_queue.specs.Protocol.{SenderState, resting, placed, renewing, roomy, filled, ReceiverState, idle, asked}
+use Rattle.spsc_queue.specs.Protocol.{waiting, holding, cleared, ProtocolState}
+use Rattle.spsc_queue.specs.Protocol.{looks_at, send_look, send_load, receive_look, receive_load}
+use Rattle.spsc_queue.proofs.Words.{row_of, seen}
 use Rattle.spsc_queue.proofs.Spread.{slot_apart, spread, spread-all, sent_store, sent-slot, sent-head, seen-heads, sent-whole, slot_not_head}
 use Rattle.spsc_queue.proofs.Effects.{reads-word}
 use Rattle.spsc_queue.proofs.Rows.{Earlier}
@@ -65,14 +66,14 @@ module _ (r : RingBuffer) (is : IsRingBuffer r) (L : ℕ → ℕ) (small : (j : 
   abbrev d : Landed
   d = inv.landed
 
-  pub mine-whole : All IsWholeWord (writes_to r (pending r.sender es))
+  pub mine-whole : All IsWholeWord (row_of r (pending r.sender es))
   mine-whole = subst (All IsWholeWord) (sym inv.buffers.rows.mine)
       (spread-all IsWholeWord (sent_store r L) (d.slots + d.heads) inv.buffers.unsent (sent-whole r is L small))
 
   pub cleared-whole : (p : ℕ) → IsWholeWord (cleared_store r p)
   cleared-whole p = sent-whole (turned r) (turned_is r is) zeros (λ j. omega arith) p
 
-  pub theirs-whole : All IsWholeWord (writes_to r (pending r.receiver es))
+  pub theirs-whole : All IsWholeWord (row_of r (pending r.receiver es))
   theirs-whole = subst (All IsWholeWord) (sym inv.buffers.rows.theirs)
       (spread-all IsWholeWord (cleared_store r) (d.cleared + d.tails) inv.buffers.unread cleared-whole)
 
@@ -169,7 +170,8 @@ module _ (r : RingBuffer) (is : IsRingBuffer r) (L : ℕ → ℕ) (small : (j : 
   send-looked : (a v : ℕ) (p : SenderState) → v ≡ read o es r.sender a 4 → SendingIs 0 r s.stored s.published d.cleared p
       → SendingIs 0 r s.stored s.published d.cleared (send_look fastforward r a v p)
   send-looked a v resting is_read holds = holds
-  send-looked a v (placed u) is_read holds = by (a == r.slots + u) refl (v == 0) refl
+  send-looked a v (placed u) is_read holds = subst (λ q. SendingIs 0 r s.stored s.published d.cleared (looks_at q fastforward r a u v)) (sym inv.copy)
+      (by (a == r.slots + u) refl (v == 0) refl)
     where
       by : (b : Bool) → (a == r.slots + u) ≡ b → (c : Bool) → (v == 0) ≡ c
           → SendingIs 0 r s.stored s.published d.cleared (if b then (if not c then placed u else roomy u) else placed u)
@@ -181,6 +183,7 @@ module _ (r : RingBuffer) (is : IsRingBuffer r) (L : ℕ → ℕ) (small : (j : 
           (holds.0, holds.1, omega (arith, other, inv.order.room))
       by true here false some = holds
       by false there c is_c = holds
+  send-looked a v (renewing u w) is_read holds = holds
   send-looked a v (roomy u) is_read holds = holds
   send-looked a v (filled u) is_read holds = holds
 
@@ -197,6 +200,7 @@ module _ (r : RingBuffer) (is : IsRingBuffer r) (L : ℕ → ℕ) (small : (j : 
       → SendingIs 0 r s.stored s.published d.cleared (send_load fastforward r a v p)
   sending-load a v resting is_read holds = send-head a v resting holds is_read (send-looked a v resting is_read holds)
   sending-load a v (placed u) is_read holds = send-head a v (placed u) holds.0 is_read (send-looked a v (placed u) is_read holds)
+  sending-load a v (renewing u w) is_read holds = send-head a v (renewing u w) holds.0 is_read (send-looked a v (renewing u w) is_read holds)
   sending-load a v (roomy u) is_read holds = send-head a v (roomy u) holds.0 is_read (send-looked a v (roomy u) is_read holds)
   sending-load a v (filled u) is_read holds = holds
 

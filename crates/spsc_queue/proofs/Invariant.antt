@@ -5,8 +5,11 @@ use Rattle.step_machine.specs.declared.events.Entry.{Entry}
 use Rattle.step_machine.specs.History.{OpeningValue}
 use Rattle.step_machine.specs.Entries.{memory_word}
 use Rattle.spsc_queue.specs.RingBuffers.{Kind, lamport, fastforward, RingBuffer, IsRingBuffer, offset, slot}
-use Rattle.spsc_queue.specs.Protocol.{SenderState, resting, placed, roomy, filled, ReceiverState, idle, asked, waiting, holding, cleared, ProtocolState}
+use Rattle.spsc_queue.specs.Protocol.{SenderState, resting, placed, renewing, roomy, filled, ReceiverState, idle, asked}
+use Rattle.spsc_queue.specs.Protocol.{waiting, holding, cleared, ProtocolState}
+use Rattle.spsc_queue.specs.Laws.{ready_by_state}
 use Rattle.spsc_queue.proofs.Spread.{sent_store, freed_store}
+use Rattle.spsc_queue.proofs.Copies.{Copied}
 use Rattle.spsc_queue.proofs.Rows.{Earlier, Rows, RowOrder}
 
 -- FastForward's receiver's row is the sender's of another ring: its index is the tail, its words are 0
@@ -17,8 +20,8 @@ pub turned_is : (r : RingBuffer) → IsRingBuffer r → IsRingBuffer (turned r)
 turned_is r is = record {
   parties = is.parties;
   some_slots = is.some_slots;
-  head = record { above = is.tail.above; below = is.tail.below; aligned = is.tail.aligned };
-  tail = record { above = is.head.above; below = is.head.below; aligned = is.head.aligned };
+  head = record { above = is.tail.above; below = is.tail.below; aligned = is.tail.aligned; no_copy = is.tail.no_copy };
+  tail = record { above = is.head.above; below = is.head.below; aligned = is.head.aligned; no_copy = is.head.no_copy };
   slots_above = is.slots_above;
   slots_below = is.slots_below;
   slots_aligned = is.slots_aligned;
@@ -26,6 +29,7 @@ turned_is r is = record {
   head_apart = is.tail_apart;
   tail_apart = is.head_apart;
   small = is.small;
+  copy = λ c e. record { kind = (is.copy c e).kind; above = (is.copy c e).above; below = (is.copy c e).below; apart = (is.copy c e).apart };
 }
 
 abbrev pub zeros : ℕ → ℕ
@@ -96,6 +100,8 @@ pub record Words (K : Kind) (r : RingBuffer) (L : ℕ → ℕ) (d : Landed) (wor
 abbrev pub SendingIs : (spare : ℕ) → RingBuffer → (stored published n : ℕ) → SenderState → Type 0
 SendingIs spare r stored published n resting = stored ≡ published
 SendingIs spare r stored published n (placed u) = (stored ≡ published) × (u ≡ offset r published)
+SendingIs spare r stored published n (renewing u v) =
+    (stored ≡ published) × (u ≡ offset r published) × ((j : ℕ) × (v ≡ offset r j) × (stored + 1 + spare ≤ j) × (j ≤ n + r.size))
 SendingIs spare r stored published n (roomy u) = (stored ≡ published) × (u ≡ offset r published) × (stored + 1 + spare ≤ n + r.size)
 SendingIs spare r stored published n (filled u) = (stored ≡ published + 1) × (u ≡ offset r published)
 
@@ -125,11 +131,13 @@ pub record Invariant (K : Kind) (r : RingBuffer) (L : ℕ → ℕ) (c : Earlier)
   pub buffers : Buffers K r L c es s.stored s.published s.taken s.consumed landed
   pub sent : s.sent ≡ firsts L s.stored
   pub received : s.received ≡ firsts L s.taken
+  pub copy : Copied K r.copy r o es (s.stored + ready_by_state s.sending) (freed K landed.cleared landed.tails)
 
 pub sending-more : (spare : ℕ) (r : RingBuffer) (stored published n m : ℕ) (p : SenderState) → n ≤ m → SendingIs spare r stored published n p
     → SendingIs spare r stored published m p
 sending-more spare r stored published n m resting le h = h
 sending-more spare r stored published n m (placed x) le h = h
+sending-more spare r stored published n m (renewing x v) le h = (h.0, h.1, (h.2.0, h.2.1, h.2.2, omega (arith, le, h.2.3)))
 sending-more spare r stored published n m (roomy x) le h = (h.0, h.1, omega (arith, le, h.2))
 sending-more spare r stored published n m (filled x) le h = h
 

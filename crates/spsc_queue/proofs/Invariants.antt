@@ -1,16 +1,25 @@
 -- The invariant of a queue of either kind: what keeps it, and what the laws take from it.
-use Rattle.std.proofs.Common.{ℕ, ◌+◌, ◌^◌, ◌<◌, ◌≤◌, ◌≡◌, List, [], ◌∷◌, ◌++◌, length, refl, sym, ◌∙◌, subst, arith}
+use Rattle.std.proofs.Common.{ℕ, ◌+◌, ◌^◌, ◌<◌, ◌≤◌, ◌≡◌, ◌≢◌, inl, inr, Option, Some, None, List, [], ◌∷◌, ◌++◌, length, refl, sym, ◌∙◌, ap, subst}
+use Rattle.std.proofs.Common.{arith}
+use Rattle.std.specs.Prelude.{All}
+use Rattle.std.proofs.lemmas.Bool.{cases_eq}
+use Rattle.memory.specs.declared.writes.Write.{Write}
 use Rattle.step_machine.specs.declared.events.Entry.{Entry}
 use Rattle.step_machine.specs.History.{OpeningValue}
-use Rattle.step_machine.specs.Entries.{read, stores, lands}
-use Rattle.spsc_queue.specs.RingBuffers.{Kind, lamport, fastforward, RingBuffer, IsRingBuffer, offset, capacity_of, IsEmptyAndQuiescent}
-use Rattle.spsc_queue.specs.Protocol.{SenderState, resting, placed, roomy, filled, ReceiverState, idle, asked, waiting, holding, cleared, ProtocolState}
+use Rattle.step_machine.specs.Entries.{pending, read, stores, lands}
+use Rattle.spsc_queue.specs.RingBuffers.{Kind, lamport, fastforward, RingBuffer, IsRingBuffer, offset, capacity_of, writes_to, IsEmptyAndQuiescent}
+use Rattle.spsc_queue.specs.StoreBuffers.{LeavesByte}
+use Rattle.spsc_queue.specs.Protocol.{SenderState, resting, placed, renewing, roomy, filled, ReceiverState, idle, asked}
+use Rattle.spsc_queue.specs.Protocol.{waiting, holding, cleared, ProtocolState}
 use Rattle.spsc_queue.specs.Protocol.{at_start, send_load, receive_load}
-use Rattle.spsc_queue.specs.Laws.{available_of}
+use Rattle.spsc_queue.specs.Laws.{available_of, ready_by_state}
 use Rattle.spsc_queue.proofs.Spread.{sent_store}
 use Rattle.spsc_queue.proofs.Rows.{row-none, RowOrder, Earlier, Rows, Stays, on_count}
 use Rattle.spsc_queue.proofs.Invariant.{firsts, spare, freed, there, their_store, their_landed, they_made, Theirs, SendingIs, ReceivingIs, Invariant}
 use Rattle.spsc_queue.proofs.Invariant.{freed_taken}
+use Rattle.spsc_queue.proofs.Words.{row_of, row_shorter}
+use Rattle.spsc_queue.proofs.Copies.{Copied, CopyStays, copied-on, none_leave, quiet_read}
+use Rattle.spsc_queue.proofs.Loads.{offset_again}
 use Rattle.spsc_queue.proofs.Loads as lamports
 use Rattle.spsc_queue.proofs.FastForwardLoads as fastforwards
 use Rattle.spsc_queue.proofs.Steps.{stays}
@@ -21,6 +30,7 @@ use Rattle.spsc_queue.proofs.Steps.{stays}
 abbrev pub IsPlaced : RingBuffer → (stored published : ℕ) → SenderState → Type 0
 IsPlaced r stored published resting = stored ≡ published
 IsPlaced r stored published (placed u) = (stored ≡ published) × (u ≡ offset r published)
+IsPlaced r stored published (renewing u v) = (stored ≡ published) × (u ≡ offset r published)
 IsPlaced r stored published (roomy u) = (stored ≡ published) × (u ≡ offset r published)
 IsPlaced r stored published (filled u) = (stored ≡ published + 1) × (u ≡ offset r published)
 
@@ -45,6 +55,7 @@ pub record Known (k : Kind) (r : RingBuffer) (L : ℕ → ℕ) (s : ProtocolStat
 placed-of : (spare : ℕ) (r : RingBuffer) (stored published n : ℕ) (p : SenderState) → SendingIs spare r stored published n p → IsPlaced r stored published p
 placed-of spare r stored published n resting h = h
 placed-of spare r stored published n (placed u) h = h
+placed-of spare r stored published n (renewing u v) h = (h.0, h.1)
 placed-of spare r stored published n (roomy u) h = (h.0, h.1)
 placed-of spare r stored published n (filled u) h = h
 
@@ -89,25 +100,40 @@ module _ (r : RingBuffer) (is : IsRingBuffer r) (L : ℕ → ℕ) (c : Earlier) 
 
   -- ---- a load of each party
 
-  module _ (e : Entry) (even : (h : ℕ) → lands h es ≤ length (stores h es)) (small : (j : ℕ) → L j < 2 ^ 32) where
+  module _ (e : Entry) (even : (h : ℕ) → lands h es ≤ length (stores h es)) (small : (j : ℕ) → L j < 2 ^ 32)
+      (copied : CopyStays r o es (es ++ e ∷ [])) where
     pub sender-loads : (k : Kind) → Invariant k r L c o es s → Stays r o es (es ++ e ∷ []) → (a v : ℕ) → v ≡ read o es r.sender a 4
         → Invariant k r L c o (es ++ e ∷ []) (record s { sending = send_load k r a v s.sending })
-    sender-loads lamport inv block a v found = stays lamport r is L c o es s inv e even (send_load lamport r a v s.sending) s.receiving block
-        (lamports.sending-load r is L small c o es s inv a v s.sending found inv.sending) inv.receiving
+    sender-loads lamport inv block a v found =
+        let more = lamports.sending-load r is L small c o es s inv a v s.sending found (inv.sending, inv.copy) in
+        let p : SenderState = send_load lamport r a v s.sending in
+        stays lamport r is L c o es s inv e even p s.receiving block more.0 inv.receiving
+        (copied-on lamport r.copy r o es (es ++ e ∷ []) (s.stored + ready_by_state p) inv.landed.tails
+        (s.stored + ready_by_state p) inv.landed.tails refl copied
+        (omega arith) (omega arith) more.1)
     sender-loads fastforward inv block a v found = stays fastforward r is L c o es s inv e even (send_load fastforward r a v s.sending) s.receiving block
-        (fastforwards.sending-load r is L small c o es s inv a v s.sending found inv.sending) inv.receiving
+        (fastforwards.sending-load r is L small c o es s inv a v s.sending found inv.sending) inv.receiving inv.copy
 
     pub receiver-loads : (k : Kind) → Invariant k r L c o es s → Stays r o es (es ++ e ∷ []) → (a v : ℕ) → v ≡ read o es r.receiver a 4
         → Invariant k r L c o (es ++ e ∷ []) (record s { receiving = receive_load k r a v s.receiving })
     receiver-loads lamport inv block a v found = stays lamport r is L c o es s inv e even s.sending (receive_load lamport r a v s.receiving) block
         inv.sending (lamports.receiving-load r is L small c o es s inv a v s.receiving found inv.receiving)
+        (copied-on lamport r.copy r o es (es ++ e ∷ []) (s.stored + ready_by_state s.sending) inv.landed.tails (s.stored + ready_by_state s.sending)
+        inv.landed.tails refl copied (omega arith) (omega arith) inv.copy)
     receiver-loads fastforward inv block a v found = stays fastforward r is L c o es s inv e even s.sending (receive_load fastforward r a v s.receiving) block
-        inv.sending (fastforwards.receiving-load r is L small c o es s inv a v s.receiving found inv.receiving)
+        inv.sending (fastforwards.receiving-load r is L small c o es s inv a v s.receiving found inv.receiving) inv.copy
 
 -- ---- where the block is empty and at rest
 
 abbrev pub earlier : RingBuffer → List Entry → Earlier
 earlier r es = record { sender = on_count r r.sender es; receiver = on_count r r.receiver es }
+
+pub row_none : (r : RingBuffer) (ws : List Write) → writes_to r ws ≡ [] → row_of r ws ≡ []
+row_none r ws none = at (row_of r ws) (omega (arith, row_shorter r ws, ap length none))
+  where
+    at : (vs : List Write) → length vs ≤ 0 → vs ≡ []
+    at [] le = refl
+    at (v ∷ vs) le = absurd (omega (arith, le))
 
 -- nothing is taken and nothing has landed
 none_theirs : (K : Kind) → Theirs K 0 0 0 0
@@ -143,15 +169,43 @@ at_rest k r is L o es quiet kind =
         unsent = 0;
         unread = 0;
         rows = subst (λ j. Rows r (earlier r es) (sent_store r L) (their_store k r) es 0 0 j 0) (sym none.2) (record {
-          mine = quiet.pending r.sender;
+          mine = none_row r.sender;
           mine_made = omega arith;
-          theirs = quiet.pending r.receiver;
+          theirs = none_row r.receiver;
           theirs_made = omega arith;
-          others = λ h not_sender not_receiver. quiet.pending h;
+          others = λ h not_sender not_receiver. none_row h;
         });
         mine_count = refl;
         theirs_count = omega (arith, none.2, none.3);
       };
       sent = refl;
       received = refl;
+      copy = copy_at_rest k r.copy refl kind;
     }
+  where
+    none_row : (h : ℕ) → row_of r (pending h es) ≡ []
+    none_row h = row_none r (pending h es) (quiet.pending h)
+
+    copy_at_rest : (k : Kind) (q : Option ℕ) → r.copy ≡ q → r.kind ≡ k → Copied k q r o es 0 (freed k 0 0)
+    copy_at_rest k None none kind = at k
+      where
+        at : (k : Kind) → Copied k None r o es 0 (freed k 0 0)
+        at lamport = tt
+        at fastforward = refl
+    copy_at_rest fastforward (Some a) some kind = absurd (let no : lamport ≡ fastforward = sym (is.copy a some).kind ∙ kind in cc)
+    copy_at_rest lamport (Some a) some kind =
+        let at = quiet.copy a some in
+        let in_block = is.copy a some in
+        let found : read o es r.sender a 4 ≡ offset r at.0 = quiet_read r o es r.sender a (quiet.pending r.sender) in_block.above in_block.below ∙ at.2 in
+        let alone : (x : ℕ) → a ≤ x → x < a + 4 → (h : ℕ) → h ≢ r.sender → All (LeavesByte x) (pending h es) =
+        λ x from below h other. none_leave r x (pending h es) (quiet.pending h) (omega (arith, from, in_block.above)) (omega (arith, below, in_block.below)) in
+        elim (cases_eq at.0 0) [
+          | inl zero ↦ record {
+            place = r.size;
+            reads = found ∙ ap (offset r) zero ∙ sym (offset_again r is 0 r.size (omega arith));
+            low = omega (arith, is.some_slots);
+            high = omega arith;
+            alone = alone;
+          }
+          | inr more ↦ record { place = at.0; reads = found; low = omega (arith, more); high = omega (arith, at.1); alone = alone }
+        ]

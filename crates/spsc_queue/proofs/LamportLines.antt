@@ -1,31 +1,57 @@
 -- Lamport's functions, line by line: what each line does keeps the protocol, and leads to the next line of the outline.
-use Rattle.std.proofs.Common.{ℕ, pos, ◌+◌, ◌*◌, ◌≤◌, ◌≡◌, ◌≢◌, ◌==◌, ◌⊎◌, inl, inr, true, false, if◌then◌else◌, List, [], ◌∷◌, ◌++◌, refl, sym, ◌∙◌, ap, subst}
-use Rattle.std.proofs.Common.{arith, append-nil}
-use Rattle.std.specs.Prelude.{slice_index, slice_set}
+use Rattle.std.proofs.Common.{ℕ, pos, negsuc, ◌+◌, ◌*◌, ◌%◌, ◌^◌, ◌<◌, ◌≤◌, ◌≡◌, ◌≢◌, ◌==◌, ◌&&◌, ◌⊎◌, inl, inr, true}
+use Rattle.std.proofs.Common.{false, if◌then◌else◌, List, [], ◌∷◌, ◌++◌}
+use Rattle.std.proofs.Common.{Some, None, refl, sym, ◌∙◌, ap, subst, arith, append-nil}
+use Rattle.std.specs.Prelude.{slice_index, slice_set, map}
+use Rattle.std.specs.List.{slice_get}
 use Rattle.std.proofs.lemmas.Bool.{cases_eq, eq-eqb, ne_eqb}
-use Rattle.rv_decode.specs.Meaning.{reg_of}
+use Rattle.std.proofs.lemmas.Bool.Decides.{nat_tests}
+use Rattle.rv_decode.specs.Meaning.{meaning, reg_of}
+use Rattle.rv_decode.specs.declared.instruction.BranchOp.TheVariants as branch
+use Rattle.rv_decode.specs.declared.instruction.ImmediateOp.TheVariants as immediate
+use Rattle.rv_decode.specs.declared.instruction.RegisterOp.TheVariants as register
+use Rattle.rv_decode.specs.declared.instruction.LoadOp.TheVariants as load_op
+use Rattle.rv_decode.specs.declared.instruction.StoreOp.TheVariants as store_op
+use Rattle.rv_decode.specs.declared.instruction.Instr.{Instr}
+use Rattle.rv_decode.specs.declared.instruction.Instr.TheVariants.{Branch, Load, Store, Immediate, Register}
 use Rattle.memory.specs.declared.writes.Write.{Write}
 use Rattle.memory.specs.Writes.{write}
 use Rattle.hart.specs.State.{HartState}
 use Rattle.hart.specs.Effects.{next_pc, address}
-use Rattle.step_machine.specs.Access.{nothing, load, store}
-use Rattle.spsc_queue.specs.RingBuffers.{lamport, RingBuffer, IsWordIn, next}
-use Rattle.spsc_queue.specs.Protocol.{placed, roomy, asked, waiting, holding, ProtocolState, IsWordAt, IsReceiverStore}
-use Rattle.spsc_queue.specs.Listings.{try_send, try_receive}
-use Rattle.spsc_queue.specs.Calls.{Block, IsBlock, the_sender, the_receiver, ring_of}
-use Rattle.spsc_queue.specs.CallEffects.{take_accesses}
-use Rattle.spsc_queue.proofs.Lines.{word-plus, add_line, sum_line, load_line, store_line, same_jumps, other_goes_on, other_jumps, same_goes_on, goes_to}
-use Rattle.spsc_queue.proofs.Lines.{leaves_in}
-use Rattle.spsc_queue.proofs.Registers.{set-same, set-other}
-use Rattle.spsc_queue.proofs.Courses.{At, at_00, at_04, at_08, at_0C, at_10, at_14, at_18, at_1C, at_20, at_24, at_28, at_2C, at_30, number, Equipped, Course}
-use Rattle.spsc_queue.proofs.Courses.{went, left_on, frame_on, frame_set, more_frame, bytes_of, free_6, free_7, free_11}
-use Rattle.spsc_queue.proofs.Steps.{word_on}
-use Rattle.spsc_queue.proofs.Outline.{Part, part, Level, IsOffset, IsFit, Near, Looked, looked, Seen, Row, Moves}
-use Rattle.spsc_queue.proofs.Parts.{level-next, word-load, tail-taken, looked-offset, ready-offset}
-use Rattle.spsc_queue.proofs.AllLines.{to_line, to_ready, loads_to, stores_to, line_at, on, over, wraps_not, wraps, to_seen, to_no, ready_5, word_set, if_false}
-use Rattle.spsc_queue.proofs.AllLines.{Answered, none, returns_1, returns_0}
+use Rattle.hart.proofs.Instructions.{IsAt}
+use Rattle.step_machine.specs.Access.{Access, nothing, load, store}
+use Rattle.spsc_queue.specs.RingBuffers.{Kind, lamport, fastforward, RingBuffer, IsWordIn, next, overlaps}
+use Rattle.spsc_queue.specs.Protocol.{SenderState, placed, renewing, roomy, asked, waiting, holding, ProtocolState}
+use Rattle.spsc_queue.specs.Protocol.{says_full, looks_past_copy, next_by, IsWordAt, IsCopyStore}
+use Rattle.spsc_queue.specs.Protocol.{IsSenderStore, IsReceiverStore}
+use Rattle.spsc_queue.specs.Listings.{try_send, try_receive, lines_of}
+use Rattle.spsc_queue.specs.Cached.{cached_send}
+use Rattle.spsc_queue.specs.Calls.{Block, IsBlock, the_sender, the_receiver, copy_in, listing_of, ring_of}
+use Rattle.spsc_queue.specs.CallEffects.{sees_full, look_accesses, take_accesses}
+use Rattle.step_machine.proofs.Lines.{word-plus, add_line, sum_line, load_line, store_line, jump_line, same_jumps, other_goes_on, other_jumps, same_goes_on}
+use Rattle.step_machine.proofs.Lines.{goes_to, leaves_in}
+use Rattle.spsc_queue.proofs.Words.{word_overlaps}
+use Rattle.spsc_queue.proofs.Registers.{set-same, set-other, decoded, code_room, next_line, line_on, line_back}
+use Rattle.spsc_queue.proofs.Courses.{At, at_00, at_04, at_08, at_0C, at_10, at_14, at_18, at_1C, at_20, at_24, at_28}
+use Rattle.spsc_queue.proofs.Courses.{at_2C, at_30, at_34, at_38, at_3C, at_40, number}
+use Rattle.spsc_queue.proofs.Courses.{Equipped, Course, went, left_on, frame_on, frame_set, more_left, more_frame, bytes_of, free_6, free_7, free_11}
+use Rattle.spsc_queue.proofs.Outline.{Part, part, role, Level, IsOffset, IsNear, IsFit, Near, first_look, Looked}
+use Rattle.spsc_queue.proofs.Outline.{looked, Seen, Past, Ready, Half, Finished, Ended}
+use Rattle.spsc_queue.proofs.Outline.{detour, Row, Moves}
+use Rattle.spsc_queue.proofs.Parts.{copied, level-next, past-load, word-load, copy-stored, tail-taken, looked-offset, ready-offset}
+use Rattle.spsc_queue.proofs.AllLines.{to_line, to_ready, loads_to, stores_to, line_at, line_of, on, over, wraps_not}
+use Rattle.spsc_queue.proofs.AllLines.{wraps, to_seen, to_no, ready_5, ready_on, word_set}
+use Rattle.spsc_queue.proofs.AllLines.{if_false, found_room, looked_once, short, Answered, none, returns_1, returns_0}
 use Rattle.spsc_queue.proofs.CommonLines.{index_loads, bumps, zeroes, tests, slot_stores, index_stores, answers_1, answers_0, sender_puts, sender_publishes}
 use Rattle.spsc_queue.proofs.CommonLines.{send_whole}
+
+abbrev stores_of : RingBuffer → (w u : ℕ) → List Access
+stores_of r w u = store (write (r.slots + u) 4 w) ∷ store (write r.head 4 (next r u)) ∷ []
+
+-- a block whose sender keeps no copy
+without_copy : (K : Kind) (base : ℕ) → copy_in K false base ≡ None
+without_copy lamport base = refl
+without_copy fastforward base = refl
 
 module _ (M n a b : ℕ) (k : Block) (is : IsBlock M k) (h : ℕ) (s : HartState) (t : ProtocolState) (v : ℕ) where
   abbrev r : RingBuffer
@@ -34,22 +60,24 @@ module _ (M n a b : ℕ) (k : Block) (is : IsBlock M k) (h : ℕ) (s : HartState
   abbrev x : List ℕ
   x = s.registers
 
-  -- ---- try_send
+  -- ---- the functions that send, with a copy of the tail and without one
 
-  module _ (has : Equipped M n try_send s) (near : Near k (part the_sender t)) (c : Course) (ws : List ℕ) where
+  module _ (has : Equipped M n (listing_of lamport k.caches the_sender) s) (near : Near k (part the_sender t)) (c : Course) (ws : List ℕ) where
     abbrev Sends : At → Type 0
     Sends line = s.pc ≡ 4 * (n + number line) → Row n the_sender lamport k r c ws line x (part the_sender t)
         → Moves n the_sender lamport k r true ws c h s t v
 
-    sends_04 : Sends at_04  -- lw x6,64(x10)
-    sends_04 place row =
-        loads_to M n a b the_sender lamport k is h s t v has c ws at_08 (slice_index x 10 + 64) (reg_of 6)
-        (load_line (line_at M n a b the_sender lamport k is h s t v has c ws 1 place refl) (omega (arith, row.frame.block, is.aligned)) refl
-        (omega (arith, row.frame.block, is.inside, has.words)) (omega (arith, has.words, is.small)))
+    -- lw x6,d(x10), of the tail or of its copy
+    sends_04 : (d : ℕ) → IsAt s (Load load_op.Word (reg_of 6) (reg_of 10) (pos d)) → d % 4 ≡ 0 → 4 ≤ d → d ≤ 64
+        → k.base + d ≡ first_look r.copy r.tail → Sends at_04
+    sends_04 d here even from upto looks place row =
+        loads_to M n a b the_sender lamport k is h s t v has c ws at_08 (slice_index x 10 + d) (reg_of 6)
+        (load_line here (omega (arith, row.frame.block, is.aligned)) even
+        (omega (arith, row.frame.block, is.inside, has.words, upto)) (omega (arith, has.words, is.small)))
         (on M n a b the_sender lamport k is h s t v has c ws 1 place (omega arith))
-        (to_seen M n a b the_sender lamport k is h s t v has c ws (slice_index x 10 + 64) 6 free_6 (λ e. omega arith) (λ e. omega arith) (omega arith)
+        (to_seen M n a b the_sender lamport k is h s t v has c ws (slice_index x 10 + d) 6 free_6 (λ e. omega arith) (λ e. omega arith) (omega arith)
         (word_set M n a b the_sender lamport k is h s t v has c ws 6 v (λ e. omega arith) row.word)
-        (λ e. omega (arith, row.frame.block)) (omega (arith, row.frame.block)) row)
+        (λ e. omega (arith, row.frame.block, from)) (ap (λ y. y + d) row.frame.block ∙ looks) row)
 
     -- x7 is written, or nothing
     still : {m : ℕ} (y : ℕ) → Seen n the_sender lamport k r c m 6 ws x (part the_sender t)
@@ -79,111 +107,345 @@ module _ (M n a b : ℕ) (k : Block) (is : IsBlock M k) (h : ℕ) (s : HartState
       did = append-nil c.did ∙ f.did;
     }
 
-    sends_08 : Sends at_08  -- addi x7,x5,4
-    sends_08 place row =
+    sends_08 : IsAt s (Immediate immediate.Add (reg_of 7) (reg_of 5) (pos 4)) → Sends at_08  -- addi x7,x5,4
+    sends_08 here place row =
         let up : ℕ = slice_index x 5 + 4 in
         let bound : IsOffset k (slice_index x 5) = looked-offset k the_sender lamport r (slice_index x 5)
         (slice_index x 6) (part the_sender t) row.knows near in
         to_line M n a b the_sender lamport k is h s t v has c ws at_0C (leaves_in s (reg_of 7) up)
-        (add_line (line_at M n a b the_sender lamport k is h s t v has c ws 2 place refl)
-        (word-plus (slice_index x 5) 4 (omega (arith, bound.0, is.inside, is.small))))
+        (add_line here (word-plus (slice_index x 5) 4 (omega (arith, bound.0, is.inside, is.small))))
         (on M n a b the_sender lamport k is h s t v has c ws 2 place (omega arith)) (
           still up row,
           set-same x 7 up (omega (arith, has.size)) ∙ ap (λ q. q + 4) (sym (set-other x 7 5 up (λ e. omega arith))),
         )
 
-    sends_0C : Sends at_0C  -- bne x7,x12,14
-    sends_0C place row = at (cases_eq (slice_index x 7) (slice_index x 12))
+    sends_0C : IsAt s (Branch branch.NotEqual (reg_of 7) (reg_of 12) (pos 8)) → Sends at_0C  -- bne x7,x12,14
+    sends_0C here place row = at (cases_eq (slice_index x 7) (slice_index x 12))
       where
         at : (slice_index x 7 ≡ slice_index x 12) ⊎ (slice_index x 7 ≢ slice_index x 12) → Moves n the_sender lamport k r true ws c h s t v
         at (inl equal) =
-            to_line M n a b the_sender lamport k is h s t v has c ws at_10 (goes_to s (next_pc s.pc))
-            (same_goes_on (line_at M n a b the_sender lamport k is h s t v has c ws 3 place refl) equal)
+            to_line M n a b the_sender lamport k is h s t v has c ws at_10 (goes_to s (next_pc s.pc)) (same_goes_on here equal)
             (on M n a b the_sender lamport k is h s t v has c ws 3 place (omega arith))
             (same (omega arith) row.0, omega (arith, equal, row.1, bytes_of row.0.frame.left))
         at (inr other) =
             to_line M n a b the_sender lamport k is h s t v has c ws at_14 (goes_to s (address s.pc (pos 8)))
-            (other_jumps (line_at M n a b the_sender lamport k is h s t v has c ws 3 place refl) other
-            (omega (arith, over M n a b the_sender lamport k is h s t v has c ws 3 2 place (omega arith))))
+            (other_jumps here other (omega (arith, over M n a b the_sender lamport k is h s t v has c ws 3 2 place (omega arith))))
             (over M n a b the_sender lamport k is h s t v has c ws 3 2 place (omega arith)) (
               same (omega arith) row.0,
               row.1 ∙ wraps_not M n a b the_sender lamport k is h s t v has c ws (slice_index x 5)
                   (λ e. other (omega (arith, row.1, e, bytes_of row.0.frame.left))),
             )
 
-    sends_10 : Sends at_10  -- addi x7,x0,0
-    sends_10 place row =
+    sends_10 : IsAt s (Immediate immediate.Add (reg_of 7) (reg_of 0) (pos 0)) → Sends at_10  -- addi x7,x0,0
+    sends_10 here place row =
         to_line M n a b the_sender lamport k is h s t v has c ws at_14 (leaves_in s (reg_of 7) 0)
-        (add_line (line_at M n a b the_sender lamport k is h s t v has c ws 4 place refl)
-        (word-plus (slice_index x 0) 0 (omega (arith, has.zero)) ∙ omega (arith, has.zero)))
+        (add_line here (word-plus (slice_index x 0) 0 (omega (arith, has.zero)) ∙ omega (arith, has.zero)))
         (on M n a b the_sender lamport k is h s t v has c ws 4 place (omega arith)) (
           still 0 row.0,
           set-same x 7 0 (omega (arith, has.size)) ∙ wraps M n a b the_sender lamport k is h s t v has c ws (slice_index x 5) row.1
               ∙ ap (next r) (sym (set-other x 7 5 0 (λ e. omega arith))),
         )
 
-    sends_18 : Sends at_18  -- add x5,x10,x5
-    sends_18 place row =
+    -- beq x6,x7,further: if there is room on, or else to this line
+    sends_14 : (m : ℕ) (to : At) → address s.pc (pos m) ≡ 4 * (n + number to) → IsAt s (Branch branch.Equal (reg_of 6) (reg_of 7) (pos m))
+        → (Seen n the_sender lamport k r c 5 6 ws x (part the_sender t) → slice_index x 7 ≡ next r (slice_index x 5)
+        → says_full lamport r (slice_index x 5) (slice_index x 6) ≡ true
+        → Row n the_sender lamport k r (went c nothing) ws to x (part the_sender t)) → Sends at_14
+    sends_14 m to there here full place row = by (cases_eq (slice_index x 6) (slice_index x 7))
+      where
+        by : (slice_index x 6 ≡ slice_index x 7) ⊎ (slice_index x 6 ≢ slice_index x 7) → Moves n the_sender lamport k r true ws c h s t v
+        by (inl equal) =
+            to_line M n a b the_sender lamport k is h s t v has c ws to (goes_to s (address s.pc (pos m))) (same_jumps here equal (omega (arith, there))) there
+            (full row.0 row.1 (eq-eqb (slice_index x 6) (next r (slice_index x 5)) (equal ∙ row.1)))
+        by (inr other) =
+            let some : (slice_index x 6 == next r (slice_index x 5)) ≡ false =
+            ne_eqb (slice_index x 6) (next r (slice_index x 5)) (λ e. other (e ∙ sym row.1)) in
+            to_line M n a b the_sender lamport k is h s t v has c ws at_18 (goes_to s (next_pc s.pc)) (other_goes_on here other)
+            (on M n a b the_sender lamport k is h s t v has c ws 5 place (omega arith))
+            (to_ready M n a b the_sender lamport k is h s t v has c ws (λ u. next r u) (6 + detour r.copy) (omega arith)
+            (found_room r.copy lamport r (slice_index x 5) (slice_index x 6) some) tt
+            (row.0.knows ∙ ap (λ q. if q then placed (slice_index x 5) else roomy (slice_index x 5)) some) row.1
+            (looked_once lamport r (slice_index x 5) (slice_index x 6) some) row.0)
+
+    sends_18 : IsAt s (Register register.Add (reg_of 5) (reg_of 10) (reg_of 5)) → Sends at_18  -- add x5,x10,x5
+    sends_18 here place row =
         let bound : IsOffset k row.place = ready-offset k the_sender row.place (slice_index x 11) (part the_sender t) row.knows near in
         to_line M n a b the_sender lamport k is h s t v has c ws at_1C (leaves_in s (reg_of 5) (slice_index x 10 + slice_index x 5))
-        (sum_line (line_at M n a b the_sender lamport k is h s t v has c ws 6 place refl)
-        (omega (arith, row.frame.block, row.x5, bound.0, is.inside, is.small)))
+        (sum_line here (omega (arith, row.frame.block, row.x5, bound.0, is.inside, is.small)))
         (on M n a b the_sender lamport k is h s t v has c ws 6 place (omega arith))
+        (subst (λ m. Ready n the_sender lamport k r (went c nothing) m ws (slice_set x 5 (slice_index x 10 + slice_index x 5)) (part the_sender t)
+        (λ u. k.base + u) (λ u. next r u)) (omega arith)
         (ready_5 M n a b the_sender lamport k is h s t v has c ws (λ u. u) (λ u. next r u) (λ u. k.base + u) (slice_index x 10 + slice_index x 5) row
-        (ap (λ q. q + slice_index x 5) row.frame.block ∙ ap (λ q. k.base + q) row.x5))
+        (ap (λ q. q + slice_index x 5) row.frame.block ∙ ap (λ q. k.base + q) row.x5)))
 
     -- a line that doesn't return
     sends : (line : At) → number line ≢ 10 → number line ≢ 12 → s.pc ≡ 4 * (n + number line) → Moves n the_sender lamport k r true ws c h s t v
         → Answered M n a b the_sender lamport k is h s t v has c ws
     sends line ten twelve place moves = none M n a b the_sender lamport k is h s t v has c ws line place ten twelve moves
 
-    pub sends_at : (line : At) → s.pc ≡ 4 * (n + number line) → Row n the_sender lamport k r c ws line x (part the_sender t)
+    -- from 1C on: the stores and the returns
+    sends_1C : IsAt s (Store store_op.Word (reg_of 5) (reg_of 11) (pos 128)) → Sends at_1C
+    sends_1C here place row =
+        slot_stores M n a b the_sender lamport k is h s t v has near c ws 7 place (omega arith) at_20 (λ u. k.base + u) (λ u. next r u)
+        (reg_of 5) (reg_of 11) 7 refl here row row.x5 refl row.x7
+        (sender_puts lamport r t row.place (slice_index x 11) row.knows (omega (arith, row.word, row.frame.left.args.word)) tt)
+        (λ made q. subst (λ m. Half n the_sender lamport k r (went c (store made)) m 7 ws x
+        (part the_sender (next_by lamport r (role the_sender) t (store made))))
+        (omega arith) q)
+
+    sends_20 : IsAt s (Store store_op.Word (reg_of 10) (reg_of 7) (pos 0)) → Sends at_20
+    sends_20 here place row =
+        index_stores M n a b the_sender lamport k is h s t v has near c ws 8 place (omega arith) at_24 (reg_of 7) refl here row refl
+        (sender_publishes lamport r t row.place row.knows) (send_whole lamport r t row.place row.copy row.seen (slice_index x 11) row.some)
+        (λ made q. subst (λ m. Finished n the_sender lamport k r (went c (store made)) m (ws ++ slice_index x 11 ∷ []) x
+        (part the_sender (next_by lamport r (role the_sender) t (store made))) 1) (omega arith) q)
+
+    sends_24 : IsAt s (Immediate immediate.Add (reg_of 10) (reg_of 0) (pos 1)) → Sends at_24
+    sends_24 here place row = answers_1 M n a b the_sender lamport k is h s t v has near c ws 9 place (omega arith) at_28 refl here row
+        (λ q. subst
+        (λ m. Ended n the_sender lamport k r (went c nothing) m (ws ++ slice_index (slice_set x 10 1) 11 ∷ [])
+        (slice_set x 10 1) (part the_sender t) 1)
+        (omega arith) q)
+
+    sends_2C : IsAt s (Immediate immediate.Add (reg_of 10) (reg_of 0) (pos 0)) → Sends at_2C
+    sends_2C here place row = answers_0 M n a b the_sender lamport k is h s t v has near c ws 11 place (omega arith) at_30 refl here row
+        (λ q. subst (λ m. Ended n the_sender lamport k r (went c nothing) m ws (slice_set x 10 0) (part the_sender t) 0) (omega arith) q)
+
+    -- try_send
+    pub sends_at : k.caches ≡ false → (line : At) → s.pc ≡ 4 * (n + number line) → Row n the_sender lamport k r c ws line x (part the_sender t)
         → Answered M n a b the_sender lamport k is h s t v has c ws
-    sends_at at_00 place row = sends at_00 (λ e. omega arith) (λ e. omega arith) place
-        (index_loads M n a b the_sender lamport k is h s t v has near c ws 0 place (omega arith) at_04 refl
-        (line_at M n a b the_sender lamport k is h s t v has c ws 0 place refl) row (λ q. q))
-    sends_at at_04 place row = sends at_04 (λ e. omega arith) (λ e. omega arith) place (sends_04 place row)
-    sends_at at_08 place row = sends at_08 (λ e. omega arith) (λ e. omega arith) place (sends_08 place row)
-    sends_at at_0C place row = sends at_0C (λ e. omega arith) (λ e. omega arith) place (sends_0C place row)
-    sends_at at_10 place row = sends at_10 (λ e. omega arith) (λ e. omega arith) place (sends_10 place row)
-    -- beq x6,x7,2C
-    sends_at at_14 place row = sends at_14 (λ e. omega arith) (λ e. omega arith) place (by (cases_eq (slice_index x 6) (slice_index x 7)))
+    sends_at plain = plain_at
       where
-        by : (slice_index x 6 ≡ slice_index x 7) ⊎ (slice_index x 6 ≢ slice_index x 7) → Moves n the_sender lamport k r true ws c h s t v
-        by (inl equal) =
-            to_line M n a b the_sender lamport k is h s t v has c ws at_2C (goes_to s (address s.pc (pos 24)))
-            (same_jumps (line_at M n a b the_sender lamport k is h s t v has c ws 5 place refl) equal
-            (omega (arith, over M n a b the_sender lamport k is h s t v has c ws 5 6 place (omega arith))))
-            (over M n a b the_sender lamport k is h s t v has c ws 5 6 place (omega arith))
-            (to_no M n a b the_sender lamport k is h s t v has c ws (eq-eqb (slice_index x 6) (next r (slice_index x 5)) (equal ∙ row.1)) tt
-            (looked-offset k the_sender lamport r (slice_index x 5) (slice_index x 6) (part the_sender t) row.0.knows near) row.0)
-        by (inr other) =
-            let some : (slice_index x 6 == next r (slice_index x 5)) ≡ false =
-            ne_eqb (slice_index x 6) (next r (slice_index x 5)) (λ e. other (e ∙ sym row.1)) in
-            to_line M n a b the_sender lamport k is h s t v has c ws at_18 (goes_to s (next_pc s.pc))
-            (other_goes_on (line_at M n a b the_sender lamport k is h s t v has c ws 5 place refl) other)
-            (on M n a b the_sender lamport k is h s t v has c ws 5 place (omega arith))
-            (to_ready M n a b the_sender lamport k is h s t v has c ws (λ u. next r u) some tt
-            (row.0.knows ∙ ap (λ q. if q then placed (slice_index x 5) else roomy (slice_index x 5)) some) row.1 refl row.0)
-    sends_at at_18 place row = sends at_18 (λ e. omega arith) (λ e. omega arith) place (sends_18 place row)
-    sends_at at_1C place row = sends at_1C (λ e. omega arith) (λ e. omega arith) place
-        (slot_stores M n a b the_sender lamport k is h s t v has near c ws 7 place (omega arith) at_20 (λ u. k.base + u) (λ u. next r u)
-        (reg_of 5) (reg_of 11) 7 refl (line_at M n a b the_sender lamport k is h s t v has c ws 7 place refl) row row.x5 refl row.x7
-        (sender_puts lamport r t row.place (slice_index x 11) row.knows (omega (arith, row.word, row.frame.left.args.word)) tt) (λ made q. q))
-    sends_at at_20 place row = sends at_20 (λ e. omega arith) (λ e. omega arith) place
-        (index_stores M n a b the_sender lamport k is h s t v has near c ws 8 place (omega arith) at_24 (reg_of 7) refl
-        (line_at M n a b the_sender lamport k is h s t v has c ws 8 place refl) row refl
-        (sender_publishes lamport r t row.place row.knows) (send_whole lamport r t row.place row.seen (slice_index x 11) row.some) (λ made q. q))
-    sends_at at_24 place row = sends at_24 (λ e. omega arith) (λ e. omega arith) place
-        (answers_1 M n a b the_sender lamport k is h s t v has near c ws 9 place (omega arith) at_28 refl
-        (line_at M n a b the_sender lamport k is h s t v has c ws 9 place refl) row (λ q. q))
-    sends_at at_28 place row = returns_1 M n a b the_sender lamport k is h s t v has c ws (omega arith) place
-        (line_at M n a b the_sender lamport k is h s t v has c ws 10 place refl) row
-    sends_at at_2C place row = sends at_2C (λ e. omega arith) (λ e. omega arith) place
-        (answers_0 M n a b the_sender lamport k is h s t v has near c ws 11 place (omega arith) at_30 refl
-        (line_at M n a b the_sender lamport k is h s t v has c ws 11 place refl) row (λ q. q))
-    sends_at at_30 place row = returns_0 M n a b the_sender lamport k is h s t v has c ws (omega arith) place
-        (line_at M n a b the_sender lamport k is h s t v has c ws 12 place refl) row
+        own : Equipped M n try_send s
+        own = subst (λ q. Equipped M n (listing_of lamport q the_sender) s) plain has
+
+        no_copy : r.copy ≡ None
+        no_copy = ap (λ q. copy_in k.kind q k.base) plain ∙ without_copy k.kind k.base
+
+        line_here : (j : ℕ) → s.pc ≡ 4 * (n + j) → {i : Instr}
+            → slice_get (map Some (lines_of try_send) ++ map meaning own.code.back) j ≡ Some (Some i) → IsAt s i
+        line_here j place found = line_of M n try_send s own (decoded lamport false the_sender) j place found
+
+        none_past : {m : ℕ} {q : SenderState} {more : List Access} → Past n k r c m ws x (part the_sender t) q more → ⊥
+        none_past row = absurd (let no : Some (k.base + 4) ≡ None = sym row.copies ∙ no_copy in cc)
+
+        plain_at : (line : At) → s.pc ≡ 4 * (n + number line) → Row n the_sender lamport k r c ws line x (part the_sender t)
+            → Answered M n a b the_sender lamport k is h s t v has c ws
+        plain_at at_00 place row = sends at_00 (λ e. omega arith) (λ e. omega arith) place
+            (index_loads M n a b the_sender lamport k is h s t v has near c ws 0 place (omega arith) at_04 refl (line_here 0 place refl) row (λ q. q))
+        plain_at at_04 place row = sends at_04 (λ e. omega arith) (λ e. omega arith) place
+            (sends_04 64 (line_here 1 place refl) refl (omega arith) (omega arith) (sym (ap (λ q. first_look q r.tail) no_copy)) place row)
+        plain_at at_08 place row = sends at_08 (λ e. omega arith) (λ e. omega arith) place (sends_08 (line_here 2 place refl) place row)
+        plain_at at_0C place row = sends at_0C (λ e. omega arith) (λ e. omega arith) place (sends_0C (line_here 3 place refl) place row)
+        plain_at at_10 place row = sends at_10 (λ e. omega arith) (λ e. omega arith) place (sends_10 (line_here 4 place refl) place row)
+        plain_at at_14 place row = sends at_14 (λ e. omega arith) (λ e. omega arith) place
+            (sends_14 24 at_2C (over M n a b the_sender lamport k is h s t v has c ws 5 6 place (omega arith)) (line_here 5 place refl)
+            (λ f after full. subst (λ m. Finished n the_sender lamport k r (went c nothing) m ws x (part the_sender t) 0)
+            (sym (ap (λ q. 6 + detour q) no_copy))
+            (to_no M n a b the_sender lamport k is h s t v has c ws (λ e. no_copy)
+            (ap (λ q. sees_full q lamport r (slice_index x 5) (slice_index x 6) (slice_index x 6)) no_copy ∙ full) tt
+            (looked-offset k the_sender lamport r (slice_index x 5) (slice_index x 6) (part the_sender t) f.knows near) f)) place row)
+        plain_at at_18 place row = sends at_18 (λ e. omega arith) (λ e. omega arith) place (sends_18 (line_here 6 place refl) place row)
+        plain_at at_1C place row = sends at_1C (λ e. omega arith) (λ e. omega arith) place (sends_1C (line_here 7 place refl) place row)
+        plain_at at_20 place row = sends at_20 (λ e. omega arith) (λ e. omega arith) place (sends_20 (line_here 8 place refl) place row)
+        plain_at at_24 place row = sends at_24 (λ e. omega arith) (λ e. omega arith) place (sends_24 (line_here 9 place refl) place row)
+        plain_at at_28 place row = returns_1 M n a b the_sender lamport k is h s t v has c ws (short r.copy) place (line_here 10 place refl) row
+        plain_at at_2C place row = sends at_2C (λ e. omega arith) (λ e. omega arith) place (sends_2C (line_here 11 place refl) place row)
+        plain_at at_30 place row = returns_0 M n a b the_sender lamport k is h s t v has c ws (omega (arith, short r.copy)) place (line_here 12 place refl) row
+        plain_at at_34 place row = absurd (none_past row)
+        plain_at at_38 place row = absurd (none_past row)
+        plain_at at_3C place row = absurd (none_past row.0)
+        plain_at at_40 place row = absurd (let no : Some (k.base + 4) ≡ None = sym row.1 ∙ no_copy in cc)
+
+    -- cached_send
+    pub caches_at : k.caches ≡ true → k.kind ≡ lamport → (line : At) → s.pc ≡ 4 * (n + number line)
+        → Row n the_sender lamport k r c ws line x (part the_sender t) → Answered M n a b the_sender lamport k is h s t v has c ws
+    caches_at keeps kind = cached_at
+      where
+        own : Equipped M n cached_send s
+        own = subst (λ q. Equipped M n (listing_of lamport q the_sender) s) keeps has
+
+        copies : r.copy ≡ Some (k.base + 4)
+        copies = ap (λ q. copy_in k.kind q k.base) keeps ∙ ap (λ q. copy_in q true k.base) kind
+
+        line_here : (j : ℕ) → s.pc ≡ 4 * (n + j) → {i : Instr}
+            → slice_get (map Some (lines_of cached_send) ++ map meaning own.code.back) j ≡ Some (Some i) → IsAt s i
+        line_here j place found = line_of M n cached_send s own (decoded lamport true the_sender) j place found
+
+        room : 4 * (n + 17) < 2 ^ 32
+        room = omega (arith, code_room s.code n cached_send own.code, own.code.small)
+
+        ahead : (j : ℕ) → s.pc ≡ 4 * (n + j) → j ≤ 15 → next_pc s.pc ≡ 4 * (n + (j + 1))
+        ahead j place le = next_line s.pc (n + j) place (omega (arith, room, le)) ∙ omega arith
+
+        -- the tail says so too
+        full_too : {m : ℕ} → Past n k r c m ws x (part the_sender t) (looks_past_copy lamport r (slice_index x 5) (slice_index x 6))
+            (load r.tail 4 (slice_index x 6) ∷ []) → m ≤ 7 → says_full lamport r (slice_index x 5) (slice_index x 6) ≡ true
+            → Finished n the_sender lamport k r (went c nothing) (6 + detour r.copy) ws x (part the_sender t) 0
+        full_too row le full =
+            let knows : t.sending ≡ placed (slice_index x 5) =
+            row.knows ∙ ap (λ q. if q then placed (slice_index x 5) else renewing (slice_index x 5) (slice_index x 6)) full in
+            let both_full : sees_full (Some (k.base + 4)) lamport r (slice_index x 5) row.copy (slice_index x 6) ≡ true =
+            ap (λ q. q && says_full lamport r (slice_index x 5) (slice_index x 6)) row.full ∙ full in
+            let found : sees_full r.copy lamport r (slice_index x 5) row.copy (slice_index x 6) ≡ true =
+            ap (λ q. sees_full q lamport r (slice_index x 5) row.copy (slice_index x 6)) copies ∙ both_full in
+            record {
+              place = slice_index x 5;
+              copy = row.copy;
+              seen = slice_index x 6;
+              left = more_left (omega (arith, le, ap detour copies)) (left_on nothing row.frame.left);
+              word = row.word;
+              found = tt;
+              level = row.level;
+              among = subst (IsNear k) knows near.sending;
+              words = row.words;
+              did = append-nil c.did ∙ row.did
+                  ∙ sym (ap (λ q. load r.head 4 (slice_index x 5) ∷ (look_accesses q lamport r (slice_index x 5) row.copy (slice_index x 6)
+                  ++ (if sees_full q lamport r (slice_index x 5) row.copy (slice_index x 6) then []
+                  else stores_of r (slice_index x 11)
+                  (slice_index x 5)))) copies
+                  ∙ ap (λ q. load r.head 4 (slice_index x 5) ∷ (load (k.base + 4) 4 row.copy
+                  ∷ (if q then load r.tail 4 (slice_index x 6) ∷ (if says_full lamport r (slice_index x 5) (slice_index x 6) then []
+                  else store (write (k.base + 4) 4 (slice_index x 6)) ∷ []) else [])
+                  ++ (if q && says_full lamport r (slice_index x 5) (slice_index x 6) then [] else stores_of r (slice_index x 11) (slice_index x 5)))) row.full
+                  ∙ ap (λ q. load r.head 4 (slice_index x 5) ∷ load (k.base + 4) 4 row.copy ∷ load r.tail 4 (slice_index x 6)
+                  ∷ ((if q then [] else store (write (k.base + 4) 4 (slice_index x 6)) ∷ [])
+                  ++ (if q then [] else stores_of r (slice_index x 11) (slice_index x 5)))) full);
+              answers = sym (ap (λ q. if q then 0 else 1) found);
+            }
+
+        cached_at : (line : At) → s.pc ≡ 4 * (n + number line) → Row n the_sender lamport k r c ws line x (part the_sender t)
+            → Answered M n a b the_sender lamport k is h s t v has c ws
+        cached_at at_00 place row = sends at_00 (λ e. omega arith) (λ e. omega arith) place
+            (index_loads M n a b the_sender lamport k is h s t v has near c ws 0 place (omega arith) at_04 refl (line_here 0 place refl) row (λ q. q))
+        cached_at at_04 place row = sends at_04 (λ e. omega arith) (λ e. omega arith) place
+            (sends_04 4 (line_here 1 place refl) refl (omega arith) (omega arith) (sym (ap (λ q. first_look q r.tail) copies)) place row)
+        cached_at at_08 place row = sends at_08 (λ e. omega arith) (λ e. omega arith) place (sends_08 (line_here 2 place refl) place row)
+        cached_at at_0C place row = sends at_0C (λ e. omega arith) (λ e. omega arith) place (sends_0C (line_here 3 place refl) place row)
+        cached_at at_10 place row = sends at_10 (λ e. omega arith) (λ e. omega arith) place (sends_10 (line_here 4 place refl) place row)
+        cached_at at_14 place row = sends at_14 (λ e. omega arith) (λ e. omega arith) place
+            (sends_14 32 at_34 (line_on s.pc (n + 5) 8 place (omega (arith, room)) ∙ omega arith) (line_here 5 place refl) (λ f after full. record {
+              copy = slice_index x 6;
+              copies = copies;
+              frame = frame_on nothing f.frame;
+              word = f.word;
+              knows = f.knows ∙ ap (λ q. if q then placed (slice_index x 5) else roomy (slice_index x 5)) full;
+              level = f.level;
+              full = full;
+              after = after;
+              words = f.words;
+              did = append-nil c.did ∙ f.did ∙ ap (λ q. load r.head 4 (slice_index x 5) ∷ load (first_look q r.tail) 4 (slice_index x 6) ∷ []) copies;
+            }) place row)
+        cached_at at_18 place row = sends at_18 (λ e. omega arith) (λ e. omega arith) place (sends_18 (line_here 6 place refl) place row)
+        cached_at at_1C place row = sends at_1C (λ e. omega arith) (λ e. omega arith) place (sends_1C (line_here 7 place refl) place row)
+        cached_at at_20 place row = sends at_20 (λ e. omega arith) (λ e. omega arith) place (sends_20 (line_here 8 place refl) place row)
+        cached_at at_24 place row = sends at_24 (λ e. omega arith) (λ e. omega arith) place (sends_24 (line_here 9 place refl) place row)
+        cached_at at_28 place row = returns_1 M n a b the_sender lamport k is h s t v has c ws (short r.copy) place (line_here 10 place refl) row
+        cached_at at_2C place row = sends at_2C (λ e. omega arith) (λ e. omega arith) place (sends_2C (line_here 11 place refl) place row)
+        cached_at at_30 place row = returns_0 M n a b the_sender lamport k is h s t v has c ws (omega (arith, short r.copy)) place (line_here 12 place refl) row
+        -- lw x6,64(x10)
+        cached_at at_34 place row =
+            let got : v ≡ slice_index (slice_set x 6 v) 6 = sym (set-same x 6 v (omega (arith, has.size))) in
+            let five : slice_index x 5 ≡ slice_index (slice_set x 6 v) 5 = sym (set-other x 6 5 v (λ e. omega arith)) in
+            let tail : slice_index x 10 + 64 ≡ r.tail = ap (λ y. y + 64) row.frame.block in
+            let does : Access = load (slice_index x 10 + 64) 4 v in
+            sends at_34 (λ e. omega arith) (λ e. omega arith) place
+            (loads_to M n a b the_sender lamport k is h s t v has c ws at_38 (slice_index x 10 + 64) (reg_of 6)
+            (load_line (line_here 13 place refl) (omega (arith, row.frame.block, is.aligned)) refl
+            (omega (arith, row.frame.block, is.inside, has.words)) (omega (arith, has.words, is.small)))
+            (ahead 13 place (omega arith)) (record {
+              copy = row.copy;
+              copies = copies;
+              frame = frame_set does 6 v free_6 (λ e. omega arith) row.frame;
+              word = word_set M n a b the_sender lamport k is h s t v has c ws 6 v (λ e. omega arith) row.word;
+              knows = past-load lamport r t (slice_index x 10 + 64) v (slice_index x 5) (k.base + 4) row.knows copies (λ e. omega (arith, tail, e))
+                  (λ e. omega (arith, tail, e)) tail
+                  ∙ ap (λ q. looks_past_copy lamport r q v) five ∙ ap (λ q. looks_past_copy lamport r (slice_index (slice_set x 6 v) 5) q) got;
+              level = (level-next lamport r the_sender t does tt row.level).0;
+              full = subst (λ q. says_full lamport r q row.copy ≡ true) five row.full;
+              after = set-other x 6 7 v (λ e. omega arith) ∙ row.after ∙ ap (next r) five;
+              words = row.words;
+              did = ap (λ zs. zs ++ does ∷ []) row.did
+                  ∙ ap (λ q. load r.head 4 (slice_index x 5) ∷ load (k.base + 4) 4 row.copy ∷ load q 4 v ∷ []) tail
+                  ∙ ap (λ q. load r.head 4 q ∷ load (k.base + 4) 4 row.copy ∷ load r.tail 4 v ∷ []) five
+                  ∙ ap (λ q. load r.head 4 (slice_index (slice_set x 6 v) 5) ∷ load (k.base + 4) 4 row.copy ∷ load r.tail 4 q ∷ []) got;
+            }))
+        -- beq x6,x7,2C
+        cached_at at_38 place row = sends at_38 (λ e. omega arith) (λ e. omega arith) place (by (cases_eq (slice_index x 6) (slice_index x 7)))
+          where
+            by : (slice_index x 6 ≡ slice_index x 7) ⊎ (slice_index x 6 ≢ slice_index x 7) → Moves n the_sender lamport k r true ws c h s t v
+            by (inl equal) =
+                let there : address s.pc (negsuc 11) ≡ 4 * (n + 11) =
+                line_back s.pc (n + 14) 3 11 place (omega (arith, room)) refl (omega arith) ∙ omega arith in
+                to_line M n a b the_sender lamport k is h s t v has c ws at_2C (goes_to s (address s.pc (negsuc 11)))
+                (same_jumps (line_here 14 place refl) equal (omega (arith, there))) there
+                (full_too row (omega arith) (eq-eqb (slice_index x 6) (next r (slice_index x 5)) (equal ∙ row.after)))
+            by (inr other) =
+                let some : (slice_index x 6 == next r (slice_index x 5)) ≡ false =
+                ne_eqb (slice_index x 6) (next r (slice_index x 5)) (λ e. other (e ∙ sym row.after)) in
+                to_line M n a b the_sender lamport k is h s t v has c ws at_3C (goes_to s (next_pc s.pc)) (other_goes_on (line_here 14 place refl) other)
+                (ahead 14 place (omega arith)) (
+                  record {
+                    copy = row.copy;
+                    copies = copies;
+                    frame = frame_on nothing row.frame;
+                    word = row.word;
+                    knows = row.knows ∙ ap (λ q. if q then placed (slice_index x 5) else renewing (slice_index x 5) (slice_index x 6)) some;
+                    level = row.level;
+                    full = row.full;
+                    after = row.after;
+                    words = row.words;
+                    did = append-nil c.did ∙ row.did;
+                  },
+                  some,
+                )
+        -- sw x6,4(x10)
+        cached_at at_3C place row =
+            let made : Write = write (slice_index x 10 + 4) 4 (slice_index x 6) in
+            let here : slice_index x 10 + 4 ≡ k.base + 4 = ap (λ y. y + 4) row.0.frame.block in
+            let hits : overlaps r made ≡ true = grind (arith, nat_tests, row.0.frame.block) in
+            let becomes = copy-stored lamport r made hits t (slice_index x 5) (slice_index x 6) row.0.knows in
+            sends at_3C (λ e. omega arith) (λ e. omega arith) place
+            (stores_to M n a b the_sender lamport k is h s t v has c ws at_40 (slice_index x 10 + 4) (slice_index x 6)
+            (store_line (line_here 15 place refl) (omega (arith, row.0.frame.block, is.aligned)) refl
+            (omega (arith, row.0.frame.block, is.inside, has.words)) (omega (arith, has.words, is.small)))
+            (ahead 15 place (omega arith))
+            (subst (λ q. IsSenderStore lamport r q made) (sym row.0.knows)
+            (subst (λ q. IsCopyStore q (slice_index x 6) made) (sym copies) (record { place = here; width = refl }, refl))) (
+              record {
+                place = slice_index x 5;
+                copy = row.0.copy;
+                seen = slice_index x 6;
+                frame = frame_on (store made) row.0.frame;
+                word = row.0.word;
+                found = tt;
+                knows = ap (λ (y : Part). y.sending) becomes;
+                level = subst Level (sym becomes) (record { sending = tt; receiving = tt });
+                some = ap (λ q. sees_full q lamport r (slice_index x 5) row.0.copy (slice_index x 6)) copies
+                    ∙ ap (λ q. q && says_full lamport r (slice_index x 5) (slice_index x 6)) row.0.full ∙ row.1;
+                x5 = refl;
+                x7 = row.0.after;
+                words = ap (λ (y : Part). y.words) becomes ∙ row.0.words;
+                did = ap (λ zs. zs ++ store made ∷ []) row.0.did
+                    ∙ ap (λ q. load r.head 4 (slice_index x 5) ∷ load (k.base + 4) 4 row.0.copy ∷ load r.tail 4 (slice_index x 6)
+                    ∷ store (write q 4 (slice_index x 6)) ∷ []) here
+                    ∙ sym (ap (λ q. load r.head 4 (slice_index x 5) ∷ look_accesses q lamport r (slice_index x 5) row.0.copy (slice_index x 6)) copies
+                    ∙ ap (λ q. load r.head 4 (slice_index x 5) ∷ load (k.base + 4) 4 row.0.copy ∷ (if q then load r.tail 4 (slice_index x 6)
+                    ∷ (if says_full lamport r (slice_index x 5) (slice_index x 6) then []
+                    else store (write (k.base + 4) 4 (slice_index x 6))
+                    ∷ []) else [])) row.0.full
+                    ∙ ap (λ q. load r.head 4 (slice_index x 5) ∷ load (k.base + 4) 4 row.0.copy ∷ load r.tail 4 (slice_index x 6)
+                    ∷ (if q then [] else store (write (k.base + 4) 4 (slice_index x 6)) ∷ [])) row.1);
+              },
+              copies,
+            ))
+        -- jal x0,18
+        cached_at at_40 place row =
+            let there : address s.pc (negsuc 39) ≡ 4 * (n + 6) = line_back s.pc (n + 16) 10 39 place (omega (arith, room)) refl (omega arith) ∙ omega arith in
+            sends at_40 (λ e. omega arith) (λ e. omega arith) place
+            (to_line M n a b the_sender lamport k is h s t v has c ws at_18 (goes_to s (address s.pc (negsuc 39)))
+            (jump_line (line_here 16 place refl) (omega (arith, there))) there
+            (ready_on M n a b the_sender lamport k is h s t v has c ws (λ u. u) (λ u. next r u) (λ u. u) (omega (arith, ap detour copies)) row.0 refl))
 
   -- ---- try_receive
 
@@ -210,7 +472,7 @@ module _ (M n a b : ℕ) (k : Block) (is : IsBlock M k) (h : ℕ) (s : HartState
             (same_jumps (line_at M n a b the_receiver lamport k is h s t v has c ws 2 place refl) equal
             (omega (arith, over M n a b the_receiver lamport k is h s t v has c ws 2 9 place (omega arith))))
             (over M n a b the_receiver lamport k is h s t v has c ws 2 9 place (omega arith))
-            (to_no M n a b the_receiver lamport k is h s t v has c ws (eq-eqb (slice_index x 6) (slice_index x 5) (sym equal)) tt
+            (to_no M n a b the_receiver lamport k is h s t v has c ws (λ e. cc) (eq-eqb (slice_index x 6) (slice_index x 5) (sym equal)) tt
             (looked-offset k the_receiver lamport r (slice_index x 5) (slice_index x 6) (part the_receiver t) row.knows near) row)
         at (inr other) =
             let some : (slice_index x 6 == slice_index x 5) ≡ false = ne_eqb (slice_index x 6) (slice_index x 5) (λ e. other (sym e)) in
@@ -256,6 +518,7 @@ module _ (M n a b : ℕ) (k : Block) (is : IsBlock M k) (h : ℕ) (s : HartState
         (omega (arith, row.1, bound.0, is.inside, has.words)) (omega (arith, has.words, is.small)))
         (on M n a b the_receiver lamport k is h s t v has c ws 4 place (omega arith)) (record {
           place = u;
+          copy = row.0.seen;
           seen = row.0.seen;
           frame = frame_set (load (slice_index x 7 + 128) 4 v) 11 v free_11 (λ e. omega arith) row.0.frame;
           word = tt;
@@ -278,14 +541,20 @@ module _ (M n a b : ℕ) (k : Block) (is : IsBlock M k) (h : ℕ) (s : HartState
         let made : Write = write (slice_index x 10 + 64) 4 (slice_index x 5) in
         let here : IsWordAt made r.tail = record { place = omega (arith, row.frame.block); width = refl } in
         let is_made : made ≡ write r.tail 4 (next r u) = ap (λ y. write y 4 (slice_index x 5)) here.place ∙ ap (write r.tail 4) row.x5 in
-        let inside : IsWordIn r r.tail = record { above = omega arith; below = omega arith; aligned = omega (arith, is.aligned) } in
-        let becomes = tail-taken lamport r made (word_on r made r.tail inside here) t u (slice_index x 11) row.knows in
+        let inside : IsWordIn r r.tail = record {
+          above = omega arith;
+          below = omega arith;
+          aligned = omega (arith, is.aligned);
+          no_copy = λ d at. inl (omega (arith, copied k d at));
+        } in
+        let becomes = tail-taken lamport r made (word_overlaps r made r.tail inside here) t u (slice_index x 11) row.knows in
         stores_to M n a b the_receiver lamport k is h s t v has c ws at_24 (slice_index x 10 + 64) (slice_index x 5)
         (store_line (line_at M n a b the_receiver lamport k is h s t v has c ws 8 place refl) (omega (arith, row.frame.block, is.aligned)) refl
         (omega (arith, row.frame.block, is.inside, has.words)) (omega (arith, has.words, is.small)))
         (on M n a b the_receiver lamport k is h s t v has c ws 8 place (omega arith))
         (subst (λ q. IsReceiverStore lamport r q made) (sym row.knows) (here, row.x5)) (record {
           place = u;
+          copy = row.copy;
           seen = row.seen;
           left = left_on (store made) row.frame.left;
           word = tt;
@@ -334,3 +603,7 @@ module _ (M n a b : ℕ) (k : Block) (is : IsBlock M k) (h : ℕ) (s : HartState
         (line_at M n a b the_receiver lamport k is h s t v has c ws 11 place refl) row (λ q. q))
     takes_at at_30 place row = returns_0 M n a b the_receiver lamport k is h s t v has c ws (omega arith) place
         (line_at M n a b the_receiver lamport k is h s t v has c ws 12 place refl) row
+    takes_at at_34 place row = absurd row
+    takes_at at_38 place row = absurd row
+    takes_at at_3C place row = absurd row
+    takes_at at_40 place row = absurd row

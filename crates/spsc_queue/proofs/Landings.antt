@@ -10,10 +10,12 @@ use Rattle.step_machine.specs.Access.{land, access_of}
 use Rattle.step_machine.specs.Entries.{hart_of, pending, memory_word, stores, lands}
 use Rattle.spsc_queue.specs.RingBuffers.{Kind, lamport, fastforward, RingBuffer, IsRingBuffer, IsWordIn, offset, slot}
 use Rattle.spsc_queue.specs.Protocol.{ProtocolState, sends, receives, passes, role_of}
+use Rattle.spsc_queue.specs.Laws.{ready_by_state}
 use Rattle.spsc_queue.proofs.Spread.{slot_apart, sent_store, sent-slot, sent-head, slot_not_head, slot_not_tail, offset_low}
 use Rattle.spsc_queue.proofs.Rows.{RowOrder, slot-landed, head-landed, Earlier, Rows, Lands, hit, miss, landing}
 use Rattle.spsc_queue.proofs.Invariant.{turned, zeros, Landed, spare, freed, there, their_store, their_landed, Theirs, Words, Invariant, sending-more}
 use Rattle.spsc_queue.proofs.Invariant.{receiving-more, freed_taken, there_slots, there_more}
+use Rattle.spsc_queue.proofs.Copies.{Copied, CopyStays, copied-on}
 use Rattle.spsc_queue.proofs.Loads.{slot_word, slot_again}
 use Rattle.spsc_queue.proofs.Steps.{idles}
 
@@ -38,12 +40,17 @@ role-cases r h = at (h == r.sender) refl (h == r.receiver) refl
     ))
 
 module _ (K : Kind) (r : RingBuffer) (is : IsRingBuffer r) (L : ℕ → ℕ) (small : (j : ℕ) → L j < 2 ^ 32) (c : Earlier) (o : OpeningValue) (es : List Entry)
-    (s : ProtocolState) (inv : Invariant K r L c o es s) (e : Entry) where
+    (s : ProtocolState) (inv : Invariant K r L c o es s) (e : Entry) (copied : CopyStays r o es (es ++ e ∷ [])) where
   abbrev d : Landed
   d = inv.landed
 
   abbrev after : List Entry
   after = es ++ e ∷ []
+
+  -- the copy stays where as many slots or more are freed
+  copy-stays : (m : ℕ) → freed K d.cleared d.tails ≤ m → Copied K r.copy r o after (s.stored + ready_by_state s.sending) m
+  copy-stays m more = copied-on K r.copy r o es after (s.stored + ready_by_state s.sending) (freed K d.cleared d.tails)
+      (s.stored + ready_by_state s.sending) m refl copied (omega arith) more inv.copy
 
   -- at least this many words are stored
   abbrev n_freed : ℕ
@@ -85,6 +92,7 @@ module _ (K : Kind) (r : RingBuffer) (is : IsRingBuffer r) (L : ℕ → ℕ) (sm
         };
         sent = inv.sent;
         received = inv.received;
+        copy = copy-stays n_freed (omega arith);
       }
 
       slot-lands : d.slots ≡ d.heads → w ≡ write (slot r d.slots) 4 (L d.slots) → Invariant K r L c o after s
@@ -162,6 +170,7 @@ module _ (K : Kind) (r : RingBuffer) (is : IsRingBuffer r) (L : ℕ → ℕ) (sm
         };
         sent = inv.sent;
         received = inv.received;
+        copy = copy-stays (freed K z t) more;
       }
 
       pub tail-lands : their_landed K d.cleared (suc d.tails) ≡ suc (their_landed K d.cleared d.tails) → n_freed ≤ freed K d.cleared (suc d.tails)
@@ -186,15 +195,19 @@ module _ (K : Kind) (r : RingBuffer) (is : IsRingBuffer r) (L : ℕ → ℕ) (sm
 
 -- a 0 of FastForward's receiver
 module _ (r : RingBuffer) (is : IsRingBuffer r) (L : ℕ → ℕ) (small : (j : ℕ) → L j < 2 ^ 32) (c : Earlier) (o : OpeningValue) (es : List Entry)
-    (s : ProtocolState) (inv : Invariant fastforward r L c o es s) (e : Entry) (w : Write) (written : Lands r o es (es ++ e ∷ []) w) (m : ℕ)
+    (s : ProtocolState) (inv : Invariant fastforward r L c o es s) (e : Entry)
+    (copied : CopyStays r o es (es ++ e ∷ [])) (w : Write) (written : Lands r o es (es ++ e ∷ []) w) (m : ℕ)
     (count : inv.buffers.unread ≡ suc m)
     (rows : Rows r c (sent_store r L) (their_store fastforward r) (es ++ e ∷ []) (inv.landed.slots + inv.landed.heads) inv.buffers.unsent
     (suc (inv.landed.cleared + inv.landed.tails)) m) where
   zero-lands : inv.landed.cleared ≡ inv.landed.tails → w ≡ write (slot r inv.landed.cleared) 4 0 → Invariant fastforward r L c o (es ++ e ∷ []) s
-  zero-lands level is_zero = theirs-land fastforward r is L small c o es s inv e w written m count rows (suc z) inv.landed.tails (omega arith) (omega arith)
+  zero-lands level is_zero = theirs-land fastforward r is L small c o es s inv e copied w written m count rows
+      (suc z) inv.landed.tails (omega arith) (omega arith)
       (slot-landed inv.order.theirs level some) (record {
-        head = same_at fastforward r is L small c o es s inv e w written r.head is.head whole (λ e. slot_not_head r is z (sym place ∙ e)) ∙ inv.words.head;
-        tail = same_at fastforward r is L small c o es s inv e w written r.tail is.tail whole (λ e. slot_not_tail r is z (sym place ∙ e)) ∙ inv.words.tail;
+        head = same_at fastforward r is L small c o es s inv e copied w written r.head is.head whole
+            (λ e. slot_not_head r is z (sym place ∙ e)) ∙ inv.words.head;
+        tail = same_at fastforward r is L small c o es s inv e copied w written r.tail is.tail whole
+            (λ e. slot_not_tail r is z (sym place ∙ e)) ∙ inv.words.tail;
         full = λ j from below. apart-from j (omega (arith, from)) (omega (arith, below, inv.order.mine.slots_stored, inv.order.room))
             ∙ inv.words.full j (omega (arith, from)) below;
         free = λ kind. free;
@@ -214,7 +227,7 @@ module _ (r : RingBuffer) (is : IsRingBuffer r) (L : ℕ → ℕ) (small : (j : 
 
       apart-from : (j : ℕ) → inv.landed.cleared < j → j < inv.landed.cleared + r.size
           → memory_word o (es ++ e ∷ []) (slot r j) ≡ memory_word o es (slot r j)
-      apart-from j from below = same_at fastforward r is L small c o es s inv e w written (slot r j) (slot_word r is j) whole
+      apart-from j from below = same_at fastforward r is L small c o es s inv e copied w written (slot r j) (slot_word r is j) whole
           (λ same. slot_apart r is inv.landed.cleared j from below (sym place ∙ same))
 
       free : (j : ℕ) → inv.landed.slots ≤ j → j < suc inv.landed.cleared + r.size → memory_word o (es ++ e ∷ []) (slot r j) ≡ 0
@@ -225,31 +238,34 @@ module _ (r : RingBuffer) (is : IsRingBuffer r) (L : ℕ → ℕ) (small : (j : 
       ]
 
 theirs-lands : (K : Kind) (r : RingBuffer) (is : IsRingBuffer r) (L : ℕ → ℕ) (small : (j : ℕ) → L j < 2 ^ 32) (c : Earlier) (o : OpeningValue) (es : List Entry)
-    (s : ProtocolState) (inv : Invariant K r L c o es s) (e : Entry) (w : Write) → Lands r o es (es ++ e ∷ []) w → (m : ℕ) → inv.buffers.unread ≡ suc m
+    (s : ProtocolState) (inv : Invariant K r L c o es s) (e : Entry) → CopyStays r o es (es ++ e ∷ []) → (w : Write)
+    → Lands r o es (es ++ e ∷ []) w → (m : ℕ) → inv.buffers.unread ≡ suc m
     → Rows r c (sent_store r L) (their_store K r) (es ++ e ∷ []) (inv.landed.slots + inv.landed.heads) inv.buffers.unsent
     (suc (their_landed K inv.landed.cleared inv.landed.tails)) m
     → w ≡ their_store K r (their_landed K inv.landed.cleared inv.landed.tails) → Invariant K r L c o (es ++ e ∷ []) s
-theirs-lands lamport r is L small c o es s inv e w written m count rows next =
-    tail-lands lamport r is L small c o es s inv e w written m count rows refl (omega arith) (λ kind. cc)
+theirs-lands lamport r is L small c o es s inv e copied w written m count rows next =
+    tail-lands lamport r is L small c o es s inv e copied w written m count rows refl (omega arith) (λ kind. cc)
     (inv.order.theirs.0, omega (arith, inv.buffers.theirs_count, count)) next
-theirs-lands fastforward r is L small c o es s inv e w written m count rows next = elim (cases_eq inv.landed.cleared inv.landed.tails) [
-  | inl level ↦ zero-lands r is L small c o es s inv e w written m count rows level
+theirs-lands fastforward r is L small c o es s inv e copied w written m count rows next = elim (cases_eq inv.landed.cleared inv.landed.tails) [
+  | inl level ↦ zero-lands r is L small c o es s inv e copied w written m count rows level
       (next ∙ sent-slot (turned r) zeros (inv.landed.cleared + inv.landed.tails) inv.landed.cleared (omega (arith, level)))
   | inr other ↦
       let odd : inv.landed.cleared ≡ inv.landed.tails + 1 = omega (arith, other, inv.order.theirs.heads_slots, inv.order.theirs.slots_heads) in
-      tail-lands fastforward r is L small c o es s inv e w written m count rows (omega arith) (omega arith) (λ kind. refl)
+      tail-lands fastforward r is L small c o es s inv e copied w written m count rows (omega arith) (omega arith) (λ kind. refl)
       (head-landed inv.order.theirs odd (omega (arith, inv.buffers.theirs_count, count, odd, inv.order.theirs.stored_published)))
       (next ∙ sent-head (turned r) zeros (inv.landed.cleared + inv.landed.tails) inv.landed.tails (omega (arith, odd)))
 ]
 
 -- the oldest pending store of the entry's hart lands
 pub lands-store : (K : Kind) (r : RingBuffer) (is : IsRingBuffer r) (L : ℕ → ℕ) (small : (j : ℕ) → L j < 2 ^ 32) (c : Earlier) (o : OpeningValue)
-    (es : List Entry) (s : ProtocolState) (inv : Invariant K r L c o es s) (e : Entry) → ((h : ℕ) → lands h es ≤ length (stores h es)) → access_of e ≡ land
+    (es : List Entry) (s : ProtocolState) (inv : Invariant K r L c o es s) (e : Entry) → ((h : ℕ) → lands h es ≤ length (stores h es))
+    → CopyStays r o es (es ++ e ∷ []) → access_of e ≡ land
     → 0 < length (pending (hart_of e) es) → Invariant K r L c o (es ++ e ∷ []) s
-lands-store K r is L small c o es s inv e even does some =
+lands-store K r is L small c o es s inv e even copied does some =
     elim (landing r is o es e even c (sent_store r L) (their_store K r) (inv.landed.slots + inv.landed.heads) inv.buffers.unsent
     (their_landed K inv.landed.cleared inv.landed.tails) inv.buffers.unread inv.buffers.rows does some) [
-      | inl block ↦ idles K r is L c o es s inv e even block
-      | inr (inl l) ↦ sent-lands K r is L small c o es s inv e (sent_store r L (inv.landed.slots + inv.landed.heads)) l.3 l.0 l.1 l.2 refl
-      | inr (inr l) ↦ theirs-lands K r is L small c o es s inv e (their_store K r (their_landed K inv.landed.cleared inv.landed.tails)) l.3 l.0 l.1 l.2 refl
+      | inl block ↦ idles K r is L c o es s inv e even block copied
+      | inr (inl l) ↦ sent-lands K r is L small c o es s inv e copied (sent_store r L (inv.landed.slots + inv.landed.heads)) l.3 l.0 l.1 l.2 refl
+      | inr (inr l) ↦ theirs-lands K r is L small c o es s inv e copied
+          (their_store K r (their_landed K inv.landed.cleared inv.landed.tails)) l.3 l.0 l.1 l.2 refl
     ]

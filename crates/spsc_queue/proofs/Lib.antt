@@ -1,4 +1,3 @@
-pub mod Modulo
 pub mod Words
 pub mod Spread
 pub mod Effects
@@ -6,6 +5,7 @@ pub mod Rows
 pub mod PastRows
 pub mod Performed
 pub mod Invariant
+pub mod Copies
 pub mod Loads
 pub mod FastForwardLoads
 pub mod Steps
@@ -16,7 +16,6 @@ pub mod Publication
 pub mod StoreBuffers
 pub mod MessagePassing
 pub mod Linearization
-pub mod Lines
 pub mod Registers
 pub mod Courses
 pub mod Outline

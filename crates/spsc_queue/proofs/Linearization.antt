@@ -1,7 +1,9 @@
 -- A queue that looks empty or full is so, as far as stores have landed.
-use Rattle.std.proofs.Common.{ℕ, ◌+◌, ◌^◌, ◌<◌, ◌≤◌, ◌≡◌, ◌≢◌, not, true, false, inl, inr, List, [], ◌∷◌, ◌++◌, length, refl, sym, ◌∙◌, ap, subst, arith}
+use Rattle.std.proofs.Common.{ℕ, ◌+◌, ◌^◌, ◌<◌, ◌≤◌, ◌≡◌, ◌≢◌, not, true, false, inl, inr, Option, Some, None, List, []}
+use Rattle.std.proofs.Common.{◌∷◌, ◌++◌, length, refl, sym, ◌∙◌, ap, subst, arith}
 use Rattle.std.proofs.Common.{append-nil}
-use Rattle.std.specs.Prelude.{slice_index}
+use Rattle.std.specs.Prelude.{slice_index, All}
+use Rattle.memory.specs.declared.writes.Write.{Write}
 use Rattle.std.proofs.lemmas.Bool.{cases_lt, eqb-true, eq-eqb}
 use Rattle.step_machine.specs.declared.events.Entry.{Entry}
 use Rattle.step_machine.specs.History.{OpeningValue}
@@ -11,7 +13,10 @@ use Rattle.step_machine.specs.Legal.{AllowedBy}
 use Rattle.step_machine.proofs.Appended.{LegalAfter-back}
 use Rattle.spsc_queue.specs.RingBuffers.{Kind, lamport, fastforward, RingBuffer, IsRingBuffer, offset, slot, next, capacity_of, capacity, writes_to}
 use Rattle.spsc_queue.specs.Protocol.{placed, asked, ProtocolState, at_start, protocol_after, room_at, says_full, word_at, says_empty, KeepsProtocol}
-use Rattle.spsc_queue.specs.Laws.{FollowsSpscProtocol, available_of, available_count}
+use Rattle.spsc_queue.specs.Laws.{FollowsSpscProtocol, available_of, available_count, ready_by_state}
+use Rattle.spsc_queue.specs.StoreBuffers.{LeavesByte}
+use Rattle.spsc_queue.proofs.Words.{row_of, row_shorter}
+use Rattle.spsc_queue.proofs.Copies.{Copied, row_whole}
 use Rattle.spsc_queue.proofs.Spread.{offset_apart, sent_store, freed_store}
 use Rattle.spsc_queue.proofs.Rows.{Earlier}
 use Rattle.spsc_queue.proofs.Invariant.{cleared_store, SendingIs, ReceivingIs, Invariant}
@@ -20,6 +25,9 @@ use Rattle.spsc_queue.proofs.FastForwardLoads.{receiver-word, sender-free}
 use Rattle.spsc_queue.proofs.Invariants.{earlier}
 use Rattle.spsc_queue.proofs.Runs.{invariant-of, protocol-small}
 use Rattle.spsc_queue.proofs.PastRows.{length-spread}
+
+least : (r : RingBuffer) (ws : List Write) (n : ℕ) → length (row_of r ws) ≡ n → n ≤ length (writes_to r ws)
+least r ws n is = omega (arith, is, row_shorter r ws)
 
 module _ (r : RingBuffer) (is : IsRingBuffer r) (L : ℕ → ℕ) (small : (j : ℕ) → L j < 2 ^ 32) (c : Earlier) (o : OpeningValue) (es : List Entry)
     (T : ProtocolState) where
@@ -35,15 +43,17 @@ module _ (r : RingBuffer) (is : IsRingBuffer r) (L : ℕ → ℕ) (small : (j : 
             (sym known.1 ∙ sym (eqb-true v u says) ∙ head))
         | inr more ↦ omega (arith, more, known.0, inv.order.taken_there)
       ] in
-      let left : length (writes_to r (pending r.sender es)) ≡ inv.buffers.unsent =
-      ap length inv.buffers.rows.mine ∙ length-spread (sent_store r L) (inv.landed.slots + inv.landed.heads) inv.buffers.unsent in
+      let left : inv.buffers.unsent ≤ length (writes_to r (pending r.sender es)) =
+      least r (pending r.sender es) inv.buffers.unsent (ap length inv.buffers.rows.mine
+      ∙ length-spread (sent_store r L) (inv.landed.slots + inv.landed.heads) inv.buffers.unsent) in
       omega (arith, same, left, known.0, inv.buffers.mine_count, inv.order.mine.slots_stored, inv.order.mine.heads_published)
   empty fastforward inv u v found says was =
       let known = subst (ReceivingIs fastforward r L T.taken T.consumed inv.landed.slots) was inv.receiving in
       let place : r.slots + u ≡ slot r T.taken = ap (λ x. r.slots + x) (known.1 ∙ ap (offset r) (sym known.0)) in
       let zero_read : 0 ≡ read o es r.receiver (slot r T.taken) 4 = sym (eqb-true v 0 says) ∙ found ∙ ap (λ a. read o es r.receiver a 4) place in
-      let left : length (writes_to r (pending r.sender es)) ≡ inv.buffers.unsent =
-      ap length inv.buffers.rows.mine ∙ length-spread (sent_store r L) (inv.landed.slots + inv.landed.heads) inv.buffers.unsent in
+      let left : inv.buffers.unsent ≤ length (writes_to r (pending r.sender es)) =
+      least r (pending r.sender es) inv.buffers.unsent (ap length inv.buffers.rows.mine
+      ∙ length-spread (sent_store r L) (inv.landed.slots + inv.landed.heads) inv.buffers.unsent) in
       let all : inv.landed.slots ≤ T.taken = elim (cases_lt T.taken inv.landed.slots) [
         | inl less ↦ absurd (inv.nonzero refl T.taken (omega (arith, less, inv.order.mine.slots_stored))
             (sym (receiver-word r is L small c o es T inv known.0 less) ∙ sym zero_read))
@@ -64,15 +74,17 @@ module _ (r : RingBuffer) (is : IsRingBuffer r) (L : ℕ → ℕ) (small : (j : 
         | inl less ↦ absurd (offset_apart r is inv.landed.tails (T.published + 1) over less one)
         | inr more ↦ more
       ] in
-      let left : length (writes_to r (pending r.receiver es)) ≡ inv.buffers.unread =
-      ap length inv.buffers.rows.theirs ∙ length-spread (freed_store r) inv.landed.tails inv.buffers.unread in
+      let left : inv.buffers.unread ≤ length (writes_to r (pending r.receiver es)) =
+      least r (pending r.receiver es) inv.buffers.unread
+      (ap length inv.buffers.rows.theirs ∙ length-spread (freed_store r) inv.landed.tails inv.buffers.unread) in
       omega (arith, far, left, known.0, inv.order.theirs.0, inv.buffers.theirs_count, is.some_slots)
   full fastforward inv u v found says was =
       let known = subst (SendingIs 0 r T.stored T.published inv.landed.cleared) was inv.sending in
       let place : r.slots + u ≡ slot r T.stored = ap (λ x. r.slots + x) (known.1 ∙ ap (offset r) (sym known.0)) in
       let some : v ≢ 0 = λ none. (let no : false ≡ true = sym (ap not (eq-eqb v 0 none)) ∙ says in cc) in
-      let left : length (writes_to r (pending r.receiver es)) ≡ inv.buffers.unread =
-      ap length inv.buffers.rows.theirs ∙ length-spread (cleared_store r) (inv.landed.cleared + inv.landed.tails) inv.buffers.unread in
+      let left : inv.buffers.unread ≤ length (writes_to r (pending r.receiver es)) =
+      least r (pending r.receiver es) inv.buffers.unread (ap length inv.buffers.rows.theirs
+      ∙ length-spread (cleared_store r) (inv.landed.cleared + inv.landed.tails) inv.buffers.unread) in
       let all : inv.landed.cleared + r.size ≤ T.stored = elim (cases_lt T.stored (inv.landed.cleared + r.size)) [
         | inl less ↦ absurd (some (found ∙ ap (λ a. read o es r.sender a 4) place ∙ sender-free r is L small c o es T inv known.0 less))
         | inr more ↦ more
@@ -84,8 +96,17 @@ module _ (r : RingBuffer) (is : IsRingBuffer r) (L : ℕ → ℕ) (small : (j : 
       → T.stored + length (writes_to r (pending r.receiver es)) ≤ T.taken + capacity_of k r.size
   never_fuller lamport inv is_lamport =
       let left : length (writes_to r (pending r.receiver es)) ≡ inv.buffers.unread =
-      ap length inv.buffers.rows.theirs ∙ length-spread (freed_store r) inv.landed.tails inv.buffers.unread in
+      row_whole r (pending r.receiver es) (alone r.copy refl inv.copy)
+      ∙ ap length inv.buffers.rows.theirs ∙ length-spread (freed_store r) inv.landed.tails inv.buffers.unread in
       omega (arith, left, inv.order.theirs.0, inv.order.room, inv.buffers.theirs_count, is.some_slots)
+    where
+      alone : (q : Option ℕ) → r.copy ≡ q → Copied lamport q r o es (T.stored + ready_by_state T.sending) inv.landed.tails → (a : ℕ) → r.copy ≡ Some a
+          → All (LeavesByte a) (pending r.receiver es)
+      alone None none copy a some = absurd (let no : Some a ≡ None = sym some ∙ none in cc)
+      alone (Some x) is_x copy a some =
+          let same : x ≡ a = (let one : Some x ≡ Some a = sym is_x ∙ some in cc) in
+          subst (λ y. All (LeavesByte y) (pending r.receiver es)) same
+          (copy.alone x (omega arith) (omega arith) r.receiver (λ e. is.parties (sym e)))
   never_fuller fastforward inv is_lamport = cc
 
 module _ (B : ℕ) (r : RingBuffer) (o : OpeningValue) (before es : List Entry) (e : Entry) (fs : List Entry)

@@ -1,5 +1,7 @@
 -- What Lamport's parties know after a load, whichever word they load; and offsets of either kind.
-use Rattle.std.proofs.Common.{ℕ, ◌+◌, ◌*◌, ◌%◌, ◌^◌, ◌<◌, ◌≡◌, ◌≢◌, ◌==◌, Bool, true, false, if◌then◌else◌, List, refl, sym, ◌∙◌, ap, subst, arith}
+use Rattle.std.proofs.Common.{ℕ, ◌+◌, ◌*◌, ◌%◌, ◌^◌, ◌<◌, ◌≡◌, ◌≢◌, ◌≤◌, ◌==◌, inl, inr, Bool, true, false}
+use Rattle.std.proofs.Common.{if◌then◌else◌, Option, Some, None, List, refl, sym, ◌∙◌, ap, subst}
+use Rattle.std.proofs.Common.{arith}
 use Rattle.std.specs.Prelude.{All}
 use Rattle.std.proofs.lemmas.Bool.{eqb-true, eqb-false}
 use Rattle.std.proofs.Math.Nat.{add-mod_right}
@@ -7,11 +9,14 @@ use Rattle.memory.specs.Writes.{IsWholeWord}
 use Rattle.step_machine.specs.declared.events.Entry.{Entry}
 use Rattle.step_machine.specs.History.{OpeningValue}
 use Rattle.step_machine.specs.Entries.{pending, memory_word, read}
-use Rattle.spsc_queue.specs.RingBuffers.{lamport, RingBuffer, IsRingBuffer, IsWordIn, offset, slot, next, writes_to}
-use Rattle.spsc_queue.specs.Protocol.{SenderState, resting, placed, roomy, filled, ReceiverState, idle, asked, waiting, holding, cleared, ProtocolState}
-use Rattle.spsc_queue.specs.Protocol.{looks_for_room, send_look, send_load, receive_look, receive_load}
-use Rattle.spsc_queue.proofs.Modulo.{offset_step, offset_wrap}
-use Rattle.spsc_queue.proofs.Words.{seen}
+use Rattle.spsc_queue.specs.RingBuffers.{lamport, RingBuffer, IsRingBuffer, IsWordIn, offset, slot, next}
+use Rattle.spsc_queue.specs.Protocol.{SenderState, resting, placed, renewing, roomy, filled, ReceiverState, idle, asked}
+use Rattle.spsc_queue.specs.Protocol.{waiting, holding, cleared, ProtocolState}
+use Rattle.spsc_queue.specs.Protocol.{looks_for_room, looks_past_copy, looks_at, send_look, send_load, receive_look, receive_load}
+use Rattle.step_machine.proofs.Modulo.{offset_step, offset_wrap}
+use Rattle.spsc_queue.specs.Laws.{ready_by_state}
+use Rattle.spsc_queue.proofs.Words.{row_of, seen}
+use Rattle.spsc_queue.proofs.Copies.{Copied}
 use Rattle.spsc_queue.proofs.Spread.{spread, spread-all, sent_store, freed_store, seen-none, seen-tails, seen-heads, sent-not-tail, sent-whole, offset_low}
 use Rattle.spsc_queue.proofs.Spread.{slot_not_tail}
 use Rattle.spsc_queue.proofs.Effects.{reads-word}
@@ -46,6 +51,10 @@ slot_word r is j = record {
   above = omega (arith, is.slots_above);
   below = omega (arith, is.slots_below, offset_low r is j);
   aligned = omega (arith, is.slots_aligned);
+  no_copy = λ c copy. elim (is.copy c copy).apart [
+    | inl l ↦ inl (omega (arith, l))
+    | inr l ↦ inr (omega (arith, l, offset_low r is j))
+  ];
 }
 
 module _ (r : RingBuffer) (is : IsRingBuffer r) (L : ℕ → ℕ) (small : (j : ℕ) → L j < 2 ^ 32) (c : Earlier) (o : OpeningValue) (es : List Entry)
@@ -53,14 +62,14 @@ module _ (r : RingBuffer) (is : IsRingBuffer r) (L : ℕ → ℕ) (small : (j : 
   abbrev d : Landed
   d = inv.landed
 
-  pub mine-whole : All IsWholeWord (writes_to r (pending r.sender es))
+  pub mine-whole : All IsWholeWord (row_of r (pending r.sender es))
   mine-whole = subst (All IsWholeWord) (sym inv.buffers.rows.mine)
       (spread-all IsWholeWord (sent_store r L) (d.slots + d.heads) inv.buffers.unsent (sent-whole r is L small))
 
   pub freed-whole : (p : ℕ) → IsWholeWord (freed_store r p)
   freed-whole p = record { whole = refl; aligned = is.tail.aligned; small = omega (arith, offset_low r is (p + 1), is.small) }
 
-  pub theirs-whole : All IsWholeWord (writes_to r (pending r.receiver es))
+  pub theirs-whole : All IsWholeWord (row_of r (pending r.receiver es))
   theirs-whole = subst (All IsWholeWord) (sym inv.buffers.rows.theirs)
       (spread-all IsWholeWord (freed_store r) d.tails inv.buffers.unread freed-whole)
 
@@ -92,43 +101,114 @@ module _ (r : RingBuffer) (is : IsRingBuffer r) (L : ℕ → ℕ) (small : (j : 
       ∙ ap (seen a (memory_word o es a)) inv.buffers.rows.theirs
       ∙ seen-none a (memory_word o es a) (freed_store r) d.tails inv.buffers.unread (λ p. other)
 
-  -- the sender's loads
-  tail-says : (u v : ℕ) → (s.stored ≡ s.published) → u ≡ offset r s.published → v ≡ offset r d.tails
-      → SendingIs 1 r s.stored s.published d.tails (looks_for_room lamport r u v)
-  tail-says u v level at is_tail = by (v == next r u) refl
-    where
-      by : (b : Bool) → (v == next r u) ≡ b → SendingIs 1 r s.stored s.published d.tails (if b then placed u else roomy u)
-      by true same = (level, at)
-      by false other =
-          let apart : v ≢ next r u = eqb-false v (next r u) other in
-          let far : s.published + 1 ≢ d.tails + r.size =
-          λ full. apart (is_tail ∙ sym (offset_again r is d.tails (s.published + 1) full) ∙ sym (next_offset r is u s.published at)) in
-          (level, at, omega (arith, inv.order.room))
+  -- the sender's loads, by which it knows more, and has seen more of its copy of the tail
+  abbrev Sends : SenderState → Type 0
+  Sends p = SendingIs 1 r s.stored s.published d.tails p × Copied lamport r.copy r o es (s.stored + ready_by_state p) d.tails
 
-  send-looked : (a v : ℕ) (p : SenderState) → v ≡ read o es r.sender a 4 → SendingIs 1 r s.stored s.published d.tails p
-      → SendingIs 1 r s.stored s.published d.tails (send_look lamport r a v p)
-  send-looked a v resting is_read holds = holds
-  send-looked a v (placed u) is_read holds = by (a == r.tail) refl
+  -- the tail says that there is room
+  far : (u v : ℕ) → u ≡ offset r s.published → v ≡ offset r d.tails → (v == next r u) ≡ false → s.published + 1 ≢ d.tails + r.size
+  far u v at is_tail other full = eqb-false v (next r u) other
+      (is_tail ∙ sym (offset_again r is d.tails (s.published + 1) full) ∙ sym (next_offset r is u s.published at))
+
+  tail-says : (u v : ℕ) → r.copy ≡ None → (s.stored ≡ s.published) → u ≡ offset r s.published → v ≡ offset r d.tails → Sends (looks_for_room lamport r u v)
+  tail-says u v none level at is_tail = by (v == next r u) refl
     where
-      by : (b : Bool) → (a == r.tail) ≡ b → SendingIs 1 r s.stored s.published d.tails (if b then looks_for_room lamport r u v else placed u)
-      by true same = tail-says u v holds.0 holds.1 (is_read ∙ ap (λ x. read o es r.sender x 4) (eqb-true a r.tail same) ∙ sender-tail)
-      by false other = holds
+      copy : (n : ℕ) → Copied lamport r.copy r o es n d.tails
+      copy n = subst (λ q. Copied lamport q r o es n d.tails) (sym none) tt
+
+      by : (b : Bool) → (v == next r u) ≡ b → Sends (if b then placed u else roomy u)
+      by true same = ((level, at), copy (s.stored + 0))
+      by false other = let apart = far u v at is_tail other in ((level, at, omega (arith, apart, inv.order.room, level)), copy (s.stored + 1))
+
+  -- so does the tail where a copy is to be made of it, and the copy
+  past-copy-says : (u v : ℕ) → (s.stored ≡ s.published) → u ≡ offset r s.published → v ≡ offset r d.tails
+      → Copied lamport r.copy r o es (s.stored + 0) d.tails → Sends (looks_past_copy lamport r u v)
+  past-copy-says u v level at is_tail copy = by (v == next r u) refl
+    where
+      by : (b : Bool) → (v == next r u) ≡ b → Sends (if b then placed u else renewing u v)
+      by true same = ((level, at), copy)
+      by false other =
+          let apart = far u v at is_tail other in (
+            (
+              level,
+              at,
+              (
+                d.tails + r.size,
+                is_tail ∙ sym (offset_again r is d.tails (d.tails + r.size) refl),
+                omega (arith, apart, inv.order.room, level),
+                omega arith,
+              ),
+            ),
+            copy,
+          )
+
+  copy-says : (u v c : ℕ) → r.copy ≡ Some c → (s.stored ≡ s.published) → u ≡ offset r s.published → v ≡ read o es r.sender c 4
+      → Copied lamport (Some c) r o es (s.stored + 0) d.tails → Sends (looks_for_room lamport r u v)
+  copy-says u v c some level at is_read copy = by (v == next r u) refl
+    where
+      by : (b : Bool) → (v == next r u) ≡ b → Sends (if b then placed u else roomy u)
+      by true same = ((level, at), subst (λ q. Copied lamport q r o es (s.stored + 0) d.tails) (sym some) copy)
+      by false other =
+          let more : copy.place ≢ s.published + 1 = λ e. eqb-false v (next r u) other
+          (is_read ∙ copy.reads ∙ ap (offset r) e ∙ sym (next_offset r is u s.published at)) in (
+            (level, at, omega (arith, more, copy.low, copy.high, level)),
+            subst (λ q. Copied lamport q r o es (s.stored + 1) d.tails) (sym some) (record {
+              place = copy.place;
+              reads = copy.reads;
+              low = omega (arith, more, copy.low, level);
+              high = copy.high;
+              alone = copy.alone;
+            }),
+          )
+
+  looks : (a u v : ℕ) (q : Option ℕ) → r.copy ≡ q → v ≡ read o es r.sender a 4 → (s.stored ≡ s.published) × (u ≡ offset r s.published)
+      → Copied lamport q r o es (s.stored + 0) d.tails → Sends (looks_at q lamport r a u v)
+  looks a u v None none is_read holds copy = by (a == r.tail) refl
+    where
+      by : (b : Bool) → (a == r.tail) ≡ b → Sends (if b then looks_for_room lamport r u v else placed u)
+      by true same = tail-says u v none holds.0 holds.1 (is_read ∙ ap (λ x. read o es r.sender x 4) (eqb-true a r.tail same) ∙ sender-tail)
+      by false other = (holds, subst (λ q. Copied lamport q r o es (s.stored + 0) d.tails) (sym none) tt)
+  looks a u v (Some c) some is_read holds copy = by (a == c) refl (a == r.tail) refl
+    where
+      same_copy : Copied lamport r.copy r o es (s.stored + 0) d.tails
+      same_copy = subst (λ q. Copied lamport q r o es (s.stored + 0) d.tails) (sym some) copy
+
+      by : (b : Bool) → (a == c) ≡ b → (e : Bool) → (a == r.tail) ≡ e
+          → Sends (if b then looks_for_room lamport r u v else (if e then looks_past_copy lamport r u v else placed u))
+      by true same e tail = copy-says u v c some holds.0 holds.1 (is_read ∙ ap (λ x. read o es r.sender x 4) (eqb-true a c same)) copy
+      by false other true same =
+          past-copy-says u v holds.0 holds.1 (is_read ∙ ap (λ x. read o es r.sender x 4) (eqb-true a r.tail same) ∙ sender-tail) same_copy
+      by false other false apart = (holds, same_copy)
+
+  send-looked : (a v : ℕ) (p : SenderState) → v ≡ read o es r.sender a 4 → Sends p → Sends (send_look lamport r a v p)
+  send-looked a v resting is_read holds = holds
+  send-looked a v (placed u) is_read holds = looks a u v r.copy refl is_read holds.0 holds.1
+  send-looked a v (renewing u w) is_read holds = holds
   send-looked a v (roomy u) is_read holds = holds
   send-looked a v (filled u) is_read holds = holds
 
-  loaded : (a v : ℕ) (p : SenderState) → s.stored ≡ s.published → v ≡ read o es r.sender a 4 → SendingIs 1 r s.stored s.published d.tails p
-      → SendingIs 1 r s.stored s.published d.tails (if a == r.head then placed v else send_look lamport r a v p)
+  -- less is about to be stored
+  fewer : (n m : ℕ) (q : Option ℕ) → m ≤ n → Copied lamport q r o es n d.tails → Copied lamport q r o es m d.tails
+  fewer n m None le copy = tt
+  fewer n m (Some c) le copy =
+      record { place = copy.place; reads = copy.reads; low = omega (arith, le, copy.low); high = copy.high; alone = copy.alone }
+
+  loaded : (a v : ℕ) (p : SenderState) → s.stored ≡ s.published → v ≡ read o es r.sender a 4 → Sends p
+      → Sends (if a == r.head then placed v else send_look lamport r a v p)
   loaded a v p level is_read holds = by (a == r.head) refl
     where
-      by : (b : Bool) → (a == r.head) ≡ b → SendingIs 1 r s.stored s.published d.tails (if b then placed v else send_look lamport r a v p)
-      by true same = (level, is_read ∙ ap (λ x. read o es r.sender x 4) (eqb-true a r.head same) ∙ sender-head)
+      by : (b : Bool) → (a == r.head) ≡ b → Sends (if b then placed v else send_look lamport r a v p)
+      by true same = (
+        (level, is_read ∙ ap (λ x. read o es r.sender x 4) (eqb-true a r.head same) ∙ sender-head),
+        fewer (s.stored + ready_by_state p) (s.stored + 0) r.copy (omega arith) holds.1,
+      )
       by false apart = send-looked a v p is_read holds
 
-  pub sending-load : (a v : ℕ) (p : SenderState) → v ≡ read o es r.sender a 4 → SendingIs 1 r s.stored s.published d.tails p
-      → SendingIs 1 r s.stored s.published d.tails (send_load lamport r a v p)
-  sending-load a v resting is_read holds = loaded a v resting holds is_read holds
-  sending-load a v (placed u) is_read holds = loaded a v (placed u) holds.0 is_read holds
-  sending-load a v (roomy u) is_read holds = loaded a v (roomy u) holds.0 is_read holds
+  pub sending-load : (a v : ℕ) (p : SenderState) → v ≡ read o es r.sender a 4 → Sends p → Sends (send_load lamport r a v p)
+  sending-load a v resting is_read holds = loaded a v resting holds.0 is_read holds
+  sending-load a v (placed u) is_read holds = loaded a v (placed u) holds.0.0 is_read holds
+  sending-load a v (renewing u w) is_read holds = loaded a v (renewing u w) holds.0.0 is_read holds
+  sending-load a v (roomy u) is_read holds = loaded a v (roomy u) holds.0.0 is_read holds
   sending-load a v (filled u) is_read holds = holds
 
   -- the receiver's

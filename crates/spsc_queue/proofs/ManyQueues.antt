@@ -1,5 +1,6 @@
 -- Several queues at once: where blocks don't meet, a call for one stays off the others, so each queue is used rightly.
-use Rattle.std.proofs.Common.{ℕ, zero, suc, ◌+◌, ◌*◌, ◌<◌, ◌≤◌, ◌≡◌, ◌≢◌, ◌⊎◌, inl, inr, Bool, true, false, List, [], ◌∷◌, ◌++◌, refl, sym, ◌∙◌, subst, arith}
+use Rattle.std.proofs.Common.{ℕ, zero, suc, ◌+◌, ◌*◌, ◌<◌, ◌≤◌, ◌≡◌, ◌≢◌, ◌⊎◌, inl, inr, Option, Some, None, Bool, true}
+use Rattle.std.proofs.Common.{false, List, [], ◌∷◌, ◌++◌, refl, sym, ◌∙◌, subst, arith}
 use Rattle.std.proofs.Common.{append-nil, append_assoc}
 use Rattle.std.proofs.lemmas.Bool.{cases_eq}
 use Rattle.std.proofs.lemmas.Bool.Decides.{nat_tests}
@@ -9,12 +10,15 @@ use Rattle.step_machine.specs.History.{OpeningValue}
 use Rattle.step_machine.specs.Access.{Access, nothing, load, store, exchange, fence, land, access_of}
 use Rattle.step_machine.specs.Entries.{hart_of, is_land}
 use Rattle.spsc_queue.specs.RingBuffers.{Kind, lamport, fastforward, RingBuffer, overlaps}
-use Rattle.spsc_queue.specs.Protocol.{SenderState, resting, placed, roomy, filled, ReceiverState, idle, asked, waiting, holding, cleared, ProtocolState}
-use Rattle.spsc_queue.specs.Protocol.{at_start, protocol_after, WritesNothingTo, IsSenderStore, IsTaking, IsReceiverStore}
-use Rattle.spsc_queue.specs.Calls.{Block, SpscQueue, Party, the_sender, the_receiver, party_hart, ring_of, buffer, is_sender_in_call, is_receiver_in_call}
+use Rattle.spsc_queue.specs.Protocol.{SenderState, resting, placed, renewing, roomy, filled, ReceiverState, idle, asked}
+use Rattle.spsc_queue.specs.Protocol.{waiting, holding, cleared, ProtocolState}
+use Rattle.spsc_queue.specs.Protocol.{at_start, protocol_after, WritesNothingTo, IsCopyStore, IsSenderStore, IsTaking, IsReceiverStore}
+use Rattle.spsc_queue.specs.Calls.{Block, SpscQueue, Party, the_sender, the_receiver, party_hart, copy_in, ring_of}
+use Rattle.spsc_queue.specs.Calls.{buffer, is_sender_in_call, is_receiver_in_call}
 use Rattle.spsc_queue.specs.Calls.{CallerObligation, UsesAsSpscQueue}
 use Rattle.spsc_queue.specs.ManyQueues.{IsIdle, UsesManyQueues}
 use Rattle.spsc_queue.proofs.Outline.{part, IsOffset, IsNear, IsFit, Near, Does}
+use Rattle.spsc_queue.proofs.Parts.{copied}
 use Rattle.spsc_queue.proofs.OwnEntries.{land_is}
 use Rattle.spsc_queue.proofs.Parties.{is_busy, which, other_hart}
 use Rattle.spsc_queue.proofs.Calls.{Stand, stands_on, stands_at_start, party_does}
@@ -31,6 +35,13 @@ module _ (K : Kind) (k : Block) (a b : ℕ) (r : RingBuffer) (apart : IsApart k 
   sent_off : (w : Write) (p : SenderState) → IsNear k p → IsSenderStore K (ring_of k a b) p w → overlaps r w ≡ false
   sent_off w resting near does = absurd does
   sent_off w (placed u) near does = absurd does
+  sent_off w (renewing u v) near does = at (copy_in k.kind k.caches k.base) refl does
+    where
+      at : (o : Option ℕ) → copy_in k.kind k.caches k.base ≡ o → IsCopyStore o v w → overlaps r w ≡ false
+      at None none does = absurd does
+      at (Some d) some does =
+          let place = copied k d some in
+          elsewhere k r w apart (omega (arith, does.0.place, place)) (omega (arith, does.0.place, does.0.width, place))
   sent_off w (roomy u) near does = elsewhere k r w apart (omega (arith, does.0.place)) (omega (arith, does.0.place, does.0.width, near.0))
   sent_off w (filled u) near does = elsewhere k r w apart (omega (arith, does.0.place)) (omega (arith, does.0.place, does.0.width))
 

@@ -1,6 +1,6 @@
 -- One whole call: what it does, what it completes, and what it has found where it returns 0.
-use Rattle.std.proofs.Common.{ℕ, ◌+◌, ◌≤◌, ◌≡◌, ◌⊎◌, inl, inr, Bool, true, false, if◌then◌else◌, List, [], ◌∷◌, ◌++◌}
-use Rattle.std.proofs.Common.{length, Some, refl, sym, ◌∙◌, ap, subst, arith}
+use Rattle.std.proofs.Common.{ℕ, ◌+◌, ◌<◌, ◌≡◌, ◌≢◌, ◌&&◌, ◌⊎◌, inl, inr, Option, Some, None, Bool, true, false, if◌then◌else◌, List, [], ◌∷◌, ◌++◌}
+use Rattle.std.proofs.Common.{length, refl, sym, ◌∙◌, ap, subst, arith}
 use Rattle.std.proofs.Common.{append-nil, append_assoc}
 use Rattle.std.specs.Prelude.{slice_index}
 use Rattle.hart.specs.State.{HartState}
@@ -11,20 +11,22 @@ use Rattle.memory.specs.Writes.{write}
 use Rattle.step_machine.specs.Access.{Access, load, store, access_of}
 use Rattle.step_machine.specs.Entries.{hart_of, is_own, own}
 use Rattle.step_machine.specs.Paths.{value_of, state_of}
-use Rattle.spsc_queue.specs.RingBuffers.{Kind, RingBuffer, next}
-use Rattle.spsc_queue.specs.Protocol.{ProtocolState, at_start, role_of, next_by, protocol_next, protocol_after, room_at, says_full, word_at, says_empty}
+use Rattle.spsc_queue.specs.RingBuffers.{Kind, RingBuffer, IsRingBuffer, next}
+use Rattle.spsc_queue.specs.Protocol.{placed, roomy, ProtocolState, at_start, role_of, next_by, protocol_next}
+use Rattle.spsc_queue.specs.Protocol.{protocol_after, room_at, says_full, word_at, says_empty}
 use Rattle.spsc_queue.specs.Calls.{Block, SpscQueue, Party, the_sender, the_receiver, party_hart, party_line}
 use Rattle.spsc_queue.specs.Calls.{listing_of, buffer, is_in_call, is_in_call_with, enters}
 use Rattle.spsc_queue.specs.Calls.{completed_by_entry, UsesAsSpscQueue}
-use Rattle.spsc_queue.specs.CallEffects.{IsWholeCall, IsCallUnderWay, IsPlainNeed, GoesOn, IsSend, IsReceive, accesses}
+use Rattle.spsc_queue.specs.CallEffects.{longest, sees_full, look_accesses, IsWholeCall, IsCallUnderWay, IsPlainNeed, GoesOn, IsSend, IsReceive, accesses}
 use Rattle.spsc_queue.specs.CallEffects.{completed_word, take_accesses, FoundFull, FoundEmpty}
 use Rattle.spsc_queue.specs.Laws.{FollowsSpscProtocol}
+use Rattle.spsc_queue.proofs.Words.{both}
 use Rattle.spsc_queue.proofs.Runs.{known-of, protocol-append}
 use Rattle.spsc_queue.proofs.Courses.{at_00, Course}
-use Rattle.spsc_queue.proofs.Outline.{Near, Part, part, role, Level, index_at, look_at, looked, says_no, Knows, Effect}
+use Rattle.spsc_queue.proofs.Outline.{Near, Part, part, role, Level, first_look, index_at, Knows, Effect}
 use Rattle.spsc_queue.proofs.Outline.{Fresh, Row, Inside, Outside, CourseStands}
 use Rattle.spsc_queue.proofs.Outline.{Stands}
-use Rattle.spsc_queue.proofs.Parts.{ring_is, near-of, first-load, load-words}
+use Rattle.spsc_queue.proofs.Parts.{ring_is, near-of, first-load, look-load, load-words}
 use Rattle.spsc_queue.proofs.Functions.{moves_at, is_fresh, few, begins}
 use Rattle.spsc_queue.proofs.OwnEntries.{equipped, own_parts, state_here, here_same, here_next}
 use Rattle.spsc_queue.proofs.Running.{runs_here}
@@ -62,32 +64,89 @@ part_begun {M} {o} {h} {n} {k} {before} {done} {part} {s} w = record {
   within = λ front e rest is. w.within front (e ∷ rest) is;
 }
 
--- a call that returns 0 looked, and saw that there is no room, or no word
+-- where a party looks for room, or for a word, and whether it sees none there
+abbrev place_of : Party → Kind → RingBuffer → (u : ℕ) → ℕ
+place_of the_sender K r u = room_at K r u
+place_of the_receiver K r u = word_at K r u
+
+abbrev sees_none : Party → Kind → RingBuffer → (u v : ℕ) → Bool
+sees_none the_sender K r u v = says_full K r u v
+sees_none the_receiver K r u v = says_empty K u v
+
+-- an access after which a party knows its index still
+record Keeps (p : Party) (K : Kind) (r : RingBuffer) (u : ℕ) (x : Access) : Type 0 where
+  knows : (t : ProtocolState) → Knows p u (part p t) → Knows p u (part p (next_by K r (role p) t x))
+  words : (t : ProtocolState) → (part p (next_by K r (role p) t x)).words ≡ (part p t).words
+
+-- a call that returns 0 looked, maybe at a copy of the tail first, and saw that there is no room, or no word
 record Looks (p : Party) (K : Kind) (r : RingBuffer) (all : List Access) : Type 0 where
   index : ℕ
   seen : ℕ
-  did : all ≡ looked p K r index seen
-  says : says_no p K r index seen ≡ true
+  first : List Access
+  did : all ≡ load (index_at p r) 4 index ∷ first ++ load (place_of p K r index) 4 seen ∷ []
+  says : sees_none p K r index seen ≡ true
+  copy : (first ≡ []) ⊎ ((x : Access) × (first ≡ x ∷ []) × Keeps p K r index x)
 
-looks_of : (p : Party) (K : Kind) (r : RingBuffer) (s z : HartState) (count : ℕ) (did : List Access) → Effect p K r s z count did
+looks_of : (p : Party) (K : Kind) (r : RingBuffer) (is : IsRingBuffer r) (s z : HartState) (count : ℕ) (did : List Access) → Effect p K r s z count did
     → slice_index z.registers 10 ≡ 0 → Looks p K r did
-looks_of the_sender K r s z count did f none =
-    let test = chose (says_full K r f.head f.seen) (slice_index z.registers 10) f.answer none in
-    record {
-      index = f.head;
-      seen = f.seen;
-      did = f.accesses ∙ ap (λ b. load r.head 4 f.head ∷ load (room_at K r f.head) 4 f.seen ∷ (if b then [] else
-          store (write (r.slots + f.head) 4 (slice_index s.registers 11)) ∷ store (write r.head 4 (next r f.head)) ∷ [])) test;
-      says = test;
-    }
-looks_of the_receiver K r s z count did f none =
+looks_of the_sender K r is s z count did f none = at r.copy refl (chose (sees_full r.copy K r f.head f.copy f.seen) (slice_index z.registers 10) f.answer none)
+  where
+    stored : List Access
+    stored = store (write (r.slots + f.head) 4 (slice_index s.registers 11)) ∷ store (write r.head 4 (next r f.head)) ∷ []
+
+    at : (q : Option ℕ) → r.copy ≡ q → sees_full r.copy K r f.head f.copy f.seen ≡ true → Looks the_sender K r did
+    at None is_none test =
+        let full : says_full K r f.head f.seen ≡ true = ap (λ q. sees_full q K r f.head f.copy f.seen) (sym is_none) ∙ test in
+        record {
+          index = f.head;
+          seen = f.seen;
+          first = [];
+          did = f.accesses
+              ∙ ap (λ q. load r.head 4 f.head ∷ (look_accesses q K r f.head f.copy f.seen
+              ++ (if sees_full q K r f.head f.copy f.seen then [] else stored))) is_none
+              ∙ ap (λ b. load r.head 4 f.head ∷ load (room_at K r f.head) 4 f.seen ∷ (if b then [] else stored)) full;
+          says = full;
+          copy = inl refl;
+        }
+    at (Some a) some test =
+        let full = both (says_full K r f.head f.copy) (says_full K r f.head f.seen) (ap (λ q. sees_full q K r f.head f.copy f.seen) (sym some) ∙ test) in
+        let apart : a ≢ r.head = λ e. elim (is.head.no_copy a some) [
+          | inl l ↦ omega (arith, e, l)
+          | inr l ↦ omega (arith, e, l)
+        ] in
+        record {
+          index = f.head;
+          seen = f.seen;
+          first = load a 4 f.copy ∷ [];
+          did = f.accesses
+              ∙ ap (λ q. load r.head 4 f.head ∷ (look_accesses q K r f.head f.copy f.seen
+              ++ (if sees_full q K r f.head f.copy f.seen then [] else stored))) some
+              ∙ ap (λ b. load r.head 4 f.head ∷ load a 4 f.copy ∷ ((if b then load (room_at K r f.head) 4 f.seen
+              ∷ (if says_full K r f.head f.seen then [] else store (write a 4 f.seen) ∷ []) else [])
+              ++ (if b && says_full K r f.head f.seen then [] else stored))) full.0
+              ∙ ap (λ b. load r.head 4 f.head ∷ load a 4 f.copy ∷ load (room_at K r f.head) 4 f.seen
+              ∷ ((if b then [] else store (write a 4 f.seen) ∷ []) ++ (if b then [] else stored))) full.1;
+          says = full.1;
+          copy = inr (
+            load a 4 f.copy,
+            refl,
+            record {
+              knows = λ t knows. look-load K r the_sender t a f.copy f.head knows apart (sym (ap (λ q. first_look q (room_at K r f.head)) some))
+                  ∙ ap (λ b. if b then placed f.head else roomy f.head) full.0;
+              words = λ t. load-words K r the_sender t a f.copy;
+            },
+          );
+        }
+looks_of the_receiver K r is s z count did f none =
     let test = chose (says_empty K f.tail f.seen) (slice_index z.registers 10) f.answer none in
     record {
       index = f.tail;
       seen = f.seen;
+      first = [];
       did = f.accesses ∙ ap (λ b. load r.tail 4 f.tail ∷ load (word_at K r f.tail) 4 f.seen ∷
           (if b then [] else take_accesses K r (slice_index z.registers 11) f.tail)) test;
       says = test;
+      copy = inl refl;
     }
 
 module _ (B M : ℕ) (o : OpeningValue) (q : SpscQueue) (before es : List Entry) (c : UsesAsSpscQueue B M o q before es) (done call rest : List Entry)
@@ -169,8 +228,8 @@ module _ (B M : ℕ) (o : OpeningValue) (q : SpscQueue) (before es : List Entry)
     protocol_on : protocol_next r (protocol now) e ≡ protocol (now ++ e ∷ [])
     protocol_on = sym (protocol-append r at_start now (e ∷ []))
 
-    placed_on : state_here M o h n (listing_of K p) (has_of c.shares p) ((before ++ now) ++ e ∷ []) ≡ state (now ++ e ∷ [])
-    placed_on = ap (state_here M o h n (listing_of K p) (has_of c.shares p)) (append_assoc before now (e ∷ []))
+    placed_on : state_here M o h n (listing_of K k.caches p) (has_of c.shares p) ((before ++ now) ++ e ∷ []) ≡ state (now ++ e ∷ [])
+    placed_on = ap (state_here M o h n (listing_of K k.caches p) (has_of c.shares p)) (append_assoc before now (e ∷ []))
 
     by_other : is_own h e ≡ false → So (now ++ e ∷ []) (part_done ++ e ∷ [])
     by_other off =
@@ -178,7 +237,7 @@ module _ (B M : ℕ) (o : OpeningValue) (q : SpscQueue) (before es : List Entry)
         let all : words_at now ≡ words_at (now ++ e ∷ []) = none_completed M o h n (busy_at now) (before ++ now) e (words_at now) off ∙ worded in
         record {
           stands = carry n p K k r same all (course_same h s part_done e off)
-              (here_same M o h n (listing_of K p) (has_of c.shares p) (before ++ now) e off ∙ placed_on)
+              (here_same M o h n (listing_of K k.caches p) (has_of c.shares p) (before ++ now) e off ∙ placed_on)
               (sym (still q p (protocol now) e (off_silent h e off [])) ∙ ap (part p) protocol_on) so.stands;
           words = λ busy_still. sym all ∙ so.words busy;
           over = λ idle. absurd (let no : true ≡ false = sym busy ∙ same ∙ idle in cc);
@@ -202,7 +261,7 @@ module _ (B M : ℕ) (o : OpeningValue) (q : SpscQueue) (before es : List Entry)
         let inside : Inside n p K k r (words_at now) (course h s part_done) (state now) (part p (protocol now)) =
         subst (λ b. CourseStands n p K k r b (words_at now) (course h s part_done) (state now) (part p (protocol now))) busy so.stands in
         let after : advanced (state now) (value_of e) ≡ state (now ++ e ∷ []) =
-        here_next M o h n (listing_of K p) (has_of c.shares p) (before ++ now) e own.0 own.1 ∙ placed_on in
+        here_next M o h n (listing_of K k.caches p) (has_of c.shares p) (before ++ now) e own.0 own.1 ∙ placed_on in
         let last : List ℕ = if busy_at (now ++ e ∷ []) then [] else completed_word (state (now ++ e ∷ [])) in
         let ends : completed_by_entry M o h n (busy_at now) (before ++ now) e ≡ last =
         completes B M o q before es c.shares now e more there stand_here p own.0 own.1 busy (state now) was (course h s part_done) inside
@@ -247,7 +306,7 @@ module _ (B M : ℕ) (o : OpeningValue) (q : SpscQueue) (before es : List Entry)
   inside_at busy = subst (λ b. CourseStands n p K k r b (words_at (done ++ call)) (course h s call) (state (done ++ call)) (part p (protocol (done ++ call))))
       busy at_end.stands
 
-  pub made_few : is_in_call M o h n k before (done ++ call) ≡ true → length (own h call) ≤ 10
+  pub made_few : is_in_call M o h n k before (done ++ call) ≡ true → length (own h call) < longest p r
   made_few busy =
       let inside = inside_at busy in
       few n p K k r (course h s call) (words_at (done ++ call)) inside.line (state (done ++ call)).registers (part p (protocol (done ++ call))) inside.row
@@ -266,52 +325,113 @@ module _ (B M : ℕ) (o : OpeningValue) (q : SpscQueue) (before es : List Entry)
     pub call_completes : words_at (done ++ call) ≡ words_at done ++ completed_word z
     call_completes = at_end.over whole.over ∙ ap (λ y. words_at done ++ completed_word y) end_state
 
+    -- from one access of the call to the next
+    record Reached (xs : List Entry) (y : Access) (ys : List Access) : Type 0 where
+      upto : List Entry
+      entry : Entry
+      left : List Entry
+      cut : call ≡ upto ++ entry ∷ left
+      mine : is_own h entry ≡ true
+      does : access_of entry ≡ y
+      others : accesses h left ≡ ys
+      same : part p (protocol (done ++ upto)) ≡ part p (protocol (done ++ xs))
+      crossed : part p (protocol (done ++ (upto ++ entry ∷ []))) ≡ part p (next_by K r (role p) (protocol (done ++ upto)) y)
+
+    reach : (xs more : List Entry) (y : Access) (ys : List Access) → call ≡ xs ++ more → accesses h more ≡ y ∷ ys → Reached xs y ys
+    reach xs more y ys cut all =
+        let f : First h more y ys = first_access h more y ys all in
+        let upto : List Entry = xs ++ f.part in
+        let cut_f : call ≡ upto ++ f.entry ∷ f.rest = cut ∙ ap (λ zs. xs ++ zs) f.is ∙ sym (append_assoc xs f.part (f.entry ∷ f.rest)) in
+        let there : es ≡ (done ++ upto) ++ f.entry ∷ (f.rest ++ rest) = split upto (f.entry ∷ f.rest) cut_f in
+        let t : ProtocolState = protocol (done ++ upto) in
+        record {
+          upto = upto;
+          entry = f.entry;
+          left = f.rest;
+          cut = cut_f;
+          mine = f.mine;
+          does = f.does;
+          others = f.others;
+          same = ap (part p) (ap protocol (sym (append_assoc done xs f.part)) ∙ protocol-append r at_start (done ++ xs) f.part)
+              ∙ unmoved q p (protocol (done ++ xs)) f.part f.none;
+          crossed = ap (part p) (ap protocol (sym (append_assoc done upto (f.entry ∷ []))) ∙ protocol-append r at_start (done ++ upto) (f.entry ∷ []))
+              ∙ ap (λ g. part p (next_by K r g t (access_of f.entry)))
+              (own_role (done ++ upto) upto f.entry (f.rest ++ rest) there (w.within upto f.entry f.rest cut_f) (so_far upto (f.entry ∷ f.rest) cut_f) f.mine)
+              ∙ ap (λ x. part p (next_by K r (role p) t x)) f.does;
+        }
+
+    after : {xs : List Entry} {y : Access} {ys : List Access} (l : Reached xs y ys) → call ≡ (l.upto ++ l.entry ∷ []) ++ l.left
+    after l = l.cut ∙ sym (append_assoc l.upto (l.entry ∷ []) l.left)
+
     -- where a call that returns 0 looked: the entry, what it loaded there, and the party's part of the protocol's state before it
     record Found : Type 0 where
-      looks : Looks p K r (accesses h call)
+      index : ℕ
+      seen : ℕ
+      says : sees_none p K r index seen ≡ true
       part_done : List Entry
       entry : Entry
       more : List Entry
       cut : call ≡ part_done ++ entry ∷ more
       mine : is_own h entry ≡ true
-      loads : access_of entry ≡ load (look_at p K r looks.index) 4 looks.seen
-      knows : Knows p looks.index (part p (protocol (done ++ part_done)))
+      loads : access_of entry ≡ load (place_of p K r index) 4 seen
+      knows : Knows p index (part p (protocol (done ++ part_done)))
       words : (part p (protocol (done ++ part_done))).words ≡ words_at (done ++ part_done)
 
     found : slice_index z.registers 10 ≡ 0 → Found
-    found none =
-        let looks : Looks p K r (accesses h call) = looks_of p K r s z (length (own h call)) (accesses h call) effect_of none in
-        let u : ℕ = looks.index in
-        let f : First h call (load (index_at p r) 4 u) (load (look_at p K r u) 4 looks.seen ∷ []) =
-        first_access h call (load (index_at p r) 4 u) (load (look_at p K r u) 4 looks.seen ∷ []) looks.did in
-        let g : First h f.rest (load (look_at p K r u) 4 looks.seen) [] = first_access h f.rest (load (look_at p K r u) 4 looks.seen) [] f.others in
-        let front : List Entry = f.part ++ f.entry ∷ g.part in
-        let cut : call ≡ front ++ g.entry ∷ g.rest = f.is ∙ ap (λ zs. f.part ++ f.entry ∷ zs) g.is
-        ∙ sym (append_assoc f.part (f.entry ∷ g.part) (g.entry ∷ g.rest)) in
-        let first = fresh.1 in
-        let early : ProtocolState = protocol_after r (protocol done) f.part in
-        let same : part p early ≡ part p (protocol done) = unmoved q p (protocol done) f.part f.none in
-        let at_f : es ≡ (done ++ f.part) ++ f.entry ∷ (f.rest ++ rest) = split f.part (f.entry ∷ f.rest) f.is in
-        let so_f = so_far f.part (f.entry ∷ f.rest) f.is in
-        let loaded : part p (protocol_next r early f.entry) ≡ part p (next_by K r (role p) early (load (index_at p r) 4 u)) =
-        ap (λ g. part p (next_by K r g early (access_of f.entry)))
-        (own_role (done ++ f.part) f.part f.entry (f.rest ++ rest) at_f (w.within f.part f.entry f.rest f.is) so_f f.mine)
-        ∙ ap (λ x. part p (next_by K r (role p) early x)) f.does in
-        let now : part p (protocol (done ++ front)) ≡ part p (next_by K r (role p) early (load (index_at p r) 4 u)) =
-        ap (part p) (protocol-append r at_start done front ∙ protocol-append r (protocol done) f.part (f.entry ∷ g.part))
-        ∙ unmoved q p (protocol_next r early f.entry) g.part g.none ∙ loaded in
-        record {
-          looks = looks;
-          part_done = front;
-          entry = g.entry;
-          more = g.rest;
-          cut = cut;
-          mine = g.mine;
-          loads = g.does;
-          knows = subst (Knows p u) (sym now) (first-load K r p early (index_at p r) u (subst Level (sym same) first.level) refl);
-          words = ap (λ (t : Part). t.words) now ∙ load-words K r p early (index_at p r) u ∙ ap (λ (t : Part). t.words) same ∙ first.words
-              ∙ sym ((so_far front (g.entry ∷ g.rest) cut).words (w.within front g.entry g.rest cut));
+    found none = at looks.copy
+      where
+        looks : Looks p K r (accesses h call)
+        looks = looks_of p K r (ring_is M k q.sender q.receiver c.shares.block c.shares.parties) s z (length (own h call)) (accesses h call) effect_of none
+
+        u : ℕ
+        u = looks.index
+
+        look : Access
+        look = load (place_of p K r u) 4 looks.seen
+
+        one : Reached [] (load (index_at p r) 4 u) (looks.first ++ look ∷ [])
+        one = reach [] call (load (index_at p r) 4 u) (looks.first ++ look ∷ []) refl looks.did
+
+        begun : part p (protocol (done ++ one.upto)) ≡ part p (protocol done)
+        begun = one.same ∙ ap (λ zs. part p (protocol zs)) (append-nil done)
+
+        xs : List Entry
+        xs = one.upto ++ one.entry ∷ []
+
+        knows : Knows p u (part p (protocol (done ++ xs)))
+        knows = subst (Knows p u) (sym one.crossed)
+            (first-load K r p (protocol (done ++ one.upto)) (index_at p r) u (subst Level (sym begun) fresh.1.level) refl)
+
+        words : (part p (protocol (done ++ xs))).words ≡ words_at done
+        words = ap (λ (t : Part). t.words) one.crossed ∙ load-words K r p (protocol (done ++ one.upto)) (index_at p r) u
+            ∙ ap (λ (t : Part). t.words) begun ∙ fresh.1.words
+
+        found_at : (ys : List Entry) → Knows p u (part p (protocol (done ++ ys))) → (part p (protocol (done ++ ys))).words ≡ words_at done
+            → Reached ys look [] → Found
+        found_at ys knows words l = record {
+          index = u;
+          seen = looks.seen;
+          says = looks.says;
+          part_done = l.upto;
+          entry = l.entry;
+          more = l.left;
+          cut = l.cut;
+          mine = l.mine;
+          loads = l.does;
+          knows = subst (Knows p u) (sym l.same) knows;
+          words = ap (λ (t : Part). t.words) l.same ∙ words
+              ∙ sym ((so_far l.upto (l.entry ∷ l.left) l.cut).words (w.within l.upto l.entry l.left l.cut));
         }
+
+        at : (looks.first ≡ []) ⊎ ((x : Access) × (looks.first ≡ x ∷ []) × Keeps p K r u x) → Found
+        at (inl first) = found_at xs knows words (reach xs one.left look [] (after one) (one.others ∙ ap (λ zs. zs ++ look ∷ []) first))
+        at (inr past) =
+            let two : Reached xs past.0 (look ∷ []) = reach xs one.left past.0 (look ∷ []) (after one) (one.others ∙ ap (λ zs. zs ++ look ∷ []) past.1) in
+            let t : ProtocolState = protocol (done ++ two.upto) in
+            let ys : List Entry = two.upto ++ two.entry ∷ [] in
+            found_at ys (subst (Knows p u) (sym two.crossed) (past.2.knows t (subst (Knows p u) (sym two.same) knows)))
+            (ap (λ (t : Part). t.words) two.crossed ∙ past.2.words t ∙ ap (λ (t : Part). t.words) two.same ∙ words)
+            (reach ys two.left look [] (after two) two.others)
 
 module _ (B M : ℕ) (o : OpeningValue) (q : SpscQueue) (before done call : List Entry)
     (c : UsesAsSpscQueue B M o q before (done ++ call)) (s z : HartState) where
@@ -320,7 +440,7 @@ module _ (B M : ℕ) (o : OpeningValue) (q : SpscQueue) (before done call : List
 
   -- a party in a call, at the end of the run: what it wants, and how many entries it has made
   pub goes_on : (p : Party) → IsCallUnderWay M o (party_hart q p) (party_line q p) q.block before done call s
-      → state_of M (history_of o (before ++ (done ++ call))) (party_hart q p) ≡ Some z → GoesOn z (length (own (party_hart q p) call))
+      → state_of M (history_of o (before ++ (done ++ call))) (party_hart q p) ≡ Some z → GoesOn (longest p (buffer q)) z (length (own (party_hart q p) call))
   goes_on p w at =
       let es : List Entry = done ++ call in
       let h : ℕ = party_hart q p in
@@ -337,11 +457,11 @@ module _ (B M : ℕ) (o : OpeningValue) (q : SpscQueue) (before done call : List
       (slice_index (protocol_after r at_start (es ++ [])).sent) t
       (known-of B r o before es [] (subst (FollowsSpscProtocol B r o before) (sym (append-nil es)) (calls_follow B M o q before es c))) in
       let moves = moves_at M n q.sender q.receiver p k.kind k c.shares.block h y t 0 refl
-      (equipped M o h n (listing_of k.kind p) (has_of c.shares p) (before ++ es) y was) near (course h s call) (words M o q p before es)
+      (equipped M o h n (listing_of k.kind k.caches p) (has_of c.shares p) (before ++ es) y was) near (course h s call) (words M o q p before es)
       inside.line inside.place inside.row in
       record {
         runs = ap (λ (x : HartState). x.status) (sym same)
-            ∙ runs_here B M o h n (listing_of k.kind p) (has_of c.shares p) (before ++ es) c.shares.run moves.0.plain;
+            ∙ runs_here B M o h n (listing_of k.kind k.caches p) (has_of c.shares p) (before ++ es) c.shares.run moves.0.plain;
         wants = subst (λ x. IsPlainNeed (need_of x)) same moves.0.plain;
         short = made_few B M o q before es c done call [] whole p s (part_begun w) busy;
       }
@@ -356,14 +476,14 @@ module _ (B M : ℕ) (o : OpeningValue) (q : SpscQueue) (before done call : List
         part = f.part_done;
         entry = f.entry;
         rest = f.more;
-        offset = f.looks.index;
-        value = f.looks.seen;
+        offset = f.index;
+        value = f.seen;
         is = f.cut;
         mine = (own_parts q.sender f.entry f.mine).0;
         loads = f.loads;
-        says = f.looks.says;
-        full = finds_full B M o q before (done ++ f.part_done) f.entry f.more (uses_at f.part_done f.entry f.more f.cut) f.looks.index f.looks.seen
-            (own_parts q.sender f.entry f.mine).0 f.loads f.looks.says f.knows f.words;
+        says = f.says;
+        full = finds_full B M o q before (done ++ f.part_done) f.entry f.more (uses_at f.part_done f.entry f.more f.cut) f.index f.seen
+            (own_parts q.sender f.entry f.mine).0 f.loads f.says f.knows f.words;
       }
 
   pub found_empty : IsReceive M o q before done call s z → slice_index z.registers 10 ≡ 0 → FoundEmpty M o q before done call
@@ -373,12 +493,12 @@ module _ (B M : ℕ) (o : OpeningValue) (q : SpscQueue) (before done call : List
         part = f.part_done;
         entry = f.entry;
         rest = f.more;
-        offset = f.looks.index;
-        value = f.looks.seen;
+        offset = f.index;
+        value = f.seen;
         is = f.cut;
         mine = (own_parts q.receiver f.entry f.mine).0;
         loads = f.loads;
-        says = f.looks.says;
-        empty = finds_empty B M o q before (done ++ f.part_done) f.entry f.more (uses_at f.part_done f.entry f.more f.cut) f.looks.index f.looks.seen
-            (own_parts q.receiver f.entry f.mine).0 f.loads f.looks.says f.knows f.words;
+        says = f.says;
+        empty = finds_empty B M o q before (done ++ f.part_done) f.entry f.more (uses_at f.part_done f.entry f.more f.cut) f.index f.seen
+            (own_parts q.receiver f.entry f.mine).0 f.loads f.says f.knows f.words;
       }

@@ -1,5 +1,5 @@
 -- The outline of the functions of both kinds: what holds at each line of a call.
-use Rattle.std.proofs.Common.{ℕ, ◌+◌, ◌*◌, ◌%◌, ◌≤◌, ◌≡◌, Bool, true, false, if◌then◌else◌, List, [], ◌∷◌, ◌++◌, ◌⊎◌}
+use Rattle.std.proofs.Common.{ℕ, ◌+◌, ◌*◌, ◌%◌, ◌≤◌, ◌≡◌, Bool, true, false, if◌then◌else◌, Option, Some, None, List, [], ◌∷◌, ◌++◌, ◌⊎◌}
 use Rattle.std.specs.Prelude.{slice_index}
 use Rattle.memory.specs.declared.writes.Write.{Write}
 use Rattle.memory.specs.Writes.{write}
@@ -7,12 +7,14 @@ use Rattle.hart.specs.State.{HartState}
 use Rattle.hart.specs.Steps.{need_of, advanced}
 use Rattle.step_machine.specs.Access.{Access, load, store, exchange}
 use Rattle.spsc_queue.specs.RingBuffers.{Kind, lamport, fastforward, RingBuffer, next}
-use Rattle.spsc_queue.specs.Protocol.{SenderState, resting, placed, roomy, filled, ReceiverState, idle, asked, waiting, holding, cleared, ProtocolState, Role}
-use Rattle.spsc_queue.specs.Protocol.{sends, receives, room_at, says_full, word_at, says_empty, looks_for_room, looks_for_word, next_by, IsSenderStore}
-use Rattle.spsc_queue.specs.Protocol.{IsReceiverStore}
+use Rattle.spsc_queue.specs.Protocol.{SenderState, resting, placed, renewing, roomy, filled, ReceiverState, idle, asked}
+use Rattle.spsc_queue.specs.Protocol.{waiting, holding, cleared, ProtocolState, Role}
+use Rattle.spsc_queue.specs.Protocol.{sends, receives, room_at, says_full, word_at, says_empty, looks_for_room, looks_past_copy, looks_for_word, next_by}
+use Rattle.spsc_queue.specs.Protocol.{IsSenderStore, IsReceiverStore}
 use Rattle.spsc_queue.specs.Calls.{Block, Party, the_sender, the_receiver}
-use Rattle.spsc_queue.specs.CallEffects.{IsPlainNeed, send_accesses, receive_accesses, IsFound, SendEffect, ReceiveEffect}
-use Rattle.spsc_queue.proofs.Courses.{At, at_00, at_04, at_08, at_0C, at_10, at_14, at_18, at_1C, at_20, at_24, at_28, at_2C, at_30, number, moved, Course}
+use Rattle.spsc_queue.specs.CallEffects.{IsPlainNeed, sees_full, look_accesses, send_accesses, receive_accesses, IsFound, SendEffect, ReceiveEffect}
+use Rattle.spsc_queue.proofs.Courses.{At, at_00, at_04, at_08, at_0C, at_10, at_14, at_18, at_1C, at_20, at_24, at_28}
+use Rattle.spsc_queue.proofs.Courses.{at_2C, at_30, at_34, at_38, at_3C, at_40, number, moved, Course}
 use Rattle.spsc_queue.proofs.Courses.{went, Left, Frame}
 
 -- a party's part of the protocol's state
@@ -51,6 +53,7 @@ IsOffset k u = (u + 4 ≤ 4 * k.size) × (u % 4 ≡ 0)
 abbrev pub IsNear : Block → SenderState → Type 0
 IsNear k resting = Unit {0}
 IsNear k (placed u) = IsOffset k u
+IsNear k (renewing u v) = IsOffset k u
 IsNear k (roomy u) = IsOffset k u
 IsNear k (filled u) = IsOffset k u
 
@@ -65,18 +68,22 @@ pub record Near (k : Block) (t : Part) : Type 0 where
   pub sending : IsNear k t.sending
   pub receiving : IsFit k t.receiving
 
--- its own index, where it looks, and what says that there is no room, or no word
+-- its own index, where it looks first, and what says that there is no room, or no word
 abbrev pub index_at : Party → RingBuffer → ℕ
 index_at the_sender r = r.head
 index_at the_receiver r = r.tail
 
+abbrev pub first_look : Option ℕ → (room : ℕ) → ℕ
+first_look None room = room
+first_look (Some c) room = c
+
 abbrev pub look_at : Party → Kind → RingBuffer → (u : ℕ) → ℕ
-look_at the_sender K r u = room_at K r u
+look_at the_sender K r u = first_look r.copy (room_at K r u)
 look_at the_receiver K r u = word_at K r u
 
-abbrev pub says_no : Party → Kind → RingBuffer → (u v : ℕ) → Bool
-says_no the_sender K r u v = says_full K r u v
-says_no the_receiver K r u v = says_empty K u v
+abbrev pub says_no : Party → Kind → RingBuffer → (u c v : ℕ) → Bool
+says_no the_sender K r u c v = sees_full r.copy K r u c v
+says_no the_receiver K r u c v = says_empty K u v
 
 -- it has read its index u; it has looked there and read v; it may store; it has stored to the slot
 abbrev pub Knows : Party → (u : ℕ) → Part → Type 0
@@ -105,24 +112,24 @@ abbrev pub Found : Party → Kind → (v w : ℕ) → Type 0
 Found the_sender K v w = Unit {0}
 Found the_receiver K v w = IsFound K v w
 
--- ---- its accesses so far: two loads; those before it stores, where w is in a1; and that of the slot
+-- ---- its accesses so far: two loads; those before it stores a word, where w is in a1; and that of the slot
 
 abbrev pub looked : Party → Kind → RingBuffer → (u v : ℕ) → List Access
 looked p K r u v = load (index_at p r) 4 u ∷ load (look_at p K r u) 4 v ∷ []
 
-abbrev pub ready : Party → Kind → RingBuffer → (u v w : ℕ) → List Access
-ready the_sender K r u v w = looked the_sender K r u v
-ready the_receiver lamport r u v w = looked the_receiver lamport r u v ++ load (r.slots + u) 4 w ∷ []
-ready the_receiver fastforward r u v w = looked the_receiver fastforward r u v
+abbrev pub ready : Party → Kind → RingBuffer → (u c v w : ℕ) → List Access
+ready the_sender K r u c v w = load r.head 4 u ∷ look_accesses r.copy K r u c v
+ready the_receiver lamport r u c v w = looked the_receiver lamport r u v ++ load (r.slots + u) 4 w ∷ []
+ready the_receiver fastforward r u c v w = looked the_receiver fastforward r u v
 
 -- what it stores to the slot
 abbrev pub put : Party → (w : ℕ) → ℕ
 put the_sender w = w
 put the_receiver w = 0
 
-abbrev pub all_accesses : Party → Kind → RingBuffer → (w u v : ℕ) → List Access
-all_accesses the_sender K r w u v = send_accesses K r w u v
-all_accesses the_receiver K r w u v = receive_accesses K r w u v
+abbrev pub all_accesses : Party → Kind → RingBuffer → (w u c v : ℕ) → List Access
+all_accesses the_sender K r w u c v = send_accesses K r w u c v
+all_accesses the_receiver K r w u c v = receive_accesses K r w u v
 
 abbrev pub Effect : Party → Kind → RingBuffer → (s z : HartState) → (count : ℕ) → List Access → Type 0
 Effect the_sender K r s z count did = SendEffect K r s z count did
@@ -165,37 +172,53 @@ pub record Waiting (n : ℕ) (k : Block) (r : RingBuffer) (c : Course) (m : ℕ)
   pub words : t.words ≡ ws
   pub did : c.did ≡ looked the_receiver lamport r (slice_index x 5) seen
 
+-- its copy of the tail says that there is no room, and this is what it has done since
+pub record Past (n : ℕ) (k : Block) (r : RingBuffer) (c : Course) (m : ℕ) (ws x : List ℕ) (t : Part) (state : SenderState) (since : List Access) : Type 0 where
+  pub copy : ℕ
+  pub copies : r.copy ≡ Some (k.base + 4)
+  pub frame : Frame n the_sender k c m x
+  pub word : Word the_sender c.entry (slice_index x 11)
+  pub knows : t.sending ≡ state
+  pub level : Level t
+  pub full : says_full lamport r (slice_index x 5) copy ≡ true
+  pub after : slice_index x 7 ≡ next r (slice_index x 5)
+  pub words : t.words ≡ ws
+  pub did : c.did ≡ load r.head 4 (slice_index x 5) ∷ load (k.base + 4) 4 copy ∷ since
+
 -- it may store, at a place of which x5 and x7 are made
 pub record Ready (n : ℕ) (p : Party) (K : Kind) (k : Block) (r : RingBuffer) (c : Course) (m : ℕ) (ws x : List ℕ) (t : Part) (five seven : ℕ → ℕ) : Type 0 where
   pub place : ℕ
+  pub copy : ℕ
   pub seen : ℕ
   pub frame : Frame n p k c m x
   pub word : Word p c.entry (slice_index x 11)
   pub found : Found p K seen (slice_index x 11)
   pub knows : MayStore p place (slice_index x 11) t
   pub level : Level t
-  pub some : says_no p K r place seen ≡ false
+  pub some : says_no p K r place copy seen ≡ false
   pub x5 : slice_index x 5 ≡ five place
   pub x7 : slice_index x 7 ≡ seven place
   pub words : t.words ≡ ws
-  pub did : c.did ≡ ready p K r place seen (slice_index x 11)
+  pub did : c.did ≡ ready p K r place copy seen (slice_index x 11)
 
 -- it has stored to the slot, and the next offset is in register i
 pub record Half (n : ℕ) (p : Party) (K : Kind) (k : Block) (r : RingBuffer) (c : Course) (m i : ℕ) (ws x : List ℕ) (t : Part) : Type 0 where
   pub place : ℕ
+  pub copy : ℕ
   pub seen : ℕ
   pub frame : Frame n p k c m x
   pub word : Word p c.entry (slice_index x 11)
   pub found : Found p K seen (slice_index x 11)
   pub knows : Stored p place t
-  pub some : says_no p K r place seen ≡ false
+  pub some : says_no p K r place copy seen ≡ false
   pub after : slice_index x i ≡ next r place
   pub words : t.words ≡ ws ++ slice_index x 11 ∷ []
-  pub did : c.did ≡ ready p K r place seen (slice_index x 11) ++ store (write (r.slots + place) 4 (put p (slice_index x 11))) ∷ []
+  pub did : c.did ≡ ready p K r place copy seen (slice_index x 11) ++ store (write (r.slots + place) 4 (put p (slice_index x 11))) ∷ []
 
 -- all its accesses are made, and it is to answer so
 pub record Finished (n : ℕ) (p : Party) (K : Kind) (k : Block) (r : RingBuffer) (c : Course) (m : ℕ) (ws x : List ℕ) (t : Part) (answer : ℕ) : Type 0 where
   pub place : ℕ
+  pub copy : ℕ
   pub seen : ℕ
   pub left : Left n p k c m x
   pub word : Word p c.entry (slice_index x 11)
@@ -203,13 +226,18 @@ pub record Finished (n : ℕ) (p : Party) (K : Kind) (k : Block) (r : RingBuffer
   pub level : Level t
   pub among : IsOffset k place
   pub words : t.words ≡ ws
-  pub did : c.did ≡ all_accesses p K r (slice_index x 11) place seen
-  pub answers : answer ≡ (if says_no p K r place seen then 0 else 1)
+  pub did : c.did ≡ all_accesses p K r (slice_index x 11) place copy seen
+  pub answers : answer ≡ (if says_no p K r place copy seen then 0 else 1)
 
 -- ---- the lines
 
 abbrev pub Ended : (n : ℕ) → Party → Kind → Block → RingBuffer → Course → (m : ℕ) → (ws x : List ℕ) → Part → (answer : ℕ) → Type 0
 Ended n p K k r c m ws x t answer = Finished n p K k r c m ws x t answer × (slice_index x 10 ≡ answer)
+
+-- how many entries more a sender makes that looks past its copy
+abbrev pub detour : Option ℕ → ℕ
+detour None = 0
+detour (Some c) = 4
 
 abbrev SendRow : (n : ℕ) → Block → RingBuffer → Course → (ws : List ℕ) → At → (x : List ℕ) → Part → Type 0
 SendRow n k r c ws at_00 x t = Fresh n the_sender k c ws x t
@@ -218,13 +246,19 @@ SendRow n k r c ws at_08 x t = Seen n the_sender lamport k r c 2 6 ws x t
 SendRow n k r c ws at_0C x t = Seen n the_sender lamport k r c 3 6 ws x t × (slice_index x 7 ≡ slice_index x 5 + 4)
 SendRow n k r c ws at_10 x t = Seen n the_sender lamport k r c 4 6 ws x t × (slice_index x 5 + 4 ≡ 4 * k.size)
 SendRow n k r c ws at_14 x t = Seen n the_sender lamport k r c 5 6 ws x t × (slice_index x 7 ≡ next r (slice_index x 5))
-SendRow n k r c ws at_18 x t = Ready n the_sender lamport k r c 6 ws x t (λ u. u) (λ u. next r u)
-SendRow n k r c ws at_1C x t = Ready n the_sender lamport k r c 7 ws x t (λ u. k.base + u) (λ u. next r u)
-SendRow n k r c ws at_20 x t = Half n the_sender lamport k r c 8 7 ws x t
-SendRow n k r c ws at_24 x t = Finished n the_sender lamport k r c 9 (ws ++ slice_index x 11 ∷ []) x t 1
-SendRow n k r c ws at_28 x t = Ended n the_sender lamport k r c 10 (ws ++ slice_index x 11 ∷ []) x t 1
-SendRow n k r c ws at_2C x t = Finished n the_sender lamport k r c 6 ws x t 0
-SendRow n k r c ws at_30 x t = Ended n the_sender lamport k r c 7 ws x t 0
+SendRow n k r c ws at_18 x t = Ready n the_sender lamport k r c (6 + detour r.copy) ws x t (λ u. u) (λ u. next r u)
+SendRow n k r c ws at_1C x t = Ready n the_sender lamport k r c (7 + detour r.copy) ws x t (λ u. k.base + u) (λ u. next r u)
+SendRow n k r c ws at_20 x t = Half n the_sender lamport k r c (8 + detour r.copy) 7 ws x t
+SendRow n k r c ws at_24 x t = Finished n the_sender lamport k r c (9 + detour r.copy) (ws ++ slice_index x 11 ∷ []) x t 1
+SendRow n k r c ws at_28 x t = Ended n the_sender lamport k r c (10 + detour r.copy) (ws ++ slice_index x 11 ∷ []) x t 1
+SendRow n k r c ws at_2C x t = Finished n the_sender lamport k r c (6 + detour r.copy) ws x t 0
+SendRow n k r c ws at_30 x t = Ended n the_sender lamport k r c (7 + detour r.copy) ws x t 0
+SendRow n k r c ws at_34 x t = Past n k r c 6 ws x t (placed (slice_index x 5)) []
+SendRow n k r c ws at_38 x t =
+    Past n k r c 7 ws x t (looks_past_copy lamport r (slice_index x 5) (slice_index x 6)) (load r.tail 4 (slice_index x 6) ∷ [])
+SendRow n k r c ws at_3C x t = Past n k r c 8 ws x t (renewing (slice_index x 5) (slice_index x 6)) (load r.tail 4 (slice_index x 6) ∷ [])
+    × (says_full lamport r (slice_index x 5) (slice_index x 6) ≡ false)
+SendRow n k r c ws at_40 x t = Ready n the_sender lamport k r c 9 ws x t (λ u. u) (λ u. next r u) × (r.copy ≡ Some (k.base + 4))
 
 abbrev ReceiveRow : (n : ℕ) → Block → RingBuffer → Course → (ws : List ℕ) → At → (x : List ℕ) → Part → Type 0
 ReceiveRow n k r c ws at_00 x t = Fresh n the_receiver k c ws x t
@@ -240,6 +274,7 @@ ReceiveRow n k r c ws at_24 x t = Finished n the_receiver lamport k r c 9 (ws ++
 ReceiveRow n k r c ws at_28 x t = Ended n the_receiver lamport k r c 10 (ws ++ slice_index x 11 ∷ []) x t 1
 ReceiveRow n k r c ws at_2C x t = Finished n the_receiver lamport k r c 3 ws x t 0
 ReceiveRow n k r c ws at_30 x t = Ended n the_receiver lamport k r c 4 ws x t 0
+ReceiveRow n k r c ws line x t = ⊥
 
 -- FastForward's functions differ in the register that takes what is read in the slot
 abbrev pub slot_register : Party → ℕ
@@ -260,6 +295,7 @@ FastForwardRow n p k r c ws at_24 x t = Finished n p fastforward k r c 9 (ws ++ 
 FastForwardRow n p k r c ws at_28 x t = Ended n p fastforward k r c 10 (ws ++ slice_index x 11 ∷ []) x t 1
 FastForwardRow n p k r c ws at_2C x t = Finished n p fastforward k r c 4 ws x t 0
 FastForwardRow n p k r c ws at_30 x t = Ended n p fastforward k r c 5 ws x t 0
+FastForwardRow n p k r c ws line x t = ⊥
 
 abbrev LamportRow : (n : ℕ) → Party → Block → RingBuffer → Course → (ws : List ℕ) → At → (x : List ℕ) → Part → Type 0
 LamportRow n the_sender k r c ws line x t = SendRow n k r c ws line x t

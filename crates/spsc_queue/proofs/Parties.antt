@@ -16,7 +16,7 @@ abbrev pub words : (M : ℕ) → OpeningValue → SpscQueue → Party → (befor
 words M o q p before es = completed_words M o (party_hart q p) (party_line q p) q.block before es
 
 pub has_of : {B M : ℕ} {o : OpeningValue} {q : SpscQueue} {before es : List Entry} → SharesQueue B M o q before es → (p : Party)
-    → HasFunction o (party_hart q p) (party_line q p) (listing_of q.block.kind p)
+    → HasFunction o (party_hart q p) (party_line q p) (listing_of q.block.kind q.block.caches p)
 has_of c the_sender = c.sends
 has_of c the_receiver = c.receives
 

@@ -1,28 +1,44 @@
 -- What an access makes of a party's part of the protocol's state, and which accesses keep the protocol.
-use Rattle.std.proofs.Common.{ℕ, ◌+◌, ◌≡◌, ◌≢◌, ◌==◌, inl, inr, Bool, true, false, if◌then◌else◌, List, [], ◌∷◌, ◌++◌, refl, sym, ◌∙◌, ap, subst, arith}
+use Rattle.std.proofs.Common.{ℕ, ◌+◌, ◌≡◌, ◌≢◌, ◌==◌, inl, inr, Bool, true, false, if◌then◌else◌, Option, Some, None}
+use Rattle.std.proofs.Common.{List, [], ◌∷◌, ◌++◌, refl, sym, ◌∙◌, ap, subst, arith}
 use Rattle.std.proofs.lemmas.Bool.{eq-eqb, ne_eqb}
 use Rattle.memory.specs.declared.writes.Write.{Write}
 use Rattle.step_machine.specs.declared.events.Entry.{Entry}
 use Rattle.step_machine.specs.Access.{Access, nothing, load, store, exchange, fence, land, access_of}
 use Rattle.step_machine.specs.Entries.{hart_of}
 use Rattle.spsc_queue.specs.RingBuffers.{Kind, lamport, fastforward, RingBuffer, IsRingBuffer, overlaps}
-use Rattle.spsc_queue.specs.Protocol.{SenderState, resting, placed, roomy, filled, ReceiverState, idle, asked, waiting, holding, cleared, ProtocolState, Role}
-use Rattle.spsc_queue.specs.Protocol.{sends, receives, passes, role_of, looks_for_room, looks_for_word, send_look, send_load, send_store, receive_look}
-use Rattle.spsc_queue.specs.Protocol.{receive_load, receive_store, says_full, says_empty, next_by, protocol_next, protocol_after, WritesNothingTo}
+use Rattle.spsc_queue.specs.Protocol.{SenderState, resting, placed, renewing, roomy, filled, ReceiverState, idle, asked}
+use Rattle.spsc_queue.specs.Protocol.{waiting, holding, cleared, ProtocolState, Role}
+use Rattle.spsc_queue.specs.Protocol.{sends, receives, passes, role_of, looks_for_room, looks_past_copy, looks_at}
+use Rattle.spsc_queue.specs.Protocol.{looks_for_word, send_look, send_load, send_store, receive_look}
+use Rattle.spsc_queue.specs.Protocol.{receive_load, receive_store, room_at, says_full, says_empty, next_by, protocol_next, protocol_after, WritesNothingTo}
 use Rattle.spsc_queue.specs.Protocol.{KeepsProtocolBy, KeepsProtocol}
-use Rattle.spsc_queue.specs.Calls.{Block, IsBlock, Party, the_sender, the_receiver, ring_of}
+use Rattle.spsc_queue.specs.Calls.{Block, IsBlock, Party, the_sender, the_receiver, copy_in, ring_of}
 use Rattle.spsc_queue.proofs.Spread.{offset_low}
 use Rattle.spsc_queue.proofs.Invariants.{IsPlaced, IsAsked, Known}
-use Rattle.spsc_queue.proofs.Outline.{Part, part, role, IsLevel, IsWhole, Level, IsOffset, IsNear, IsFit, Near, index_at, look_at, Knows, Looked, MayStore}
+use Rattle.spsc_queue.proofs.Outline.{Part, part, role, IsLevel, IsWhole, Level, IsOffset, IsNear, IsFit, Near}
+use Rattle.spsc_queue.proofs.Outline.{first_look, index_at, look_at, Knows, Looked, MayStore}
 use Rattle.spsc_queue.proofs.Outline.{Stored, Does}
+
+-- a copy lies 4 bytes after the base of a block of Lamport's
+pub copied_in : (K : Kind) (caches : Bool) (base c : ℕ) → copy_in K caches base ≡ Some c → (c ≡ base + 4) × (K ≡ lamport) × (caches ≡ true)
+copied_in lamport true base c at = ((let same : base + 4 ≡ c = cc in sym same), refl, refl)
+copied_in lamport false base c at = absurd (cc)
+copied_in fastforward caches base c at = absurd (cc)
+
+pub copied : (k : Block) (c : ℕ) → copy_in k.kind k.caches k.base ≡ Some c → c ≡ k.base + 4
+copied k c at = (copied_in k.kind k.caches k.base c at).0
+
+cached_kind : (k : Block) (c : ℕ) → copy_in k.kind k.caches k.base ≡ Some c → k.kind ≡ lamport
+cached_kind k c at = (copied_in k.kind k.caches k.base c at).1
 
 -- the ring buffer of a block
 pub ring_is : (M : ℕ) (k : Block) (a b : ℕ) → IsBlock M k → a ≢ b → IsRingBuffer (ring_of k a b)
 ring_is M k a b is parties = record {
   parties = parties;
   some_slots = is.some_slots;
-  head = record { above = omega arith; below = omega arith; aligned = is.aligned };
-  tail = record { above = omega arith; below = omega arith; aligned = omega (arith, is.aligned) };
+  head = record { above = omega arith; below = omega arith; aligned = is.aligned; no_copy = λ c at. inr (omega (arith, copied k c at)) };
+  tail = record { above = omega arith; below = omega arith; aligned = omega (arith, is.aligned); no_copy = λ c at. inl (omega (arith, copied k c at)) };
   slots_above = omega arith;
   slots_below = omega arith;
   slots_aligned = omega (arith, is.aligned);
@@ -30,6 +46,12 @@ ring_is M k a b is parties = record {
   head_apart = inl (omega arith);
   tail_apart = inl (omega arith);
   small = omega (arith, is.inside, is.small);
+  copy = λ c at. record {
+    kind = cached_kind k c at;
+    above = omega (arith, copied k c at);
+    below = omega (arith, copied k c at);
+    apart = inl (omega (arith, copied k c at));
+  };
 }
 
 -- the protocol, at the end of a list
@@ -83,6 +105,7 @@ module _ (K : Kind) (r : RingBuffer) where
       at : (c : Bool) (p : SenderState) → part the_receiver (if c then send_store w p t else t) ≡ part the_receiver t
       at true resting = refl
       at true (placed u) = refl
+      at true (renewing u v) = refl
       at true (roomy u) = refl
       at true (filled u) = refl
       at false p = refl
@@ -138,10 +161,15 @@ module _ (K : Kind) (r : RingBuffer) where
       seen : (u : ℕ) → IsLevel (looks_for_room K r u v)
       seen u = chosen (says_full K r u v) (placed u) (roomy u) tt tt
 
+      looks : (u : ℕ) (q : Option ℕ) → IsLevel (looks_at q K r a u v)
+      looks u None = chosen (a == room_at K r u) (looks_for_room K r u v) (placed u) (seen u) tt
+      looks u (Some c) = chosen (a == c) (looks_for_room K r u v) (if a == room_at K r u then looks_past_copy K r u v else placed u) (seen u)
+          (chosen (a == room_at K r u) (looks_past_copy K r u v) (placed u) (chosen (says_full K r u v) (placed u) (renewing u v) tt tt) tt)
+
       at : (p : SenderState) → IsLevel p → IsLevel (send_load K r a v p)
       at resting l = chosen (a == r.head) (placed v) resting tt tt
-      at (placed u) l = chosen (a == r.head) (placed v) (send_look K r a v (placed u)) tt
-          (chosen (a == look_at the_sender K r u) (looks_for_room K r u v) (placed u) (seen u) tt)
+      at (placed u) l = chosen (a == r.head) (placed v) (send_look K r a v (placed u)) tt (looks u r.copy)
+      at (renewing u w) l = chosen (a == r.head) (placed v) (renewing u w) tt tt
       at (roomy u) l = chosen (a == r.head) (placed v) (roomy u) tt tt
       at (filled u) l = absurd l
 
@@ -202,6 +230,7 @@ module _ (K : Kind) (r : RingBuffer) where
       at : (q : SenderState) → IsLevel q → send_load K r a v q ≡ placed v
       at resting l = ap (λ b. if b then placed v else resting) (eq-eqb a r.head here)
       at (placed u) l = ap (λ b. if b then placed v else send_look K r a v (placed u)) (eq-eqb a r.head here)
+      at (renewing u w) l = ap (λ b. if b then placed v else renewing u w) (eq-eqb a r.head here)
       at (roomy u) l = ap (λ b. if b then placed v else roomy u) (eq-eqb a r.head here)
       at (filled u) l = absurd l
   first-load the_receiver t a v level here = at t.receiving level.receiving
@@ -218,10 +247,24 @@ module _ (K : Kind) (r : RingBuffer) where
       → Looked p K r u v (part p (next_by K r (role p) t (load a 4 v)))
   look-load the_sender t a v u knows other here =
       ap (send_load K r a v) knows ∙ ap (λ b. if b then placed v else send_look K r a v (placed u)) (ne_eqb a r.head other)
-      ∙ ap (λ b. if b then looks_for_room K r u v else placed u) (eq-eqb a (look_at the_sender K r u) here)
+      ∙ first r.copy here
+    where
+      first : (q : Option ℕ) → a ≡ first_look q (room_at K r u) → looks_at q K r a u v ≡ looks_for_room K r u v
+      first None here = ap (λ b. if b then looks_for_room K r u v else placed u) (eq-eqb a (room_at K r u) here)
+      first (Some c) here =
+          ap (λ b. if b then looks_for_room K r u v else (if a == room_at K r u then looks_past_copy K r u v else placed u)) (eq-eqb a c here)
   look-load the_receiver t a v u knows other here =
       ap (receive_load K r a v) knows ∙ ap (λ b. if b then asked v else receive_look K r a v (asked u)) (ne_eqb a r.tail other)
       ∙ ap (λ b. if b then looks_for_word K u v else asked u) (eq-eqb a (look_at the_receiver K r u) here)
+
+  -- a sender whose copy says that there is no room looks at the tail itself
+  pub past-load : (t : ProtocolState) (a v u c : ℕ) → t.sending ≡ placed u → r.copy ≡ Some c → a ≢ r.head → a ≢ c → a ≡ room_at K r u
+      → (next_by K r sends t (load a 4 v)).sending ≡ looks_past_copy K r u v
+  past-load t a v u c knows copy other apart here =
+      ap (send_load K r a v) knows ∙ ap (λ b. if b then placed v else send_look K r a v (placed u)) (ne_eqb a r.head other)
+      ∙ ap (λ q. looks_at q K r a u v) copy
+      ∙ ap (λ b. if b then looks_for_room K r u v else (if a == room_at K r u then looks_past_copy K r u v else placed u)) (ne_eqb a c apart)
+      ∙ ap (λ b. if b then looks_past_copy K r u v else placed u) (eq-eqb a (room_at K r u) here)
 
   -- and of the slot where a word waits
   pub word-load : (t : ProtocolState) (a v u : ℕ) → t.receiving ≡ waiting u → a ≢ r.tail → a ≡ r.slots + u
@@ -247,6 +290,11 @@ module _ (K : Kind) (r : RingBuffer) where
     slot-taken t u v knows = ap (λ c. part the_receiver (if c then receive_store fastforward t.receiving t else t)) on
         ∙ ap (λ p. part the_receiver (receive_store fastforward p t)) knows
 
+    -- to the copy
+    pub copy-stored : (t : ProtocolState) (u v : ℕ) → t.sending ≡ renewing u v
+        → part the_sender (next_by K r sends t (store w)) ≡ record { sending = roomy u; receiving = idle; words = t.sent }
+    copy-stored t u v knows = ap (λ c. part the_sender (if c then send_store w t.sending t else t)) on ∙ ap (λ p. part the_sender (send_store w p t)) knows
+
     -- to the tail, by Lamport's receiver that holds a word
     pub tail-taken : (t : ProtocolState) (u v : ℕ) → t.receiving ≡ holding u v
         → part the_receiver (next_by lamport r receives t (store w)) ≡ record { sending = resting; receiving = idle; words = t.received ++ v ∷ [] }
@@ -267,6 +315,7 @@ module _ (k : Block) (a b : ℕ) (is : IsRingBuffer (ring_of k a b)) where
   placed-near : (stored published : ℕ) (p : SenderState) → IsPlaced (ring_of k a b) stored published p → IsNear k p
   placed-near stored published resting h = tt
   placed-near stored published (placed u) h = (omega (arith, h.1, offset_low (ring_of k a b) is published), omega (arith, h.1))
+  placed-near stored published (renewing u v) h = (omega (arith, h.1, offset_low (ring_of k a b) is published), omega (arith, h.1))
   placed-near stored published (roomy u) h = (omega (arith, h.1, offset_low (ring_of k a b) is published), omega (arith, h.1))
   placed-near stored published (filled u) h = (omega (arith, h.1, offset_low (ring_of k a b) is published), omega (arith, h.1))
 

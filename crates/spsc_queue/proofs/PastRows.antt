@@ -7,31 +7,32 @@ use Rattle.memory.specs.declared.writes.Write.{Write}
 use Rattle.step_machine.specs.declared.events.Entry.{Entry}
 use Rattle.step_machine.specs.Entries.{pending, stores, lands}
 use Rattle.step_machine.proofs.Appended.{stores-append}
-use Rattle.spsc_queue.specs.RingBuffers.{RingBuffer, writes_to}
+use Rattle.spsc_queue.specs.RingBuffers.{RingBuffer}
+use Rattle.spsc_queue.proofs.Words.{row_of}
 use Rattle.spsc_queue.proofs.Effects.{on-append}
 use Rattle.spsc_queue.proofs.Spread.{spread}
 use Rattle.spsc_queue.proofs.Rows.{Earlier, Rows, on_count}
 
-count-append : (r : RingBuffer) (ws vs : List Write) → length (writes_to r (ws ++ vs)) ≡ length (writes_to r ws) + length (writes_to r vs)
-count-append r ws vs = ap length (on-append r ws vs) ∙ length-append (writes_to r ws) (writes_to r vs)
+count-append : (r : RingBuffer) (ws vs : List Write) → length (row_of r (ws ++ vs)) ≡ length (row_of r ws) + length (row_of r vs)
+count-append r ws vs = ap length (on-append r ws vs) ∙ length-append (row_of r ws) (row_of r vs)
 
 -- of a list whose front holds m writes to the block, and of whose first n writes more than m are, n is more than the front
-beyond : (r : RingBuffer) (front back : List Write) (n : ℕ) → length (writes_to r front) < length (writes_to r (take n (front ++ back))) → length front < n
+beyond : (r : RingBuffer) (front back : List Write) (n : ℕ) → length (row_of r front) < length (row_of r (take n (front ++ back))) → length front < n
 beyond r front back n more = elim (cases_lt (length front) n) [
   | inl less ↦ less
   | inr le ↦
       let part : take n (front ++ back) ≡ take n front = take-append-le n front back le in
-      let whole : length (writes_to r front) ≡ length (writes_to r (take n front)) + length (writes_to r (drop n front)) =
-      ap (λ ws. length (writes_to r ws)) (sym (take-append-drop n front)) ∙ count-append r (take n front) (drop n front) in
-      let same : length (writes_to r (take n (front ++ back))) ≡ length (writes_to r (take n front)) = ap (λ ws. length (writes_to r ws)) part in
+      let whole : length (row_of r front) ≡ length (row_of r (take n front)) + length (row_of r (drop n front)) =
+      ap (λ ws. length (row_of r ws)) (sym (take-append-drop n front)) ∙ count-append r (take n front) (drop n front) in
+      let same : length (row_of r (take n (front ++ back))) ≡ length (row_of r (take n front)) = ap (λ ws. length (row_of r ws)) part in
       absurd (omega (arith, more, whole, same))
 ]
 
 -- of hart h, whose pending stores to the block are m in number: how many of its stores to the block landed
 landed-on : (r : RingBuffer) (h : ℕ) (es : List Entry)
-    → length (writes_to r (take (lands h es) (stores h es))) + length (writes_to r (pending h es)) ≡ length (writes_to r (stores h es))
+    → length (row_of r (take (lands h es) (stores h es))) + length (row_of r (pending h es)) ≡ length (row_of r (stores h es))
 landed-on r h es = sym (count-append r (take (lands h es) (stores h es)) (drop (lands h es) (stores h es)))
-    ∙ ap (λ ws. length (writes_to r ws)) (take-append-drop (lands h es) (stores h es))
+    ∙ ap (λ ws. length (row_of r ws)) (take-append-drop (lands h es) (stores h es))
 
 -- how many stores a row has
 pub length-spread : (f : ℕ → Write) (i n : ℕ) → length (spread f i n) ≡ n
@@ -40,14 +41,14 @@ length-spread f i (suc n) = let more : length (spread f (suc i) n) ≡ n = lengt
 
 -- a hart made x stores to the block up to a point, besides a that it had made before, and later i of them have landed
 past : (r : RingBuffer) (h : ℕ) (es fs whole : List Entry) (f : ℕ → Write) (a x i n : ℕ) → whole ≡ es ++ fs → on_count r h es ≡ a + x
-    → on_count r h whole ≡ a + (i + n) → writes_to r (pending h whole) ≡ spread f i n → x < i → length (stores h es) < lands h whole
+    → on_count r h whole ≡ a + (i + n) → row_of r (pending h whole) ≡ spread f i n → x < i → length (stores h es) < lands h whole
 past r h es fs whole f a x i n is before after left more = beyond r (stores h es) (stores h fs) (lands h whole)
-    (subst (λ ws. length (writes_to r (stores h es)) < length (writes_to r (take (lands h whole) ws))) (ap (stores h) is ∙ stores-append h es fs) counted)
+    (subst (λ ws. length (row_of r (stores h es)) < length (row_of r (take (lands h whole) ws))) (ap (stores h) is ∙ stores-append h es fs) counted)
   where
-    left_count : length (writes_to r (pending h whole)) ≡ n
+    left_count : length (row_of r (pending h whole)) ≡ n
     left_count = ap length left ∙ length-spread f i n
 
-    counted : length (writes_to r (stores h es)) < length (writes_to r (take (lands h whole) (stores h whole)))
+    counted : length (row_of r (stores h es)) < length (row_of r (take (lands h whole) (stores h whole)))
     counted = omega (arith, landed-on r h whole, left_count, before, after, more)
 
 -- once more of a row has landed than a party had stored at a point, all that its hart had stored there has landed

@@ -5,7 +5,8 @@ use Rattle.step_machine.specs.declared.events.Entry.{Entry}
 use Rattle.step_machine.specs.History.{OpeningValue}
 use Rattle.step_machine.specs.Entries.{stores, lands}
 use Rattle.spsc_queue.specs.RingBuffers.{Kind, lamport, fastforward, RingBuffer, IsRingBuffer, capacity_of, capacity}
-use Rattle.spsc_queue.specs.Protocol.{SenderState, resting, placed, roomy, filled, ReceiverState, idle, asked, waiting, holding, cleared, ProtocolState}
+use Rattle.spsc_queue.specs.Protocol.{SenderState, resting, placed, renewing, roomy, filled, ReceiverState, idle, asked}
+use Rattle.spsc_queue.specs.Protocol.{waiting, holding, cleared, ProtocolState}
 use Rattle.spsc_queue.specs.Protocol.{at_start, protocol_after}
 use Rattle.spsc_queue.specs.Laws.{FollowsSpscProtocol, available_of, available_count, known_count, known_by_state, ready_count, ready_by_state}
 use Rattle.spsc_queue.proofs.Spread.{sent_store}
@@ -27,6 +28,7 @@ ready_freed : (spare : ℕ) (r : RingBuffer) (stored published n : ℕ) (p : Sen
     → stored + ready_by_state p + spare ≤ n + r.size
 ready_freed spare r stored published n resting le is = omega (arith, le)
 ready_freed spare r stored published n (placed u) le is = omega (arith, le)
+ready_freed spare r stored published n (renewing u v) le is = omega (arith, le)
 ready_freed spare r stored published n (roomy u) le is = omega (arith, is.2)
 ready_freed spare r stored published n (filled u) le is = omega (arith, le)
 

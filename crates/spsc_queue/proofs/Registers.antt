@@ -1,14 +1,16 @@
 -- Registers after a write, lines of code in their place, and the pc after a line.
-use Rattle.std.proofs.Common.{ℕ, pos, suc, ◌+◌, ◌*◌, ◌^◌, ◌<◌, ◌≤◌, ◌≡◌, ◌≢◌, List, [], ◌∷◌, ◌++◌, length, Some, refl, sym, ◌∙◌, ap, arith, length-append}
+use Rattle.std.proofs.Common.{ℕ, pos, negsuc, ◌+ℤ◌, suc, ◌+◌, ◌-◌, ◌*◌, ◌^◌, ◌<◌, ◌≤◌, ◌≡◌, ◌≢◌, Bool, true, false}
+use Rattle.std.proofs.Common.{List, [], ◌∷◌, ◌++◌, length, Some, refl, sym, ◌∙◌, ap, arith, length-append, add-zero}
+use Rattle.std.proofs.lemmas.Int.{ints}
 use Rattle.std.specs.Prelude.{slice_index, slice_set, map}
 use Rattle.std.specs.List.{slice_get}
 use Rattle.std.proofs.lemmas.List.{get_or-set_same, get_or-set_other}
 use Rattle.rv_decode.specs.Meaning.{meaning}
-use Rattle.hart.specs.Effects.{next_pc, address}
+use Rattle.hart.specs.Effects.{next_pc, address, word}
 use Rattle.spsc_queue.specs.RingBuffers.{Kind, lamport, fastforward}
 use Rattle.spsc_queue.specs.Listings.{Listed, words_of, lines_of}
 use Rattle.spsc_queue.specs.Calls.{Party, the_sender, the_receiver, listing_of, StandsIn}
-use Rattle.spsc_queue.proofs.Lines.{word-plus}
+use Rattle.step_machine.proofs.Lines.{word-plus}
 
 pub set-same : (xs : List ℕ) (i v : ℕ) → i < length xs → slice_index (slice_set xs i v) i ≡ v
 set-same xs i v below = get_or-set_same xs i v 0 below
@@ -17,19 +19,21 @@ pub set-other : (xs : List ℕ) (i j v : ℕ) → j ≢ i → slice_index (slice
 set-other xs i j v other = get_or-set_other xs i j v 0 other
 
 -- by the decoder's own function, on numerals
-pub decoded : (K : Kind) (p : Party) → map meaning (words_of (listing_of K p)) ≡ map Some (lines_of (listing_of K p))
+pub decoded : (K : Kind) (caches : Bool) (p : Party) → map meaning (words_of (listing_of K caches p)) ≡ map Some (lines_of (listing_of K caches p))
 unfolding meaning
-decoded lamport the_sender = refl
-decoded lamport the_receiver = refl
-decoded fastforward the_sender = refl
-decoded fastforward the_receiver = refl
+decoded lamport false the_sender = refl
+decoded lamport true the_sender = refl
+decoded lamport caches the_receiver = refl
+decoded fastforward caches the_sender = refl
+decoded fastforward caches the_receiver = refl
 
--- all of which have 13 lines
-pub thirteen : (K : Kind) (p : Party) → length (words_of (listing_of K p)) ≡ 13
-thirteen lamport the_sender = refl
-thirteen lamport the_receiver = refl
-thirteen fastforward the_sender = refl
-thirteen fastforward the_receiver = refl
+-- all of which have 13 lines at least, and 17 at most
+pub thirteen : (K : Kind) (caches : Bool) (p : Party) → (13 ≤ length (words_of (listing_of K caches p))) × (length (words_of (listing_of K caches p)) ≤ 17)
+thirteen lamport false the_sender = (omega arith, omega arith)
+thirteen lamport true the_sender = (omega arith, omega arith)
+thirteen lamport caches the_receiver = (omega arith, omega arith)
+thirteen fastforward caches the_sender = (omega arith, omega arith)
+thirteen fastforward caches the_receiver = (omega arith, omega arith)
 
 map-joined : {X : Type 0} (f : ℕ → X) (xs ys : List ℕ) → map f (xs ++ ys) ≡ map f xs ++ map f ys
 map-joined f [] ys = refl
@@ -65,3 +69,10 @@ next_line pc j at small = omega (arith, at, small)
 
 pub line_on : (pc j k : ℕ) → pc ≡ 4 * j → 4 * j + 4 * k < 2 ^ 32 → address pc (pos (4 * k)) ≡ 4 * (j + k)
 line_on pc j k at small = word-plus pc (4 * k) (omega (arith, at, small)) ∙ omega (arith, at)
+
+-- and of a line further back
+pub line_back : (pc j k d : ℕ) → pc ≡ 4 * j → 4 * j < 2 ^ 32 → d + 1 ≡ 4 * k → k ≤ j → address pc (negsuc d) ≡ 4 * (j - k)
+line_back pc j k d at small is_d low = word-back pc (4 * (j - k)) d (omega (arith, at, is_d, low)) (omega (arith, at, small))
+  where
+    word-back : (a y d : ℕ) → a ≡ y + (d + 1) → a < 2 ^ 32 → word (pos a +ℤ negsuc d) ≡ y
+    word-back a y d is small = grind (arith, pos, negsuc, ints, word-plus, add-zero, is, small)

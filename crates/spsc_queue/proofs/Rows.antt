@@ -10,27 +10,25 @@ use Rattle.step_machine.specs.History.{OpeningValue}
 use Rattle.step_machine.specs.Access.{Access, nothing, load, store, exchange, fence, land, access_of}
 use Rattle.step_machine.specs.Entries.{hart_of, stored_by, landed_by, written_by, store_of, land_of, write_of, pending, memory_word, stores, lands}
 use Rattle.step_machine.proofs.Appended.{stores-append}
-use Rattle.spsc_queue.specs.RingBuffers.{RingBuffer, IsRingBuffer, IsWordIn, overlaps, writes_to}
+use Rattle.step_machine.proofs.Lists.{some_first}
+use Rattle.spsc_queue.specs.RingBuffers.{RingBuffer, IsRingBuffer, IsWordIn}
+use Rattle.spsc_queue.proofs.Words.{shared, row_of}
 use Rattle.spsc_queue.proofs.Spread.{spread, spread-more}
 use Rattle.spsc_queue.proofs.Effects.{memory-quiet, memory-off, memory-whole, on-append, on-one, on-none, pending-quiet, pending-more, pending-first}
 
 -- where what is on the block is a word of a row, and what comes after it
-pub split_on : (r : RingBuffer) (w : Write) (rest : List Write) (f : ℕ → Write) (i n : ℕ) → overlaps r w ≡ true
-    → writes_to r (w ∷ rest) ≡ spread f i n
-    → (m : ℕ) × (n ≡ suc m) × (w ≡ f i) × (writes_to r rest ≡ spread f (suc i) m)
-split_on r w rest f i n on is = at n refl (sym (ap (λ b. if b then w ∷ writes_to r rest else writes_to r rest) on) ∙ is)
+pub split_on : (r : RingBuffer) (w : Write) (rest : List Write) (f : ℕ → Write) (i n : ℕ) → shared r w ≡ true
+    → row_of r (w ∷ rest) ≡ spread f i n
+    → (m : ℕ) × (n ≡ suc m) × (w ≡ f i) × (row_of r rest ≡ spread f (suc i) m)
+split_on r w rest f i n on is = at n refl (sym (ap (λ b. if b then w ∷ row_of r rest else row_of r rest) on) ∙ is)
   where
-    at : (k : ℕ) → n ≡ k → w ∷ writes_to r rest ≡ spread f i k
-        → (m : ℕ) × (n ≡ suc m) × (w ≡ f i) × (writes_to r rest ≡ spread f (suc i) m)
+    at : (k : ℕ) → n ≡ k → w ∷ row_of r rest ≡ spread f i k
+        → (m : ℕ) × (n ≡ suc m) × (w ≡ f i) × (row_of r rest ≡ spread f (suc i) m)
     at zero e same = cc
-    at (suc m) e same = (m, e, (let one : w ≡ f i = cc in one), (let more : writes_to r rest ≡ spread f (suc i) m = cc in more))
+    at (suc m) e same = (m, e, (let one : w ≡ f i = cc in one), (let more : row_of r rest ≡ spread f (suc i) m = cc in more))
 
-split_off : (r : RingBuffer) (w : Write) (rest : List Write) → overlaps r w ≡ false → writes_to r (w ∷ rest) ≡ writes_to r rest
-split_off r w rest off = ap (λ b. if b then w ∷ writes_to r rest else writes_to r rest) off
-
-some_first : (ws : List Write) → 0 < length ws → (w : Write) × (rest : List Write) × (ws ≡ w ∷ rest)
-some_first [] some = absurd (omega arith)
-some_first (w ∷ ws) some = (w, ws, refl)
+split_off : (r : RingBuffer) (w : Write) (rest : List Write) → shared r w ≡ false → row_of r (w ∷ rest) ≡ row_of r rest
+split_off r w rest off = ap (λ b. if b then w ∷ row_of r rest else row_of r rest) off
 
 -- how many stores to the block the parties had made before a run
 pub record Earlier : Type 0 where
@@ -38,15 +36,15 @@ pub record Earlier : Type 0 where
   pub receiver : ℕ
 
 abbrev pub on_count : RingBuffer → (h : ℕ) → List Entry → ℕ
-on_count r h es = length (writes_to r (stores h es))
+on_count r h es = length (row_of r (stores h es))
 
 -- the sender's row is f and the receiver's g: i and j of their stores have landed, and the next n and m are pending
 pub record Rows (r : RingBuffer) (c : Earlier) (f g : ℕ → Write) (es : List Entry) (i n j m : ℕ) : Type 0 where
-  pub mine : writes_to r (pending r.sender es) ≡ spread f i n
+  pub mine : row_of r (pending r.sender es) ≡ spread f i n
   pub mine_made : on_count r r.sender es ≡ c.sender + (i + n)
-  pub theirs : writes_to r (pending r.receiver es) ≡ spread g j m
+  pub theirs : row_of r (pending r.receiver es) ≡ spread g j m
   pub theirs_made : on_count r r.receiver es ≡ c.receiver + (j + m)
-  pub others : (h : ℕ) → h ≢ r.sender → h ≢ r.receiver → writes_to r (pending h es) ≡ []
+  pub others : (h : ℕ) → h ≢ r.sender → h ≢ r.receiver → row_of r (pending h es) ≡ []
 
 -- of a party that stores a word into a slot and then its index: how many slots and indices it has stored, and how many of these have landed
 pub record RowOrder (stored published slots heads : ℕ) : Type 0 where
@@ -110,7 +108,7 @@ head-landed row odd some = record {
 -- from es to fs the words of the block stay, and so do the stores to it
 pub record Stays (r : RingBuffer) (o : OpeningValue) (es fs : List Entry) : Type 0 where
   pub words : (a : ℕ) → IsWordIn r a → memory_word o fs a ≡ memory_word o es a
-  pub pends : (h : ℕ) → writes_to r (pending h fs) ≡ writes_to r (pending h es)
+  pub pends : (h : ℕ) → row_of r (pending h fs) ≡ row_of r (pending h es)
   pub made : (h : ℕ) → on_count r h fs ≡ on_count r h es
 
 -- w is written to the block
@@ -148,10 +146,10 @@ module _ (r : RingBuffer) (is : IsRingBuffer r) (o : OpeningValue) (es : List En
   after = es ++ e ∷ []
 
   -- how many stores to the block a hart has made then
-  made-of : (h : ℕ) (ws : List Write) → store_of h e ≡ ws → on_count r h after ≡ on_count r h es + length (writes_to r ws)
+  made-of : (h : ℕ) (ws : List Write) → store_of h e ≡ ws → on_count r h after ≡ on_count r h es + length (row_of r ws)
   made-of h ws is_stored =
-      ap (λ vs. length (writes_to r vs)) (stores-append h es (e ∷ []) ∙ ap (λ vs. stores h es ++ vs) (append-nil (store_of h e) ∙ is_stored))
-      ∙ ap length (on-append r (stores h es) ws) ∙ length-append (writes_to r (stores h es)) (writes_to r ws)
+      ap (λ vs. length (row_of r vs)) (stores-append h es (e ∷ []) ∙ ap (λ vs. stores h es ++ vs) (append-nil (store_of h e) ∙ is_stored))
+      ∙ ap length (on-append r (stores h es) ws) ∙ length-append (row_of r (stores h es)) (row_of r ws)
 
   made-none : (h : ℕ) → store_of h e ≡ [] → on_count r h after ≡ on_count r h es
   made-none h none = made-of h [] none ∙ (let same : on_count r h es + 0 ≡ on_count r h es = omega arith in same)
@@ -161,7 +159,7 @@ module _ (r : RingBuffer) (is : IsRingBuffer r) (o : OpeningValue) (es : List En
       → ((a : ℕ) → IsWordIn r a → memory_word o after a ≡ memory_word o es a) → Stays r o es after
   stays-if none still words = record {
     words = words;
-    pends = λ h. ap (writes_to r) (pending-quiet es e h (even h) (none h) (still h));
+    pends = λ h. ap (row_of r) (pending-quiet es e h (even h) (none h) (still h));
     made = λ h. made-none h (none h);
   }
 
@@ -192,7 +190,7 @@ module _ (r : RingBuffer) (is : IsRingBuffer r) (o : OpeningValue) (es : List En
       stays-if (stores-by (fence full) does) (lands-by (fence full) does) (λ a word. memory-quiet o es e a (writes-by (fence full) does))
 
   -- an AMO off the block
-  pub exchange-stays : (a old new : ℕ) → access_of e ≡ exchange a old new → overlaps r (write a 4 new) ≡ false → Stays r o es after
+  pub exchange-stays : (a old new : ℕ) → access_of e ≡ exchange a old new → shared r (write a 4 new) ≡ false → Stays r o es after
   exchange-stays a old new does off = stays-if (stores-by (exchange a old new) does) (lands-by (exchange a old new) does)
       (λ b word. memory-off o es e r b (write a 4 new) (writes-by (exchange a old new) does) word off)
 
@@ -201,22 +199,25 @@ module _ (r : RingBuffer) (is : IsRingBuffer r) (o : OpeningValue) (es : List En
     stored-of : store_of (hart_of e) e ≡ w ∷ []
     stored-of = stores-by (store w) does (hart_of e) ∙ ap (λ b. if b then w ∷ [] else []) (eq-eqb (hart_of e) (hart_of e) refl)
 
-    more-of : pending (hart_of e) after ≡ pending (hart_of e) es ++ w ∷ []
+    pub more-of : pending (hart_of e) after ≡ pending (hart_of e) es ++ w ∷ []
     more-of = pending-more es e (hart_of e) (even (hart_of e)) w stored-of (lands-by (store w) does (hart_of e))
 
-    same-of : (h : ℕ) → hart_of e ≢ h → writes_to r (pending h after) ≡ writes_to r (pending h es)
-    same-of h other = ap (writes_to r) (pending-quiet es e h (even h) (no-store-of (store w) does h other) (lands-by (store w) does h))
+    pub kept-pending : (h : ℕ) → hart_of e ≢ h → pending h after ≡ pending h es
+    kept-pending h other = pending-quiet es e h (even h) (no-store-of (store w) does h other) (lands-by (store w) does h)
+
+    same-of : (h : ℕ) → hart_of e ≢ h → row_of r (pending h after) ≡ row_of r (pending h es)
+    same-of h other = ap (row_of r) (kept-pending h other)
 
     pub words-stay : (a : ℕ) → memory_word o after a ≡ memory_word o es a
     words-stay a = memory-quiet o es e a (writes-by (store w) does)
 
-    pub off-stays : overlaps r w ≡ false → Stays r o es after
+    pub off-stays : shared r w ≡ false → Stays r o es after
     off-stays off = record { words = λ a word. words-stay a; pends = λ h. at h (cases_eq (hart_of e) h); made = λ h. count h (cases_eq (hart_of e) h) }
       where
-        at : (h : ℕ) → (hart_of e ≡ h) ⊎ (hart_of e ≢ h) → writes_to r (pending h after) ≡ writes_to r (pending h es)
-        at h (inl same) = subst (λ g. writes_to r (pending g after) ≡ writes_to r (pending g es)) same
-            (ap (writes_to r) more-of ∙ on-append r (pending (hart_of e) es) (w ∷ [])
-            ∙ ap (λ vs. writes_to r (pending (hart_of e) es) ++ vs) (on-none r w off) ∙ append-nil (writes_to r (pending (hart_of e) es)))
+        at : (h : ℕ) → (hart_of e ≡ h) ⊎ (hart_of e ≢ h) → row_of r (pending h after) ≡ row_of r (pending h es)
+        at h (inl same) = subst (λ g. row_of r (pending g after) ≡ row_of r (pending g es)) same
+            (ap (row_of r) more-of ∙ on-append r (pending (hart_of e) es) (w ∷ [])
+            ∙ ap (λ vs. row_of r (pending (hart_of e) es) ++ vs) (on-none r w off) ∙ append-nil (row_of r (pending (hart_of e) es)))
         at h (inr other) = same-of h other
 
         count : (h : ℕ) → (hart_of e ≡ h) ⊎ (hart_of e ≢ h) → on_count r h after ≡ on_count r h es
@@ -225,12 +226,12 @@ module _ (r : RingBuffer) (is : IsRingBuffer r) (o : OpeningValue) (es : List En
             ∙ (let none : on_count r (hart_of e) es + 0 ≡ on_count r (hart_of e) es = omega arith in none))
         count h (inr other) = made-none h (no-store-of (store w) does h other)
 
-    module _ (on : overlaps r w ≡ true) where
-      longer : (h : ℕ) → hart_of e ≡ h → (f : ℕ → Write) (i n : ℕ) → writes_to r (pending h es) ≡ spread f i n → w ≡ f (i + n)
-          → writes_to r (pending h after) ≡ spread f i (suc n)
-      longer h mine f i n before is_next = subst (λ g. writes_to r (pending g after) ≡ spread f i (suc n)) mine
-          (ap (writes_to r) more-of ∙ on-append r (pending (hart_of e) es) (w ∷ []) ∙ ap (λ vs. writes_to r (pending (hart_of e) es) ++ vs) (on-one r w on)
-          ∙ ap (λ vs. vs ++ w ∷ []) (ap (λ g. writes_to r (pending g es)) mine ∙ before) ∙ ap (λ x. spread f i n ++ x ∷ []) is_next ∙ spread-more f i n)
+    module _ (on : shared r w ≡ true) where
+      longer : (h : ℕ) → hart_of e ≡ h → (f : ℕ → Write) (i n : ℕ) → row_of r (pending h es) ≡ spread f i n → w ≡ f (i + n)
+          → row_of r (pending h after) ≡ spread f i (suc n)
+      longer h mine f i n before is_next = subst (λ g. row_of r (pending g after) ≡ spread f i (suc n)) mine
+          (ap (row_of r) more-of ∙ on-append r (pending (hart_of e) es) (w ∷ []) ∙ ap (λ vs. row_of r (pending (hart_of e) es) ++ vs) (on-one r w on)
+          ∙ ap (λ vs. vs ++ w ∷ []) (ap (λ g. row_of r (pending g es)) mine ∙ before) ∙ ap (λ x. spread f i n ++ x ∷ []) is_next ∙ spread-more f i n)
 
       one-more : (h : ℕ) → hart_of e ≡ h → on_count r h after ≡ on_count r h es + 1
       one-more h mine = subst (λ g. on_count r g after ≡ on_count r g es + 1) mine
@@ -277,8 +278,8 @@ module _ (r : RingBuffer) (is : IsRingBuffer r) (o : OpeningValue) (es : List En
       left-of = pending-first es e (hart_of e) (even (hart_of e)) w rest first (none-stored (hart_of e))
           (lands-by land does (hart_of e) ∙ ap (λ b. if b then 1 else 0) (eq-eqb (hart_of e) (hart_of e) refl))
 
-      kept-of : (h : ℕ) → hart_of e ≢ h → writes_to r (pending h after) ≡ writes_to r (pending h es)
-      kept-of h other = ap (writes_to r) (pending-quiet es e h (even h) (none-stored h)
+      kept-of : (h : ℕ) → hart_of e ≢ h → row_of r (pending h after) ≡ row_of r (pending h es)
+      kept-of h other = ap (row_of r) (pending-quiet es e h (even h) (none-stored h)
           (lands-by land does h ∙ ap (λ b. if b then 1 else 0) (ne_eqb (hart_of e) h other)))
 
       writes : write_of es e ≡ w ∷ []
@@ -287,25 +288,25 @@ module _ (r : RingBuffer) (is : IsRingBuffer r) (o : OpeningValue) (es : List En
       written : (x : Write) → w ≡ x → Lands r o es after x
       written x is_it a word whole = memory-whole o es e a x (writes ∙ ap (λ y. y ∷ []) is_it) word.aligned whole
 
-      off-lands : overlaps r w ≡ false → Stays r o es after
+      off-lands : shared r w ≡ false → Stays r o es after
       off-lands off = record {
         words = λ a word. memory-off o es e r a w writes word off;
         pends = λ h. at h (cases_eq (hart_of e) h);
         made = λ h. made-none h (none-stored h);
       }
         where
-          at : (h : ℕ) → (hart_of e ≡ h) ⊎ (hart_of e ≢ h) → writes_to r (pending h after) ≡ writes_to r (pending h es)
-          at h (inl same) = subst (λ g. writes_to r (pending g after) ≡ writes_to r (pending g es)) same
-              (ap (writes_to r) left-of ∙ sym (ap (writes_to r) first ∙ split_off r w rest off))
+          at : (h : ℕ) → (hart_of e ≡ h) ⊎ (hart_of e ≢ h) → row_of r (pending h after) ≡ row_of r (pending h es)
+          at h (inl same) = subst (λ g. row_of r (pending g after) ≡ row_of r (pending g es)) same
+              (ap (row_of r) left-of ∙ sym (ap (row_of r) first ∙ split_off r w rest off))
           at h (inr other) = kept-of h other
 
-      left : (h : ℕ) → hart_of e ≡ h → (q : ℕ → Write) (p k : ℕ) → writes_to r rest ≡ spread q p k → writes_to r (pending h after) ≡ spread q p k
-      left h mine q p k more = subst (λ g. writes_to r (pending g after) ≡ spread q p k) mine (ap (writes_to r) left-of ∙ more)
+      left : (h : ℕ) → hart_of e ≡ h → (q : ℕ → Write) (p k : ℕ) → row_of r rest ≡ spread q p k → row_of r (pending h after) ≡ spread q p k
+      left h mine q p k more = subst (λ g. row_of r (pending g after) ≡ spread q p k) mine (ap (row_of r) left-of ∙ more)
 
-      row-of : (h : ℕ) → hart_of e ≡ h → (ws : List Write) → writes_to r (pending h es) ≡ ws → writes_to r (w ∷ rest) ≡ ws
-      row-of h mine ws has = ap (writes_to r) (sym first) ∙ ap (λ g. writes_to r (pending g es)) mine ∙ has
+      row-of : (h : ℕ) → hart_of e ≡ h → (ws : List Write) → row_of r (pending h es) ≡ ws → row_of r (w ∷ rest) ≡ ws
+      row-of h mine ws has = ap (row_of r) (sym first) ∙ ap (λ g. row_of r (pending g es)) mine ∙ has
 
-      on-lands : overlaps r w ≡ true → Landing
+      on-lands : shared r w ≡ true → Landing
       on-lands on = at (cases_eq (hart_of e) r.sender) (cases_eq (hart_of e) r.receiver)
         where
           at : (hart_of e ≡ r.sender) ⊎ (hart_of e ≢ r.sender) → (hart_of e ≡ r.receiver) ⊎ (hart_of e ≢ r.receiver) → Landing
@@ -341,14 +342,14 @@ module _ (r : RingBuffer) (is : IsRingBuffer r) (o : OpeningValue) (es : List En
                 written (g j) split.2,
               ))
           at (inr other) (inr another) =
-              let none : writes_to r (w ∷ rest) ≡ [] = row-of (hart_of e) refl [] (rows.others (hart_of e) other another) in
-              let some : w ∷ writes_to r rest ≡ [] = sym (ap (λ b. if b then w ∷ writes_to r rest else writes_to r rest) on) ∙ none in cc
+              let none : row_of r (w ∷ rest) ≡ [] = row-of (hart_of e) refl [] (rows.others (hart_of e) other another) in
+              let some : w ∷ row_of r rest ≡ [] = sym (ap (λ b. if b then w ∷ row_of r rest else row_of r rest) on) ∙ none in cc
 
-      lands-one : (b : Bool) → overlaps r w ≡ b → Landing
+      lands-one : (b : Bool) → shared r w ≡ b → Landing
       lands-one true on = on-lands on
       lands-one false off = inl (off-lands off)
 
     pub landing : access_of e ≡ land → 0 < length (pending (hart_of e) es) → Landing
     landing does some =
         let split = some_first (pending (hart_of e) es) some in
-        lands-one does split.0 split.1 split.2 (overlaps r split.0) refl
+        lands-one does split.0 split.1 split.2 (shared r split.0) refl

@@ -1,5 +1,6 @@
 -- Whole runs that keep the protocol: what is received is a prefix of what was sent.
-use Rattle.std.proofs.Common.{ℕ, zero, suc, ◌+◌, ◌-◌, ◌^◌, ◌<◌, ◌≤◌, ◌≡◌, ◌==◌, ◌⊎◌, inl, inr, Bool, true, false, if◌then◌else◌, List, [], ◌∷◌, ◌++◌, length}
+use Rattle.std.proofs.Common.{ℕ, zero, suc, ◌+◌, ◌-◌, ◌^◌, ◌<◌, ◌≤◌, ◌≡◌, ◌==◌, ◌⊎◌, inl, inr, Bool, true, false}
+use Rattle.std.proofs.Common.{if◌then◌else◌, Some, List, [], ◌∷◌, ◌++◌, length}
 use Rattle.std.proofs.Common.{take, refl, sym, ◌∙◌, ap, subst, arith, append-nil, append_assoc, length-append}
 use Rattle.std.specs.Prelude.{slice_index}
 use Rattle.std.proofs.lemmas.Bool.{eqb-true}
@@ -10,18 +11,22 @@ use Rattle.step_machine.specs.declared.events.Entry.{Entry}
 use Rattle.step_machine.specs.History.{OpeningValue, history_of}
 use Rattle.step_machine.specs.Access.{Access, nothing, load, store, exchange, fence, land, access_of}
 use Rattle.step_machine.specs.Entries.{hart_of, pending, read, stores, lands}
-use Rattle.step_machine.specs.Legal.{AllowedBy, LegalAfter, Legal}
+use Rattle.step_machine.specs.Legal.{AllowedBy, Allowed, LegalAfter, Legal}
 use Rattle.step_machine.proofs.Appended.{LegalAfter-front, LegalAfter-back, LegalAfter-append}
 use Rattle.step_machine.proofs.Balanced.{balanced}
-use Rattle.spsc_queue.specs.RingBuffers.{Kind, lamport, fastforward, RingBuffer, IsRingBuffer, slot, overlaps}
-use Rattle.spsc_queue.specs.Protocol.{SenderState, resting, placed, roomy, filled, ReceiverState, idle, asked, waiting, holding, cleared, ProtocolState}
+use Rattle.spsc_queue.specs.RingBuffers.{Kind, lamport, fastforward, RingBuffer, IsRingBuffer, IsWordIn, slot, overlaps}
+use Rattle.spsc_queue.specs.Protocol.{SenderState, resting, placed, renewing, roomy, filled, ReceiverState, idle, asked}
+use Rattle.spsc_queue.specs.Protocol.{waiting, holding, cleared, ProtocolState}
 use Rattle.spsc_queue.specs.Protocol.{at_start, Role, sends, receives, passes, role_of, send_load, send_store, receive_load, receive_store, next_by}
-use Rattle.spsc_queue.specs.Protocol.{protocol_next, protocol_after, IsSenderStore, IsReceiverStore, KeepsProtocolBy, KeepsProtocol}
+use Rattle.spsc_queue.specs.Protocol.{protocol_next, protocol_after, IsWordAt, IsSenderStore, IsTaking, IsReceiverStore, KeepsProtocolBy, KeepsProtocol}
 use Rattle.spsc_queue.specs.Laws.{IsPrefix, FollowsSpscProtocol, available_count, available_words}
+use Rattle.spsc_queue.specs.StoreBuffers.{LeavesByteBy}
+use Rattle.spsc_queue.proofs.Words.{shared, shared_on, off_shared, word_on}
+use Rattle.spsc_queue.proofs.Copies.{CopyStays, copy-left, off_leaves, word_leaves}
 use Rattle.spsc_queue.proofs.Rows.{Earlier, Stays, nothing-stays, load-stays, fence-stays, exchange-stays, off-stays}
-use Rattle.spsc_queue.proofs.Invariant.{firsts, Invariant}
+use Rattle.spsc_queue.proofs.Invariant.{firsts, there, ReceivingIs, Invariant}
 use Rattle.spsc_queue.proofs.Loads.{slot_word}
-use Rattle.spsc_queue.proofs.Steps.{word_on, idles, sends-word, sends-head, takes-word, frees}
+use Rattle.spsc_queue.proofs.Steps.{idles, sends-word, sends-head, takes-word, frees, copies}
 use Rattle.spsc_queue.proofs.Landings.{role-cases, lands-store}
 use Rattle.spsc_queue.proofs.Invariants.{IsPlaced, Known, known, sender-loads, receiver-loads, earlier, at_rest}
 
@@ -42,6 +47,7 @@ stored-cases : (w : Write) (p : SenderState) (s : ProtocolState)
     → ((send_store w p s).sent ≡ s.sent) ⊎ ((u : ℕ) × (p ≡ roomy u) × ((send_store w p s).sent ≡ s.sent ++ w.value ∷ []))
 stored-cases w resting s = inl refl
 stored-cases w (placed u) s = inl refl
+stored-cases w (renewing u v) s = inl refl
 stored-cases w (roomy u) s = inr (u, refl, refl)
 stored-cases w (filled u) s = inl refl
 
@@ -176,7 +182,8 @@ word_ahead F sent more v n size is =
     ∙ get_or-append_seam sent v more 0)
 
 module _ (B : ℕ) (r : RingBuffer) (is : IsRingBuffer r) (F : List ℕ) (small : AreSmall F) (c : Earlier) (o : OpeningValue) (es : List Entry) (s : ProtocolState)
-    (k : Kind) (inv : Invariant k r (slice_index F) c o es s) (e : Entry) (even : (h : ℕ) → lands h es ≤ length (stores h es)) where
+    (k : Kind) (inv : Invariant k r (slice_index F) c o es s) (e : Entry) (even : (h : ℕ) → lands h es ≤ length (stores h es))
+    (can : Allowed B o es e) where
   abbrev L : ℕ → ℕ
   L = slice_index F
 
@@ -186,32 +193,60 @@ module _ (B : ℕ) (r : RingBuffer) (is : IsRingBuffer r) (F : List ℕ) (small 
   facts : Known k r L s
   facts = known r is L c o es s k inv
 
-  rests : Stays r o es after → Invariant k r L c o after s
-  rests block = idles k r is L c o es s inv e even block
+  -- this access leaves the copy
+  leaves : (x : Access) → access_of e ≡ x → ((a b : ℕ) → r.copy ≡ Some a → a ≤ b → b < a + 4 → LeavesByteBy b x) → CopyStays r o es after
+  leaves x does left = copy-left B r o es e even can (λ a b copy from below. subst (LeavesByteBy b) (sym does) (left a b copy from below))
+
+  off_leave : (w : Write) → access_of e ≡ store w → overlaps r w ≡ false → CopyStays r o es after
+  off_leave w does off = leaves (store w) does
+      (λ a b copy from below. off_leaves r w b off (omega (arith, from, (is.copy a copy).above)) (omega (arith, below, (is.copy a copy).below)))
+
+  word_leave : (w : Write) (p : ℕ) → access_of e ≡ store w → IsWordIn r p → IsWordAt w p → CopyStays r o es after
+  word_leave w p does word at = leaves (store w) does (λ a b copy from below. word_leaves r w p a b word at copy from below)
+
+  rests : Stays r o es after → CopyStays r o es after → Invariant k r L c o after s
+  rests block copied = idles k r is L c o es s inv e even block copied
 
   sender-stores : (w : Write) (p : SenderState) → access_of e ≡ store w → hart_of e ≡ r.sender → s.sending ≡ p → IsSenderStore k r p w
       → (more : List ℕ) × (F ≡ (if overlaps r w then send_store w p s else s).sent ++ more)
       → Invariant k r L c o after (if overlaps r w then send_store w p s else s)
   sender-stores w resting does mine at keeps ahead = absurd keeps
   sender-stores w (placed u) does mine at keeps ahead = absurd keeps
+  sender-stores w (renewing u v) does mine at keeps ahead = by (overlaps r w) refl
+    where
+      by : (b : Bool) → overlaps r w ≡ b → Invariant k r L c o after (if b then send_store w (renewing u v) s else s)
+      by true on = copies k r is L c o es s inv e even w does mine u v at r.copy refl keeps
+      by false off = rests (off-stays r is o es e even w does (off_shared r w off)) (off_leave w does off)
   sender-stores w (roomy u) does mine at keeps ahead =
-      subst (λ b. Invariant k r L c o after (if b then send_store w (roomy u) s else s)) (sym on)
-      (sends-word k r is L c o es s inv e even w does on mine u at keeps.0 value keeps.2)
+      subst (λ b. Invariant k r L c o after (if b then send_store w (roomy u) s else s)) (sym (shared_on r w on))
+      (sends-word k r is L c o es s inv e even w does on
+      (word_leave w (slot r s.published) does (slot_word r is s.published) word) mine u at keeps.0 value keeps.2)
     where
       place : IsPlaced r s.stored s.published (roomy u)
       place = subst (IsPlaced r s.stored s.published) at facts.sending
 
-      on : overlaps r w ≡ true
-      on = word_on r w (slot r s.published) (slot_word r is s.published)
-          (record { place = keeps.0.place ∙ ap (λ x. r.slots + x) place.1; width = keeps.0.width })
+      word : IsWordAt w (slot r s.published)
+      word = record { place = keeps.0.place ∙ ap (λ x. r.slots + x) place.1; width = keeps.0.width }
+
+      on : shared r w ≡ true
+      on = word_on r w (slot r s.published) (slot_word r is s.published) word
 
       value : w.value ≡ L s.stored
       value = word_ahead F s.sent ahead.0 w.value s.stored (ap length facts.sent ∙ length-firsts L s.stored)
-          (ahead.1 ∙ ap (λ b. (if b then send_store w (roomy u) s else s).sent ++ ahead.0) on)
+          (ahead.1 ∙ ap (λ b. (if b then send_store w (roomy u) s else s).sent ++ ahead.0) (shared_on r w on))
   sender-stores w (filled u) does mine at keeps ahead =
-      let on : overlaps r w ≡ true = word_on r w r.head is.head keeps.0 in
-      subst (λ b. Invariant k r L c o after (if b then send_store w (filled u) s else s)) (sym on)
-      (sends-head k r is L c o es s inv e even w does on mine u at keeps.0 keeps.1)
+      let on : shared r w ≡ true = word_on r w r.head is.head keeps.0 in
+      subst (λ b. Invariant k r L c o after (if b then send_store w (filled u) s else s)) (sym (shared_on r w on))
+      (sends-head k r is L c o es s inv e even w does on (word_leave w r.head does is.head keeps.0) mine u at keeps.0 keeps.1)
+
+  taking : (K : Kind) (u v : ℕ) (w : Write) → ReceivingIs K r L s.taken s.consumed (there K inv.landed.slots inv.landed.heads) (holding u v) → IsTaking K r u w
+      → (p : ℕ) × IsWordIn r p × IsWordAt w p
+  taking lamport u v w known keeps = (r.tail, is.tail, keeps.0)
+  taking fastforward u v w known keeps = (
+    slot r s.consumed,
+    slot_word r is s.consumed,
+    record { place = keeps.0.place ∙ ap (λ x. r.slots + x) known.1; width = keeps.0.width },
+  )
 
   receiver-stores : (w : Write) (p : ReceiverState) → access_of e ≡ store w → hart_of e ≡ r.receiver → s.receiving ≡ p → IsReceiverStore k r p w
       → Invariant k r L c o after (if overlaps r w then receive_store k p s else s)
@@ -219,12 +254,14 @@ module _ (B : ℕ) (r : RingBuffer) (is : IsRingBuffer r) (F : List ℕ) (small 
   receiver-stores w (asked u) does mine at keeps = absurd keeps
   receiver-stores w (waiting u) does mine at keeps = absurd keeps
   receiver-stores w (holding u v) does mine at keeps =
-      let one = takes-word k r is L c o es s inv e even w does mine u v at keeps in
-      subst (λ b. Invariant k r L c o after (if b then receive_store k (holding u v) s else s)) (sym one.0) one.1
+      let known = subst (ReceivingIs k r L s.taken s.consumed (there k inv.landed.slots inv.landed.heads)) at inv.receiving in
+      let word = taking k u v w known keeps in
+      let one = takes-word k r is L c o es s inv e even w does (word_leave w word.0 does word.1 word.2) mine u v at keeps in
+      subst (λ b. Invariant k r L c o after (if b then receive_store k (holding u v) s else s)) (sym (shared_on r w one.0)) one.1
   receiver-stores w (cleared u) does mine at keeps =
-      let on : overlaps r w ≡ true = word_on r w r.tail is.tail keeps.0 in
-      subst (λ b. Invariant k r L c o after (if b then receive_store k (cleared u) s else s)) (sym on)
-      (frees k r is L c o es s inv e even w does on mine u at keeps.0 keeps.1)
+      let on : shared r w ≡ true = word_on r w r.tail is.tail keeps.0 in
+      subst (λ b. Invariant k r L c o after (if b then receive_store k (cleared u) s else s)) (sym (shared_on r w on))
+      (frees k r is L c o es s inv e even w does on (word_leave w r.tail does is.tail keeps.0) mine u at keeps.0 keeps.1)
 
   loads-word : (a width v : ℕ) → access_of e ≡ load a width v → v ≡ read o es (hart_of e) a width → (role : Role) → role_of r (hart_of e) ≡ role
       → Invariant k r L c o after (next_by k r role s (load a width v))
@@ -233,31 +270,36 @@ module _ (B : ℕ) (r : RingBuffer) (is : IsRingBuffer r) (F : List ℕ) (small 
       block : Stays r o es after
       block = load-stays r is o es e even a width v does
 
+      copied : CopyStays r o es after
+      copied = leaves (load a width v) does (λ c x copy from below. tt)
+
       read_by : (h : ℕ) → hart_of e ≡ h → width ≡ 4 → v ≡ read o es h a 4
       read_by h mine whole = found ∙ ap (λ g. read o es g a width) mine ∙ ap (read o es h a) whole
 
       at : (role : Role) → role_of r (hart_of e) ≡ role → (b : Bool) → (width == 4) ≡ b → Invariant k r L c o after (next_by k r role s (load a width v))
       at sends whose true whole =
           subst (λ b. Invariant k r L c o after (if b then record s { sending = send_load k r a v s.sending } else s)) (sym whole)
-          (sender-loads r is L c o es s e even small k inv block a v (read_by r.sender (is_sender r (hart_of e) whose) (eqb-true width 4 whole)))
+          (sender-loads r is L c o es s e even small copied k inv block a v (read_by r.sender (is_sender r (hart_of e) whose) (eqb-true width 4 whole)))
       at sends whose false part =
-          subst (λ b. Invariant k r L c o after (if b then record s { sending = send_load k r a v s.sending } else s)) (sym part) (rests block)
+          subst (λ b. Invariant k r L c o after (if b then record s { sending = send_load k r a v s.sending } else s)) (sym part) (rests block copied)
       at receives whose true whole =
           subst (λ b. Invariant k r L c o after (if b then record s { receiving = receive_load k r a v s.receiving } else s)) (sym whole)
-          (receiver-loads r is L c o es s e even small k inv block a v (read_by r.receiver (is_receiver r (hart_of e) whose) (eqb-true width 4 whole)))
+          (receiver-loads r is L c o es s e even small copied k inv block a v (read_by r.receiver (is_receiver r (hart_of e) whose) (eqb-true width 4 whole)))
       at receives whose false part =
-          subst (λ b. Invariant k r L c o after (if b then record s { receiving = receive_load k r a v s.receiving } else s)) (sym part) (rests block)
-      at passes whose b w = rests block
+          subst (λ b. Invariant k r L c o after (if b then record s { receiving = receive_load k r a v s.receiving } else s)) (sym part) (rests block copied)
+      at passes whose b w = rests block copied
 
   stores-word : (w : Write) → access_of e ≡ store w → (role : Role) → role_of r (hart_of e) ≡ role → KeepsProtocolBy k r role s (store w)
       → (more : List ℕ) × (F ≡ (next_by k r role s (store w)).sent ++ more) → Invariant k r L c o after (next_by k r role s (store w))
   stores-word w does sends whose (inl off) ahead =
-      subst (λ b. Invariant k r L c o after (if b then send_store w s.sending s else s)) (sym off) (rests (off-stays r is o es e even w does off))
+      subst (λ b. Invariant k r L c o after (if b then send_store w s.sending s else s)) (sym off)
+      (rests (off-stays r is o es e even w does (off_shared r w off)) (off_leave w does off))
   stores-word w does sends whose (inr keeps) ahead = sender-stores w s.sending does (is_sender r (hart_of e) whose) refl keeps ahead
   stores-word w does receives whose (inl off) ahead =
-      subst (λ b. Invariant k r L c o after (if b then receive_store k s.receiving s else s)) (sym off) (rests (off-stays r is o es e even w does off))
+      subst (λ b. Invariant k r L c o after (if b then receive_store k s.receiving s else s)) (sym off)
+      (rests (off-stays r is o es e even w does (off_shared r w off)) (off_leave w does off))
   stores-word w does receives whose (inr keeps) ahead = receiver-stores w s.receiving does (is_receiver r (hart_of e) whose) refl keeps
-  stores-word w does passes whose off ahead = rests (off-stays r is o es e even w does off)
+  stores-word w does passes whose off ahead = rests (off-stays r is o es e even w does (off_shared r w off)) (off_leave w does off)
 
   -- an access that changes nothing of either party
   others : (role : Role) (x : Access) → next_by k r sends s x ≡ s → next_by k r receives s x ≡ s → Invariant k r L c o after s
@@ -270,18 +312,24 @@ module _ (B : ℕ) (r : RingBuffer) (is : IsRingBuffer r) (F : List ℕ) (small 
   acts : (x : Access) → access_of e ≡ x → (role : Role) → role_of r (hart_of e) ≡ role → KeepsProtocolBy k r role s x
       → AllowedBy B (pending (hart_of e) es) (read o es (hart_of e)) x
       → (more : List ℕ) × (F ≡ (next_by k r role s x).sent ++ more) → Invariant k r L c o after (next_by k r role s x)
-  acts nothing does role whose keeps allowed ahead = others role nothing refl refl (rests (nothing-stays r is o es e even does))
+  acts nothing does role whose keeps allowed ahead = others role nothing refl refl
+      (rests (nothing-stays r is o es e even does) (leaves nothing does (λ c x copy from below. tt)))
   acts (load a width v) does role whose keeps allowed ahead = loads-word a width v does allowed role whose
   acts (store w) does role whose keeps allowed ahead = stores-word w does role whose keeps ahead
   acts (exchange a old new) does role whose keeps allowed ahead =
-      others role (exchange a old new) refl refl (rests (exchange-stays r is o es e even a old new does (off role keeps)))
+      others role (exchange a old new) refl refl
+      (rests (exchange-stays r is o es e even a old new does (off_shared r (write a 4 new) (off role keeps)))
+      (leaves (exchange a old new) does (λ d x copy from below. off_leaves r (write a 4 new) x (off role keeps)
+      (omega (arith, from, (is.copy d copy).above)) (omega (arith, below, (is.copy d copy).below)))))
     where
       off : (role : Role) → KeepsProtocolBy k r role s (exchange a old new) → overlaps r (write a 4 new) ≡ false
       off sends keeps = keeps
       off receives keeps = keeps
       off passes keeps = keeps
-  acts (fence full) does role whose keeps allowed ahead = others role (fence full) refl refl (rests (fence-stays r is o es e even full does))
-  acts land does role whose keeps allowed ahead = others role land refl refl (lands-store k r is L small c o es s inv e even does allowed)
+  acts (fence full) does role whose keeps allowed ahead = others role (fence full) refl refl (rests (fence-stays r is o es e even full does)
+      (leaves (fence full) does (λ c x copy from below. tt)))
+  acts land does role whose keeps allowed ahead = others role land refl refl (lands-store k r is L small c o es s inv e even
+      (leaves land does (λ c x copy from below. tt)) does allowed)
 
 -- ---- whole runs
 
@@ -293,7 +341,8 @@ holds-after B r is F small c o before s [] inv legal later keeps ahead = subst (
 holds-after B r is F small c o before s (e ∷ es) inv legal later keeps ahead =
     let grown = protocol-grows r (protocol_next r s e) es in
     let one : Invariant r.kind r (slice_index F) c o (before ++ e ∷ []) (protocol_next r s e) =
-    acts B r is F small c o before s r.kind inv e (λ h. balanced B (history_of o before) h legal) (access_of e) refl (role_of r (hart_of e)) refl keeps.0
+    acts B r is F small c o before s r.kind inv e (λ h. balanced B (history_of o before) h legal) later.0
+    (access_of e) refl (role_of r (hart_of e)) refl keeps.0
     later.0 (grown.0 ++ ahead.0, ahead.1 ∙ ap (λ xs. xs ++ ahead.0) grown.1 ∙ append_assoc (protocol_next r s e).sent grown.0 ahead.0) in
     subst (λ xs. Invariant r.kind r (slice_index F) c o xs (protocol_after r (protocol_next r s e) es)) (append_assoc before (e ∷ []) es)
     (holds-after B r is F small c o (before ++ e ∷ []) (protocol_next r s e) es one

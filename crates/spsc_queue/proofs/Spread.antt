@@ -8,7 +8,7 @@ use Rattle.std.proofs.lemmas.Nat.{mod_below}
 use Rattle.std.proofs.lemmas.List.Elements.{All-nil, All-cons}
 use Rattle.memory.specs.declared.writes.Write.{Write}
 use Rattle.memory.specs.Writes.{write, IsWholeWord}
-use Rattle.spsc_queue.proofs.Modulo.{mod_apart}
+use Rattle.step_machine.proofs.Modulo.{mod_apart}
 use Rattle.spsc_queue.specs.RingBuffers.{RingBuffer, IsRingBuffer, offset, slot}
 use Rattle.spsc_queue.proofs.Words.{seen}
 

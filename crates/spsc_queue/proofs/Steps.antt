@@ -1,18 +1,25 @@
 -- Each store of a party keeps the invariant, and so does what leaves the block.
-use Rattle.std.proofs.Common.{ℕ, suc, ◌+◌, ◌≤◌, ◌<◌, ◌≡◌, ◌≢◌, inl, inr, true, List, [], ◌∷◌, ◌++◌, length, refl, sym, ◌∙◌, ap, subst, arith}
-use Rattle.std.proofs.lemmas.Bool.{cases_eq}
-use Rattle.std.proofs.lemmas.Bool.Decides.{nat_tests}
+use Rattle.std.proofs.Common.{ℕ, suc, ◌+◌, ◌^◌, ◌≤◌, ◌<◌, ◌≡◌, ◌≢◌, ◌==◌, ◌&&◌, not, inl, inr, Bool, true, false}
+use Rattle.std.proofs.Common.{Option, Some, None, List, [], ◌∷◌, ◌++◌, length, refl, sym, ◌∙◌, ap, subst, arith}
+use Rattle.std.specs.Prelude.{All}
+use Rattle.std.proofs.lemmas.Bool.{cases_eq, eq-eqb}
 use Rattle.memory.specs.declared.writes.Write.{Write}
 use Rattle.memory.specs.Writes.{write}
 use Rattle.step_machine.specs.declared.events.Entry.{Entry}
 use Rattle.step_machine.specs.History.{OpeningValue}
 use Rattle.step_machine.specs.Access.{store, access_of}
-use Rattle.step_machine.specs.Entries.{hart_of, memory_word, stores, lands}
+use Rattle.step_machine.specs.Entries.{hart_of, pending, memory_word, stores, lands}
 use Rattle.spsc_queue.specs.RingBuffers.{Kind, lamport, fastforward, RingBuffer, IsRingBuffer, IsWordIn, offset, slot, next, overlaps}
-use Rattle.spsc_queue.specs.Protocol.{SenderState, resting, roomy, filled, ReceiverState, idle, holding, cleared, ProtocolState, send_store, receive_store}
-use Rattle.spsc_queue.specs.Protocol.{IsWordAt, IsSendable, IsTaking}
-use Rattle.spsc_queue.proofs.Spread.{sent_store, freed_store, sent-slot, sent-head}
-use Rattle.spsc_queue.proofs.Rows.{row-stores, row-publishes, RowOrder, Earlier, Stays, rows-stay, words-stay, sender-stores, receiver-stores}
+use Rattle.spsc_queue.specs.StoreBuffers.{LeavesByte}
+use Rattle.spsc_queue.specs.Protocol.{SenderState, resting, renewing, roomy, filled, ReceiverState, idle, holding}
+use Rattle.spsc_queue.specs.Protocol.{cleared, ProtocolState, send_store, receive_store}
+use Rattle.spsc_queue.specs.Protocol.{IsWordAt, IsSendable, IsCopyStore, IsTaking}
+use Rattle.spsc_queue.specs.Laws.{ready_by_state}
+use Rattle.spsc_queue.proofs.Words.{is_copy, shared, word_on}
+use Rattle.spsc_queue.proofs.Spread.{sent_store, freed_store, sent-slot, sent-head, offset_low}
+use Rattle.spsc_queue.proofs.Rows.{row-stores, row-publishes, RowOrder, Earlier, Stays, rows-stay, words-stay}
+use Rattle.spsc_queue.proofs.Rows.{off-stays, kept-pending, more-of, sender-stores, receiver-stores}
+use Rattle.spsc_queue.proofs.Copies.{Copied, CopyStays, copied-on, own_read}
 use Rattle.spsc_queue.proofs.Invariant.{turned, zeros, cleared_store, Landed, firsts, spare, freed, there, their_store, their_landed, they_made, Theirs, Words}
 use Rattle.spsc_queue.proofs.Invariant.{SendingIs, ReceivingIs, Invariant}
 use Rattle.spsc_queue.proofs.Loads.{next_offset, slot_word}
@@ -20,10 +27,6 @@ use Rattle.spsc_queue.proofs.Loads.{next_offset, slot_word}
 -- the write of a word, by its parts
 pub write-is : (w : Write) (a v : ℕ) → IsWordAt w a → w.value ≡ v → w ≡ write a 4 v
 write-is w a v is value = ap (λ x. write x w.width w.value) is.place ∙ ap (λ x. write a x w.value) is.width ∙ ap (write a 4) value
-
--- a store to a word of the block is on it
-pub word_on : (r : RingBuffer) (w : Write) (a : ℕ) → IsWordIn r a → IsWordAt w a → overlaps r w ≡ true
-word_on r w a word is = grind (arith, nat_tests, word.above, word.below, is.place, is.width)
 
 -- a word that may be sent isn't 0 where that matters
 some_word : (K : Kind) (w : ℕ) → IsSendable K w → K ≡ fastforward → w ≢ 0
@@ -49,8 +52,10 @@ module _ (K : Kind) (r : RingBuffer) (is : IsRingBuffer r) (L : ℕ → ℕ) (c 
 
   -- the block stays, and so do the stores to it: what a party knows may change
   pub stays : (p : SenderState) (q : ReceiverState) → Stays r o es after → SendingIs (spare K) r s.stored s.published (freed K d.cleared d.tails) p
-      → ReceivingIs K r L s.taken s.consumed (there K d.slots d.heads) q → Invariant K r L c o after (record s { sending = p; receiving = q })
-  stays p q block sending receiving = record {
+      → ReceivingIs K r L s.taken s.consumed (there K d.slots d.heads) q
+      → Copied K r.copy r o after (s.stored + ready_by_state p) (freed K d.cleared d.tails)
+      → Invariant K r L c o after (record s { sending = p; receiving = q })
+  stays p q block sending receiving copy = record {
     landed = d;
     order = inv.order;
     words = words-same block.words;
@@ -67,12 +72,18 @@ module _ (K : Kind) (r : RingBuffer) (is : IsRingBuffer r) (L : ℕ → ℕ) (c 
     };
     sent = inv.sent;
     received = inv.received;
+    copy = copy;
   }
 
-  pub idles : Stays r o es after → Invariant K r L c o after s
-  idles block = stays s.sending s.receiving block inv.sending inv.receiving
+  -- the copy stays, and no more is stored or about to be
+  copy-stays : CopyStays r o es after → (n : ℕ) → n ≤ s.stored + ready_by_state s.sending → Copied K r.copy r o after n (freed K d.cleared d.tails)
+  copy-stays copied n le = copied-on K r.copy r o es after (s.stored + ready_by_state s.sending) (freed K d.cleared d.tails) n (freed K d.cleared d.tails)
+      refl copied le (omega arith) inv.copy
 
-  module _ (w : Write) (does : access_of e ≡ store w) (on : overlaps r w ≡ true) where
+  pub idles : Stays r o es after → CopyStays r o es after → Invariant K r L c o after s
+  idles block copied = stays s.sending s.receiving block inv.sending inv.receiving (copy-stays copied (s.stored + ready_by_state s.sending) (omega arith))
+
+  module _ (w : Write) (does : access_of e ≡ store w) (on : shared r w ≡ true) (copied : CopyStays r o es after) where
     words : Words K r L d (memory_word o after)
     words = words-same (λ a word. words-stay r is o es e even w does a)
 
@@ -80,8 +91,9 @@ module _ (K : Kind) (r : RingBuffer) (is : IsRingBuffer r) (L : ℕ → ℕ) (c 
     sends-one : hart_of e ≡ r.sender → w ≡ sent_store r L ((d.slots + d.heads) + inv.buffers.unsent) → (p : SenderState) (n m : ℕ) (got : List ℕ)
         → n + m ≡ s.stored + s.published + 1 → RowOrder n m d.slots d.heads → n + spare K ≤ freed K d.cleared d.tails + r.size
         → (K ≡ fastforward → (j : ℕ) → j < n → L j ≢ 0) → SendingIs (spare K) r n m (freed K d.cleared d.tails) p → got ≡ firsts L n
+        → n + ready_by_state p ≤ s.stored + ready_by_state s.sending
         → Invariant K r L c o after (record s { sending = p; stored = n; published = m; sent = got })
-    sends-one mine is_next p n m got one row room nonzero sending sent = record {
+    sends-one mine is_next p n m got one row room nonzero sending sent few = record {
       landed = d;
       order = record { mine = row; theirs = inv.order.theirs; taken_there = inv.order.taken_there; room = room };
       words = words;
@@ -98,6 +110,7 @@ module _ (K : Kind) (r : RingBuffer) (is : IsRingBuffer r) (L : ℕ → ℕ) (c 
       };
       sent = sent;
       received = inv.received;
+      copy = copy-stays copied (n + ready_by_state p) few;
     }
 
     pub sends-word : hart_of e ≡ r.sender → (u : ℕ) → s.sending ≡ roomy u → IsWordAt w (r.slots + u) → w.value ≡ L s.stored → IsSendable K w.value
@@ -105,6 +118,7 @@ module _ (K : Kind) (r : RingBuffer) (is : IsRingBuffer r) (L : ℕ → ℕ) (c 
     sends-word mine u at word value some = sends-one mine is_next (filled u) (s.stored + 1) s.published (s.sent ++ w.value ∷ []) (omega arith)
         (row-stores inv.order.mine known.0) known.2 nonzero (omega (arith, known.0), known.1)
         (ap (λ ws. ws ++ w.value ∷ []) inv.sent ∙ ap (λ v. firsts L s.stored ++ v ∷ []) value ∙ ap (firsts L) one_more)
+        (let one : ready_by_state s.sending ≡ 1 = ap ready_by_state at in omega (arith, one))
       where
         known : SendingIs (spare K) r s.stored s.published (freed K d.cleared d.tails) (roomy u)
         known = subst (SendingIs (spare K) r s.stored s.published (freed K d.cleared d.tails)) at inv.sending
@@ -126,7 +140,7 @@ module _ (K : Kind) (r : RingBuffer) (is : IsRingBuffer r) (L : ℕ → ℕ) (c 
     pub sends-head : hart_of e ≡ r.sender → (u : ℕ) → s.sending ≡ filled u → IsWordAt w r.head → w.value ≡ next r u
         → Invariant K r L c o after (send_store w (filled u) s)
     sends-head mine u at word value = sends-one mine is_next resting s.stored (s.published + 1) s.sent (omega arith) (row-publishes inv.order.mine known.0)
-        inv.order.room inv.nonzero known.0 inv.sent
+        inv.order.room inv.nonzero known.0 inv.sent (omega arith)
       where
         known : SendingIs (spare K) r s.stored s.published (freed K d.cleared d.tails) (filled u)
         known = subst (SendingIs (spare K) r s.stored s.published (freed K d.cleared d.tails)) at inv.sending
@@ -157,6 +171,7 @@ module _ (K : Kind) (r : RingBuffer) (is : IsRingBuffer r) (L : ℕ → ℕ) (c 
       };
       sent = inv.sent;
       received = received;
+      copy = copy-stays copied (s.stored + ready_by_state s.sending) (omega arith);
     }
 
     -- the words received, with the one that it holds
@@ -169,46 +184,82 @@ module _ (K : Kind) (r : RingBuffer) (is : IsRingBuffer r) (L : ℕ → ℕ) (c 
 
 pub takes-word : (K : Kind) (r : RingBuffer) (is : IsRingBuffer r) (L : ℕ → ℕ) (c : Earlier) (o : OpeningValue) (es : List Entry) (s : ProtocolState)
     (inv : Invariant K r L c o es s) (e : Entry) (even : (h : ℕ) → lands h es ≤ length (stores h es)) (w : Write) → access_of e ≡ store w
-    → hart_of e ≡ r.receiver → (u v : ℕ) → s.receiving ≡ holding u v → IsTaking K r u w
-    → (overlaps r w ≡ true) × Invariant K r L c o (es ++ e ∷ []) (receive_store K (holding u v) s)
-takes-word lamport r is L c o es s inv e even w does mine u v at keeps =
+    → CopyStays r o es (es ++ e ∷ []) → hart_of e ≡ r.receiver → (u v : ℕ) → s.receiving ≡ holding u v → IsTaking K r u w
+    → (shared r w ≡ true) × Invariant K r L c o (es ++ e ∷ []) (receive_store K (holding u v) s)
+takes-word lamport r is L c o es s inv e even w does copied mine u v at keeps =
     let known = subst (ReceivingIs lamport r L s.taken s.consumed inv.landed.heads) at inv.receiving in
-    let on : overlaps r w ≡ true = word_on r w r.tail is.tail keeps.0 in
+    let on : shared r w ≡ true = word_on r w r.tail is.tail keeps.0 in
     let is_next : w ≡ freed_store r (inv.landed.tails + inv.buffers.unread) =
     write-is w r.tail (offset r (s.consumed + 1)) keeps.0 (keeps.1 ∙ next_offset r is u s.consumed known.1)
     ∙ ap (λ j. write r.tail 4 (offset r (j + 1))) (omega (arith, inv.buffers.theirs_count)) in (
       on,
-      takes-one lamport r is L c o es s inv e even w does on mine is_next idle (s.taken + 1) (s.consumed + 1) (s.received ++ v ∷ []) (omega arith)
+      takes-one lamport r is L c o es s inv e even w does on copied mine is_next idle (s.taken + 1) (s.consumed + 1) (s.received ++ v ∷ []) (omega arith)
           (omega (arith, known.0), omega (arith, inv.order.theirs.1)) (omega (arith, known.2)) (omega (arith, known.0))
-          (one_received lamport r is L c o es s inv e even w does on u v known),
+          (one_received lamport r is L c o es s inv e even w does on copied u v known),
     )
-takes-word fastforward r is L c o es s inv e even w does mine u v at keeps =
+takes-word fastforward r is L c o es s inv e even w does copied mine u v at keeps =
     let known = subst (ReceivingIs fastforward r L s.taken s.consumed inv.landed.slots) at inv.receiving in
     let word : IsWordAt w (slot r s.consumed) = record { place = keeps.0.place ∙ ap (λ x. r.slots + x) known.1; width = keeps.0.width } in
-    let on : overlaps r w ≡ true = word_on r w (slot r s.consumed) (slot_word r is s.consumed) word in
+    let on : shared r w ≡ true = word_on r w (slot r s.consumed) (slot_word r is s.consumed) word in
     let is_next : w ≡ cleared_store r ((inv.landed.cleared + inv.landed.tails) + inv.buffers.unread) =
     write-is w (slot r s.consumed) 0 word keeps.1 ∙ ap (λ j. write (slot r j) 4 0) (sym known.0)
     ∙ sym (sent-slot (turned r) zeros ((inv.landed.cleared + inv.landed.tails) + inv.buffers.unread) s.taken
     (omega (arith, inv.buffers.theirs_count, known.0))) in (
       on,
-      takes-one fastforward r is L c o es s inv e even w does on mine is_next (cleared u) (s.taken + 1) s.consumed (s.received ++ v ∷ []) (omega arith)
+      takes-one fastforward r is L c o es s inv e even w does on copied mine is_next (cleared u) (s.taken + 1) s.consumed (s.received ++ v ∷ []) (omega arith)
           (row-stores inv.order.theirs known.0) (omega (arith, known.2)) (omega (arith, known.0), known.1, refl)
-          (one_received fastforward r is L c o es s inv e even w does on u v known),
+          (one_received fastforward r is L c o es s inv e even w does on copied u v known),
     )
 
 -- and then FastForward's the tail
 pub frees : (K : Kind) (r : RingBuffer) (is : IsRingBuffer r) (L : ℕ → ℕ) (c : Earlier) (o : OpeningValue) (es : List Entry) (s : ProtocolState)
     (inv : Invariant K r L c o es s) (e : Entry) (even : (h : ℕ) → lands h es ≤ length (stores h es)) (w : Write) → access_of e ≡ store w
-    → overlaps r w ≡ true → hart_of e ≡ r.receiver → (u : ℕ) → s.receiving ≡ cleared u → IsWordAt w r.tail → w.value ≡ next r u
+    → shared r w ≡ true → CopyStays r o es (es ++ e ∷ []) → hart_of e ≡ r.receiver → (u : ℕ) → s.receiving ≡ cleared u → IsWordAt w r.tail → w.value ≡ next r u
     → Invariant K r L c o (es ++ e ∷ []) (receive_store K (cleared u) s)
-frees lamport r is L c o es s inv e even w does on mine u at word value =
+frees lamport r is L c o es s inv e even w does on copied mine u at word value =
     let known = subst (ReceivingIs lamport r L s.taken s.consumed inv.landed.heads) at inv.receiving in
     absurd (let no : lamport ≡ fastforward = known.2 in cc)
-frees fastforward r is L c o es s inv e even w does on mine u at word value =
+frees fastforward r is L c o es s inv e even w does on copied mine u at word value =
     let known = subst (ReceivingIs fastforward r L s.taken s.consumed inv.landed.slots) at inv.receiving in
     let is_next : w ≡ cleared_store r ((inv.landed.cleared + inv.landed.tails) + inv.buffers.unread) =
     write-is w r.tail (offset r (s.consumed + 1)) word (value ∙ next_offset r is u s.consumed known.1)
     ∙ sym (sent-head (turned r) zeros ((inv.landed.cleared + inv.landed.tails) + inv.buffers.unread) s.consumed
     (omega (arith, inv.buffers.theirs_count, known.0))) in
-    takes-one fastforward r is L c o es s inv e even w does on mine is_next idle s.taken (s.consumed + 1) s.received (omega arith)
+    takes-one fastforward r is L c o es s inv e even w does on copied mine is_next idle s.taken (s.consumed + 1) s.received (omega arith)
     (row-publishes inv.order.theirs known.0) inv.order.taken_there known.0 inv.received
+
+-- the sender makes what it read its copy of the tail
+pub copies : (K : Kind) (r : RingBuffer) (is : IsRingBuffer r) (L : ℕ → ℕ) (c : Earlier) (o : OpeningValue) (es : List Entry) (s : ProtocolState)
+    (inv : Invariant K r L c o es s) (e : Entry) (even : (h : ℕ) → lands h es ≤ length (stores h es)) (w : Write) → access_of e ≡ store w
+    → hart_of e ≡ r.sender → (u v : ℕ) → s.sending ≡ renewing u v → (q : Option ℕ) → r.copy ≡ q → IsCopyStore q v w
+    → Invariant K r L c o (es ++ e ∷ []) (record s { sending = roomy u })
+copies K r is L c o es s inv e even w does mine u v at None none keeps = absurd keeps
+copies fastforward r is L c o es s inv e even w does mine u v at (Some a) some keeps =
+    absurd (let no : Some a ≡ None = sym some ∙ inv.copy in cc)
+copies lamport r is L c o es s inv e even w does mine u v at (Some a) some keeps =
+    let after : List Entry = es ++ e ∷ [] in
+    let known : SendingIs 1 r s.stored s.published inv.landed.tails (renewing u v) =
+    subst (SendingIs 1 r s.stored s.published inv.landed.tails) at inv.sending in
+    let copy : Copied lamport (Some a) r o es (s.stored + ready_by_state s.sending) inv.landed.tails =
+    subst (λ q. Copied lamport q r o es (s.stored + ready_by_state s.sending) inv.landed.tails) some inv.copy in
+    let it : is_copy r.copy w ≡ true = ap (λ q. is_copy q w) some ∙ ap (λ b. b && (w.width == 4)) (eq-eqb w.addr a keeps.0.place)
+    ∙ eq-eqb w.width 4 keeps.0.width in
+    let off : shared r w ≡ false = ap (λ b. overlaps r w && not b) it ∙ none (overlaps r w) in
+    let small : w.value < 2 ^ 32 = omega (arith, keeps.1, known.2.1, offset_low r is known.2.0, is.small) in
+    let more : pending r.sender after ≡ pending r.sender es ++ w ∷ [] =
+    subst (λ g. pending g after ≡ pending g es ++ w ∷ []) mine (more-of r is o es e even w does) in
+    let new : Copied lamport (Some a) r o after (s.stored + 1) inv.landed.tails = record {
+      place = known.2.0;
+      reads = own_read o es after r.sender a w more keeps.0 small ∙ keeps.1 ∙ known.2.1;
+      low = omega (arith, known.2.2);
+      high = known.2.3;
+      alone = λ x from below g other. subst (All (LeavesByte x)) (sym (kept-pending r is o es e even w does g (λ same. other (sym same ∙ mine))))
+          (copy.alone x from below g other);
+    } in
+    stays lamport r is L c o es s inv e even (roomy u) s.receiving (off-stays r is o es e even w does off)
+    (known.0, known.1, omega (arith, known.2.2, known.2.3)) inv.receiving
+    (subst (λ q. Copied lamport q r o after (s.stored + 1) inv.landed.tails) (sym some) new)
+  where
+    none : (b : Bool) → b && not true ≡ false
+    none true = refl
+    none false = refl

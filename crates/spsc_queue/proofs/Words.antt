@@ -1,35 +1,97 @@
 -- What a word of the block is after writes, of which those to the block are of whole words: whatever the others are,
 -- bytes or words, they leave it.
-use Rattle.std.proofs.Common.{ℕ, ◌+◌, ◌-◌, ◌%◌, ◌<◌, ◌≡◌, ◌==◌, ◌⊎◌, inl, inr, Bool, true, false, if◌then◌else◌, List, [], ◌∷◌, Option, Some, None, refl, sym}
-use Rattle.std.proofs.Common.{◌∙◌, ap, arith}
+use Rattle.std.proofs.Common.{ℕ, ◌+◌, ◌-◌, ◌%◌, ◌<◌, ◌≤◌, ◌≡◌, ◌==◌, ◌&&◌, not, ◌⊎◌, inl, inr, Bool, true, false}
+use Rattle.std.proofs.Common.{if◌then◌else◌, List, [], ◌∷◌, Option, Some, None}
+use Rattle.std.proofs.Common.{refl, sym, ◌∙◌, ap, arith, length}
 use Rattle.std.specs.Prelude.{unwrap_or, All}
+use Rattle.std.specs.List.{filter}
 use Rattle.std.specs.Int.{byte_at}
-use Rattle.std.proofs.lemmas.Bool.{eqb-true, eqb-false}
+use Rattle.std.proofs.lemmas.Bool.{eqb-true, eqb-false, ne_eqb}
 use Rattle.std.proofs.lemmas.Bool.Decides.{nat_tests}
 use Rattle.std.proofs.lemmas.List.Elements.{All-head, All-tail}
 use Rattle.memory.specs.declared.writes.Write.{Write}
 use Rattle.memory.specs.Writes.{covers, byte_after, newest_of, joined, IsWholeWord}
 use Rattle.memory.proofs.Bytes.{joined-same, word_of_bytes, covers-yes, covers-from, covers-other}
 use Rattle.spsc_queue.specs.RingBuffers.{RingBuffer, IsWordIn, overlaps, writes_to}
+use Rattle.spsc_queue.specs.Protocol.{IsWordAt}
 
 -- the value of the word at a after these writes of whole words, where it was v before
 abbrev pub seen : ℕ → ℕ → List Write → ℕ
 seen a v [] = v
 seen a v (w ∷ ws) = seen a (if w.addr == a then w.value else v) ws
 
+-- what both parties use of the block: a store of the sender's to its copy of the tail is in no row
+abbrev pub is_copy : Option ℕ → Write → Bool
+is_copy None w = false
+is_copy (Some c) w = (w.addr == c) && (w.width == 4)
+
+abbrev pub shared : RingBuffer → Write → Bool
+shared r w = overlaps r w && not (is_copy r.copy w)
+
+abbrev pub row_of : RingBuffer → List Write → List Write
+row_of r ws = filter (shared r) ws
+
+pub both : (p q : Bool) → (p && q) ≡ true → (p ≡ true) × (q ≡ true)
+both true true is = (refl, refl)
+both true false is = absurd (cc)
+both false q is = absurd (cc)
+
+pub copy_at : (o : Option ℕ) (w : Write) → is_copy o w ≡ true → (c : ℕ) × (o ≡ Some c) × (w.addr ≡ c) × (w.width ≡ 4)
+copy_at None w is = absurd (cc)
+copy_at (Some c) w is = let parts = both (w.addr == c) (w.width == 4) is in (c, refl, eqb-true w.addr c parts.0, eqb-true w.width 4 parts.1)
+
+pub shared_on : (r : RingBuffer) (w : Write) → shared r w ≡ true → overlaps r w ≡ true
+shared_on r w is = (both (overlaps r w) (not (is_copy r.copy w)) is).0
+
+pub off_shared : (r : RingBuffer) (w : Write) → overlaps r w ≡ false → shared r w ≡ false
+off_shared r w off = ap (λ b. b && not (is_copy r.copy w)) off
+
+-- a store to a word of the block is on it
+pub word_overlaps : (r : RingBuffer) (w : Write) (a : ℕ) → IsWordIn r a → IsWordAt w a → overlaps r w ≡ true
+word_overlaps r w a word is = grind (arith, nat_tests, word.above, word.below, is.place, is.width)
+
+pub word_on : (r : RingBuffer) (w : Write) (a : ℕ) → IsWordIn r a → IsWordAt w a → shared r w ≡ true
+word_on r w a word is = ap (λ b. b && not (is_copy r.copy w)) (word_overlaps r w a word is) ∙ ap not (other r.copy word.no_copy)
+  where
+    other : (o : Option ℕ) → ((c : ℕ) → o ≡ Some c → (c + 4 ≤ a) ⊎ (a + 4 ≤ c)) → is_copy o w ≡ false
+    other None apart = refl
+    other (Some c) apart = ap (λ b. b && (w.width == 4)) (ne_eqb w.addr c (λ e. elim (apart c refl) [
+      | inl l ↦ omega (arith, is.place, e, l)
+      | inr l ↦ omega (arith, is.place, e, l)
+    ]))
+
+-- a row is some of the writes to the block
+pub row_shorter : (r : RingBuffer) (ws : List Write) → length (row_of r ws) ≤ length (writes_to r ws)
+row_shorter r [] = omega arith
+row_shorter r (w ∷ ws) = at (overlaps r w) (not (is_copy r.copy w)) (row_shorter r ws)
+  where
+    at : (b d : Bool) → length (row_of r ws) ≤ length (writes_to r ws)
+        → length (if b && d then w ∷ row_of r ws else row_of r ws) ≤ length (if b then w ∷ writes_to r ws else writes_to r ws)
+    at true true le = omega (arith, le)
+    at true false le = omega (arith, le)
+    at false d le = le
+
 -- a write that is off the block, or of a whole word
 abbrev pub Tidy : RingBuffer → Write → Type 0
-Tidy r w = (overlaps r w ≡ false) ⊎ IsWholeWord w
+Tidy r w = (shared r w ≡ false) ⊎ IsWholeWord w
 
 -- the frame: a write off the block covers no byte of a word of the block
-pub off_covers : (r : RingBuffer) (w : Write) (a i : ℕ) → IsWordIn r a → i < 4 → overlaps r w ≡ false → covers w (a + i) ≡ false
-off_covers r w a i is lt off = at (covers w (a + i)) refl
+pub off_covers : (r : RingBuffer) (w : Write) (a i : ℕ) → IsWordIn r a → i < 4 → shared r w ≡ false → covers w (a + i) ≡ false
+off_covers r w a i is lt off = at (covers w (a + i)) refl (overlaps r w) refl (is_copy r.copy w) refl
   where
-    at : (c : Bool) → covers w (a + i) ≡ c → c ≡ false
-    at false c = refl
-    at true c = let from = covers-from w (a + i) c in absurd (grind (arith, nat_tests, is.above, is.below))
+    at : (c : Bool) → covers w (a + i) ≡ c → (b : Bool) → overlaps r w ≡ b → (d : Bool) → is_copy r.copy w ≡ d → c ≡ false
+    at false c b on d copy = refl
+    at true c false out d copy = let from = covers-from w (a + i) c in absurd (grind (arith, nat_tests, is.above, is.below, out))
+    at true c true on false none = absurd (let no : true ≡ false = sym (ap (λ b. b && not (is_copy r.copy w)) on ∙ ap not none) ∙ off in cc)
+    at true c true on true copy =
+        let from = covers-from w (a + i) c in
+        let it = copy_at r.copy w copy in
+        absurd (elim (is.no_copy it.0 it.1) [
+          | inl l ↦ omega (arith, from.0, from.1, it.2, it.3, l, lt)
+          | inr l ↦ omega (arith, from.0, from.1, it.2, it.3, l, lt)
+        ])
 
-pub off_word : (r : RingBuffer) (w : Write) (a : ℕ) (f : ℕ → ℕ) → IsWordIn r a → overlaps r w ≡ false
+pub off_word : (r : RingBuffer) (w : Write) (a : ℕ) (f : ℕ → ℕ) → IsWordIn r a → shared r w ≡ false
     → joined (λ i. byte_after w (a + i) (f (a + i))) 4 ≡ joined (λ i. f (a + i)) 4
 off_word r w a f is off = joined-same (λ i. byte_after w (a + i) (f (a + i))) (λ i. f (a + i)) 4
     (λ i lt. ap (λ c. if c then byte_at (a + i - w.addr) w.value else f (a + i)) (off_covers r w a i is lt off))
@@ -85,21 +147,21 @@ newest-first x d w ws = at (covers w x)
     at false = refl
 
 -- one write, and then more
-seen-first : (r : RingBuffer) (a v : ℕ) (w : Write) (ws : List Write) (b : Bool) → overlaps r w ≡ b
-    → seen a v (writes_to r (w ∷ ws)) ≡ seen a (if b then (if w.addr == a then w.value else v) else v) (writes_to r ws)
-seen-first r a v w ws true on = ap (λ b. seen a v (if b then w ∷ writes_to r ws else writes_to r ws)) on
-seen-first r a v w ws false on = ap (λ b. seen a v (if b then w ∷ writes_to r ws else writes_to r ws)) on
+seen-first : (r : RingBuffer) (a v : ℕ) (w : Write) (ws : List Write) (b : Bool) → shared r w ≡ b
+    → seen a v (row_of r (w ∷ ws)) ≡ seen a (if b then (if w.addr == a then w.value else v) else v) (row_of r ws)
+seen-first r a v w ws true on = ap (λ b. seen a v (if b then w ∷ row_of r ws else row_of r ws)) on
+seen-first r a v w ws false on = ap (λ b. seen a v (if b then w ∷ row_of r ws else row_of r ws)) on
 
 -- the law of reads: bytes read through tidy writes join to the word that those to the block leave
 pub read_through : (r : RingBuffer) (a : ℕ) (f : ℕ → ℕ) (ws : List Write) → IsWordIn r a → All (Tidy r) ws
-    → joined (λ i. unwrap_or (newest_of (a + i) None ws) (f (a + i))) 4 ≡ seen a (joined (λ i. f (a + i)) 4) (writes_to r ws)
+    → joined (λ i. unwrap_or (newest_of (a + i) None ws) (f (a + i))) 4 ≡ seen a (joined (λ i. f (a + i)) 4) (row_of r ws)
 read_through r a f [] is all = refl
 read_through r a f (w ∷ ws) is all =
     joined-same (λ i. unwrap_or (newest_of (a + i) None (w ∷ ws)) (f (a + i)))
     (λ i. unwrap_or (newest_of (a + i) None ws) (byte_after w (a + i) (f (a + i)))) 4
     (λ i lt. newest-first (a + i) (f (a + i)) w ws)
     ∙ read_through r a (λ x. byte_after w x (f x)) ws is (All-tail (Tidy r) w ws all)
-    ∙ at (overlaps r w) refl (All-head (Tidy r) w ws all)
+    ∙ at (shared r w) refl (All-head (Tidy r) w ws all)
   where
     v : ℕ
     v = joined (λ i. f (a + i)) 4
@@ -107,7 +169,7 @@ read_through r a f (w ∷ ws) is all =
     new : ℕ
     new = joined (λ i. byte_after w (a + i) (f (a + i))) 4
 
-    at : (b : Bool) → overlaps r w ≡ b → Tidy r w → seen a new (writes_to r ws) ≡ seen a v (writes_to r (w ∷ ws))
-    at false off tidy = ap (λ x. seen a x (writes_to r ws)) (off_word r w a f is off) ∙ sym (seen-first r a v w ws false off)
+    at : (b : Bool) → shared r w ≡ b → Tidy r w → seen a new (row_of r ws) ≡ seen a v (row_of r (w ∷ ws))
+    at false off tidy = ap (λ x. seen a x (row_of r ws)) (off_word r w a f is off) ∙ sym (seen-first r a v w ws false off)
     at true on (inl off) = cc
-    at true on (inr whole) = ap (λ x. seen a x (writes_to r ws)) (whole_word w a f is.aligned whole) ∙ sym (seen-first r a v w ws true on)
+    at true on (inr whole) = ap (λ x. seen a x (row_of r ws)) (whole_word w a f is.aligned whole) ∙ sym (seen-first r a v w ws true on)

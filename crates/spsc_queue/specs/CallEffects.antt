@@ -1,5 +1,6 @@
 -- What one whole call does, from its entry to its return, whatever other harts do meanwhile.
-use Rattle.std.specs.Prelude.{ℕ, ◌≡◌, ◌≢◌, ◌+◌, ◌*◌, ◌/◌, ◌%◌, ◌≤◌, ◌==◌, if◌then◌else◌, true, false, Some, List, [], ◌∷◌, ◌++◌, length, slice_index}
+use Rattle.std.specs.Prelude.{ℕ, ◌≡◌, ◌≢◌, ◌+◌, ◌*◌, ◌/◌, ◌%◌, ◌<◌, ◌≤◌, ◌==◌, ◌&&◌, if◌then◌else◌, Bool, true, false, Option, None, Some}
+use Rattle.std.specs.Prelude.{List, [], ◌∷◌, ◌++◌, length, slice_index}
 use Rattle.memory.specs.Writes.{write}
 use Rattle.hart.specs.State.{HartState}
 use Rattle.hart.specs.Steps.{need_of}
@@ -13,7 +14,7 @@ use Rattle.step_machine.specs.Entries.{hart_of, is_own, pending}
 use Rattle.step_machine.specs.Paths.{state_of}
 use Rattle.spsc_queue.specs.RingBuffers.{Kind, lamport, fastforward, RingBuffer, next, capacity, writes_to}
 use Rattle.spsc_queue.specs.Protocol.{room_at, says_full, word_at, says_empty}
-use Rattle.spsc_queue.specs.Calls.{Block, SpscQueue, buffer, enters, is_in_call, sent_words, received_words}
+use Rattle.spsc_queue.specs.Calls.{Block, SpscQueue, Party, the_sender, the_receiver, buffer, enters, is_in_call, sent_words, received_words}
 
 -- hart h calls the function at line n for this block by the entries `call`, which come after `done`: s is its state as it
 -- enters, z its state as it has returned. Entries of other harts, and landings, may stand among these entries
@@ -40,12 +41,21 @@ IsPlainNeed (need.Load a width) = Unit {0}
 IsPlainNeed (need.Store a width w) = Unit {0}
 IsPlainNeed other = ⊥
 
--- a hart that is in a call, in state z, after this many entries of it: it runs, it only computes, loads or stores next, and
--- these entries were at most 10
-pub record GoesOn (z : HartState) (count : ℕ) : Type 0 where
+-- how many entries a whole call makes at most, of a sender that keeps a copy of the tail, or of any other party
+abbrev pub longest_send : Option ℕ → ℕ
+longest_send None = 11
+longest_send (Some c) = 15
+
+abbrev pub longest : Party → RingBuffer → ℕ
+longest the_sender r = longest_send r.copy
+longest the_receiver r = 11
+
+-- a hart that is in a call which makes at most `most` entries, in state z, after this many of them: it runs, it only computes, loads
+-- or stores next, and there is one more to come
+pub record GoesOn (most : ℕ) (z : HartState) (count : ℕ) : Type 0 where
   pub runs : z.status ≡ status.Running
   pub wants : IsPlainNeed (need_of z)
-  pub short : count ≤ 10
+  pub short : count < most
 
 -- `call` is a whole call of the sender's function
 abbrev pub IsSend : (M : ℕ) → OpeningValue → SpscQueue → (before done call : List Entry) → (s z : HartState) → Type 0
@@ -64,11 +74,23 @@ abbrev pub accesses : ℕ → List Entry → List Access
 accesses h [] = []
 accesses h (e ∷ es) = if is_own h e then memory_access (access_of e) ++ accesses h es else accesses h es
 
--- those of a call that sends the word w, where it reads u as the head, and v where it looks for room at u. If v says that there
--- is none the queue is full. Else it stores the word, and then the head
-abbrev pub send_accesses : Kind → RingBuffer → (w u v : ℕ) → List Access
-send_accesses k r w u v = load r.head 4 u ∷ load (room_at k r u) 4 v
-    ∷ (if says_full k r u v then [] else store (write (r.slots + u) 4 w) ∷ store (write r.head 4 (next r u)) ∷ [])
+-- whether a call that sends finds the queue full, where it reads u as the head, c as its copy of the tail, if it keeps one, and v
+-- where it looks for room at u
+abbrev pub sees_full : Option ℕ → Kind → RingBuffer → (u c v : ℕ) → Bool
+sees_full None k r u c v = says_full k r u v
+sees_full (Some a) k r u c v = says_full k r u c && says_full k r u v
+
+-- its accesses until it knows. It looks past a copy only where that says that there is no room, and if there is, it makes what it
+-- read its copy
+abbrev pub look_accesses : Option ℕ → Kind → RingBuffer → (u c v : ℕ) → List Access
+look_accesses None k r u c v = load (room_at k r u) 4 v ∷ []
+look_accesses (Some a) k r u c v = load a 4 c
+    ∷ (if says_full k r u c then load (room_at k r u) 4 v ∷ (if says_full k r u v then [] else store (write a 4 v) ∷ []) else [])
+
+-- those of a call that sends the word w: if the queue is full no more. Else it stores the word, and then the head
+abbrev pub send_accesses : Kind → RingBuffer → (w u c v : ℕ) → List Access
+send_accesses k r w u c v = load r.head 4 u ∷ (look_accesses r.copy k r u c v
+    ++ (if sees_full r.copy k r u c v then [] else store (write (r.slots + u) 4 w) ∷ store (write r.head 4 (next r u)) ∷ []))
 
 -- those of a call that receives, where it reads u as the tail, and v where it looks for a word at u. If v says that there is none
 -- the queue is empty. Else it takes the word w: it loads it from Lamport's slot, or stores a 0 into FastForward's, and then it
@@ -93,26 +115,27 @@ KeepsOtherRegisters xs ys = (i : ℕ) → i ≢ 5 → i ≢ 6 → i ≢ 7 → i 
 abbrev pub completed_word : HartState → List ℕ
 completed_word z = if slice_index z.registers 10 == 1 then slice_index z.registers 11 ∷ [] else []
 
--- what every call does, of whichever function: it goes back to ra, keeps the other registers, and makes at most 11 entries
-pub record Returns (s z : HartState) (count : ℕ) : Type 0 where
+-- what every call does, of whichever function: it goes back to ra, keeps the other registers, and makes at most `most` entries
+pub record Returns (most : ℕ) (s z : HartState) (count : ℕ) : Type 0 where
   pub back : z.pc ≡ slice_index s.registers 1 / 2 * 2
   pub registers : KeepsOtherRegisters s.registers z.registers
-  pub short : count ≤ 11
+  pub short : count ≤ most
 
 -- a call that sends, from state s to state z, of this many entries, with these accesses. It keeps a1
 pub record SendEffect (k : Kind) (r : RingBuffer) (s z : HartState) (count : ℕ) (did : List Access) : Type 0 where
-  pub returns : Returns s z count
+  pub returns : Returns (longest the_sender r) s z count
   pub word : slice_index z.registers 11 ≡ slice_index s.registers 11
   pub head : ℕ
+  pub copy : ℕ
   pub seen : ℕ
   pub among : head + 4 ≤ 4 * r.size
   pub aligned : head % 4 ≡ 0
-  pub accesses : did ≡ send_accesses k r (slice_index s.registers 11) head seen
-  pub answer : slice_index z.registers 10 ≡ (if says_full k r head seen then 0 else 1)
+  pub accesses : did ≡ send_accesses k r (slice_index s.registers 11) head copy seen
+  pub answer : slice_index z.registers 10 ≡ (if sees_full r.copy k r head copy seen then 0 else 1)
 
 -- a call that receives: if it returns 1, a1 is the word that it loaded from the slot
 pub record ReceiveEffect (k : Kind) (r : RingBuffer) (s z : HartState) (count : ℕ) (did : List Access) : Type 0 where
-  pub returns : Returns s z count
+  pub returns : Returns (longest the_receiver r) s z count
   pub tail : ℕ
   pub seen : ℕ
   pub among : tail + 4 ≤ 4 * r.size

@@ -14,12 +14,15 @@ use Rattle.step_machine.specs.Legal.{WellFormed}
 use Rattle.spsc_queue.specs.RingBuffers.{Kind, lamport, fastforward, RingBuffer, IsEmptyAndQuiescent}
 use Rattle.spsc_queue.specs.Protocol.{WritesNothingTo, IsSendable}
 use Rattle.spsc_queue.specs.Listings.{Listed, words_of, try_send, try_receive}
+use Rattle.spsc_queue.specs.Cached.{cached_send}
 use Rattle.spsc_queue.specs.FastForward.{fastforward_send, fastforward_receive}
 
--- a block of memory: which kind of queue it is, its base, how many slots it has, and at which slot its indices stand. The sender's index lies at its base, the
--- receiver's 64 bytes on, the slots 128 bytes on
+-- a block of memory: which kind of queue it is, and whether Lamport's sender keeps a copy of the tail; its base, how many slots it has,
+-- and at which slot its indices stand. The sender's index lies at its base, the copy 4 bytes on, the receiver's index 64 bytes on, the
+-- slots 128 bytes on
 pub record Block : Type 0 where
   pub kind : Kind
+  pub caches : Bool
   pub base : ℕ
   pub size : ℕ
   pub start : ℕ
@@ -39,6 +42,12 @@ pub record SpscQueue : Type 0 where
   pub send_line : ℕ
   pub receive_line : ℕ
 
+-- where the sender's copy of the tail lies
+abbrev pub copy_in : Kind → (caches : Bool) → (base : ℕ) → Option ℕ
+copy_in lamport true base = Some (base + 4)
+copy_in lamport false base = None
+copy_in fastforward caches base = None
+
 abbrev pub ring_of : Block → (sender receiver : ℕ) → RingBuffer
 ring_of k sender receiver = record {
   kind = k.kind;
@@ -51,6 +60,7 @@ ring_of k sender receiver = record {
   tail = k.base + 64;
   slots = k.base + 128;
   size = k.size;
+  copy = copy_in k.kind k.caches k.base;
 }
 
 abbrev pub buffer : SpscQueue → RingBuffer
@@ -75,12 +85,16 @@ abbrev pub party_line : SpscQueue → Party → ℕ
 party_line q the_sender = q.send_line
 party_line q the_receiver = q.receive_line
 
--- the function of each kind that a party calls
-abbrev pub listing_of : Kind → Party → List Listed
-listing_of lamport the_sender = try_send
-listing_of lamport the_receiver = try_receive
-listing_of fastforward the_sender = fastforward_send
-listing_of fastforward the_receiver = fastforward_receive
+-- the function of each kind that a party calls. A sender that keeps a copy of the tail has its own
+abbrev pub lamport_send : (caches : Bool) → List Listed
+lamport_send false = try_send
+lamport_send true = cached_send
+
+abbrev pub listing_of : Kind → (caches : Bool) → Party → List Listed
+listing_of lamport caches the_sender = lamport_send caches
+listing_of lamport caches the_receiver = try_receive
+listing_of fastforward caches the_sender = fastforward_send
+listing_of fastforward caches the_receiver = fastforward_receive
 
 -- a listing stands in this code, from line n on
 pub record StandsIn (code : List ℕ) (n : ℕ) (listing : List Listed) : Type 0 where
@@ -200,8 +214,8 @@ pub record SharesQueue (B M : ℕ) (o : OpeningValue) (q : SpscQueue) (before es
   pub parties : q.sender ≢ q.receiver
   pub run : WellFormed B M (history_of o (before ++ es))
   pub rest : IsEmptyAndQuiescent (buffer q) o before
-  pub sends : HasFunction o q.sender q.send_line (listing_of q.block.kind the_sender)
-  pub receives : HasFunction o q.receiver q.receive_line (listing_of q.block.kind the_receiver)
+  pub sends : HasFunction o q.sender q.send_line (listing_of q.block.kind q.block.caches the_sender)
+  pub receives : HasFunction o q.receiver q.receive_line (listing_of q.block.kind q.block.caches the_receiver)
 
 -- a run of two harts that call the functions for the block, and each of whose entries keeps what is owed. Where it begins both
 -- count as in no call

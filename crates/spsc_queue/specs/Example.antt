@@ -1,6 +1,6 @@
--- Two harts that use a queue of two slots at address 64 once, of either kind: hart 0 sends 99, hart 1 receives it. Each has one
--- instruction that does nothing, and then its function.
-use Rattle.std.specs.Prelude.{ℕ, List, [], ◌∷◌, ◌++◌}
+-- Two harts that use a queue of two slots at address 64 once, of either kind, and of Lamport's with or without a copy of the tail: hart 0
+-- sends 99, hart 1 receives it. Each has one instruction that does nothing, and then its function.
+use Rattle.std.specs.Prelude.{ℕ, Bool, if◌then◌else◌, List, [], ◌∷◌, ◌++◌}
 use Rattle.hart.specs.State.{HartState}
 use Rattle.step_machine.specs.declared.events.Entry.{Entry}
 use Rattle.step_machine.specs.declared.events.Entry.TheVariants as entry
@@ -11,8 +11,14 @@ use Rattle.spsc_queue.specs.RingBuffers.{Kind, lamport, fastforward}
 use Rattle.spsc_queue.specs.Listings.{Listed, words_of}
 use Rattle.spsc_queue.specs.Calls.{SpscQueue, the_sender, the_receiver, listing_of}
 
-abbrev pub queue : Kind → SpscQueue
-queue k = record { block = record { kind = k; base = 64; size = 2; start = 0 }; sender = 0; receiver = 1; send_line = 1; receive_line = 1 }
+abbrev pub queue : Kind → (caches : Bool) → SpscQueue
+queue k caches = record {
+  block = record { kind = k; caches = caches; base = 64; size = 2; start = 0 };
+  sender = 0;
+  receiver = 1;
+  send_line = 1;
+  receive_line = 1;
+}
 
 -- 32 registers: ra = 56, past the code; a0 the block, a1 a word, a2 the bytes of the slots
 abbrev pub registers_with : ℕ → List ℕ
@@ -21,28 +27,29 @@ registers_with word = 0 ∷ 56 ∷ 0 ∷ 0 ∷ 0 ∷ 0 ∷ 0 ∷ 0 ∷ 0 ∷ 0 �
 abbrev pub hart_with : List Listed → (word : ℕ) → HartOpeningValue
 hart_with listing word = record { code = 0x00000013 ∷ words_of listing; registers = registers_with word; inbox = [] }
 
-abbrev pub sender_hart : Kind → HartOpeningValue
-sender_hart k = hart_with (listing_of k the_sender) 99
+abbrev pub sender_hart : Kind → (caches : Bool) → HartOpeningValue
+sender_hart k caches = hart_with (listing_of k caches the_sender) 99
 
-abbrev pub receiver_hart : Kind → HartOpeningValue
-receiver_hart k = hart_with (listing_of k the_receiver) 0
+abbrev pub receiver_hart : Kind → (caches : Bool) → HartOpeningValue
+receiver_hart k caches = hart_with (listing_of k caches the_receiver) 0
 
-abbrev pub opening : Kind → OpeningValue
-opening k = record { harts = sender_hart k ∷ receiver_hart k ∷ []; words = [] }
+abbrev pub opening : Kind → (caches : Bool) → OpeningValue
+opening k caches = record { harts = sender_hart k caches ∷ receiver_hart k caches ∷ []; words = [] }
 
 -- hart 0 enters its function, and calls it
 abbrev pub before_send : List Entry
 before_send = entry.Inner 0 ∷ []
 
-abbrev pub send : Kind → List Entry
-send lamport = entry.Load 0 64 4 0 ∷ entry.Load 0 128 4 0 ∷ entry.Inner 0 ∷ entry.Inner 0 ∷ entry.Inner 0 ∷ entry.Inner 0 ∷ entry.Store 0 192 4 99
+abbrev pub send : Kind → (caches : Bool) → List Entry
+send lamport caches = entry.Load 0 64 4 0 ∷ entry.Load 0 (if caches then 68 else 128) 4 0 ∷ entry.Inner 0
+    ∷ entry.Inner 0 ∷ entry.Inner 0 ∷ entry.Inner 0 ∷ entry.Store 0 192 4 99
     ∷ entry.Store 0 64 4 4 ∷ entry.Inner 0 ∷ entry.Inner 0 ∷ []
-send fastforward = entry.Load 0 64 4 0 ∷ entry.Inner 0 ∷ entry.Load 0 192 4 0 ∷ entry.Inner 0 ∷ entry.Inner 0 ∷ entry.Inner 0 ∷ entry.Store 0 192 4 99
+send fastforward caches = entry.Load 0 64 4 0 ∷ entry.Inner 0 ∷ entry.Load 0 192 4 0 ∷ entry.Inner 0 ∷ entry.Inner 0 ∷ entry.Inner 0 ∷ entry.Store 0 192 4 99
     ∷ entry.Store 0 64 4 4 ∷ entry.Inner 0 ∷ entry.Inner 0 ∷ []
 
 -- both stores land, and hart 1 enters its function and calls it
-abbrev pub before_receive : Kind → List Entry
-before_receive k = before_send ++ (send k ++ entry.Land 0 ∷ entry.Land 0 ∷ entry.Inner 1 ∷ [])
+abbrev pub before_receive : Kind → (caches : Bool) → List Entry
+before_receive k caches = before_send ++ (send k caches ++ entry.Land 0 ∷ entry.Land 0 ∷ entry.Inner 1 ∷ [])
 
 abbrev pub receive : Kind → List Entry
 receive lamport = entry.Load 1 128 4 0 ∷ entry.Load 1 64 4 4 ∷ entry.Inner 1 ∷ entry.Inner 1 ∷ entry.Load 1 192 4 99 ∷ entry.Inner 1 ∷ entry.Inner 1
@@ -50,12 +57,12 @@ receive lamport = entry.Load 1 128 4 0 ∷ entry.Load 1 64 4 4 ∷ entry.Inner 1
 receive fastforward = entry.Load 1 128 4 0 ∷ entry.Inner 1 ∷ entry.Load 1 192 4 99 ∷ entry.Inner 1 ∷ entry.Inner 1 ∷ entry.Inner 1
     ∷ entry.Store 1 192 4 0 ∷ entry.Store 1 128 4 4 ∷ entry.Inner 1 ∷ entry.Inner 1 ∷ []
 
-abbrev pub entries : Kind → List Entry
-entries k = before_receive k ++ (receive k ++ entry.Land 1 ∷ [])
+abbrev pub entries : Kind → (caches : Bool) → List Entry
+entries k caches = before_receive k caches ++ (receive k ++ entry.Land 1 ∷ [])
 
 -- a hart's state after entries of this run
-abbrev pub sender_after : Kind → List Entry → HartState
-sender_after k es = after_entries (opens_as 64 (sender_hart k)) (own 0 es)
+abbrev pub sender_after : Kind → (caches : Bool) → List Entry → HartState
+sender_after k caches es = after_entries (opens_as 64 (sender_hart k caches)) (own 0 es)
 
-abbrev pub receiver_after : Kind → List Entry → HartState
-receiver_after k es = after_entries (opens_as 64 (receiver_hart k)) (own 1 es)
+abbrev pub receiver_after : Kind → (caches : Bool) → List Entry → HartState
+receiver_after k caches es = after_entries (opens_as 64 (receiver_hart k caches)) (own 1 es)

@@ -3,6 +3,7 @@ pub mod Protocol
 pub mod StoreBuffers
 pub mod Laws
 pub mod Listings
+pub mod Cached
 pub mod FastForward
 pub mod Calls
 pub mod CallEffects

@@ -1,4 +1,4 @@
--- Several queues at once, of either kind, of which a hart may use any number, by one copy of a function or by several.
+-- Several queues at once, of any kinds, of which a hart may use any number, by one copy of a function or by several.
 use Rattle.std.specs.Prelude.{ℕ, ◌≡◌, ◌≢◌, ◌⊎◌, ◌<◌, ◌≤◌, true, false, Some, List, ◌∷◌, ◌++◌}
 use Rattle.hart.specs.State.{HartState}
 use Rattle.hart.specs.Steps.{advanced}

@@ -1,6 +1,6 @@
 -- The queue's protocol: what sender and receiver do to memory, by the entries of a run and by nothing of their programs. A
 -- state of both parties, what each entry makes of it, and which stores to the block a party may make there.
-use Rattle.std.specs.Prelude.{ℕ, ◌≡◌, ◌≢◌, ◌⊎◌, ◌+◌, ◌^◌, ◌<◌, ◌==◌, not, if◌then◌else◌, Bool, false, List, [], ◌∷◌, ◌++◌}
+use Rattle.std.specs.Prelude.{ℕ, ◌≡◌, ◌≢◌, ◌⊎◌, ◌+◌, ◌^◌, ◌<◌, ◌==◌, not, if◌then◌else◌, Bool, false, Option, None, Some, List, [], ◌∷◌, ◌++◌}
 use Rattle.memory.specs.declared.writes.Write.{Write}
 use Rattle.memory.specs.Writes.{write}
 use Rattle.step_machine.specs.declared.events.Entry.{Entry}
@@ -8,10 +8,12 @@ use Rattle.step_machine.specs.Access.{Access, load, store, exchange, access_of}
 use Rattle.step_machine.specs.Entries.{hart_of}
 use Rattle.spsc_queue.specs.RingBuffers.{Kind, lamport, fastforward, RingBuffer, next, overlaps}
 
--- the sender rests; it has read u as its own head; it has seen that the slot there is free; it has stored a word there
+-- the sender rests; it has read u as its own head; it has seen that the slot there is free, by the tail v, of which it keeps a copy
+-- that it has yet to store; it has seen so and has none to store; it has stored a word there
 pub data SenderState : Type 0 where
   resting : SenderState
   placed : (u : ℕ) → SenderState
+  renewing : (u v : ℕ) → SenderState
   roomy : (u : ℕ) → SenderState
   filled : (u : ℕ) → SenderState
 
@@ -75,9 +77,19 @@ says_empty fastforward u v = v == 0
 abbrev pub looks_for_room : Kind → RingBuffer → (u v : ℕ) → SenderState
 looks_for_room k r u v = if says_full k r u v then placed u else roomy u
 
+-- the same at the tail itself, by a sender that keeps a copy of it
+abbrev pub looks_past_copy : Kind → RingBuffer → (u v : ℕ) → SenderState
+looks_past_copy k r u v = if says_full k r u v then placed u else renewing u v
+
+-- where the sender looks for room: by its copy of the tail, if it keeps one, and at the tail or the slot
+abbrev pub looks_at : Option ℕ → Kind → RingBuffer → (a u v : ℕ) → SenderState
+looks_at None k r a u v = if a == room_at k r u then looks_for_room k r u v else placed u
+looks_at (Some c) k r a u v = if a == c then looks_for_room k r u v else (if a == room_at k r u then looks_past_copy k r u v else placed u)
+
 abbrev pub send_look : Kind → RingBuffer → (a v : ℕ) → SenderState → SenderState
 send_look k r a v resting = resting
-send_look k r a v (placed u) = if a == room_at k r u then looks_for_room k r u v else placed u
+send_look k r a v (placed u) = looks_at r.copy k r a u v
+send_look k r a v (renewing u w) = renewing u w
 send_look k r a v (roomy u) = roomy u
 send_look k r a v (filled u) = filled u
 
@@ -86,8 +98,9 @@ abbrev pub send_load : Kind → RingBuffer → (a v : ℕ) → SenderState → S
 send_load k r a v (filled u) = filled u
 send_load k r a v p = if a == r.head then placed v else send_look k r a v p
 
--- a store of the sender to the block: a word into its slot, and then the head
+-- a store of the sender to the block: its copy of the tail, a word into its slot, and then the head
 abbrev pub send_store : Write → SenderState → ProtocolState → ProtocolState
+send_store w (renewing u v) s = record s { sending = roomy u }
 send_store w (roomy u) s = record s { sending = filled u; stored = s.stored + 1; sent = s.sent ++ w.value ∷ [] }
 send_store w (filled u) s = record s { sending = resting; published = s.published + 1 }
 send_store w p s = s
@@ -153,8 +166,15 @@ abbrev pub IsSendable : Kind → ℕ → Type 0
 IsSendable lamport w = Unit {0}
 IsSendable fastforward w = w ≢ 0
 
--- the sender's stores to the block: where a slot is free a word into it, and then the head after it
+-- the copy is what it has read of the tail
+abbrev pub IsCopyStore : Option ℕ → (v : ℕ) → Write → Type 0
+IsCopyStore None v w = ⊥
+IsCopyStore (Some c) v w = IsWordAt w c × (w.value ≡ v)
+
+-- the sender's stores to the block: its copy of the tail, where that is to be made; where a slot is free a word into it, and then
+-- the head after it
 abbrev pub IsSenderStore : Kind → RingBuffer → SenderState → Write → Type 0
+IsSenderStore k r (renewing u v) w = IsCopyStore r.copy v w
 IsSenderStore k r (roomy u) w = IsWordAt w (r.slots + u) × (w.value < 2 ^ 32) × IsSendable k w.value
 IsSenderStore k r (filled u) w = IsWordAt w r.head × (w.value ≡ next r u)
 IsSenderStore k r p w = ⊥

@@ -1,12 +1,12 @@
 -- A ring buffer in memory that two harts share, wherever its parts lie, and what the words of its places are.
-use Rattle.std.specs.Prelude.{ℕ, ◌≡◌, ◌≢◌, ◌⊎◌, ◌+◌, ◌-◌, ◌*◌, ◌%◌, ◌^◌, ◌<◌, ◌≤◌, ◌==◌, ◌&&◌, Bool, nat_lt, if◌then◌else◌, List, []}
+use Rattle.std.specs.Prelude.{ℕ, ◌≡◌, ◌≢◌, ◌⊎◌, ◌+◌, ◌-◌, ◌*◌, ◌%◌, ◌^◌, ◌<◌, ◌≤◌, ◌==◌, ◌&&◌, Bool, nat_lt, if◌then◌else◌, Option, Some, List, []}
 use Rattle.std.specs.List.{filter}
 use Rattle.memory.specs.declared.writes.Write.{Write}
 use Rattle.step_machine.specs.declared.events.Entry.{Entry}
 use Rattle.step_machine.specs.History.{OpeningValue}
 use Rattle.step_machine.specs.Entries.{pending, memory_word}
 
--- the two kinds of queue. In Lamport's each party reads the other's index. In FastForward's a slot that holds 0 is free, so
+-- the two kinds of protocol. In Lamport's each party reads the other's index, or the sender its copy of it. In FastForward's a slot that holds 0 is free, so
 -- no party reads the other's index, and no word is 0
 pub data Kind : Type 0 where
   lamport : Kind
@@ -14,8 +14,8 @@ pub data Kind : Type 0 where
 
 -- its kind, and the slot that its indices stand at when a run begins; the harts that send and receive; where the block
 -- begins and ends; the words that hold the sender's index and the receiver's, as byte offsets among the slots; where the
--- slots begin, and how many they are. Nothing says in which order these lie, nor how far apart, so each index may have a
--- cache line of its own
+-- slots begin, and how many they are; and the word in which the sender keeps a copy of the tail, if it keeps one. Nothing
+-- says in which order these lie, nor how far apart, so each index may have a cache line of its own
 pub record RingBuffer : Type 0 where
   pub kind : Kind
   pub start : ℕ
@@ -27,12 +27,21 @@ pub record RingBuffer : Type 0 where
   pub tail : ℕ
   pub slots : ℕ
   pub size : ℕ
+  pub copy : Option ℕ
 
--- a word of the block
+-- a word of the block, other than the sender's copy of the tail
 pub record IsWordIn (r : RingBuffer) (a : ℕ) : Type 0 where
   pub above : r.first ≤ a
   pub below : a + 4 ≤ r.end
   pub aligned : a % 4 ≡ 0
+  pub no_copy : (c : ℕ) → r.copy ≡ Some c → (c + 4 ≤ a) ⊎ (a + 4 ≤ c)
+
+-- the sender's copy of the tail is a word of Lamport's block, apart from the slots
+pub record IsCopyIn (r : RingBuffer) (c : ℕ) : Type 0 where
+  pub kind : r.kind ≡ lamport
+  pub above : r.first ≤ c
+  pub below : c + 4 ≤ r.end
+  pub apart : (c + 4 ≤ r.slots) ⊎ (r.slots + 4 * r.size ≤ c)
 
 pub record IsRingBuffer (r : RingBuffer) : Type 0 where
   pub parties : r.sender ≢ r.receiver
@@ -46,6 +55,7 @@ pub record IsRingBuffer (r : RingBuffer) : Type 0 where
   pub head_apart : (r.head + 4 ≤ r.slots) ⊎ (r.slots + 4 * r.size ≤ r.head)
   pub tail_apart : (r.tail + 4 ≤ r.slots) ⊎ (r.slots + 4 * r.size ≤ r.tail)
   pub small : 4 * r.size ≤ 2 ^ 32
+  pub copy : (c : ℕ) → r.copy ≡ Some c → IsCopyIn r c
 
 -- the offset of word j of a run among the slots, its slot, and the offset after one
 abbrev pub offset : RingBuffer → ℕ → ℕ
@@ -74,10 +84,12 @@ overlaps r w = nat_lt w.addr r.end && nat_lt r.first (w.addr + w.width)
 abbrev pub writes_to : RingBuffer → List Write → List Write
 writes_to r ws = filter (overlaps r) ws
 
--- the block is empty and at rest: both indices are the same offset in memory, no hart has a pending store to the block, and
--- each slot of FastForward's holds 0. So a machine may open, with zeros, or a program may leave it so at any point of its run
+-- the block is empty and at rest: both indices are the same offset in memory, no hart has a pending store to the block,
+-- each slot of FastForward's holds 0, and a copy of the tail is the offset of some slot, which need not be the tail's. So a
+-- machine may open, with zeros, or a program may leave it so at any point of its run
 pub record IsEmptyAndQuiescent (r : RingBuffer) (o : OpeningValue) (es : List Entry) : Type 0 where
   pub head : memory_word o es r.head ≡ offset r 0
   pub tail : memory_word o es r.tail ≡ offset r 0
   pub pending : (h : ℕ) → writes_to r (pending h es) ≡ []
   pub slots : r.kind ≡ fastforward → (j : ℕ) → j < r.size → memory_word o es (slot r j) ≡ 0
+  pub copy : (c : ℕ) → r.copy ≡ Some c → (j : ℕ) × (j < r.size) × (memory_word o es c ≡ offset r j)

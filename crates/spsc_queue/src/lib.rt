@@ -1,8 +1,8 @@
 //! A queue of one sender and one receiver as two functions that any code calls, with no fence and no atomic instruction:
-//! Lamport's ring buffer in memory (`try_send` and `try_receive`), or FastForward's, in which a slot that holds 0 is free
-//! (`fastforward_send` and `fastforward_receive`).
+//! Lamport's ring buffer in memory (`try_send` and `try_receive`), the same with a sender that keeps a copy of the tail
+//! (`cached_send`), or FastForward's, in which a slot that holds 0 is free (`fastforward_send` and `fastforward_receive`).
 //!
-//! The contract, of queues of either kind: [`laws_of_calls`] states what code gets that calls them and keeps what
+//! The contract, of queues of each kind: [`laws_of_calls`] states what code gets that calls them and keeps what
 //! `CallerObligation` asks of it, whatever else its harts and others execute before, between and after.
 //! [`laws_of_one_call`] states what one call does, [`laws_of_many_queues`] that calls for one queue stay off the others,
 //! [`laws_of_obligations`] that what callers owe can be computed and kept. Below these, [`laws_of_protocol`] states the same
@@ -11,9 +11,10 @@
 
 #![tactic(auto)]
 
+mod cached;
 mod fastforward;
 
-ghost use Rattle.std.specs.Prelude.{ℕ, ◌≡◌, ◌≢◌, ◌<◌, ◌≤◌, ◌+◌, ◌-◌, All, List, [], ◌∷◌, ◌++◌, length, Some, map, true, false, slice_index};
+ghost use Rattle.std.specs.Prelude.{ℕ, ◌≡◌, ◌≢◌, ◌<◌, ◌≤◌, ◌+◌, ◌-◌, All, Bool, List, [], ◌∷◌, ◌++◌, length, Some, map, true, false, slice_index};
 ghost use Rattle.std.specs.List.{slice_get};
 ghost use Rattle.std.specs.Int.{byte_at};
 ghost use Rattle.memory.specs.declared.writes.Write.{Write};
@@ -31,15 +32,16 @@ ghost use Rattle.spsc_queue.specs.Protocol.{at_start, protocol_after, asked, pla
 ghost use Rattle.spsc_queue.specs.StoreBuffers.{IsGloballyPerformed, LeavesByte, AllLeaveByte, IsOnlyWriter};
 ghost use Rattle.spsc_queue.specs.Laws.{IsPrefix, FollowsSpscProtocol, available_words, available_count, known_count, ready_count};
 ghost use Rattle.spsc_queue.specs.Listings.{try_send, try_receive, words_of, lines_of};
-ghost use Rattle.spsc_queue.specs.Calls.{SpscQueue, Party, listing_of, moved_on, ring_of};
+ghost use Rattle.spsc_queue.specs.Calls.{SpscQueue, Party, the_sender, the_receiver, listing_of, moved_on, ring_of};
 ghost use Rattle.spsc_queue.specs.Calls.{buffer, is_sender_in_call, is_receiver_in_call, sent_words, received_words};
 ghost use Rattle.spsc_queue.specs.Calls.{CallerObligation, UsesAsSpscQueue};
-ghost use Rattle.spsc_queue.specs.CallEffects.{IsCallUnderWay, GoesOn, IsSend, IsReceive, accesses, completed_word, SendEffect, ReceiveEffect};
+ghost use Rattle.spsc_queue.specs.CallEffects.{IsCallUnderWay, longest, GoesOn, IsSend, IsReceive, accesses, completed_word, SendEffect, ReceiveEffect};
 ghost use Rattle.spsc_queue.specs.CallEffects.{FoundFull, FoundEmpty};
 ghost use Rattle.spsc_queue.specs.Obligations.{obligations_kept};
 ghost use Rattle.spsc_queue.specs.ManyQueues.{UsesManyQueues};
 ghost use Rattle.spsc_queue.specs.Example as example;
 
+pub use cached::cached_send_words;
 pub use fastforward::{fastforward_receive_words, fastforward_send_words};
 
 /// The words of `try_send`: a0 is the block, a1 the word, a2 the bytes of the slots.
@@ -68,10 +70,11 @@ pub fn try_receive_words() -> &'static [u32]
     &TRY_RECEIVE
 }
 
-/// The words of the four listings mean their lines' instructions. It does nothing.
+/// The words of the five listings mean their lines' instructions. It does nothing.
 #[tactic(auto, using(crate::proofs::Registers::decoded))]
 pub fn tables_mean()
-    ensures all { (k : Kind) (p : Party) → map meaning (words_of (listing_of k p)) ≡ map Some (lines_of (listing_of k p)) }
+    ensures all { (k : Kind) (caches : Bool) (p : Party)
+        → map meaning (words_of (listing_of k caches p)) ≡ map Some (lines_of (listing_of k caches p)) }
 {}
 
 /// Of any program: if more than n stores of a hart have landed, its n-th store has reached memory, and stays among what
@@ -89,8 +92,8 @@ pub fn laws_of_store_buffers()
         → read_byte o (es ++ fs) h x ≡ read_byte o es a x }
 {}
 
-/// Of every run whose entries keep the queue's protocol, Lamport's or FastForward's, from where the queue was empty and at
-/// rest. Lamport's words are available once their heads are stored, FastForward's as soon as they are stored. It does nothing.
+/// Of every run whose entries keep the queue's protocol, Lamport's (whose sender may keep a copy of the tail) or FastForward's, from
+/// where the queue was empty and at rest. Lamport's words are available once their heads are stored, FastForward's as soon as they are stored. It does nothing.
 ///
 /// - `fifo`: the words received are a prefix of those that are available.
 /// - `publication`: once the receiver knows of more words than were available at some point, all that the sender's hart had
@@ -127,8 +130,8 @@ pub fn laws_of_protocol()
         ≤ (protocol_after r at_start es).taken + capacity r }
 {}
 
-/// Of every run in which one hart's code calls the function that sends and another's the one that receives, of either
-/// kind, for a block, and each entry keeps what is owed. It does nothing.
+/// Of every run in which one hart's code calls the function that sends and another's the one that receives, of one kind, with a copy of the
+/// tail or without one, for a block, and each entry keeps what is owed. It does nothing.
 ///
 /// - `follows`: the run keeps the protocol.
 /// - `fifo`: where the sender is in no call, the words that receives returned are a prefix of those that sends sent.
@@ -189,7 +192,7 @@ pub fn laws_of_calls()
         → UsesAsSpscQueue B M o q before es }
 {}
 
-/// Of a run in which harts use several queues, of either kind, whose blocks don't meet: if an entry that a hart makes in no call at all
+/// Of a run in which harts use several queues, of any kinds, whose blocks don't meet: if an entry that a hart makes in no call at all
 /// writes to none of the blocks, and calls pass their arguments, each queue is used as [`laws_of_calls`] asks. So it is
 /// known that a call for one queue stays off the others. It does nothing.
 #[tactic(auto, using(crate::proofs::ManyQueues::each_is_used))]
@@ -201,16 +204,18 @@ pub fn laws_of_many_queues()
 /// Of one whole call in a run of which [`laws_of_calls`] speaks, from its entry to its return, whatever others execute
 /// meanwhile. It does nothing.
 ///
-/// - `send`: a call that sends loads the head, and then the tail (Lamport's) or the slot (FastForward's). If that says that
-///   the queue is full it returns a0 = 0; else it stores the word of its a1 into the slot, then the head, and returns a0 = 1.
-///   It goes back to ra, keeps all registers except x5, x6, x7 and a0, and makes at most 11 entries.
+/// - `send`: a call that sends loads the head, and then the tail (Lamport's) or the slot (FastForward's); with a copy of the tail it
+///   loads the tail only if its copy says that the queue is full, and stores what it read as its copy if there is room. If the last of
+///   these says that the queue is full it returns a0 = 0; else it stores the word of its a1 into the slot, then the head, and returns
+///   a0 = 1. It goes back to ra, keeps all registers except x5, x6, x7 and a0, and makes at most 11 entries, or 15 with a copy.
 /// - `receive`: a call that receives loads the tail, and then the head or the slot. If that says that the queue is empty it
 ///   returns a0 = 0; else a1 is the word of the slot, into which FastForward's stores 0, it stores the tail and returns
 ///   a0 = 1. The rest is as above, and a1 may change.
 /// - `send_goes_on` and `receive_goes_on`: in a call, which may be cut at any point, a hart runs, wants nothing of memory, a load or
-///   a store, and has made at most 10 entries. So no call stops a hart, and with its 11th entry a call is over.
+///   a store, and has made fewer entries than a call makes at most (`longest`). So no call stops a hart, and with its 11th entry, or
+///   its 15th with a copy, a call is over.
 /// - `sends` and `receives`: a call that returns 1 completes the word in a1, and one that returns 0 completes none.
-/// - `linearization_of_full` and `linearization_of_empty`: a call that returned 0 found the queue so at its second load,
+/// - `linearization_of_full` and `linearization_of_empty`: a call that returned 0 found the queue so at its last load,
 ///   as far as the partner's stores had landed.
 pub fn laws_of_one_call()
     ensures send { (B M : ℕ) (o : OpeningValue) (q : SpscQueue) (before done call : List Entry) (s z : HartState)
@@ -221,10 +226,10 @@ pub fn laws_of_one_call()
         → ReceiveEffect q.block.kind (buffer q) s z (length (own q.receiver call)) (accesses q.receiver call) }
     ensures send_goes_on { (B M : ℕ) (o : OpeningValue) (q : SpscQueue) (before done part : List Entry) (s z : HartState)
         → UsesAsSpscQueue B M o q before (done ++ part) → IsCallUnderWay M o q.sender q.send_line q.block before done part s
-        → state_of M (history_of o (before ++ (done ++ part))) q.sender ≡ Some z → GoesOn z (length (own q.sender part)) }
+        → state_of M (history_of o (before ++ (done ++ part))) q.sender ≡ Some z → GoesOn (longest the_sender (buffer q)) z (length (own q.sender part)) }
     ensures receive_goes_on { (B M : ℕ) (o : OpeningValue) (q : SpscQueue) (before done part : List Entry) (s z : HartState)
         → UsesAsSpscQueue B M o q before (done ++ part) → IsCallUnderWay M o q.receiver q.receive_line q.block before done part s
-        → state_of M (history_of o (before ++ (done ++ part))) q.receiver ≡ Some z → GoesOn z (length (own q.receiver part)) }
+        → state_of M (history_of o (before ++ (done ++ part))) q.receiver ≡ Some z → GoesOn (longest the_receiver (buffer q)) z (length (own q.receiver part)) }
     ensures sends { (B M : ℕ) (o : OpeningValue) (q : SpscQueue) (before done call : List Entry) (s z : HartState)
         → UsesAsSpscQueue B M o q before (done ++ call) → IsSend M o q before done call s z
         → sent_words M o q before (done ++ call) ≡ sent_words M o q before done ++ completed_word z }
@@ -242,17 +247,17 @@ pub fn laws_of_one_call()
 /// What callers owe can be computed, and can be kept. It does nothing.
 ///
 /// - `decided`: where the computation over a run's entries says so, each entry keeps what is owed.
-/// - `computed`, `met`, `sent` and `received`: it says so of the runs of `specs/Example.antt`, one of either kind, which so
+/// - `computed`, `met`, `sent` and `received`: it says so of the runs of `specs/Example.antt`, one of each kind, which so
 ///   keep all, and one word passes, by whole calls of both functions (`calls_send`, `calls_receive`).
 pub fn laws_of_obligations()
     ensures decided { (M : ℕ) (o : OpeningValue) (q : SpscQueue) (before es : List Entry) → obligations_kept M o q before es ≡ true
         → (done : List Entry) (e : Entry) (more : List Entry) → es ≡ done ++ e ∷ more → CallerObligation M o q before done e }
-    ensures computed { (k : Kind) → obligations_kept 64 (example.opening k) (example.queue k) [] (example.entries k) ≡ true }
-    ensures met { (k : Kind) → UsesAsSpscQueue 4 64 (example.opening k) (example.queue k) [] (example.entries k) }
-    ensures calls_send { (k : Kind) → IsSend 64 (example.opening k) (example.queue k) [] example.before_send (example.send k)
-        (example.sender_after k example.before_send) (example.sender_after k (example.before_send ++ example.send k)) }
-    ensures calls_receive { (k : Kind) → IsReceive 64 (example.opening k) (example.queue k) [] (example.before_receive k) (example.receive k)
-        (example.receiver_after k (example.before_receive k)) (example.receiver_after k (example.before_receive k ++ example.receive k)) }
-    ensures sent { (k : Kind) → sent_words 64 (example.opening k) (example.queue k) [] (example.entries k) ≡ 99 ∷ [] }
-    ensures received { (k : Kind) → received_words 64 (example.opening k) (example.queue k) [] (example.entries k) ≡ 99 ∷ [] }
+    ensures computed { (k : Kind) (c : Bool) → obligations_kept 64 (example.opening k c) (example.queue k c) [] (example.entries k c) ≡ true }
+    ensures met { (k : Kind) (c : Bool) → UsesAsSpscQueue 4 64 (example.opening k c) (example.queue k c) [] (example.entries k c) }
+    ensures calls_send { (k : Kind) (c : Bool) → IsSend 64 (example.opening k c) (example.queue k c) [] example.before_send (example.send k c)
+        (example.sender_after k c example.before_send) (example.sender_after k c (example.before_send ++ example.send k c)) }
+    ensures calls_receive { (k : Kind) (c : Bool) → IsReceive 64 (example.opening k c) (example.queue k c) [] (example.before_receive k c) (example.receive k)
+        (example.receiver_after k c (example.before_receive k c)) (example.receiver_after k c (example.before_receive k c ++ example.receive k)) }
+    ensures sent { (k : Kind) (c : Bool) → sent_words 64 (example.opening k c) (example.queue k c) [] (example.entries k c) ≡ 99 ∷ [] }
+    ensures received { (k : Kind) (c : Bool) → received_words 64 (example.opening k c) (example.queue k c) [] (example.entries k c) ≡ 99 ∷ [] }
 {}

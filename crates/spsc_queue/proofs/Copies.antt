@@ -1,0 +1,126 @@
+-- The sender's copy of the tail, as the sender reads it: what leaves it, and what its own store makes of it.
+use Rattle.std.proofs.Common.{ℕ, ◌+◌, ◌-◌, ◌^◌, ◌<◌, ◌≤◌, ◌≡◌, ◌&&◌, inl, inr, not, Bool, true, false, if◌then◌else◌, List, [], ◌∷◌, ◌++◌, length, Option}
+use Rattle.std.proofs.Common.{Some, None, refl, sym, ◌∙◌, ap, arith}
+use Rattle.std.specs.Prelude.{All, unwrap_or}
+use Rattle.std.specs.Int.{byte_at}
+use Rattle.std.proofs.lemmas.Bool.Decides.{nat_tests}
+use Rattle.std.proofs.lemmas.List.Elements.{All-head, All-tail, All-nil, All-cons}
+use Rattle.memory.specs.declared.writes.Write.{Write}
+use Rattle.memory.specs.Writes.{covers, newest_of}
+use Rattle.memory.proofs.Bytes.{joined-same, word_of_bytes, covers-yes, covers-from}
+use Rattle.memory.proofs.Newest.{newest_of-append}
+use Rattle.step_machine.specs.declared.events.Entry.{Entry}
+use Rattle.step_machine.specs.History.{OpeningValue}
+use Rattle.step_machine.specs.Access.{access_of}
+use Rattle.step_machine.specs.Entries.{pending, memory_byte, memory_word, read_byte, read, stores, lands}
+use Rattle.step_machine.specs.Legal.{Allowed}
+use Rattle.spsc_queue.specs.RingBuffers.{Kind, lamport, fastforward, RingBuffer, IsWordIn, offset, overlaps, writes_to}
+use Rattle.spsc_queue.specs.Protocol.{IsWordAt}
+use Rattle.spsc_queue.specs.StoreBuffers.{LeavesByte, LeavesByteBy, IsOnlyWriter}
+use Rattle.spsc_queue.proofs.Words.{is_copy, row_of, copy_at}
+use Rattle.spsc_queue.proofs.StoreBuffers.{passed_over}
+use Rattle.spsc_queue.proofs.MessagePassing.{kept}
+
+-- no other hart has a pending store over the copy
+abbrev pub IsAlone : RingBuffer → (c : ℕ) → List Entry → Type 0
+IsAlone r c es = (x : ℕ) → c ≤ x → x < c + 4 → IsOnlyWriter r.sender x es
+
+-- where n words are stored, or one of them is about to be, and m slots have been freed in memory: the copy is the offset of a word up to
+-- which there is room
+pub record CopyIs (r : RingBuffer) (o : OpeningValue) (es : List Entry) (n m c : ℕ) : Type 0 where
+  pub place : ℕ
+  pub reads : read o es r.sender c 4 ≡ offset r place
+  pub low : n + 1 ≤ place
+  pub high : place ≤ m + r.size
+  pub alone : IsAlone r c es
+
+abbrev pub Copied : Kind → Option ℕ → RingBuffer → OpeningValue → List Entry → (n m : ℕ) → Type 0
+Copied fastforward q r o es n m = q ≡ None
+Copied lamport None r o es n m = Unit {0}
+Copied lamport (Some c) r o es n m = CopyIs r o es n m c
+
+-- from es to fs the copy stays
+abbrev pub CopyStays : RingBuffer → OpeningValue → (es fs : List Entry) → Type 0
+CopyStays r o es fs = (c : ℕ) → r.copy ≡ Some c → IsAlone r c es → (read o fs r.sender c 4 ≡ read o es r.sender c 4) × IsAlone r c fs
+
+pub copied-on : (K : Kind) (q : Option ℕ) (r : RingBuffer) (o : OpeningValue) (es fs : List Entry) (n m n2 m2 : ℕ) → r.copy ≡ q → CopyStays r o es fs
+    → n2 ≤ n → m ≤ m2 → Copied K q r o es n m → Copied K q r o fs n2 m2
+copied-on fastforward q r o es fs n m n2 m2 e stays le less is = is
+copied-on lamport None r o es fs n m n2 m2 e stays le less is = tt
+copied-on lamport (Some c) r o es fs n m n2 m2 e stays le less is =
+    let on = stays c e is.alone in
+    record { place = is.place; reads = on.0 ∙ is.reads; low = omega (arith, is.low, le); high = omega (arith, is.high, less); alone = on.1 }
+
+-- an entry that leaves each byte of the copy
+pub copy-left : (B : ℕ) (r : RingBuffer) (o : OpeningValue) (es : List Entry) (e : Entry) → ((h : ℕ) → lands h es ≤ length (stores h es)) → Allowed B o es e
+    → ((c x : ℕ) → r.copy ≡ Some c → c ≤ x → x < c + 4 → LeavesByteBy x (access_of e)) → CopyStays r o es (es ++ e ∷ [])
+copy-left B r o es e even allowed leaves c is alone = (
+  joined-same (λ i. read_byte o (es ++ e ∷ []) r.sender (c + i)) (λ i. read_byte o es r.sender (c + i)) 4
+      (λ i lt. (kept B o r.sender (c + i) es (e ∷ []) even (allowed, tt) (alone (c + i) (omega arith) (omega (arith, lt)))
+      (leaves c (c + i) is (omega arith) (omega (arith, lt)), tt)).0),
+  λ x from below. (kept B o r.sender x es (e ∷ []) even (allowed, tt) (alone x from below) (leaves c x is from below, tt)).1,
+)
+
+-- a write off the block, and one of a word of the block, leaves the copy
+pub off_leaves : (r : RingBuffer) (w : Write) (x : ℕ) → overlaps r w ≡ false → r.first ≤ x → x < r.end → LeavesByte x w
+off_leaves r w x off from below = at (covers w x) refl
+  where
+    at : (b : Bool) → covers w x ≡ b → b ≡ false
+    at false c = refl
+    at true c = let part = covers-from w x c in absurd (grind (arith, nat_tests, off))
+
+pub word_leaves : (r : RingBuffer) (w : Write) (a c x : ℕ) → IsWordIn r a → IsWordAt w a → r.copy ≡ Some c → c ≤ x → x < c + 4 → LeavesByte x w
+word_leaves r w a c x word is copy from below = at (covers w x) refl
+  where
+    at : (b : Bool) → covers w x ≡ b → b ≡ false
+    at false c = refl
+    at true d = let part = covers-from w x d in absurd (elim (word.no_copy c copy) [
+      | inl l ↦ omega (arith, part.0, part.1, is.place, is.width, l, from, below)
+      | inr l ↦ omega (arith, part.0, part.1, is.place, is.width, l, from, below)
+    ])
+
+-- the sender's own store of the copy, which it reads from then on
+pub own_read : (o : OpeningValue) (es fs : List Entry) (h c : ℕ) (w : Write) → pending h fs ≡ pending h es ++ w ∷ [] → IsWordAt w c → w.value < 2 ^ 32
+    → read o fs h c 4 ≡ w.value
+own_read o es fs h c w more at small =
+    joined-same (λ i. read_byte o fs h (c + i)) (λ i. byte_at i w.value) 4 (λ i lt. one i lt) ∙ word_of_bytes w.value small
+  where
+    one : (i : ℕ) → i < 4 → read_byte o fs h (c + i) ≡ byte_at i w.value
+    one i lt =
+        let held : covers w (c + i) ≡ true = covers-yes w (c + i) (omega (arith, at.place)) (omega (arith, at.place, at.width, lt)) in
+        let place : c + i - w.addr ≡ i = omega (arith, at.place) in
+        ap (λ ws. unwrap_or (newest_of (c + i) None ws) (memory_byte o fs (c + i))) more
+        ∙ ap (λ f. unwrap_or f (memory_byte o fs (c + i))) (newest_of-append (c + i) None (pending h es) (w ∷ [])
+        ∙ ap (λ b. if b then Some (byte_at (c + i - w.addr) w.value) else newest_of (c + i) None (pending h es)) held)
+        ∙ ap (λ j. byte_at j w.value) place
+
+-- a hart with no pending store to the block reads a word of it as memory has it
+pub none_leave : (r : RingBuffer) (x : ℕ) (ws : List Write) → writes_to r ws ≡ [] → r.first ≤ x → x < r.end → All (LeavesByte x) ws
+none_leave r x [] none from below = All-nil (LeavesByte x)
+none_leave r x (w ∷ ws) none from below = at (overlaps r w) refl (λ more. none_leave r x ws more from below)
+  where
+    at : (b : Bool) → overlaps r w ≡ b → (writes_to r ws ≡ [] → All (LeavesByte x) ws) → All (LeavesByte x) (w ∷ ws)
+    at false off more = All-cons (LeavesByte x) w ws (off_leaves r w x off from below)
+        (more (sym (ap (λ b. if b then w ∷ writes_to r ws else writes_to r ws) off) ∙ none))
+    at true on more = let no : w ∷ writes_to r ws ≡ [] = sym (ap (λ b. if b then w ∷ writes_to r ws else writes_to r ws) on) ∙ none in absurd (cc)
+
+pub quiet_read : (r : RingBuffer) (o : OpeningValue) (es : List Entry) (h c : ℕ) → writes_to r (pending h es) ≡ [] → r.first ≤ c → c + 4 ≤ r.end
+    → read o es h c 4 ≡ memory_word o es c
+quiet_read r o es h c none from below = joined-same (λ i. read_byte o es h (c + i)) (λ i. memory_byte o es (c + i)) 4
+    (λ i lt. ap (λ f. unwrap_or f (memory_byte o es (c + i)))
+    (passed_over (c + i) None (pending h es) (none_leave r (c + i) (pending h es) none (omega (arith, from)) (omega (arith, below, lt)))))
+
+-- of writes that leave the copy, those to the block are all in the row
+pub row_whole : (r : RingBuffer) (ws : List Write) → ((c : ℕ) → r.copy ≡ Some c → All (LeavesByte c) ws) → length (writes_to r ws) ≡ length (row_of r ws)
+row_whole r [] leave = refl
+row_whole r (w ∷ ws) leave =
+    at (overlaps r w) (is_copy r.copy w) refl (row_whole r ws (λ c is. All-tail (LeavesByte c) w ws (leave c is)))
+  where
+    at : (b d : Bool) → is_copy r.copy w ≡ d → length (writes_to r ws) ≡ length (row_of r ws)
+        → length (if b then w ∷ writes_to r ws else writes_to r ws) ≡ length (if b && not d then w ∷ row_of r ws else row_of r ws)
+    at false d is same = same
+    at true false is same = omega (arith, same)
+    at true true is same =
+        let it = copy_at r.copy w is in
+        let held : covers w it.0 ≡ true = covers-yes w it.0 (omega (arith, it.2)) (omega (arith, it.2, it.3)) in
+        absurd (let no : true ≡ false = sym held ∙ All-head (LeavesByte it.0) w ws (leave it.0 it.1) in cc)
