@@ -17,7 +17,7 @@ use Rattle.ring_trials.specs.declared.runs.Total.{Total}
 use Rattle.ring_trials.specs.declared.runs.Found.{Found}
 use Rattle.ring_trials.specs.declared.runs.Found.TheVariants as found
 use Rattle.ring_trials.specs.Trials.{Source, schedule_of, AreRuns, KeepsAll, AreCleanRuns, most_of, closed_in, AreTotals, IsFirstUnclean, AreAllClean}
-use Rattle.ring_trials.specs.Trials.{IsFound}
+use Rattle.ring_trials.specs.Trials.{IsFoundIn}
 use Rattle.ring_trials.specs.inner.Joining.{later_than, AreCleanFrom, IsUncleanFrom, AreAllCleanFrom, IsFoundFrom}
 use Rattle.ring_trials.proofs.RunsLaws.{TakenIn, closed_few}
 
@@ -106,7 +106,7 @@ unclean_later s first number breach found = record {
 clean_from_first : (s : Source) (end : ℕ) (ts : List History) → AreCleanFrom s 0 end ts → AreCleanRuns s end ts
 clean_from_first s end ts clean = record { runs = clean.runs; count = omega (arith, clean.count); kept = clean.kept }
 
-pub found_from_first : (s : Source) (runs : ℕ) (given : Found) → IsFoundFrom s 0 runs given → IsFound s runs given
+pub found_from_first : (s : Source) (runs : ℕ) (given : Found) → IsFoundFrom s 0 runs given → IsFoundIn s runs given
 found_from_first s runs (found.Clean totals) all = record {
   histories = all.histories;
   clean = clean_from_first s runs all.histories all.clean;

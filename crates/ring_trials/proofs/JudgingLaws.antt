@@ -17,7 +17,7 @@ use Rattle.poll_close.specs.Breaches.{breach_of, or_later, breach_after, first_b
 use Rattle.poll_close.specs.declared.clean.Breach.{Breach}
 use Rattle.poll_close.specs.declared.clean.Share.{Share}
 use Rattle.ring_trials.specs.Own.{lists_of, layout_from, start_of}
-use Rattle.ring_trials.specs.Trials.{AreNoted, entries_with, IsJudged, IsJudgedAt}
+use Rattle.ring_trials.specs.Trials.{AreNoted, entries_with, IsChannelJudged, IsChannelJudgedAt}
 use Rattle.ring_trials.specs.declared.own.Own.{Own}
 
 or_later-assoc : (a b c : Option Breach) → or_later (or_later a b) c ≡ or_later a (or_later b c)
@@ -79,8 +79,8 @@ happens_opening B M t u ev outcome.Over happens = ap (λ (h : History). h.openin
 happens_opening B M t u ev outcome.NoHart happens = ap (λ (h : History). h.opening) happens.after
 
 pub judged_more : (B M : ℕ) (own : Own) (evs : List Event) (ev : Event) (o : Outcome) (c d : Config) (found new : Option Breach) (shares more : List Share)
-    → IsJudgedAt B M own evs c found shares → MovesBy B M ev o c d
-    → ((es : List Entry) → AreNoted own es found shares → AreNoted own (entries_with es o) new more) → IsJudgedAt B M own (evs ++ ev ∷ []) d new more
+    → IsChannelJudgedAt B M own evs c found shares → MovesBy B M ev o c d
+    → ((es : List Entry) → AreNoted own es found shares → AreNoted own (entries_with es o) new more) → IsChannelJudgedAt B M own (evs ++ ev ∷ []) d new more
 judged_more B M own evs ev o c d found new shares more judged moves noted =
     let moved = moves judged.history judged.stands in record {
       history = moved.0;
@@ -93,15 +93,16 @@ judged_more B M own evs ev o c d found new shares more judged moves noted =
 
 -- one event of a list more
 pub judged_next : (B M : ℕ) (own : Own) (events : List Event) (i : ℕ) (none : Event) (o : Outcome) (c d : Config) (found new : Option Breach)
-    (shares more : List Share) → i < length events → IsJudgedAt B M own (take i events) c found shares → MovesBy B M (get_or events i none) o c d
-    → ((es : List Entry) → AreNoted own es found shares → AreNoted own (entries_with es o) new more) → IsJudgedAt B M own (take (i + 1) events) d new more
+    (shares more : List Share) → i < length events → IsChannelJudgedAt B M own (take i events) c found shares → MovesBy B M (get_or events i none) o c d
+    → ((es : List Entry) → AreNoted own es found shares → AreNoted own (entries_with es o) new more)
+    → IsChannelJudgedAt B M own (take (i + 1) events) d new more
 judged_next B M own events i none o c d found new shares more within judged moves noted =
-    subst (λ (evs : List Event). IsJudgedAt B M own evs d new more) (sym (take_more events i none within))
+    subst (λ (evs : List Event). IsChannelJudgedAt B M own evs d new more) (sym (take_more events i none within))
     (judged_more B M own (take i events) (get_or events i none) o c d found new shares more judged moves noted)
 
 -- at the opening
 pub judged_none : (B M : ℕ) (own : Own) (c d : Config) (shares : List Share) → RepresentsRunFrom B M (start_of own) c → BeginsAnew B M c d → AreNotes [] shares
-    → length shares ≡ length (lists_of own) → IsJudgedAt B M own [] d None shares
+    → length shares ≡ length (lists_of own) → IsChannelJudgedAt B M own [] d None shares
 judged_none B M own c d shares stands anew notes count = record {
   history = at_opening (start_of own);
   run = refl;
@@ -111,7 +112,7 @@ judged_none B M own c d shares stands anew notes count = record {
 }
 
 pub judged_at : (B M : ℕ) (own : Own) (events : List Event) (c : Config) (found : Option Breach) (shares : List Share)
-    → IsJudgedAt B M own events c found shares
-    → IsJudged B M own events found shares × RepresentsRunFrom B M (start_of own) c
+    → IsChannelJudgedAt B M own events c found shares
+    → IsChannelJudged B M own events found shares × RepresentsRunFrom B M (start_of own) c
 judged_at B M own events c found shares judged =
     (record { history = judged.history; run = judged.run; noted = judged.noted }, (judged.history, judged.stands, judged.opening))

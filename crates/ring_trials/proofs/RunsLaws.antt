@@ -26,7 +26,7 @@ use Rattle.ring_trials.specs.Own.{lists_of, layout_from, start_of}
 use Rattle.ring_trials.specs.declared.own.Own.{Own}
 use Rattle.ring_trials.specs.declared.runs.Total.{Total}
 use Rattle.ring_trials.specs.Trials.{Source, schedule_of, IsRunOf, AreRuns, KeepsAll, AreCleanRuns, most_of, closed_in, AreTotals}
-use Rattle.ring_trials.specs.Trials.{IsFirstUnclean, AreAllClean, IsJudged, IsUnclean}
+use Rattle.ring_trials.specs.Trials.{IsFirstUnclean, AreAllClean, IsChannelJudged, IsUnclean}
 
 runs_last : (s : Source) (n : ℕ) (ts : List History) (t : History) → AreRuns s n ts → IsRunOf s (n + length ts) t → AreRuns s n (ts ++ t ∷ [])
 runs_last s n [] t runs run = (subst (λ (k : ℕ). IsRunOf s k t) (omega arith) run, tt)
@@ -126,7 +126,7 @@ none_clean s totals are count = record {
 }
 
 pub one_clean : (s : Source) (n : ℕ) (totals more : List Total) (shares : List Share) (found : Option Breach) → AreAllClean s n totals
-    → IsJudged s.B s.M s.own (schedule_of s n) found shares → found ≡ None
+    → IsChannelJudged s.B s.M s.own (schedule_of s n) found shares → found ≡ None
     → ((ts : List History) (t : History) → AreTotals ts totals → AreNotes (reported 0 t.entries) shares → AreTotals (ts ++ t ∷ []) more)
     → length more ≡ length totals → AreAllClean s (n + 1) more
 one_clean s n totals more shares found all judged none add same = record {
@@ -138,7 +138,7 @@ one_clean s n totals more shares found all judged none add same = record {
 }
 
 pub one_unclean : (s : Source) (n : ℕ) (totals : List Total) (shares : List Share) (found : Option Breach) (breach : Breach) → AreAllClean s n totals
-    → IsJudged s.B s.M s.own (schedule_of s n) found shares → found ≡ Some breach → IsFirstUnclean s n breach
+    → IsChannelJudged s.B s.M s.own (schedule_of s n) found shares → found ≡ Some breach → IsFirstUnclean s n breach
 one_unclean s n totals shares found breach all judged some = record {
   before = all.histories;
   clean = all.clean;
@@ -168,7 +168,7 @@ whole_again n new old same whole =
 
 -- ---- one run, and whether it breaks something
 
-one_found : (B M : ℕ) (own : Own) (events : List Event) (found : Option Breach) (shares : List Share) → IsJudged B M own events found shares
+one_found : (B M : ℕ) (own : Own) (events : List Event) (found : Option Breach) (shares : List Share) → IsChannelJudged B M own events found shares
     → ((o : OpeningValue) (evs : List Event) (t u : History) → Run B M o evs t → Run B M o evs u → t ≡ u) → (unclean : IsUnclean B M own events)
     → found ≡ Some unclean.breach
 one_found B M own events found shares judged one unclean =
@@ -176,14 +176,14 @@ one_found B M own events found shares judged one unclean =
     (one (start_of own) events judged.history unclean.history judged.run unclean.run) ∙ unclean.breaks
 
 pub unclean_some : (B M : ℕ) (own : Own) (events : List Event) (found : Option Breach) (breach : Breach) (shares : List Share)
-    → IsJudged B M own events found shares → found ≡ Some breach → IsTrue true ↔ IsUnclean B M own events
+    → IsChannelJudged B M own events found shares → found ≡ Some breach → IsTrue true ↔ IsUnclean B M own events
 unclean_some B M own events found breach shares judged some = (
   (λ pass. record { history = judged.history; run = judged.run; breach = breach; breaks = sym judged.noted.breach ∙ some }),
   (λ unclean. refl),
 )
 
 pub unclean_none : (B M : ℕ) (own : Own) (events : List Event) (found : Option Breach) (shares : List Share)
-    → IsJudged B M own events found shares → found ≡ None
+    → IsChannelJudged B M own events found shares → found ≡ None
     → ((o : OpeningValue) (evs : List Event) (t u : History) → Run B M o evs t → Run B M o evs u → t ≡ u) → IsTrue false ↔ IsUnclean B M own events
 unclean_none B M own events found shares judged none one = (
   (λ pass. cc),

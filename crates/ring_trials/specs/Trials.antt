@@ -42,13 +42,13 @@ entries_with es outcome.NoHart = es
 
 -- These events run from the opening of this channel, and their first breach is this one. Where there is none, this
 -- is noted of each sender.
-pub record IsJudged (B M : ℕ) (own : Own) (events : List Event) (found : Option Breach) (shares : List Share) : Type 0 where
+pub record IsChannelJudged (B M : ℕ) (own : Own) (events : List Event) (found : Option Breach) (shares : List Share) : Type 0 where
   pub history : History
   pub run : Run B M (start_of own) events history
   pub noted : AreNoted own history.entries found shares
 
 -- the same where a machine stands after them
-pub record IsJudgedAt (B M : ℕ) (own : Own) (events : List Event) (c : Config) (found : Option Breach) (shares : List Share) : Type 0 where
+pub record IsChannelJudgedAt (B M : ℕ) (own : Own) (events : List Event) (c : Config) (found : Option Breach) (shares : List Share) : Type 0 where
   pub history : History
   pub run : Run B M (start_of own) events history
   pub opening : history.opening ≡ start_of own
@@ -120,9 +120,9 @@ pub record AreAllClean (s : Source) (runs : ℕ) (totals : List Total) : Type 0 
   pub count : length totals ≡ length (lists_of s.own)
 
 -- what was found of this number of runs
-abbrev pub IsFound : Source → (runs : ℕ) → Found → Type 0
-IsFound s runs (found.Clean totals) = AreAllClean s runs totals.items
-IsFound s runs (found.Unclean number breach) = (number < runs) × IsFirstUnclean s number breach
+abbrev pub IsFoundIn : Source → (runs : ℕ) → Found → Type 0
+IsFoundIn s runs (found.Clean totals) = AreAllClean s runs totals.items
+IsFoundIn s runs (found.Unclean number breach) = (number < runs) × IsFirstUnclean s number breach
 
 -- how many of this number of runs are drawn until that is found
 abbrev pub runs_drawn : (runs : ℕ) → Found → ℕ

@@ -6,7 +6,7 @@ ghost use Rattle.step_machine.specs.Standing.{RepresentsRunFrom};
 ghost use Rattle.poll_close.specs.Layout.{base_of};
 ghost use Rattle.poll_close.specs.Breaches.{AreNotes};
 ghost use Rattle.ring_trials.specs.Own.{lists_of, layout_from, start_of};
-ghost use Rattle.ring_trials.specs.Trials.{AreNoted, entries_with, IsJudged};
+ghost use Rattle.ring_trials.specs.Trials.{AreNoted, entries_with, IsChannelJudged};
 
 use crate::own::Own;
 use poll_close::{Breach, Share, note_entry};
@@ -62,7 +62,7 @@ pub fn judge<const B: usize, const M: usize>(
     requires stands { RepresentsRunFrom B M (start_of own.now) machine.old }
     requires ends { base_of (layout_from own.now) (length (lists_of own.now)) < 2 ^ 32 }
     requires count { length shares.old ≡ length (lists_of own.now) }
-    ensures judged { IfOk result (λ found. IsJudged B M own.now events.now found shares.new) }
+    ensures judged { IfOk result (λ found. IsChannelJudged B M own.now events.now found shares.new) }
     ensures stands { OnOk result (RepresentsRunFrom B M (start_of own.now) machine.new) }
     ensures count { length shares.new ≡ length (lists_of own.now) }
 {

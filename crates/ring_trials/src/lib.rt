@@ -7,13 +7,13 @@
 
 #![tactic(auto)]
 
+mod answer_texts;
 pub mod judging;
 pub mod own;
 pub mod passes;
+mod rounds;
 pub mod runs;
-mod spreading;
 pub mod telling;
-mod wording;
 
 pub use own::Own;
 pub use telling::told;

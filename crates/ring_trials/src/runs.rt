@@ -9,7 +9,7 @@ ghost use Rattle.recorder.specs.Drawing.{left_after};
 ghost use Rattle.poll_close.specs.Layout.{base_of};
 ghost use Rattle.poll_close.specs.Breaches.{AreNotes};
 ghost use Rattle.ring_trials.specs.Own.{lists_of, layout_from, start_of};
-ghost use Rattle.ring_trials.specs.Trials.{AreTotals, IsFound, runs_drawn, source_of};
+ghost use Rattle.ring_trials.specs.Trials.{AreTotals, IsFoundIn, runs_drawn, source_of};
 
 use crate::judging::judge;
 use crate::own::{Own, senders};
@@ -80,7 +80,7 @@ pub fn find_on<const B: usize, const M: usize, G: Rng>(
 ) -> Result<Found, AllocError>
     requires stands { RepresentsRunFrom B M (start_of own.now) machine.old }
     requires ends { base_of (layout_from own.now) (length (lists_of own.now)) < 2 ^ 32 }
-    ensures found { IfOk result (λ found. IsFound (source_of B M own.now (G.stream generator.old) size) runs found) }
+    ensures found { IfOk result (λ found. IsFoundIn (source_of B M own.now (G.stream generator.old) size) runs found) }
     ensures stands { OnOk result (RepresentsRunFrom B M (start_of own.now) machine.new) }
     ensures left { IfOk result (λ found. G.stream generator.new ≡ left_after (runs_drawn runs found * size) (G.stream generator.old)) }
 {

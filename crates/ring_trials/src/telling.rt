@@ -9,12 +9,12 @@ ghost use Rattle.ring_trials.specs.Own.{ring_of, lists_of, layout_from, OpensOve
 ghost use Rattle.ring_trials.specs.Trials.{schedule_of, source_of, IsBenchOf, IsUnclean};
 ghost use Rattle.ring_trials.specs.Answers.{IsPartText, IsShortText, IsTold};
 
+use crate::answer_texts::{clean_text, unclean_text};
 use crate::judging::judge;
 use crate::own::{Own, open_own, senders};
 use crate::passes::{Bench, shorten};
+use crate::rounds::find_in_rounds;
 use crate::runs::Found;
-use crate::spreading::find_in_rounds;
-use crate::wording::{clean_text, unclean_text};
 use jumping::progress::Progress;
 use jumping::{Jump, Runs};
 use poll_close::{RefusedAt, no_shares};

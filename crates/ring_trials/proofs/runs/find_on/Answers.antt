@@ -7,7 +7,7 @@ use Rattle.ring_trials.proofs.runs.find_on.Goals as goal
 use Rattle.std.proofs.Common.{sym, subst, ap, ◌∙◌, arith}
 use Rattle.step_machine.specs.History.{OpeningValue}
 use Rattle.recorder.proofs.Drawn.{left_after-more}
-use Rattle.ring_trials.specs.Trials.{source_of, AreAllClean, IsJudged}
+use Rattle.ring_trials.specs.Trials.{source_of, AreAllClean, IsChannelJudged}
 use Rattle.ring_trials.proofs.RunsLaws.{none_clean, one_clean, one_unclean, few_closed, left_none, schedule_is, whole_again}
 
 -- src/runs.rt:87:5
@@ -26,7 +26,7 @@ returns-in-Some-clause-found g c = (
   c.loop-number-test.true,
   one_unclean (source_of g.row.B g.row.M c.args.own.now (g.G.Rng.stream c.args.generator.now) c.args.size)
       c.loop-number.number c.loop-number.totals.items c.judge.new.shares c.in_ok-found.found c.in-Some.breach c.loop-number.invariant.all
-      (subst (λ evs. IsJudged g.row.B g.row.M c.args.own.now evs c.in_ok-found.found c.judge.new.shares) (c.deref.ensures.value
+      (subst (λ evs. IsChannelJudged g.row.B g.row.M c.args.own.now evs c.in_ok-found.found c.judge.new.shares) (c.deref.ensures.value
       ∙ schedule_is (source_of g.row.B g.row.M c.args.own.now (g.G.Rng.stream c.args.generator.now) c.args.size)
       c.loop-number.number c.harts-harts.result _ _ c.in_ok-draw.ensures.drawn
       (c.harts-harts.ensures.opening c.requires.stands.0 c.requires.stands.1 ∙ ap (λ (o : OpeningValue). length o.harts) c.requires.stands.2)
@@ -53,7 +53,7 @@ loop-number-preserved g c =
           (c.loop-number.number + 1)) (sym totals)
           (one_clean (source_of g.row.B g.row.M c.args.own.now (g.G.Rng.stream c.args.generator.now) c.args.size)
           c.loop-number.number c.loop-number.totals.items c.take_in.new.totals c.judge.new.shares c.in_ok-found.found c.loop-number.invariant.all
-          (subst (λ evs. IsJudged g.row.B g.row.M c.args.own.now evs c.in_ok-found.found c.judge.new.shares) (c.deref.ensures.value
+          (subst (λ evs. IsChannelJudged g.row.B g.row.M c.args.own.now evs c.in_ok-found.found c.judge.new.shares) (c.deref.ensures.value
           ∙ schedule_is (source_of g.row.B g.row.M c.args.own.now (g.G.Rng.stream c.args.generator.now) c.args.size)
           c.loop-number.number c.harts-harts.result _ _ c.in_ok-draw.ensures.drawn
           (c.harts-harts.ensures.opening c.requires.stands.0 c.requires.stands.1 ∙ ap (λ (o : OpeningValue). length o.harts) c.requires.stands.2)

@@ -2,7 +2,7 @@ use Rattle.std.specs.Prelude.{codes}
 use Rattle.std.specs.Fmt.{decimal}
 use Rattle.std.specs.String.{string_bytes}
 use Rattle.ring_trials.proofs.TextLaws.{three_written, five_written, seven_written}
-use Rattle.ring_trials.proofs.wording.push_breach.Goals as goal
+use Rattle.ring_trials.proofs.answer_texts.push_breach.Goals as goal
 
 pub returns-in-AfterClosed : goal.returns-in-AfterClosed
 returns-in-AfterClosed c =

@@ -3,7 +3,7 @@ use Rattle.std.specs.Prelude.{codes}
 use Rattle.std.specs.Fmt.{decimal}
 use Rattle.std.specs.String.{string_bytes}
 use Rattle.ring_trials.proofs.TextLaws.{ten_written}
-use Rattle.ring_trials.proofs.wording.push_sender_line.Goals as goal
+use Rattle.ring_trials.proofs.answer_texts.push_sender_line.Goals as goal
 
 pub returns : goal.returns
 returns c =

@@ -4,7 +4,7 @@ ghost use Rattle.std.specs.Prelude.{◌≡◌, ◌≤◌, ◌+◌, ◌++◌, ℕ
 ghost use Rattle.std.specs.List.{slice_get};
 ghost use Rattle.step_machine.specs.History.{History};
 ghost use Rattle.ring_trials.specs.Own.{OpensOver};
-ghost use Rattle.ring_trials.specs.Trials.{AreTotals, IsFound, source_of};
+ghost use Rattle.ring_trials.specs.Trials.{AreTotals, IsFoundIn, source_of};
 ghost use Rattle.ring_trials.specs.inner.Joining.{IsFoundFrom};
 
 use crate::own::{Own, senders};
@@ -143,7 +143,7 @@ pub fn find_in_rounds<
     requires capacity { B ≤ 64 }
     requires memory { M ≤ 65536 }
     requires opens { OpensOver M own.now opening.now }
-    ensures { IfOk result (λ found. IsFound (source_of B M own.now (G.Rng.stream generator.now) size) runs found) }
+    ensures { IfOk result (λ found. IsFoundIn (source_of B M own.now (G.Rng.stream generator.now) size) runs found) }
 {
     let trials = OwnRuns::<B, M, G> {
         own,

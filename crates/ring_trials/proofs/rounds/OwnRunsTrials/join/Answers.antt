@@ -4,7 +4,7 @@ use Rattle.ring_trials.specs.Trials.{Source, AreTotals, source_of}
 use Rattle.ring_trials.specs.inner.Joining.{AreAllCleanFrom, IsFoundFrom}
 use Rattle.ring_trials.proofs.RunsLaws.{whole_again}
 use Rattle.ring_trials.proofs.JoiningLaws.{all_both, few_joined, unclean_both}
-use Rattle.ring_trials.proofs.spreading.OwnRunsTrials.join.Goals as goal
+use Rattle.ring_trials.proofs.rounds.OwnRunsTrials.join.Goals as goal
 
 pub join-requires-clause-few : goal.join-requires-clause-few
 join-requires-clause-few g c k one other at there =

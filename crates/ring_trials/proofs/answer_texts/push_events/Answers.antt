@@ -4,7 +4,7 @@ use Rattle.std.proofs.lemmas.Result.{on_ok_weaker}
 use Rattle.recorder.specs.Writing.{tokens_of}
 use Rattle.recorder.proofs.RoundTrip.{canon-none, canon-some}
 use Rattle.ring_trials.proofs.TextLaws.{put_on_ok}
-use Rattle.ring_trials.proofs.wording.push_events.Goals as goal
+use Rattle.ring_trials.proofs.answer_texts.push_events.Goals as goal
 
 pub returns : goal.returns
 returns c =

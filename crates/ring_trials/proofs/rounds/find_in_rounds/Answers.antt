@@ -1,7 +1,7 @@
 use Rattle.std.proofs.lemmas.Result.{IfOk-weaker}
 use Rattle.ring_trials.specs.Trials.{source_of}
 use Rattle.ring_trials.proofs.JoiningLaws.{found_from_first}
-use Rattle.ring_trials.proofs.spreading.find_in_rounds.Goals as goal
+use Rattle.ring_trials.proofs.rounds.find_in_rounds.Goals as goal
 
 pub returns : goal.returns
 returns g c =

@@ -3,7 +3,7 @@ use Rattle.std.proofs.lemmas.Option.{slice_get-get_or}
 use Rattle.ring_trials.specs.declared.runs.Total.{Total}
 use Rattle.ring_trials.proofs.RunsLaws.{taken_more}
 use Rattle.ring_trials.proofs.JoiningLaws.{Both, totals_both}
-use Rattle.ring_trials.proofs.spreading.join.Goals as goal
+use Rattle.ring_trials.proofs.rounds.join.Goals as goal
 
 pub overflow_add-totals : goal.overflow_add-totals
 overflow_add-totals c =

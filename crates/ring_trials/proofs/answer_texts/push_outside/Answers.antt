@@ -2,7 +2,7 @@ use Rattle.std.specs.Prelude.{codes}
 use Rattle.std.specs.Fmt.{decimal}
 use Rattle.std.specs.String.{string_bytes}
 use Rattle.ring_trials.proofs.TextLaws.{eight_written}
-use Rattle.ring_trials.proofs.wording.push_outside.Goals as goal
+use Rattle.ring_trials.proofs.answer_texts.push_outside.Goals as goal
 
 pub returns : goal.returns
 returns c =

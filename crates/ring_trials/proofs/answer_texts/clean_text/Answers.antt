@@ -6,7 +6,7 @@ use Rattle.poll_close.proofs.Opened.{items_of}
 use Rattle.ring_trials.specs.declared.runs.Total.{Total}
 use Rattle.ring_trials.specs.Answers.{sender_line, clean_text}
 use Rattle.ring_trials.proofs.TextLaws.{four_pieces, clean_more}
-use Rattle.ring_trials.proofs.wording.clean_text.Goals as goal
+use Rattle.ring_trials.proofs.answer_texts.clean_text.Goals as goal
 
 pub loop-index-init : goal.loop-index-init
 loop-index-init c =
