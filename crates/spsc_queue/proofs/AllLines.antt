@@ -27,12 +27,12 @@ use Rattle.spsc_queue.specs.Calls.{Block, IsBlock, Party, the_sender, the_receiv
 use Rattle.spsc_queue.specs.CallEffects.{longest_send, longest, IsPlainNeed, sees_full, look_accesses, completed_word, take_accesses}
 use Rattle.step_machine.proofs.Lines.{Line, word-plus, at_line, add_line, return_line, loads, stores, goes_to, leaves_in}
 use Rattle.spsc_queue.proofs.Registers.{set-same, set-other, decoded, thirteen, code_line, code_room, next_line, line_on}
-use Rattle.spsc_queue.proofs.Courses.{At, number, Equipped, Course, went, left_on, left_set, frame_on, frame_set}
+use Rattle.spsc_queue.proofs.Courses.{more_left, At, at_24, at_28, at_2C, at_30, number, Equipped, Course, went, left_on, left_set, frame_on, frame_set}
 use Rattle.spsc_queue.proofs.Courses.{more_frame, back_of, returned, Left, free_5, free_7}
 use Rattle.spsc_queue.proofs.Courses.{free_10, goes_on, completes_none, ends_10, ends_12, completes_one, completes_no_word}
 use Rattle.spsc_queue.proofs.Outline.{Part, part, role, Level, IsOffset, index_at, look_at, says_no, Knows, Looked, MayStore, Stored, Word, Found, looked}
 use Rattle.spsc_queue.proofs.Outline.{ready, put, all_accesses, Effect, Fresh, Indexed, Seen, Ready, Half, Finished, Ended, Row, CourseStands, IsStore, Does}
-use Rattle.spsc_queue.proofs.Outline.{Moves, first_look, detour}
+use Rattle.spsc_queue.proofs.Outline.{Moves, first_look, detour, more}
 use Rattle.spsc_queue.proofs.Parts.{level-next, inner-leaves, first-load, look-load, load-words, index-stored}
 
 -- of a result that chose by a test
@@ -76,9 +76,13 @@ looked_once K r u v some = at r.copy
         (if_false (says_full K r u v) (load (room_at K r u) 4 v ∷ (if says_full K r u v then [] else store (write c 4 v) ∷ [])) [] some)
 
 -- a detour leaves a call short enough
-pub short : (q : Option ℕ) → 10 + detour q < longest_send q
-short None = omega arith
-short (Some c) = omega arith
+pub short : (p : Party) (r : RingBuffer) → 10 + more p r < longest p r
+short the_sender r = at r.copy
+  where
+    at : (q : Option ℕ) → 10 + detour q < longest_send q
+    at None = omega arith
+    at (Some c) = omega arith
+short the_receiver r = omega arith
 
 -- line j of a listing that stands in a hart's code
 pub line_of : (M n : ℕ) (listing : List Listed) (s : HartState) (has : Equipped M n listing s)
@@ -207,14 +211,14 @@ module _ (M n a b : ℕ) (p : Party) (K : Kind) (k : Block) (is : IsBlock M k) (
       }
 
   -- what it saw says that there is no room, or no word
-  pub to_no : {m i : ℕ} → (p ≡ the_sender → r.copy ≡ None) → says_no p K r (slice_index x 5) (slice_index x i) (slice_index x i) ≡ true
+  pub to_no : {m i : ℕ} → m + 1 ≤ 8 → (p ≡ the_sender → r.copy ≡ None) → says_no p K r (slice_index x 5) (slice_index x i) (slice_index x i) ≡ true
       → Found p K (slice_index x i) (slice_index x 11)
-      → IsOffset k (slice_index x 5) → Seen n p K k r c m i ws x (part p t) → Finished n p K k r (went c nothing) (m + 1) ws x (part p t) 0
-  to_no {m} {i} plain says found among f = record {
+      → IsOffset k (slice_index x 5) → Seen n p K k r c m i ws x (part p t) → Finished n p K k r (went c nothing) 8 ws x (part p t) 0
+  to_no {m} {i} le plain says found among f = record {
     place = slice_index x 5;
     copy = slice_index x i;
     seen = slice_index x i;
-    left = left_on nothing f.frame.left;
+    left = more_left le (left_on nothing f.frame.left);
     word = f.word;
     found = found;
     level = f.level;
@@ -286,16 +290,16 @@ module _ (M n a b : ℕ) (p : Party) (K : Kind) (k : Block) (is : IsBlock M k) (
   }
 
   -- the slot is stored, of which this becomes
-  pub to_half : {m : ℕ} (made : Write) (i : ℕ) (five seven : ℕ → ℕ) (q : Ready n p K k r c m ws x (part p t) five seven)
+  pub to_half : {m : ℕ} (l : ℕ) → m + 1 ≤ l → (made : Write) (i : ℕ) (five seven : ℕ → ℕ) (q : Ready n p K k r c m ws x (part p t) five seven)
       → made ≡ write (r.slots + q.place) 4 (put p (slice_index x 11)) → slice_index x i ≡ next r q.place
       → Stored p q.place (part p (next_by K r (role p) t (store made)))
       → (part p (next_by K r (role p) t (store made))).words ≡ (part p t).words ++ slice_index x 11 ∷ []
-      → Half n p K k r (went c (store made)) (m + 1) i ws x (part p (next_by K r (role p) t (store made)))
-  to_half made i five seven q is_made after knows words = record {
+      → Half n p K k r (went c (store made)) l i ws x (part p (next_by K r (role p) t (store made)))
+  to_half l le made i five seven q is_made after knows words = record {
     place = q.place;
     copy = q.copy;
     seen = q.seen;
-    frame = frame_on (store made) q.frame;
+    frame = more_frame le (frame_on (store made) q.frame);
     word = q.word;
     found = q.found;
     knows = knows;
@@ -306,18 +310,18 @@ module _ (M n a b : ℕ) (p : Party) (K : Kind) (k : Block) (is : IsBlock M k) (
   }
 
   -- the index is stored
-  pub to_finished : {m i : ℕ} (made : Write) → overlaps r made ≡ true → (q : Half n p K k r c m i ws x (part p t))
+  pub to_finished : {m i : ℕ} (l : ℕ) → m + 1 ≤ l → (made : Write) → overlaps r made ≡ true → (q : Half n p K k r c m i ws x (part p t))
       → made ≡ write (index_at p r) 4 (next r q.place) → IsOffset k q.place
       → ready p K r q.place q.copy q.seen (slice_index x 11) ++ store (write (r.slots + q.place) 4 (put p (slice_index x 11))) ∷
       store (write (index_at p r) 4 (next r q.place)) ∷ [] ≡ all_accesses p K r (slice_index x 11) q.place q.copy q.seen
-      → Finished n p K k r (went c (store made)) (m + 1) (ws ++ slice_index x 11 ∷ []) x (part p (next_by K r (role p) t (store made))) 1
-  to_finished made hits q is_made among whole =
+      → Finished n p K k r (went c (store made)) l (ws ++ slice_index x 11 ∷ []) x (part p (next_by K r (role p) t (store made))) 1
+  to_finished l le made hits q is_made among whole =
       let becomes = index-stored K r made hits p t q.place q.knows in
       record {
         place = q.place;
         copy = q.copy;
         seen = q.seen;
-        left = left_on (store made) q.frame.left;
+        left = more_left le (left_on (store made) q.frame.left);
         word = q.word;
         found = q.found;
         level = subst Level (sym becomes) (record { sending = tt; receiving = tt });
@@ -333,15 +337,15 @@ module _ (M n a b : ℕ) (p : Party) (K : Kind) (k : Block) (is : IsBlock M k) (
       }
 
   -- a0 is written
-  answers_on : {m answer : ℕ} {ys : List ℕ} (y : ℕ) → Finished n p K k r c m ys x (part p t) answer
-      → Finished n p K k r (went c nothing) (m + 1) ys (slice_set x 10 y) (part p t) answer
-  answers_on y f =
+  answers_on : {m answer : ℕ} {ys : List ℕ} (l : ℕ) → m + 1 ≤ l → (y : ℕ) → Finished n p K k r c m ys x (part p t) answer
+      → Finished n p K k r (went c nothing) l ys (slice_set x 10 y) (part p t) answer
+  answers_on l le y f =
       let same : slice_index x 11 ≡ slice_index (slice_set x 10 y) 11 = eleven 10 y (λ e. omega arith) in
       record {
         place = f.place;
         copy = f.copy;
         seen = f.seen;
-        left = left_set nothing 10 y free_10 f.left;
+        left = more_left le (left_set nothing 10 y free_10 f.left);
         word = word_set 10 y (λ e. omega arith) f.word;
         found = subst (Found p K f.seen) same f.found;
         level = f.level;
@@ -351,17 +355,7 @@ module _ (M n a b : ℕ) (p : Party) (K : Kind) (k : Block) (is : IsBlock M k) (
         answers = f.answers;
       }
 
-  pub to_answer_1 : {m : ℕ} → Finished n p K k r c m (ws ++ slice_index x 11 ∷ []) x (part p t) 1
-      → Ended n p K k r (went c nothing) (m + 1) (ws ++ slice_index (slice_set x 10 1) 11 ∷ []) (slice_set x 10 1) (part p t) 1
-  to_answer_1 {m} f = (
-    subst (λ w. Finished n p K k r (went c nothing) (m + 1) (ws ++ w ∷ []) (slice_set x 10 1) (part p t) 1) (eleven 10 1 (λ e. omega arith)) (answers_on 1 f),
-    set-same x 10 1 (omega (arith, has.size)),
-  )
-
-  pub to_answer_0 : {m : ℕ} → Finished n p K k r c m ws x (part p t) 0 → Ended n p K k r (went c nothing) (m + 1) ws (slice_set x 10 0) (part p t) 0
-  to_answer_0 f = (answers_on 0 f, set-same x 10 0 (omega (arith, has.size)))
-
-  pub sets_10 : (y : ℕ) → y < 2 ^ 32 → IsAt s (Immediate immediate.Add (reg_of 10) (reg_of 0) (pos y)) → Line s need.Inner (λ q. leaves_in s (reg_of 10) y)
+  sets_10 : (y : ℕ) → y < 2 ^ 32 → IsAt s (Immediate immediate.Add (reg_of 10) (reg_of 0) (pos y)) → Line s need.Inner (λ q. leaves_in s (reg_of 10) y)
   sets_10 y small here = add_line here (word-plus (slice_index x 0) y (omega (arith, has.zero, small)) ∙ omega (arith, has.zero))
 
   -- ---- what the line completes, and whether the party is in a call after it
@@ -446,3 +440,19 @@ module _ (M n a b : ℕ) (p : Party) (K : Kind) (k : Block) (is : IsBlock M k) (
       (completes_no_word n k s (advanced s v) place f.1)
       (sym (left_word le here f ∙ ap (λ b. if b then slice_index x 11 ∷ [] else []) (ne_eqb (slice_index x 10) 1 (λ e. omega (arith, f.1, e)))))
       (subst (λ ys. Moves n p K k r false ys c h s t v) (sym (append-nil ws)) (goes_back le here f))
+
+  -- ---- the last lines, which all functions have in the same place
+
+  pub answers_1 : s.pc ≡ 4 * (n + 9) → IsAt s (Immediate immediate.Add (reg_of 10) (reg_of 0) (pos 1)) → Row n p K k r c ws at_24 x (part p t) → Answered
+  answers_1 place here row =
+      none at_24 place (λ e. omega arith) (λ e. omega arith)
+      (to_line at_28 (leaves_in s (reg_of 10) 1) (sets_10 1 (omega arith) here) (on 9 place (omega arith)) (
+        subst (λ w. Finished n p K k r (went c nothing) (10 + more p r) (ws ++ w ∷ []) (slice_set x 10 1) (part p t) 1) (eleven 10 1 (λ e. omega arith))
+            (answers_on (10 + more p r) (omega arith) 1 row),
+        set-same x 10 1 (omega (arith, has.size)),
+      ))
+
+  pub answers_0 : s.pc ≡ 4 * (n + 11) → IsAt s (Immediate immediate.Add (reg_of 10) (reg_of 0) (pos 0)) → Row n p K k r c ws at_2C x (part p t) → Answered
+  answers_0 place here row = none at_2C place (λ e. omega arith) (λ e. omega arith)
+      (to_line at_30 (leaves_in s (reg_of 10) 0) (sets_10 0 (omega arith) here) (on 11 place (omega arith))
+      (answers_on 9 (omega arith) 0 row, set-same x 10 0 (omega (arith, has.size))))

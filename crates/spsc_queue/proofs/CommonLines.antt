@@ -1,33 +1,36 @@
 -- Lines that several of the functions have: each leads to a line `to`, whose row is what the line makes of its own.
 use Rattle.std.proofs.Common.{ℕ, pos, ◌+◌, ◌*◌, ◌%◌, ◌^◌, ◌<◌, ◌≤◌, ◌≡◌, ◌≢◌, ◌⊎◌, inl, inr, true, false, Some, List}
-use Rattle.std.proofs.Common.{[], ◌∷◌, ◌++◌, refl, sym, ◌∙◌, ap, subst, arith}
-use Rattle.std.specs.Prelude.{slice_index, slice_set}
+use Rattle.std.proofs.Common.{[], ◌∷◌, ◌++◌, refl, Bool, Option, Some, sym, ◌∙◌, ap, subst, arith}
+use Rattle.std.specs.Prelude.{slice_index, slice_set, map}
+use Rattle.std.specs.List.{slice_get}
 use Rattle.std.proofs.lemmas.Bool.{cases_eq}
-use Rattle.rv_decode.specs.Meaning.{reg_of}
+use Rattle.rv_decode.specs.Meaning.{meaning, reg_of}
 use Rattle.rv_decode.specs.declared.instruction.Reg.{Reg}
 use Rattle.rv_decode.specs.declared.instruction.BranchOp.TheVariants as branch
 use Rattle.rv_decode.specs.declared.instruction.ImmediateOp.TheVariants as immediate
 use Rattle.rv_decode.specs.declared.instruction.LoadOp.TheVariants as load_op
 use Rattle.rv_decode.specs.declared.instruction.StoreOp.TheVariants as store_op
-use Rattle.rv_decode.specs.declared.instruction.Instr.TheVariants.{Branch, Load, Store, Immediate}
+use Rattle.rv_decode.specs.declared.instruction.Instr.TheVariants.{Jalr, Branch, Load, Store, Immediate}
+use Rattle.rv_decode.specs.declared.instruction.Instr.{Instr}
 use Rattle.memory.specs.declared.writes.Write.{Write}
 use Rattle.memory.specs.Writes.{write}
 use Rattle.hart.specs.State.{HartState}
 use Rattle.hart.specs.Effects.{next_pc, address, read}
 use Rattle.hart.proofs.Instructions.{IsAt}
 use Rattle.step_machine.specs.Access.{nothing, load, store}
-use Rattle.spsc_queue.specs.RingBuffers.{Kind, RingBuffer, IsWordIn, next, overlaps}
+use Rattle.spsc_queue.specs.RingBuffers.{Kind, lamport, fastforward, RingBuffer, IsWordIn, next, overlaps}
 use Rattle.spsc_queue.specs.Protocol.{roomy, filled, ProtocolState, sends, next_by, IsWordAt, IsSendable, IsSenderStore}
+use Rattle.spsc_queue.specs.Listings.{lines_of}
 use Rattle.spsc_queue.specs.Calls.{Block, IsBlock, Party, the_sender, the_receiver, copy_in, listing_of, ring_of}
 use Rattle.spsc_queue.specs.CallEffects.{sees_full, look_accesses, send_accesses}
 use Rattle.step_machine.proofs.Lines.{word-plus, add_line, load_line, store_line, other_jumps, same_goes_on, goes_to, leaves_in}
-use Rattle.spsc_queue.proofs.Courses.{At, number, Equipped, Course, went, bytes_of}
+use Rattle.spsc_queue.proofs.Courses.{At, at_00, at_04, at_24, at_28, at_2C, at_30, number, Equipped, Course, went, bytes_of}
 use Rattle.spsc_queue.proofs.Words.{word_overlaps}
-use Rattle.spsc_queue.proofs.Outline.{part, role, IsOffset, Near, index_at, ready, put, all_accesses, Fresh, Indexed, Ready, Half, Finished, Ended, Row}
-use Rattle.spsc_queue.proofs.Outline.{IsStore, Moves, Part, Stored}
+use Rattle.spsc_queue.proofs.Outline.{part, role, IsOffset, Near, index_at, ready, put, all_accesses, Ready, Half, Row}
+use Rattle.spsc_queue.proofs.Outline.{IsStore, Moves, Part, Stored, more}
 use Rattle.spsc_queue.proofs.Parts.{copied, ready-offset, stored-offset, slot-sent}
-use Rattle.spsc_queue.proofs.AllLines.{to_line, loads_to, stores_to, on, over, wraps_not, wraps, to_indexed, ready_5, ready_on, to_half, to_finished}
-use Rattle.spsc_queue.proofs.AllLines.{to_answer_1, to_answer_0, sets_10, if_false}
+use Rattle.spsc_queue.proofs.AllLines.{to_line, loads_to, stores_to, line_at, on, over, wraps_not, wraps, to_indexed, ready_5, ready_on, to_half, to_finished}
+use Rattle.spsc_queue.proofs.AllLines.{if_false, short, Answered, none, returns_1, returns_0, answers_1, answers_0}
 
 -- where a party's index lies in the block
 abbrev pub gap : Party → ℕ
@@ -64,18 +67,6 @@ module _ (M n a b : ℕ) (p : Party) (K : Kind) (k : Block) (is : IsBlock M k) (
   beyond m low is_next = over M n a b p K k is h s t v has c ws j 2 place (omega (arith, low)) ∙ ap (λ i. 4 * (n + i)) (sym is_next)
 
   module _ (to : At) where
-    -- lw x5,gap(x10)
-    pub index_loads : number to ≡ j + 1 → IsAt s (Load load_op.Word (reg_of 5) (reg_of 10) (pos (gap p))) → Fresh n p k c ws x (part p t)
-        → ((q : Indexed n p k r (went c (load (slice_index x 10 + gap p) 4 v)) 1 ws (slice_set x 5 v)
-        (part p (next_by K r (role p) t (load (slice_index x 10 + gap p) 4 v))))
-        → Row n p K k r (went c (load (slice_index x 10 + gap p) 4 v)) ws to (slice_set x 5 v)
-        (part p (next_by K r (role p) t (load (slice_index x 10 + gap p) 4 v)))) → Moves n p K k r true ws c h s t v
-    index_loads is_next here row so = loads_to M n a b p K k is h s t v has c ws to (slice_index x 10 + gap p) (reg_of 5)
-        (load_line here (omega (arith, row.frame.block, is.aligned)) (gap_low p).1
-        (omega (arith, row.frame.block, is.inside, has.words, (gap_low p).0)) (omega (arith, has.words, is.small)))
-        (ahead (number to) is_next) (so (to_indexed M n a b p K k is h s t v has c ws (slice_index x 10 + gap p)
-        (ap (λ y. y + gap p) row.frame.block ∙ sym (index_is k a b p)) row))
-
     -- addi x5,x5,4
     pub bumps : {m : ℕ} (seven : ℕ → ℕ) → number to ≡ j + 1 → IsAt s (Immediate immediate.Add (reg_of 5) (reg_of 5) (pos 4))
         → Ready n p K k r c m ws x (part p t) (λ u. u) seven
@@ -115,15 +106,16 @@ module _ (M n a b : ℕ) (p : Party) (K : Kind) (k : Block) (is : IsBlock M k) (
             (wraps_not M n a b p K k is h s t v has c ws row.place (λ e. other (row.x5 ∙ e ∙ sym (bytes_of row.frame.left))))))
 
     -- sw of register `from` to the slot, 128 bytes after what register `rs` holds
-    pub slot_stores : {m : ℕ} (five seven : ℕ → ℕ) (rs from : Reg) (i : ℕ) → number to ≡ j + 1 → IsAt s (Store store_op.Word rs from (pos 128))
+    pub slot_stores : {m : ℕ} (l : ℕ) → m + 1 ≤ l → (five seven : ℕ → ℕ) (rs from : Reg) (i : ℕ) → number to ≡ j + 1
+        → IsAt s (Store store_op.Word rs from (pos 128))
         → (row : Ready n p K k r c m ws x (part p t) five seven) → read x rs ≡ k.base + row.place → read x from ≡ put p (slice_index x 11)
         → slice_index x i ≡ next r row.place
         → ((made : Write) → overlaps r made ≡ true → made ≡ write (r.slots + row.place) 4 (put p (slice_index x 11)) → IsStore p K r t made
         × Stored p row.place (part p (next_by K r (role p) t (store made)))
         × ((part p (next_by K r (role p) t (store made))).words ≡ (part p t).words ++ slice_index x 11 ∷ []))
-        → ((made : Write) → Half n p K k r (went c (store made)) (m + 1) i ws x (part p (next_by K r (role p) t (store made)))
+        → ((made : Write) → Half n p K k r (went c (store made)) l i ws x (part p (next_by K r (role p) t (store made)))
         → Row n p K k r (went c (store made)) ws to x (part p (next_by K r (role p) t (store made)))) → Moves n p K k r true ws c h s t v
-    slot_stores five seven rs from i is_next here row base value after makes so =
+    slot_stores l le five seven rs from i is_next here row base value after makes so =
         let u : ℕ = row.place in
         let bound : IsOffset k u = ready-offset k p u (slice_index x 11) (part p t) row.knows near in
         let made : Write = write (read x rs + 128) 4 (read x from) in
@@ -140,52 +132,81 @@ module _ (M n a b : ℕ) (p : Party) (K : Kind) (k : Block) (is : IsBlock M k) (
         stores_to M n a b p K k is h s t v has c ws to (read x rs + 128) (read x from)
         (store_line here (omega (arith, base, is.aligned, bound.1)) refl
         (omega (arith, base, bound.0, is.inside, has.words)) (omega (arith, has.words, is.small)))
-        (ahead (number to) is_next) made_so.0 (so made (to_half M n a b p K k is h s t v has c ws made i five seven row is_made after made_so.1 made_so.2))
+        (ahead (number to) is_next) made_so.0 (so made (to_half M n a b p K k is h s t v has c ws l le made i five seven row is_made after made_so.1 made_so.2))
 
-    -- sw of register i to the index
-    pub index_stores : {m i : ℕ} (from : Reg) → number to ≡ j + 1 → IsAt s (Store store_op.Word (reg_of 10) from (pos (gap p)))
-        → (row : Half n p K k r c m i ws x (part p t)) → read x from ≡ slice_index x i
-        → ((made : Write) → IsWordAt made (index_at p r) → made.value ≡ next r row.place → IsStore p K r t made)
-        → ready p K r row.place row.copy row.seen (slice_index x 11) ++ store (write (r.slots + row.place) 4 (put p (slice_index x 11))) ∷
-        store (write (index_at p r) 4 (next r row.place)) ∷ [] ≡ all_accesses p K r (slice_index x 11) row.place row.copy row.seen
-        → ((made : Write) → Finished n p K k r (went c (store made)) (m + 1) (ws ++ slice_index x 11 ∷ []) x (part p (next_by K r (role p) t (store made))) 1
-        → Row n p K k r (went c (store made)) ws to x (part p (next_by K r (role p) t (store made)))) → Moves n p K k r true ws c h s t v
-    index_stores from is_next here row from_is rule whole so =
-        let bound : IsOffset k row.place = stored-offset k p row.place (part p t) row.knows near in
-        let made : Write = write (slice_index x 10 + gap p) 4 (read x from) in
-        let at : slice_index x 10 + gap p ≡ index_at p r = ap (λ y. y + gap p) row.frame.block ∙ sym (index_is k a b p) in
-        let value : read x from ≡ next r row.place = from_is ∙ row.after in
-        let word : IsWordAt made (index_at p r) = record { place = at; width = refl } in
-        let inside : IsWordIn r (index_at p r) = record {
-          above = omega (arith, index_is k a b p);
-          below = omega (arith, index_is k a b p, (gap_low p).0);
-          aligned = omega (arith, index_is k a b p, is.aligned, (gap_low p).1);
-          no_copy = λ d at. off_index k a b p d at;
-        } in
-        stores_to M n a b p K k is h s t v has c ws to (slice_index x 10 + gap p) (read x from)
-        (store_line here (omega (arith, row.frame.block, is.aligned)) (gap_low p).1
-        (omega (arith, row.frame.block, is.inside, has.words, (gap_low p).0)) (omega (arith, has.words, is.small)))
-        (ahead (number to) is_next) (rule made word value)
-        (so made (to_finished M n a b p K k is h s t v has c ws made (word_overlaps r made (index_at p r) inside word) row
-        (ap (λ y. write y 4 (read x from)) at ∙ ap (write (index_at p r) 4) value) bound whole))
+  -- sw of register i to the index
+  pub index_stores : {m i : ℕ} (from : Reg) → j ≡ 8 → m + 1 ≤ 9 + more p r → IsAt s (Store store_op.Word (reg_of 10) from (pos (gap p)))
+      → (row : Half n p K k r c m i ws x (part p t)) → read x from ≡ slice_index x i
+      → ((made : Write) → IsWordAt made (index_at p r) → made.value ≡ next r row.place → IsStore p K r t made)
+      → ready p K r row.place row.copy row.seen (slice_index x 11) ++ store (write (r.slots + row.place) 4 (put p (slice_index x 11))) ∷
+      store (write (index_at p r) 4 (next r row.place)) ∷ [] ≡ all_accesses p K r (slice_index x 11) row.place row.copy row.seen
+      → Moves n p K k r true ws c h s t v
+  index_stores from is_8 le here row from_is rule whole =
+      let bound : IsOffset k row.place = stored-offset k p row.place (part p t) row.knows near in
+      let made : Write = write (slice_index x 10 + gap p) 4 (read x from) in
+      let at : slice_index x 10 + gap p ≡ index_at p r = ap (λ y. y + gap p) row.frame.block ∙ sym (index_is k a b p) in
+      let value : read x from ≡ next r row.place = from_is ∙ row.after in
+      let word : IsWordAt made (index_at p r) = record { place = at; width = refl } in
+      let inside : IsWordIn r (index_at p r) = record {
+        above = omega (arith, index_is k a b p);
+        below = omega (arith, index_is k a b p, (gap_low p).0);
+        aligned = omega (arith, index_is k a b p, is.aligned, (gap_low p).1);
+        no_copy = λ d at. off_index k a b p d at;
+      } in
+      stores_to M n a b p K k is h s t v has c ws at_24 (slice_index x 10 + gap p) (read x from)
+      (store_line here (omega (arith, row.frame.block, is.aligned)) (gap_low p).1
+      (omega (arith, row.frame.block, is.inside, has.words, (gap_low p).0)) (omega (arith, has.words, is.small)))
+      (ahead 9 (omega (arith, is_8))) (rule made word value)
+      (to_finished M n a b p K k is h s t v has c ws (9 + more p r) le made (word_overlaps r made (index_at p r) inside word) row
+      (ap (λ y. write y 4 (read x from)) at ∙ ap (write (index_at p r) 4) value) bound whole)
 
-    -- addi x10,x0,1 and addi x10,x0,0
-    pub answers_1 : {m : ℕ} → number to ≡ j + 1 → IsAt s (Immediate immediate.Add (reg_of 10) (reg_of 0) (pos 1))
-        → Finished n p K k r c m (ws ++ slice_index x 11 ∷ []) x (part p t) 1
-        → (Ended n p K k r (went c nothing) (m + 1) (ws ++ slice_index (slice_set x 10 1) 11 ∷ []) (slice_set x 10 1) (part p t) 1
-        → Row n p K k r (went c nothing) ws to (slice_set x 10 1) (part p t)) → Moves n p K k r true ws c h s t v
-    answers_1 is_next here row so = to_line M n a b p K k is h s t v has c ws to (leaves_in s (reg_of 10) 1)
-        (sets_10 M n a b p K k is h s t v has c ws 1 (omega arith) here) (ahead (number to) is_next)
-        (so (to_answer_1 M n a b p K k is h s t v has c ws row))
+-- ---- the lines that all functions have in the same place: the first loads a party's own index, the last ones answer and return
 
-    pub answers_0 : {m : ℕ} → number to ≡ j + 1 → IsAt s (Immediate immediate.Add (reg_of 10) (reg_of 0) (pos 0)) → Finished n p K k r c m ws x (part p t) 0
-        → (Ended n p K k r (went c nothing) (m + 1) ws (slice_set x 10 0) (part p t) 0
-        → Row n p K k r (went c nothing) ws to (slice_set x 10 0) (part p t)) → Moves n p K k r true ws c h s t v
-    answers_0 is_next here row so = to_line M n a b p K k is h s t v has c ws to (leaves_in s (reg_of 10) 0)
-        (sets_10 M n a b p K k is h s t v has c ws 0 (omega arith) here) (ahead (number to) is_next)
-        (so (to_answer_0 M n a b p K k is h s t v has c ws row))
+abbrev Ends : (gap : ℕ) → List (Option Instr) → Type 0
+Ends gap is = (slice_get is 0 ≡ Some (Some (Load load_op.Word (reg_of 5) (reg_of 10) (pos gap))))
+    × (slice_get is 9 ≡ Some (Some (Immediate immediate.Add (reg_of 10) (reg_of 0) (pos 1))))
+    × (slice_get is 10 ≡ Some (Some (Jalr (reg_of 0) (reg_of 1) (pos 0))))
+    × (slice_get is 11 ≡ Some (Some (Immediate immediate.Add (reg_of 10) (reg_of 0) (pos 0))))
+    × (slice_get is 12 ≡ Some (Some (Jalr (reg_of 0) (reg_of 1) (pos 0))))
 
--- ---- the sender's stores, of either kind
+ends : (K : Kind) (caches : Bool) (p : Party) (rest : List (Option Instr)) → Ends (gap p) (map Some (lines_of (listing_of K caches p)) ++ rest)
+ends lamport false the_sender rest = (refl, refl, refl, refl, refl)
+ends lamport true the_sender rest = (refl, refl, refl, refl, refl)
+ends lamport caches the_receiver rest = (refl, refl, refl, refl, refl)
+ends fastforward caches the_sender rest = (refl, refl, refl, refl, refl)
+ends fastforward caches the_receiver rest = (refl, refl, refl, refl, refl)
+
+module _ (M n a b : ℕ) (p : Party) (K : Kind) (k : Block) (is : IsBlock M k) (h : ℕ) (s : HartState) (t : ProtocolState) (v : ℕ)
+    (has : Equipped M n (listing_of K k.caches p) s) (c : Course) (ws : List ℕ) where
+  abbrev Common : At → Type 0
+  Common line = s.pc ≡ 4 * (n + number line) → Row n p K k (ring_of k a b) c ws line s.registers (part p t) → Answered M n a b p K k is h s t v has c ws
+
+  all_ends : Ends (gap p) (map Some (lines_of (listing_of K k.caches p)) ++ map meaning has.code.back)
+  all_ends = ends K k.caches p (map meaning has.code.back)
+
+  pub common_00 : Common at_00
+  common_00 place row = none M n a b p K k is h s t v has c ws at_00 place (λ e. omega arith) (λ e. omega arith)
+      (loads_to M n a b p K k is h s t v has c ws at_04 (slice_index s.registers 10 + gap p) (reg_of 5)
+      (load_line (line_at M n a b p K k is h s t v has c ws 0 place all_ends.0) (omega (arith, row.frame.block, is.aligned)) (gap_low p).1
+      (omega (arith, row.frame.block, is.inside, has.words, (gap_low p).0)) (omega (arith, has.words, is.small)))
+      (on M n a b p K k is h s t v has c ws 0 place (omega arith)) (to_indexed M n a b p K k is h s t v has c ws (slice_index s.registers 10 + gap p)
+      (ap (λ y. y + gap p) row.frame.block ∙ sym (index_is k a b p)) row))
+
+  pub common_24 : Common at_24
+  common_24 place row = answers_1 M n a b p K k is h s t v has c ws place (line_at M n a b p K k is h s t v has c ws 9 place all_ends.1) row
+
+  pub common_28 : Common at_28
+  common_28 place row = returns_1 M n a b p K k is h s t v has c ws (short p (ring_of k a b)) place
+      (line_at M n a b p K k is h s t v has c ws 10 place all_ends.2) row
+
+  pub common_2C : Common at_2C
+  common_2C place row = answers_0 M n a b p K k is h s t v has c ws place (line_at M n a b p K k is h s t v has c ws 11 place all_ends.3) row
+
+  pub common_30 : Common at_30
+  common_30 place row = returns_0 M n a b p K k is h s t v has c ws (omega (arith, short p (ring_of k a b))) place
+      (line_at M n a b p K k is h s t v has c ws 12 place all_ends.4) row
+
+-- ---- the sender's stores, of each kind
 
 module _ (K : Kind) (r : RingBuffer) (t : ProtocolState) (u : ℕ) where
   pub sender_puts : (w : ℕ) → t.sending ≡ roomy u → w < 2 ^ 32 → IsSendable K w → (made : Write) → overlaps r made ≡ true → made ≡ write (r.slots + u) 4 w

@@ -20,16 +20,15 @@ use Rattle.spsc_queue.specs.Calls.{Block, IsBlock, Party, the_sender, the_receiv
 use Rattle.spsc_queue.specs.CallEffects.{sees_full, take_accesses, receive_accesses}
 use Rattle.step_machine.proofs.Lines.{sum_line, load_line, same_jumps, other_goes_on, other_jumps, same_goes_on, goes_to, leaves_in}
 use Rattle.spsc_queue.proofs.Registers.{set-same, set-other}
-use Rattle.spsc_queue.proofs.Courses.{At, at_00, at_04, at_08, at_0C, at_10, at_14, at_18, at_1C, at_20, at_24, at_28}
-use Rattle.spsc_queue.proofs.Courses.{at_2C, at_30, at_34, at_38, at_3C, at_40, number, Equipped}
+use Rattle.spsc_queue.proofs.Courses.{At, at_04, at_08, at_0C, at_10, at_14, at_18, at_1C, at_20}
+use Rattle.spsc_queue.proofs.Courses.{at_2C, number, Equipped}
 use Rattle.spsc_queue.proofs.Courses.{Course}
 use Rattle.spsc_queue.proofs.Courses.{free_6, free_11}
-use Rattle.spsc_queue.proofs.Outline.{Part, part, IsOffset, Near, first_look, Stored, IsStore, Row, Moves}
+use Rattle.spsc_queue.proofs.Outline.{Part, part, IsOffset, Near, first_look, Stored, IsStore, OwnRow, Row, Moves}
 use Rattle.spsc_queue.proofs.Parts.{slot-taken, knows-offset, looked-offset}
-use Rattle.spsc_queue.proofs.AllLines.{to_line, to_ready, loads_to, line_at, on, over, indexed_7, to_seen, to_no, word_set, if_false, Answered, none, returns_1}
-use Rattle.spsc_queue.proofs.AllLines.{found_room, looked_once, short}
-use Rattle.spsc_queue.proofs.AllLines.{returns_0}
-use Rattle.spsc_queue.proofs.CommonLines.{index_loads, bumps, zeroes, tests, slot_stores, index_stores, answers_1, answers_0, sender_puts, sender_publishes}
+use Rattle.spsc_queue.proofs.AllLines.{to_line, to_ready, loads_to, line_at, on, over, indexed_7, to_seen, to_no, word_set, if_false, found_room, looked_once}
+use Rattle.spsc_queue.proofs.AllLines.{Answered, none}
+use Rattle.spsc_queue.proofs.CommonLines.{bumps, zeroes, tests, slot_stores, index_stores, sender_puts, sender_publishes}
 use Rattle.spsc_queue.proofs.CommonLines.{send_whole}
 
 module _ (M n a b : ℕ) (k : Block) (is : IsBlock M k) (h : ℕ) (s : HartState) (t : ProtocolState) (v : ℕ) where
@@ -106,7 +105,7 @@ module _ (M n a b : ℕ) (k : Block) (is : IsBlock M k) (h : ℕ) (s : HartState
             (other_jumps (line_at M n a b the_sender fastforward k is h s t v has c ws 3 place refl) other
             (omega (arith, over M n a b the_sender fastforward k is h s t v has c ws 3 8 place (omega arith))))
             (over M n a b the_sender fastforward k is h s t v has c ws 3 8 place (omega arith))
-            (to_no M n a b the_sender fastforward k is h s t v has c ws (λ e. no_copy)
+            (to_no M n a b the_sender fastforward k is h s t v has c ws (omega arith) (λ e. no_copy)
             (ap (λ q. sees_full q fastforward r (slice_index x 5) (slice_index x 6) (slice_index x 6)) no_copy ∙ full) tt
             (looked-offset k the_sender fastforward r (slice_index x 5) (slice_index x 6) (part the_sender t) row.0.knows near) row.0)
 
@@ -115,11 +114,8 @@ module _ (M n a b : ℕ) (k : Block) (is : IsBlock M k) (h : ℕ) (s : HartState
         → Answered M n a b the_sender fastforward k is h s t v has c ws
     sends line ten twelve place moves = none M n a b the_sender fastforward k is h s t v has c ws line place ten twelve moves
 
-    pub sends_at : (line : At) → s.pc ≡ 4 * (n + number line) → Row n the_sender fastforward k r c ws line x (part the_sender t)
+    pub sends_at : (line : At) → s.pc ≡ 4 * (n + number line) → OwnRow n the_sender fastforward k r c ws line x (part the_sender t)
         → Answered M n a b the_sender fastforward k is h s t v has c ws
-    sends_at at_00 place row = sends at_00 (λ e. omega arith) (λ e. omega arith) place
-        (index_loads M n a b the_sender fastforward k is h s t v has near c ws 0 place (omega arith) at_04 refl
-        (line_at M n a b the_sender fastforward k is h s t v has c ws 0 place refl) row (λ q. q))
     sends_at at_04 place row = sends at_04 (λ e. omega arith) (λ e. omega arith) place
         (at-04 the_sender has near c ws (line_at M n a b the_sender fastforward k is h s t v has c ws 1 place refl) place row)
     sends_at at_08 place row = sends at_08 (λ e. omega arith) (λ e. omega arith) place (sends_08 place row)
@@ -134,31 +130,18 @@ module _ (M n a b : ℕ) (k : Block) (is : IsBlock M k) (h : ℕ) (s : HartState
         (zeroes M n a b the_sender fastforward k is h s t v has near c ws 6 place (omega arith) at_1C (λ u. k.base + u) refl
         (line_at M n a b the_sender fastforward k is h s t v has c ws 6 place refl) row.0 row.1 (λ q. q))
     sends_at at_1C place row = sends at_1C (λ e. omega arith) (λ e. omega arith) place
-        (slot_stores M n a b the_sender fastforward k is h s t v has near c ws 7 place (omega arith) at_20 (λ u. next r u) (λ u. k.base + u)
+        (slot_stores M n a b the_sender fastforward k is h s t v has near c ws 7 place (omega arith) at_20 8 (omega arith) (λ u. next r u) (λ u. k.base + u)
         (reg_of 7) (reg_of 11) 5 refl (line_at M n a b the_sender fastforward k is h s t v has c ws 7 place refl) row row.x7 refl row.x5
         (sender_puts fastforward r t row.place (slice_index x 11) row.knows (omega (arith, row.word, row.frame.left.args.word))
         (subst (IsSendable fastforward) (sym row.word)
         (subst (λ q. IsSendable q (slice_index c.entry.registers 11)) kind row.frame.left.args.sendable)))
         (λ made q. q))
     sends_at at_20 place row = sends at_20 (λ e. omega arith) (λ e. omega arith) place
-        (index_stores M n a b the_sender fastforward k is h s t v has near c ws 8 place (omega arith) at_24 (reg_of 5) refl
+        (index_stores M n a b the_sender fastforward k is h s t v has near c ws 8 place (omega arith) (reg_of 5) refl (omega arith)
         (line_at M n a b the_sender fastforward k is h s t v has c ws 8 place refl) row refl
         (sender_publishes fastforward r t row.place row.knows)
-        (send_whole fastforward r t row.place row.copy row.seen (slice_index x 11) row.some) (λ made q. q))
-    sends_at at_24 place row = sends at_24 (λ e. omega arith) (λ e. omega arith) place
-        (answers_1 M n a b the_sender fastforward k is h s t v has near c ws 9 place (omega arith) at_28 refl
-        (line_at M n a b the_sender fastforward k is h s t v has c ws 9 place refl) row (λ q. q))
-    sends_at at_28 place row = returns_1 M n a b the_sender fastforward k is h s t v has c ws (omega (arith, short r.copy)) place
-        (line_at M n a b the_sender fastforward k is h s t v has c ws 10 place refl) row
-    sends_at at_2C place row = sends at_2C (λ e. omega arith) (λ e. omega arith) place
-        (answers_0 M n a b the_sender fastforward k is h s t v has near c ws 11 place (omega arith) at_30 refl
-        (line_at M n a b the_sender fastforward k is h s t v has c ws 11 place refl) row (λ q. q))
-    sends_at at_30 place row = returns_0 M n a b the_sender fastforward k is h s t v has c ws (omega (arith, short r.copy)) place
-        (line_at M n a b the_sender fastforward k is h s t v has c ws 12 place refl) row
-    sends_at at_34 place row = absurd row
-    sends_at at_38 place row = absurd row
-    sends_at at_3C place row = absurd row
-    sends_at at_40 place row = absurd row
+        (send_whole fastforward r t row.place row.copy row.seen (slice_index x 11) row.some))
+    sends_at line place row = absurd row
 
   -- ---- fastforward_receive
 
@@ -187,7 +170,7 @@ module _ (M n a b : ℕ) (k : Block) (is : IsBlock M k) (h : ℕ) (s : HartState
             (same_jumps (line_at M n a b the_receiver fastforward k is h s t v has c ws 3 place refl) equal
             (omega (arith, over M n a b the_receiver fastforward k is h s t v has c ws 3 8 place (omega arith))))
             (over M n a b the_receiver fastforward k is h s t v has c ws 3 8 place (omega arith))
-            (to_no M n a b the_receiver fastforward k is h s t v has c ws (λ e. cc) (eq-eqb (slice_index x 11) 0 (equal ∙ has.zero)) refl
+            (to_no M n a b the_receiver fastforward k is h s t v has c ws (omega arith) (λ e. cc) (eq-eqb (slice_index x 11) 0 (equal ∙ has.zero)) refl
             (looked-offset k the_receiver fastforward r (slice_index x 5) (slice_index x 11) (part the_receiver t) row.0.knows near) row.0)
         at (inr other) =
             let some : (slice_index x 11 == 0) ≡ false = ne_eqb (slice_index x 11) 0 (λ e. other (e ∙ sym has.zero)) in
@@ -220,11 +203,8 @@ module _ (M n a b : ℕ) (k : Block) (is : IsBlock M k) (h : ℕ) (s : HartState
         → Answered M n a b the_receiver fastforward k is h s t v has c ws
     takes line ten twelve place moves = none M n a b the_receiver fastforward k is h s t v has c ws line place ten twelve moves
 
-    pub takes_at : (line : At) → s.pc ≡ 4 * (n + number line) → Row n the_receiver fastforward k r c ws line x (part the_receiver t)
+    pub takes_at : (line : At) → s.pc ≡ 4 * (n + number line) → OwnRow n the_receiver fastforward k r c ws line x (part the_receiver t)
         → Answered M n a b the_receiver fastforward k is h s t v has c ws
-    takes_at at_00 place row = takes at_00 (λ e. omega arith) (λ e. omega arith) place
-        (index_loads M n a b the_receiver fastforward k is h s t v has near c ws 0 place (omega arith) at_04 refl
-        (line_at M n a b the_receiver fastforward k is h s t v has c ws 0 place refl) row (λ q. q))
     takes_at at_04 place row = takes at_04 (λ e. omega arith) (λ e. omega arith) place
         (at-04 the_receiver has near c ws (line_at M n a b the_receiver fastforward k is h s t v has c ws 1 place refl) place row)
     takes_at at_08 place row = takes at_08 (λ e. omega arith) (λ e. omega arith) place (takes_08 place row)
@@ -239,25 +219,12 @@ module _ (M n a b : ℕ) (k : Block) (is : IsBlock M k) (h : ℕ) (s : HartState
         (zeroes M n a b the_receiver fastforward k is h s t v has near c ws 6 place (omega arith) at_1C (λ u. k.base + u) refl
         (line_at M n a b the_receiver fastforward k is h s t v has c ws 6 place refl) row.0 row.1 (λ q. q))
     takes_at at_1C place row = takes at_1C (λ e. omega arith) (λ e. omega arith) place
-        (slot_stores M n a b the_receiver fastforward k is h s t v has near c ws 7 place (omega arith) at_20 (λ u. next r u) (λ u. k.base + u)
+        (slot_stores M n a b the_receiver fastforward k is h s t v has near c ws 7 place (omega arith) at_20 8 (omega arith) (λ u. next r u) (λ u. k.base + u)
         (reg_of 7) (reg_of 0) 5 refl (line_at M n a b the_receiver fastforward k is h s t v has c ws 7 place refl) row row.x7 has.zero row.x5
         (receiver_puts row.place (slice_index x 11) row.knows) (λ made q. q))
     takes_at at_20 place row = takes at_20 (λ e. omega arith) (λ e. omega arith) place
-        (index_stores M n a b the_receiver fastforward k is h s t v has near c ws 8 place (omega arith) at_24 (reg_of 5) refl
+        (index_stores M n a b the_receiver fastforward k is h s t v has near c ws 8 place (omega arith) (reg_of 5) refl (omega arith)
         (line_at M n a b the_receiver fastforward k is h s t v has c ws 8 place refl) row refl
         (λ made word value. subst (λ q. IsReceiverStore fastforward r q made) (sym row.knows) (word, value))
-        (receive_whole row.place row.seen (slice_index x 11) row.some) (λ made q. q))
-    takes_at at_24 place row = takes at_24 (λ e. omega arith) (λ e. omega arith) place
-        (answers_1 M n a b the_receiver fastforward k is h s t v has near c ws 9 place (omega arith) at_28 refl
-        (line_at M n a b the_receiver fastforward k is h s t v has c ws 9 place refl) row (λ q. q))
-    takes_at at_28 place row = returns_1 M n a b the_receiver fastforward k is h s t v has c ws (omega arith) place
-        (line_at M n a b the_receiver fastforward k is h s t v has c ws 10 place refl) row
-    takes_at at_2C place row = takes at_2C (λ e. omega arith) (λ e. omega arith) place
-        (answers_0 M n a b the_receiver fastforward k is h s t v has near c ws 11 place (omega arith) at_30 refl
-        (line_at M n a b the_receiver fastforward k is h s t v has c ws 11 place refl) row (λ q. q))
-    takes_at at_30 place row = returns_0 M n a b the_receiver fastforward k is h s t v has c ws (omega arith) place
-        (line_at M n a b the_receiver fastforward k is h s t v has c ws 12 place refl) row
-    takes_at at_34 place row = absurd row
-    takes_at at_38 place row = absurd row
-    takes_at at_3C place row = absurd row
-    takes_at at_40 place row = absurd row
+        (receive_whole row.place row.seen (slice_index x 11) row.some))
+    takes_at line place row = absurd row

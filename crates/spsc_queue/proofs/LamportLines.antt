@@ -22,7 +22,7 @@ use Rattle.hart.proofs.Instructions.{IsAt}
 use Rattle.step_machine.specs.Access.{Access, nothing, load, store}
 use Rattle.spsc_queue.specs.RingBuffers.{Kind, lamport, fastforward, RingBuffer, IsWordIn, next, overlaps}
 use Rattle.spsc_queue.specs.Protocol.{SenderState, placed, renewing, roomy, asked, waiting, holding, ProtocolState}
-use Rattle.spsc_queue.specs.Protocol.{says_full, looks_past_copy, next_by, IsWordAt, IsCopyStore}
+use Rattle.spsc_queue.specs.Protocol.{says_full, looks_past_copy, IsWordAt, IsCopyStore}
 use Rattle.spsc_queue.specs.Protocol.{IsSenderStore, IsReceiverStore}
 use Rattle.spsc_queue.specs.Listings.{try_send, try_receive, lines_of}
 use Rattle.spsc_queue.specs.Cached.{cached_send}
@@ -32,17 +32,17 @@ use Rattle.step_machine.proofs.Lines.{word-plus, add_line, sum_line, load_line, 
 use Rattle.step_machine.proofs.Lines.{goes_to, leaves_in}
 use Rattle.spsc_queue.proofs.Words.{word_overlaps}
 use Rattle.spsc_queue.proofs.Registers.{set-same, set-other, decoded, code_room, next_line, line_on, line_back}
-use Rattle.spsc_queue.proofs.Courses.{At, at_00, at_04, at_08, at_0C, at_10, at_14, at_18, at_1C, at_20, at_24, at_28}
-use Rattle.spsc_queue.proofs.Courses.{at_2C, at_30, at_34, at_38, at_3C, at_40, number}
+use Rattle.spsc_queue.proofs.Courses.{At, at_04, at_08, at_0C, at_10, at_14, at_18, at_1C, at_20, at_24}
+use Rattle.spsc_queue.proofs.Courses.{at_2C, at_34, at_38, at_3C, at_40, number}
 use Rattle.spsc_queue.proofs.Courses.{Equipped, Course, went, left_on, frame_on, frame_set, more_left, more_frame, bytes_of, free_6, free_7, free_11}
-use Rattle.spsc_queue.proofs.Outline.{Part, part, role, Level, IsOffset, IsNear, IsFit, Near, first_look, Looked}
-use Rattle.spsc_queue.proofs.Outline.{looked, Seen, Past, Ready, Half, Finished, Ended}
-use Rattle.spsc_queue.proofs.Outline.{detour, Row, Moves}
+use Rattle.spsc_queue.proofs.Outline.{Part, part, Level, IsOffset, IsNear, IsFit, Near, first_look, Looked}
+use Rattle.spsc_queue.proofs.Outline.{looked, Seen, Past, Ready, Finished}
+use Rattle.spsc_queue.proofs.Outline.{detour, OwnRow, Row, Moves}
 use Rattle.spsc_queue.proofs.Parts.{copied, level-next, past-load, word-load, copy-stored, tail-taken, looked-offset, ready-offset}
 use Rattle.spsc_queue.proofs.AllLines.{to_line, to_ready, loads_to, stores_to, line_at, line_of, on, over, wraps_not}
 use Rattle.spsc_queue.proofs.AllLines.{wraps, to_seen, to_no, ready_5, ready_on, word_set}
-use Rattle.spsc_queue.proofs.AllLines.{if_false, found_room, looked_once, short, Answered, none, returns_1, returns_0}
-use Rattle.spsc_queue.proofs.CommonLines.{index_loads, bumps, zeroes, tests, slot_stores, index_stores, answers_1, answers_0, sender_puts, sender_publishes}
+use Rattle.spsc_queue.proofs.AllLines.{if_false, found_room, looked_once, Answered, none}
+use Rattle.spsc_queue.proofs.CommonLines.{bumps, zeroes, tests, slot_stores, index_stores, sender_puts, sender_publishes}
 use Rattle.spsc_queue.proofs.CommonLines.{send_whole}
 
 abbrev stores_of : RingBuffer → (w u : ℕ) → List Access
@@ -183,36 +183,19 @@ module _ (M n a b : ℕ) (k : Block) (is : IsBlock M k) (h : ℕ) (s : HartState
         → Answered M n a b the_sender lamport k is h s t v has c ws
     sends line ten twelve place moves = none M n a b the_sender lamport k is h s t v has c ws line place ten twelve moves
 
-    -- from 1C on: the stores and the returns
     sends_1C : IsAt s (Store store_op.Word (reg_of 5) (reg_of 11) (pos 128)) → Sends at_1C
     sends_1C here place row =
-        slot_stores M n a b the_sender lamport k is h s t v has near c ws 7 place (omega arith) at_20 (λ u. k.base + u) (λ u. next r u)
-        (reg_of 5) (reg_of 11) 7 refl here row row.x5 refl row.x7
-        (sender_puts lamport r t row.place (slice_index x 11) row.knows (omega (arith, row.word, row.frame.left.args.word)) tt)
-        (λ made q. subst (λ m. Half n the_sender lamport k r (went c (store made)) m 7 ws x
-        (part the_sender (next_by lamport r (role the_sender) t (store made))))
-        (omega arith) q)
+        slot_stores M n a b the_sender lamport k is h s t v has near c ws 7 place (omega arith) at_20 (8 + detour r.copy) (omega arith) (λ u. k.base + u)
+        (λ u. next r u) (reg_of 5) (reg_of 11) 7 refl here row row.x5 refl row.x7
+        (sender_puts lamport r t row.place (slice_index x 11) row.knows (omega (arith, row.word, row.frame.left.args.word)) tt) (λ made q. q)
 
     sends_20 : IsAt s (Store store_op.Word (reg_of 10) (reg_of 7) (pos 0)) → Sends at_20
     sends_20 here place row =
-        index_stores M n a b the_sender lamport k is h s t v has near c ws 8 place (omega arith) at_24 (reg_of 7) refl here row refl
+        index_stores M n a b the_sender lamport k is h s t v has near c ws 8 place (omega arith) (reg_of 7) refl (omega arith) here row refl
         (sender_publishes lamport r t row.place row.knows) (send_whole lamport r t row.place row.copy row.seen (slice_index x 11) row.some)
-        (λ made q. subst (λ m. Finished n the_sender lamport k r (went c (store made)) m (ws ++ slice_index x 11 ∷ []) x
-        (part the_sender (next_by lamport r (role the_sender) t (store made))) 1) (omega arith) q)
-
-    sends_24 : IsAt s (Immediate immediate.Add (reg_of 10) (reg_of 0) (pos 1)) → Sends at_24
-    sends_24 here place row = answers_1 M n a b the_sender lamport k is h s t v has near c ws 9 place (omega arith) at_28 refl here row
-        (λ q. subst
-        (λ m. Ended n the_sender lamport k r (went c nothing) m (ws ++ slice_index (slice_set x 10 1) 11 ∷ [])
-        (slice_set x 10 1) (part the_sender t) 1)
-        (omega arith) q)
-
-    sends_2C : IsAt s (Immediate immediate.Add (reg_of 10) (reg_of 0) (pos 0)) → Sends at_2C
-    sends_2C here place row = answers_0 M n a b the_sender lamport k is h s t v has near c ws 11 place (omega arith) at_30 refl here row
-        (λ q. subst (λ m. Ended n the_sender lamport k r (went c nothing) m ws (slice_set x 10 0) (part the_sender t) 0) (omega arith) q)
 
     -- try_send
-    pub sends_at : k.caches ≡ false → (line : At) → s.pc ≡ 4 * (n + number line) → Row n the_sender lamport k r c ws line x (part the_sender t)
+    pub sends_at : k.caches ≡ false → (line : At) → s.pc ≡ 4 * (n + number line) → OwnRow n the_sender lamport k r c ws line x (part the_sender t)
         → Answered M n a b the_sender lamport k is h s t v has c ws
     sends_at plain = plain_at
       where
@@ -229,10 +212,8 @@ module _ (M n a b : ℕ) (k : Block) (is : IsBlock M k) (h : ℕ) (s : HartState
         none_past : {m : ℕ} {q : SenderState} {more : List Access} → Past n k r c m ws x (part the_sender t) q more → ⊥
         none_past row = absurd (let no : Some (k.base + 4) ≡ None = sym row.copies ∙ no_copy in cc)
 
-        plain_at : (line : At) → s.pc ≡ 4 * (n + number line) → Row n the_sender lamport k r c ws line x (part the_sender t)
+        plain_at : (line : At) → s.pc ≡ 4 * (n + number line) → OwnRow n the_sender lamport k r c ws line x (part the_sender t)
             → Answered M n a b the_sender lamport k is h s t v has c ws
-        plain_at at_00 place row = sends at_00 (λ e. omega arith) (λ e. omega arith) place
-            (index_loads M n a b the_sender lamport k is h s t v has near c ws 0 place (omega arith) at_04 refl (line_here 0 place refl) row (λ q. q))
         plain_at at_04 place row = sends at_04 (λ e. omega arith) (λ e. omega arith) place
             (sends_04 64 (line_here 1 place refl) refl (omega arith) (omega arith) (sym (ap (λ q. first_look q r.tail) no_copy)) place row)
         plain_at at_08 place row = sends at_08 (λ e. omega arith) (λ e. omega arith) place (sends_08 (line_here 2 place refl) place row)
@@ -240,26 +221,21 @@ module _ (M n a b : ℕ) (k : Block) (is : IsBlock M k) (h : ℕ) (s : HartState
         plain_at at_10 place row = sends at_10 (λ e. omega arith) (λ e. omega arith) place (sends_10 (line_here 4 place refl) place row)
         plain_at at_14 place row = sends at_14 (λ e. omega arith) (λ e. omega arith) place
             (sends_14 24 at_2C (over M n a b the_sender lamport k is h s t v has c ws 5 6 place (omega arith)) (line_here 5 place refl)
-            (λ f after full. subst (λ m. Finished n the_sender lamport k r (went c nothing) m ws x (part the_sender t) 0)
-            (sym (ap (λ q. 6 + detour q) no_copy))
-            (to_no M n a b the_sender lamport k is h s t v has c ws (λ e. no_copy)
+            (λ f after full. to_no M n a b the_sender lamport k is h s t v has c ws (omega arith) (λ e. no_copy)
             (ap (λ q. sees_full q lamport r (slice_index x 5) (slice_index x 6) (slice_index x 6)) no_copy ∙ full) tt
-            (looked-offset k the_sender lamport r (slice_index x 5) (slice_index x 6) (part the_sender t) f.knows near) f)) place row)
+            (looked-offset k the_sender lamport r (slice_index x 5) (slice_index x 6) (part the_sender t) f.knows near) f) place row)
         plain_at at_18 place row = sends at_18 (λ e. omega arith) (λ e. omega arith) place (sends_18 (line_here 6 place refl) place row)
         plain_at at_1C place row = sends at_1C (λ e. omega arith) (λ e. omega arith) place (sends_1C (line_here 7 place refl) place row)
         plain_at at_20 place row = sends at_20 (λ e. omega arith) (λ e. omega arith) place (sends_20 (line_here 8 place refl) place row)
-        plain_at at_24 place row = sends at_24 (λ e. omega arith) (λ e. omega arith) place (sends_24 (line_here 9 place refl) place row)
-        plain_at at_28 place row = returns_1 M n a b the_sender lamport k is h s t v has c ws (short r.copy) place (line_here 10 place refl) row
-        plain_at at_2C place row = sends at_2C (λ e. omega arith) (λ e. omega arith) place (sends_2C (line_here 11 place refl) place row)
-        plain_at at_30 place row = returns_0 M n a b the_sender lamport k is h s t v has c ws (omega (arith, short r.copy)) place (line_here 12 place refl) row
         plain_at at_34 place row = absurd (none_past row)
         plain_at at_38 place row = absurd (none_past row)
         plain_at at_3C place row = absurd (none_past row.0)
         plain_at at_40 place row = absurd (let no : Some (k.base + 4) ≡ None = sym row.1 ∙ no_copy in cc)
+        plain_at line place row = absurd row
 
     -- cached_send
     pub caches_at : k.caches ≡ true → k.kind ≡ lamport → (line : At) → s.pc ≡ 4 * (n + number line)
-        → Row n the_sender lamport k r c ws line x (part the_sender t) → Answered M n a b the_sender lamport k is h s t v has c ws
+        → OwnRow n the_sender lamport k r c ws line x (part the_sender t) → Answered M n a b the_sender lamport k is h s t v has c ws
     caches_at keeps kind = cached_at
       where
         own : Equipped M n cached_send s
@@ -281,7 +257,7 @@ module _ (M n a b : ℕ) (k : Block) (is : IsBlock M k) (h : ℕ) (s : HartState
         -- the tail says so too
         full_too : {m : ℕ} → Past n k r c m ws x (part the_sender t) (looks_past_copy lamport r (slice_index x 5) (slice_index x 6))
             (load r.tail 4 (slice_index x 6) ∷ []) → m ≤ 7 → says_full lamport r (slice_index x 5) (slice_index x 6) ≡ true
-            → Finished n the_sender lamport k r (went c nothing) (6 + detour r.copy) ws x (part the_sender t) 0
+            → Finished n the_sender lamport k r (went c nothing) 8 ws x (part the_sender t) 0
         full_too row le full =
             let knows : t.sending ≡ placed (slice_index x 5) =
             row.knows ∙ ap (λ q. if q then placed (slice_index x 5) else renewing (slice_index x 5) (slice_index x 6)) full in
@@ -293,7 +269,7 @@ module _ (M n a b : ℕ) (k : Block) (is : IsBlock M k) (h : ℕ) (s : HartState
               place = slice_index x 5;
               copy = row.copy;
               seen = slice_index x 6;
-              left = more_left (omega (arith, le, ap detour copies)) (left_on nothing row.frame.left);
+              left = more_left (omega (arith, le)) (left_on nothing row.frame.left);
               word = row.word;
               found = tt;
               level = row.level;
@@ -314,10 +290,8 @@ module _ (M n a b : ℕ) (k : Block) (is : IsBlock M k) (h : ℕ) (s : HartState
               answers = sym (ap (λ q. if q then 0 else 1) found);
             }
 
-        cached_at : (line : At) → s.pc ≡ 4 * (n + number line) → Row n the_sender lamport k r c ws line x (part the_sender t)
+        cached_at : (line : At) → s.pc ≡ 4 * (n + number line) → OwnRow n the_sender lamport k r c ws line x (part the_sender t)
             → Answered M n a b the_sender lamport k is h s t v has c ws
-        cached_at at_00 place row = sends at_00 (λ e. omega arith) (λ e. omega arith) place
-            (index_loads M n a b the_sender lamport k is h s t v has near c ws 0 place (omega arith) at_04 refl (line_here 0 place refl) row (λ q. q))
         cached_at at_04 place row = sends at_04 (λ e. omega arith) (λ e. omega arith) place
             (sends_04 4 (line_here 1 place refl) refl (omega arith) (omega arith) (sym (ap (λ q. first_look q r.tail) copies)) place row)
         cached_at at_08 place row = sends at_08 (λ e. omega arith) (λ e. omega arith) place (sends_08 (line_here 2 place refl) place row)
@@ -339,10 +313,6 @@ module _ (M n a b : ℕ) (k : Block) (is : IsBlock M k) (h : ℕ) (s : HartState
         cached_at at_18 place row = sends at_18 (λ e. omega arith) (λ e. omega arith) place (sends_18 (line_here 6 place refl) place row)
         cached_at at_1C place row = sends at_1C (λ e. omega arith) (λ e. omega arith) place (sends_1C (line_here 7 place refl) place row)
         cached_at at_20 place row = sends at_20 (λ e. omega arith) (λ e. omega arith) place (sends_20 (line_here 8 place refl) place row)
-        cached_at at_24 place row = sends at_24 (λ e. omega arith) (λ e. omega arith) place (sends_24 (line_here 9 place refl) place row)
-        cached_at at_28 place row = returns_1 M n a b the_sender lamport k is h s t v has c ws (short r.copy) place (line_here 10 place refl) row
-        cached_at at_2C place row = sends at_2C (λ e. omega arith) (λ e. omega arith) place (sends_2C (line_here 11 place refl) place row)
-        cached_at at_30 place row = returns_0 M n a b the_sender lamport k is h s t v has c ws (omega (arith, short r.copy)) place (line_here 12 place refl) row
         -- lw x6,64(x10)
         cached_at at_34 place row =
             let got : v ≡ slice_index (slice_set x 6 v) 6 = sym (set-same x 6 v (omega (arith, has.size))) in
@@ -446,6 +416,7 @@ module _ (M n a b : ℕ) (k : Block) (is : IsBlock M k) (h : ℕ) (s : HartState
             (to_line M n a b the_sender lamport k is h s t v has c ws at_18 (goes_to s (address s.pc (negsuc 39)))
             (jump_line (line_here 16 place refl) (omega (arith, there))) there
             (ready_on M n a b the_sender lamport k is h s t v has c ws (λ u. u) (λ u. next r u) (λ u. u) (omega (arith, ap detour copies)) row.0 refl))
+        cached_at line place row = absurd row
 
   -- ---- try_receive
 
@@ -472,7 +443,7 @@ module _ (M n a b : ℕ) (k : Block) (is : IsBlock M k) (h : ℕ) (s : HartState
             (same_jumps (line_at M n a b the_receiver lamport k is h s t v has c ws 2 place refl) equal
             (omega (arith, over M n a b the_receiver lamport k is h s t v has c ws 2 9 place (omega arith))))
             (over M n a b the_receiver lamport k is h s t v has c ws 2 9 place (omega arith))
-            (to_no M n a b the_receiver lamport k is h s t v has c ws (λ e. cc) (eq-eqb (slice_index x 6) (slice_index x 5) (sym equal)) tt
+            (to_no M n a b the_receiver lamport k is h s t v has c ws (omega arith) (λ e. cc) (eq-eqb (slice_index x 6) (slice_index x 5) (sym equal)) tt
             (looked-offset k the_receiver lamport r (slice_index x 5) (slice_index x 6) (part the_receiver t) row.knows near) row)
         at (inr other) =
             let some : (slice_index x 6 == slice_index x 5) ≡ false = ne_eqb (slice_index x 6) (slice_index x 5) (λ e. other (sym e)) in
@@ -574,11 +545,8 @@ module _ (M n a b : ℕ) (k : Block) (is : IsBlock M k) (h : ℕ) (s : HartState
         → Answered M n a b the_receiver lamport k is h s t v has c ws
     takes line ten twelve place moves = none M n a b the_receiver lamport k is h s t v has c ws line place ten twelve moves
 
-    pub takes_at : (line : At) → s.pc ≡ 4 * (n + number line) → Row n the_receiver lamport k r c ws line x (part the_receiver t)
+    pub takes_at : (line : At) → s.pc ≡ 4 * (n + number line) → OwnRow n the_receiver lamport k r c ws line x (part the_receiver t)
         → Answered M n a b the_receiver lamport k is h s t v has c ws
-    takes_at at_00 place row = takes at_00 (λ e. omega arith) (λ e. omega arith) place
-        (index_loads M n a b the_receiver lamport k is h s t v has near c ws 0 place (omega arith) at_04 refl
-        (line_at M n a b the_receiver lamport k is h s t v has c ws 0 place refl) row (λ q. q))
     takes_at at_04 place row = takes at_04 (λ e. omega arith) (λ e. omega arith) place (takes_04 place row)
     takes_at at_08 place row = takes at_08 (λ e. omega arith) (λ e. omega arith) place (takes_08 place row)
     takes_at at_0C place row = takes at_0C (λ e. omega arith) (λ e. omega arith) place (takes_0C place row)
@@ -593,17 +561,4 @@ module _ (M n a b : ℕ) (k : Block) (is : IsBlock M k) (h : ℕ) (s : HartState
         (zeroes M n a b the_receiver lamport k is h s t v has near c ws 7 place (omega arith) at_20 (λ u. k.base + u) refl
         (line_at M n a b the_receiver lamport k is h s t v has c ws 7 place refl) row.0 row.1 (λ q. q))
     takes_at at_20 place row = takes at_20 (λ e. omega arith) (λ e. omega arith) place (takes_20 place row)
-    takes_at at_24 place row = takes at_24 (λ e. omega arith) (λ e. omega arith) place
-        (answers_1 M n a b the_receiver lamport k is h s t v has near c ws 9 place (omega arith) at_28 refl
-        (line_at M n a b the_receiver lamport k is h s t v has c ws 9 place refl) row (λ q. q))
-    takes_at at_28 place row = returns_1 M n a b the_receiver lamport k is h s t v has c ws (omega arith) place
-        (line_at M n a b the_receiver lamport k is h s t v has c ws 10 place refl) row
-    takes_at at_2C place row = takes at_2C (λ e. omega arith) (λ e. omega arith) place
-        (answers_0 M n a b the_receiver lamport k is h s t v has near c ws 11 place (omega arith) at_30 refl
-        (line_at M n a b the_receiver lamport k is h s t v has c ws 11 place refl) row (λ q. q))
-    takes_at at_30 place row = returns_0 M n a b the_receiver lamport k is h s t v has c ws (omega arith) place
-        (line_at M n a b the_receiver lamport k is h s t v has c ws 12 place refl) row
-    takes_at at_34 place row = absurd row
-    takes_at at_38 place row = absurd row
-    takes_at at_3C place row = absurd row
-    takes_at at_40 place row = absurd row
+    takes_at line place row = absurd row

@@ -27,7 +27,7 @@ use Rattle.spsc_queue.proofs.Outline.{Near, Part, part, role, Level, first_look,
 use Rattle.spsc_queue.proofs.Outline.{Fresh, Row, Inside, Outside, CourseStands}
 use Rattle.spsc_queue.proofs.Outline.{Stands}
 use Rattle.spsc_queue.proofs.Parts.{ring_is, near-of, first-load, look-load, load-words}
-use Rattle.spsc_queue.proofs.Functions.{moves_at, is_fresh, few, begins}
+use Rattle.spsc_queue.proofs.Functions.{moves_at, facts, begins}
 use Rattle.spsc_queue.proofs.OwnEntries.{equipped, own_parts, state_here, here_same, here_next}
 use Rattle.spsc_queue.proofs.Running.{runs_here}
 use Rattle.spsc_queue.proofs.Completed.{is_in_call-last, completed-last, none_completed, same_call, entered}
@@ -200,8 +200,7 @@ module _ (B M : ℕ) (o : OpeningValue) (q : SpscQueue) (before es : List Entry)
       subst (λ b. Stands n p K k r b (words_at done) s (part p (protocol done))) w.begun (stand.stands p s w.entry) in
       let first : inside.1.line ≡ at_00 = first_line inside.1.line (omega (arith, inside.1.place, (entered n k s w.enters).0)) in (
         inside.0,
-        is_fresh n p K k r inside.0 (words_at done) s.registers (part p (protocol done))
-            (subst (λ l. Row n p K k r inside.0 (words_at done) l s.registers (part p (protocol done))) first inside.1.row),
+        (subst (λ l. Row n p K k r inside.0 (words_at done) l s.registers (part p (protocol done))) first inside.1.row),
       )
 
   starts : So done []
@@ -309,7 +308,7 @@ module _ (B M : ℕ) (o : OpeningValue) (q : SpscQueue) (before es : List Entry)
   pub made_few : is_in_call M o h n k before (done ++ call) ≡ true → length (own h call) < longest p r
   made_few busy =
       let inside = inside_at busy in
-      few n p K k r (course h s call) (words_at (done ++ call)) inside.line (state (done ++ call)).registers (part p (protocol (done ++ call))) inside.row
+      (facts n p K k r (course h s call) (words_at (done ++ call)) inside.line (state (done ++ call)) (part p (protocol (done ++ call))) inside.row).1
 
   module _ (z : HartState) (whole : IsWholeCall M o h n k before done call s z) where
     end_state : state (done ++ call) ≡ z

@@ -239,8 +239,11 @@ abbrev pub detour : Option ℕ → ℕ
 detour None = 0
 detour (Some c) = 4
 
+abbrev pub more : Party → RingBuffer → ℕ
+more the_sender r = detour r.copy
+more the_receiver r = 0
+
 abbrev SendRow : (n : ℕ) → Block → RingBuffer → Course → (ws : List ℕ) → At → (x : List ℕ) → Part → Type 0
-SendRow n k r c ws at_00 x t = Fresh n the_sender k c ws x t
 SendRow n k r c ws at_04 x t = Indexed n the_sender k r c 1 ws x t
 SendRow n k r c ws at_08 x t = Seen n the_sender lamport k r c 2 6 ws x t
 SendRow n k r c ws at_0C x t = Seen n the_sender lamport k r c 3 6 ws x t × (slice_index x 7 ≡ slice_index x 5 + 4)
@@ -249,19 +252,15 @@ SendRow n k r c ws at_14 x t = Seen n the_sender lamport k r c 5 6 ws x t × (sl
 SendRow n k r c ws at_18 x t = Ready n the_sender lamport k r c (6 + detour r.copy) ws x t (λ u. u) (λ u. next r u)
 SendRow n k r c ws at_1C x t = Ready n the_sender lamport k r c (7 + detour r.copy) ws x t (λ u. k.base + u) (λ u. next r u)
 SendRow n k r c ws at_20 x t = Half n the_sender lamport k r c (8 + detour r.copy) 7 ws x t
-SendRow n k r c ws at_24 x t = Finished n the_sender lamport k r c (9 + detour r.copy) (ws ++ slice_index x 11 ∷ []) x t 1
-SendRow n k r c ws at_28 x t = Ended n the_sender lamport k r c (10 + detour r.copy) (ws ++ slice_index x 11 ∷ []) x t 1
-SendRow n k r c ws at_2C x t = Finished n the_sender lamport k r c (6 + detour r.copy) ws x t 0
-SendRow n k r c ws at_30 x t = Ended n the_sender lamport k r c (7 + detour r.copy) ws x t 0
 SendRow n k r c ws at_34 x t = Past n k r c 6 ws x t (placed (slice_index x 5)) []
 SendRow n k r c ws at_38 x t =
     Past n k r c 7 ws x t (looks_past_copy lamport r (slice_index x 5) (slice_index x 6)) (load r.tail 4 (slice_index x 6) ∷ [])
 SendRow n k r c ws at_3C x t = Past n k r c 8 ws x t (renewing (slice_index x 5) (slice_index x 6)) (load r.tail 4 (slice_index x 6) ∷ [])
     × (says_full lamport r (slice_index x 5) (slice_index x 6) ≡ false)
 SendRow n k r c ws at_40 x t = Ready n the_sender lamport k r c 9 ws x t (λ u. u) (λ u. next r u) × (r.copy ≡ Some (k.base + 4))
+SendRow n k r c ws line x t = ⊥
 
 abbrev ReceiveRow : (n : ℕ) → Block → RingBuffer → Course → (ws : List ℕ) → At → (x : List ℕ) → Part → Type 0
-ReceiveRow n k r c ws at_00 x t = Fresh n the_receiver k c ws x t
 ReceiveRow n k r c ws at_04 x t = Indexed n the_receiver k r c 1 ws x t
 ReceiveRow n k r c ws at_08 x t = Seen n the_receiver lamport k r c 2 6 ws x t
 ReceiveRow n k r c ws at_0C x t = Waiting n k r c 3 ws x t
@@ -270,10 +269,6 @@ ReceiveRow n k r c ws at_14 x t = Ready n the_receiver lamport k r c 5 ws x t (�
 ReceiveRow n k r c ws at_18 x t = Ready n the_receiver lamport k r c 6 ws x t (λ u. u + 4) (λ u. k.base + u)
 ReceiveRow n k r c ws at_1C x t = Ready n the_receiver lamport k r c 7 ws x t (λ u. u + 4) (λ u. k.base + u) × (slice_index x 5 ≡ 4 * k.size)
 ReceiveRow n k r c ws at_20 x t = Ready n the_receiver lamport k r c 8 ws x t (λ u. next r u) (λ u. k.base + u)
-ReceiveRow n k r c ws at_24 x t = Finished n the_receiver lamport k r c 9 (ws ++ slice_index x 11 ∷ []) x t 1
-ReceiveRow n k r c ws at_28 x t = Ended n the_receiver lamport k r c 10 (ws ++ slice_index x 11 ∷ []) x t 1
-ReceiveRow n k r c ws at_2C x t = Finished n the_receiver lamport k r c 3 ws x t 0
-ReceiveRow n k r c ws at_30 x t = Ended n the_receiver lamport k r c 4 ws x t 0
 ReceiveRow n k r c ws line x t = ⊥
 
 -- FastForward's functions differ in the register that takes what is read in the slot
@@ -282,7 +277,6 @@ slot_register the_sender = 6
 slot_register the_receiver = 11
 
 abbrev FastForwardRow : (n : ℕ) → Party → Block → RingBuffer → Course → (ws : List ℕ) → At → (x : List ℕ) → Part → Type 0
-FastForwardRow n p k r c ws at_00 x t = Fresh n p k c ws x t
 FastForwardRow n p k r c ws at_04 x t = Indexed n p k r c 1 ws x t
 FastForwardRow n p k r c ws at_08 x t = Indexed n p k r c 2 ws x t × (slice_index x 7 ≡ k.base + slice_index x 5)
 FastForwardRow n p k r c ws at_0C x t = Seen n p fastforward k r c 3 (slot_register p) ws x t × (slice_index x 7 ≡ k.base + slice_index x 5)
@@ -291,19 +285,22 @@ FastForwardRow n p k r c ws at_14 x t = Ready n p fastforward k r c 5 ws x t (λ
 FastForwardRow n p k r c ws at_18 x t = Ready n p fastforward k r c 6 ws x t (λ u. u + 4) (λ u. k.base + u) × (slice_index x 5 ≡ 4 * k.size)
 FastForwardRow n p k r c ws at_1C x t = Ready n p fastforward k r c 7 ws x t (λ u. next r u) (λ u. k.base + u)
 FastForwardRow n p k r c ws at_20 x t = Half n p fastforward k r c 8 5 ws x t
-FastForwardRow n p k r c ws at_24 x t = Finished n p fastforward k r c 9 (ws ++ slice_index x 11 ∷ []) x t 1
-FastForwardRow n p k r c ws at_28 x t = Ended n p fastforward k r c 10 (ws ++ slice_index x 11 ∷ []) x t 1
-FastForwardRow n p k r c ws at_2C x t = Finished n p fastforward k r c 4 ws x t 0
-FastForwardRow n p k r c ws at_30 x t = Ended n p fastforward k r c 5 ws x t 0
 FastForwardRow n p k r c ws line x t = ⊥
 
-abbrev LamportRow : (n : ℕ) → Party → Block → RingBuffer → Course → (ws : List ℕ) → At → (x : List ℕ) → Part → Type 0
-LamportRow n the_sender k r c ws line x t = SendRow n k r c ws line x t
-LamportRow n the_receiver k r c ws line x t = ReceiveRow n k r c ws line x t
+abbrev pub OwnRow : (n : ℕ) → Party → Kind → Block → RingBuffer → Course → (ws : List ℕ) → At → (x : List ℕ) → Part → Type 0
+OwnRow n the_sender lamport k r c ws line x t = SendRow n k r c ws line x t
+OwnRow n the_receiver lamport k r c ws line x t = ReceiveRow n k r c ws line x t
+OwnRow n p fastforward k r c ws line x t = FastForwardRow n p k r c ws line x t
 
+-- the lines that all functions have in the same place, and those of each
 abbrev pub Row : (n : ℕ) → Party → Kind → Block → RingBuffer → Course → (ws : List ℕ) → At → (x : List ℕ) → Part → Type 0
-Row n p lamport k r c ws line x t = LamportRow n p k r c ws line x t
-Row n p fastforward k r c ws line x t = FastForwardRow n p k r c ws line x t
+Row n p K k r c ws at_00 x t = Fresh n p k c ws x t
+Row n p K k r c ws at_04 x t = Indexed n p k r c 1 ws x t
+Row n p K k r c ws at_24 x t = Finished n p K k r c (9 + more p r) (ws ++ slice_index x 11 ∷ []) x t 1
+Row n p K k r c ws at_28 x t = Ended n p K k r c (10 + more p r) (ws ++ slice_index x 11 ∷ []) x t 1
+Row n p K k r c ws at_2C x t = Finished n p K k r c 8 ws x t 0
+Row n p K k r c ws at_30 x t = Ended n p K k r c 9 ws x t 0
+Row n p K k r c ws line x t = OwnRow n p K k r c ws line x t
 
 pub record Inside (n : ℕ) (p : Party) (K : Kind) (k : Block) (r : RingBuffer) (ws : List ℕ) (c : Course) (s : HartState) (t : Part) : Type 0 where
   pub line : At
