@@ -27,12 +27,10 @@ module _ (h : ℕ) (e : Entry) where
   pub mine-accesses : (es : List Entry) → is_own h e ≡ true → accesses h (es ++ e ∷ []) ≡ accesses h es ++ memory_access (access_of e)
   mine-accesses [] on = ap (λ b. if b then memory_access (access_of e) ++ [] else []) on ∙ append-nil (memory_access (access_of e))
   mine-accesses (d ∷ es) on =
-      ap (λ xs. if is_own h d then memory_access (access_of d) ++ xs else xs) (mine-accesses es on)
-      ∙ at (is_own h d)
+      ap (λ xs. if is_own h d then memory_access (access_of d) ++ xs else xs) (mine-accesses es on) ∙ at (is_own h d)
     where
       at : (b : Bool) → (if b then memory_access (access_of d) ++ (accesses h es ++ memory_access (access_of e)) else accesses h es
-          ++ memory_access (access_of e))
-          ≡ (if b then memory_access (access_of d) ++ accesses h es else accesses h es) ++ memory_access (access_of e)
+          ++ memory_access (access_of e)) ≡ (if b then memory_access (access_of d) ++ accesses h es else accesses h es) ++ memory_access (access_of e)
       at true = sym (append_assoc (memory_access (access_of d)) (accesses h es) (memory_access (access_of e)))
       at false = refl
 

@@ -51,8 +51,7 @@ none_more : (p : Party) (K : Kind) (r : RingBuffer) (w u v : ℕ) → (p ≡ the
     → looked p K r u v ≡ all_accesses p K r w u v v
 none_more the_sender K r w u v plain says = at r.copy (plain refl) says
   where
-    at : (q : Option ℕ) → q ≡ None → sees_full q K r u v v ≡ true
-        → load r.head 4 u ∷ load (first_look q (room_at K r u)) 4 v ∷ []
+    at : (q : Option ℕ) → q ≡ None → sees_full q K r u v v ≡ true → load r.head 4 u ∷ load (first_look q (room_at K r u)) 4 v ∷ []
         ≡ load r.head 4 u ∷ (look_accesses q K r u v v
         ++ (if sees_full q K r u v v then [] else store (write (r.slots + u) 4 w) ∷ store (write r.head 4 (next r u)) ∷ []))
     at None plain says = ap (λ ys. load r.head 4 u ∷ load (room_at K r u) 4 v ∷ ys)
@@ -126,8 +125,7 @@ module _ (M n a b : ℕ) (p : Party) (K : Kind) (k : Block) (is : IsBlock M k) (
   loads_to line a i does place row = by_line (loads a) (λ q. leaves_in s i q) does tt tt (record { line = line; place = place; row = row })
 
   pub stores_to : (line : At) (a w : ℕ) → Line s (stores a w) (λ q. goes_to s (next_pc s.pc)) → next_pc s.pc ≡ 4 * (n + number line)
-      → IsStore p K r t (write a 4 w)
-      → Row n p K k r (went c (store (write a 4 w))) ws line x (part p (next_by K r (role p) t (store (write a 4 w))))
+      → IsStore p K r t (write a 4 w) → Row n p K k r (went c (store (write a 4 w))) ws line x (part p (next_by K r (role p) t (store (write a 4 w))))
       → Moves n p K k r true ws c h s t v
   stores_to line a w does place rule row =
       by_line (stores a w) (λ q. goes_to s (next_pc s.pc)) does tt rule (record { line = line; place = place; row = row })
@@ -136,8 +134,7 @@ module _ (M n a b : ℕ) (p : Party) (K : Kind) (k : Block) (is : IsBlock M k) (
   room = omega (arith, code_room s.code n (listing_of K k.caches p) has.code, (thirteen K k.caches p).0, has.code.small)
 
   pub line_at : (j : ℕ) → s.pc ≡ 4 * (n + j) → {i : Instr}
-      → slice_get (map Some (lines_of (listing_of K k.caches p)) ++ map meaning has.code.back) j ≡ Some (Some i)
-      → IsAt s i
+      → slice_get (map Some (lines_of (listing_of K k.caches p)) ++ map meaning has.code.back) j ≡ Some (Some i) → IsAt s i
   line_at j place found = line_of M n (listing_of K k.caches p) s has (decoded K k.caches p) j place found
 
   -- the next line, and one further on
@@ -230,8 +227,7 @@ module _ (M n a b : ℕ) (p : Party) (K : Kind) (k : Block) (is : IsBlock M k) (
 
   -- or that there is one, and it may store
   pub to_ready : {m i : ℕ} (seven : ℕ → ℕ) (l : ℕ) → m + 1 ≤ l → says_no p K r (slice_index x 5) (slice_index x i) (slice_index x i) ≡ false
-      → Found p K (slice_index x i) (slice_index x 11)
-      → MayStore p (slice_index x 5) (slice_index x 11) (part p t) → slice_index x 7 ≡ seven (slice_index x 5)
+      → Found p K (slice_index x i) (slice_index x 11) → MayStore p (slice_index x 5) (slice_index x 11) (part p t) → slice_index x 7 ≡ seven (slice_index x 5)
       → looked p K r (slice_index x 5) (slice_index x i) ≡ ready p K r (slice_index x 5) (slice_index x i) (slice_index x i) (slice_index x 11)
       → Seen n p K k r c m i ws x (part p t) → Ready n p K k r (went c nothing) l ws x (part p t) (λ u. u) seven
   to_ready {m} {i} seven l le some found knows x7 same f = record {
@@ -327,12 +323,10 @@ module _ (M n a b : ℕ) (p : Party) (K : Kind) (k : Block) (is : IsBlock M k) (
         level = subst Level (sym becomes) (record { sending = tt; receiving = tt });
         among = among;
         words = ap (λ (y : Part). y.words) becomes ∙ q.words;
-        did = ap (λ ys. ys ++ store made ∷ []) q.did
-            ∙ append_assoc (ready p K r q.place q.copy q.seen (slice_index x 11))
+        did = ap (λ ys. ys ++ store made ∷ []) q.did ∙ append_assoc (ready p K r q.place q.copy q.seen (slice_index x 11))
             (store (write (r.slots + q.place) 4 (put p (slice_index x 11))) ∷ []) (store made ∷ [])
             ∙ ap (λ y. ready p K r q.place q.copy q.seen (slice_index x 11)
-            ++ store (write (r.slots + q.place) 4 (put p (slice_index x 11))) ∷ store y ∷ []) is_made
-            ∙ whole;
+            ++ store (write (r.slots + q.place) 4 (put p (slice_index x 11))) ∷ store y ∷ []) is_made ∙ whole;
         answers = if_false (says_no p K r q.place q.copy q.seen) 0 1 q.some;
       }
 
@@ -367,8 +361,7 @@ module _ (M n a b : ℕ) (p : Party) (K : Kind) (k : Block) (is : IsBlock M k) (
   answered : (f : Bool) (ys : List ℕ) → is_in_call_after n k true s (advanced s v) ≡ f → completed_at n true s ≡ ys
       → ys ≡ (if f then [] else completed_word (advanced s v)) → Moves n p K k r f (ws ++ ys) c h s t v → Answered
   answered f ys goes all word moves = (
-    subst (λ q. Moves n p K k r q (ws ++ completed_at n true s) c h s t v) (sym goes)
-        (subst (λ q. Moves n p K k r f (ws ++ q) c h s t v) (sym all) moves),
+    subst (λ q. Moves n p K k r q (ws ++ completed_at n true s) c h s t v) (sym goes) (subst (λ q. Moves n p K k r f (ws ++ q) c h s t v) (sym all) moves),
     all ∙ word ∙ ap (λ q. if q then [] else completed_word (advanced s v)) (sym goes),
   )
 
@@ -392,8 +385,7 @@ module _ (M n a b : ℕ) (p : Party) (K : Kind) (k : Block) (is : IsBlock M k) (
       where
         at : (p2 : Party) (K : Kind) → m < longest p2 r → Left n p k c m x → Word p2 c.entry (slice_index x 11) → Found p2 K f.0.seen (slice_index x 11)
             → c.did ≡ all_accesses p2 K r (slice_index x 11) f.0.place f.0.copy f.0.seen
-            → answer ≡ (if says_no p2 K r f.0.place f.0.copy f.0.seen then 0 else 1)
-            → Effect p2 K r c.entry back (c.count + 1) (c.did ++ [])
+            → answer ≡ (if says_no p2 K r f.0.place f.0.copy f.0.seen then 0 else 1) → Effect p2 K r c.entry back (c.count + 1) (c.did ++ [])
         at the_sender K le left word found did answers = record {
           returns = returned (longest the_sender r) back le refl refl left;
           word = word;

@@ -188,8 +188,7 @@ module _ (B M : ℕ) (o : OpeningValue) (q : SpscQueue) (before es fs : List Ent
   end : es ++ fs ≡ (es ++ fs) ++ []
   end = sym (append-nil (es ++ fs))
 
-  pub publication : is_sender_in_call M o q before es ≡ false
-      → length (sent_words M o q before es) < length (received_words M o q before (es ++ fs))
+  pub publication : is_sender_in_call M o q before es ≡ false → length (sent_words M o q before es) < length (received_words M o q before (es ++ fs))
       → length (stores q.sender (before ++ es)) < lands q.sender (before ++ (es ++ fs))
   publication idle more =
       let sent = idle_sent B M o q before (es ++ fs) c es fs refl idle in
@@ -210,10 +209,8 @@ module _ (B M : ℕ) (o : OpeningValue) (q : SpscQueue) (before es fs : List Ent
       (handed_over B o a h x (before ++ es) fs (subst (λ xs. Legal B (history_of o xs)) (sym (append_assoc before es fs)) c.shares.run.legal)
       (omega (arith, subst (λ xs. length (stores a (before ++ es)) < lands a xs) (sym (append_assoc before es fs)) landed)) only leave)
 
-  pub message_passing : is_sender_in_call M o q before es ≡ false
-      → length (sent_words M o q before es) < length (received_words M o q before (es ++ fs))
-      → (h x : ℕ) → IsOnlyWriter q.sender x (before ++ es) → AllLeaveByte x fs
-      → read_byte o (before ++ (es ++ fs)) h x ≡ read_byte o (before ++ es) q.sender x
+  pub message_passing : is_sender_in_call M o q before es ≡ false → length (sent_words M o q before es) < length (received_words M o q before (es ++ fs))
+      → (h x : ℕ) → IsOnlyWriter q.sender x (before ++ es) → AllLeaveByte x fs → read_byte o (before ++ (es ++ fs)) h x ≡ read_byte o (before ++ es) q.sender x
   message_passing idle more h x only leave = handed q.sender (publication idle more) h x only leave
 
   pub handing_back : is_receiver_in_call M o q before es ≡ false
@@ -242,8 +239,7 @@ module _ (B M : ℕ) (o : OpeningValue) (q : SpscQueue) (before done : List Entr
       omega (arith, empty_landed B (buffer q) o before done e fs all u v mine does says was, count, taken, sent)
 
   pub finds_full : (u v : ℕ) → hart_of e ≡ q.sender → access_of e ≡ load (room_at q.block.kind (buffer q) u) 4 v → says_full q.block.kind (buffer q) u v ≡ true
-      → now.sending ≡ placed u → now.sent ≡ sent_words M o q before done
-      → length (received_words M o q before done) + capacity (buffer q)
+      → now.sending ≡ placed u → now.sent ≡ sent_words M o q before done → length (received_words M o q before done) + capacity (buffer q)
       ≤ length (sent_words M o q before done) + length (writes_to (buffer q) (pending q.receiver (before ++ done)))
   finds_full u v mine does says was same =
       let count : length now.sent ≡ length (sent_words M o q before done) = ap length same in

@@ -163,11 +163,9 @@ module _ (B M : ℕ) (o : OpeningValue) (q : SpscQueue) (before es : List Entry)
           → state_of M (history_of o ((before ++ done) ++ e ∷ [])) (party_hart q p) ≡ Some s → StandsNext p s (part p U)
       rests p off same s at =
           subst (λ b. Stands (party_line q p) p K k r b (A_next p) s (part p U))
-          (same_call M o (party_hart q p) (party_line q p) k (C p) (before ++ done) e off)
-          (subst (λ ws. Stands (party_line q p) p K k r (C p) ws s (part p U))
+          (same_call M o (party_hart q p) (party_line q p) k (C p) (before ++ done) e off) (subst (λ ws. Stands (party_line q p) p K k r (C p) ws s (part p U))
           (none_completed M o (party_hart q p) (party_line q p) (C p) (before ++ done) e (A p) off)
-          (subst (Stands (party_line q p) p K k r (C p) (A p) s) (sym same)
-          (st.stands p s (same_state M o (before ++ done) e (party_hart q p) off s at))))
+          (subst (Stands (party_line q p) p K k r (C p) (A p) s) (sym same) (st.stands p s (same_state M o (before ++ done) e (party_hart q p) off s at))))
 
       lands : is_land e ≡ true → Goes
       lands land_e =
@@ -235,8 +233,7 @@ module _ (B M : ℕ) (o : OpeningValue) (q : SpscQueue) (before es : List Entry)
             let all : A p ≡ A_next p = sym (append-nil (A p)) ∙ ap (λ b. A p ++ completed_at n b s) (sym idle)
             ∙ ap (λ ws. A p ++ ws) (own_completed M o (party_hart q p) n (C p) (before ++ done) e s own_e (was_here p done)) in
             let level = level-next K r p T (access_of e) owed.0 stands.0 in
-            goes_by (stays-keeps K r (role p) T (access_of e) owed.0)
-            (subst (λ b. Stands n p K k r b (A_next p) (advanced s (value_of e)) (part p V)) same
+            goes_by (stays-keeps K r (role p) T (access_of e) owed.0) (subst (λ b. Stands n p K k r b (A_next p) (advanced s (value_of e)) (part p V)) same
             (subst (λ ws. Stands n p K k r (enters n k (advanced s (value_of e))) ws (advanced s (value_of e)) (part p V)) all
             (enters_by (enters n k (advanced s (value_of e))) refl owed.1 (level.0, level.1 ∙ stands.1))))
         acts true busy inside = goes_by (rule p own.hart act busy s (was_here p done) inside.0 inside.1)

@@ -51,8 +51,7 @@ record IsQuiet (k : Kind) (r : RingBuffer) (o : OpeningValue) (es : List Entry) 
 
 -- the copy is the offset of some slot
 copy-quiet : (k : Kind) (r : RingBuffer) (is : IsRingBuffer r) (o : OpeningValue) (es : List Entry) (n m stored a : ℕ) → r.copy ≡ Some a → stored ≤ n
-    → m ≡ stored → writes_to r (pending r.sender es) ≡ [] → Copied k (Some a) r o es n m
-    → (j : ℕ) × (j < r.size) × (memory_word o es a ≡ offset r (stored + j))
+    → m ≡ stored → writes_to r (pending r.sender es) ≡ [] → Copied k (Some a) r o es n m → (j : ℕ) × (j < r.size) × (memory_word o es a ≡ offset r (stored + j))
 copy-quiet fastforward r is o es n m stored a some le same none copy = absurd (cc)
 copy-quiet lamport r is o es n m stored a some le same none copy =
     let reads : memory_word o es a ≡ offset r copy.place =
@@ -62,8 +61,7 @@ copy-quiet lamport r is o es n m stored a some le same none copy =
       | inr more ↦ (
         0,
         omega (arith, is.some_slots),
-        reads ∙ offset_again r is stored copy.place (omega (arith, more, copy.high, same))
-            ∙ ap (offset r) (omega arith),
+        reads ∙ offset_again r is stored copy.place (omega (arith, more, copy.high, same)) ∙ ap (offset r) (omega arith),
       )
     ]
 
@@ -101,8 +99,7 @@ changes_hands B M o q before es c idle_sender idle_receiver all none a b =
     let taken = idle_received B M o q before es c es [] whole idle_receiver in
     let inv = invariant-of B r o before es [] (subst (FollowsSpscProtocol B r o before) whole (calls_follow B M o q before es c)) in
     let rest : IsQuiet q.block.kind r o (before ++ es) s.stored =
-    quiet q.block.kind r (ring_is M q.block q.sender q.receiver c.shares.block c.shares.parties)
-    (slice_index (protocol_after r at_start (es ++ [])).sent)
+    quiet q.block.kind r (ring_is M q.block q.sender q.receiver c.shares.block c.shares.parties) (slice_index (protocol_after r at_start (es ++ [])).sent)
     (earlier r before) o (before ++ es) s inv sent.2 (omega (arith, taken, all, sent.0))
     (idle_words B M o q before es c es [] whole the_receiver idle_receiver).0.receiving
     none in

@@ -129,8 +129,7 @@ module _ (M n a b : ℕ) (p : Party) (K : Kind) (k : Block) (is : IsBlock M k) (
         } in
         let hits : overlaps r made ≡ true = word_overlaps r made (r.slots + u) inside (record { place = omega (arith, base); width = refl }) in
         let made_so = makes made hits is_made in
-        stores_to M n a b p K k is h s t v has c ws to (read x rs + 128) (read x from)
-        (store_line here (omega (arith, base, is.aligned, bound.1)) refl
+        stores_to M n a b p K k is h s t v has c ws to (read x rs + 128) (read x from) (store_line here (omega (arith, base, is.aligned, bound.1)) refl
         (omega (arith, base, bound.0, is.inside, has.words)) (omega (arith, has.words, is.small)))
         (ahead (number to) is_next) made_so.0 (so made (to_half M n a b p K k is h s t v has c ws l le made i five seven row is_made after made_so.1 made_so.2))
 

@@ -91,8 +91,7 @@ own_read o es fs h c w more at small =
         let place : c + i - w.addr ≡ i = omega (arith, at.place) in
         ap (λ ws. unwrap_or (newest_of (c + i) None ws) (memory_byte o fs (c + i))) more
         ∙ ap (λ f. unwrap_or f (memory_byte o fs (c + i))) (newest_of-append (c + i) None (pending h es) (w ∷ [])
-        ∙ ap (λ b. if b then Some (byte_at (c + i - w.addr) w.value) else newest_of (c + i) None (pending h es)) held)
-        ∙ ap (λ j. byte_at j w.value) place
+        ∙ ap (λ b. if b then Some (byte_at (c + i - w.addr) w.value) else newest_of (c + i) None (pending h es)) held) ∙ ap (λ j. byte_at j w.value) place
 
 -- a hart with no pending store to the block reads a word of it as memory has it
 pub none_leave : (r : RingBuffer) (x : ℕ) (ws : List Write) → writes_to r ws ≡ [] → r.first ≤ x → x < r.end → All (LeavesByte x) ws

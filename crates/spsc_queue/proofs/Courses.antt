@@ -171,8 +171,7 @@ module _ (n : ℕ) (k : Block) (s z : HartState) where
   pub completes_one : s.pc ≡ 4 * (n + 10) → slice_index s.registers 10 ≡ 1 → completed_at n true s ≡ slice_index s.registers 11 ∷ []
   completes_one place one =
       ap (λ b. if (b || (s.pc == 4 * (n + 12))) && (slice_index s.registers 10 == 1) then slice_index s.registers 11 ∷ [] else [])
-      (is_at 10 10 place (omega arith))
-      ∙ ap (λ b. if b then slice_index s.registers 11 ∷ [] else []) (eq-eqb (slice_index s.registers 10) 1 one)
+      (is_at 10 10 place (omega arith)) ∙ ap (λ b. if b then slice_index s.registers 11 ∷ [] else []) (eq-eqb (slice_index s.registers 10) 1 one)
 
   pub completes_no_word : s.pc ≡ 4 * (n + 12) → slice_index s.registers 10 ≡ 0 → completed_at n true s ≡ []
   completes_no_word place zero =

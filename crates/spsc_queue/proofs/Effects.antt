@@ -22,8 +22,7 @@ module _ (o : OpeningValue) (es : List Entry) (e : Entry) where
   memory-quiet a none = joined-same (λ i. memory_byte o (es ++ e ∷ []) (a + i)) (λ i. memory_byte o es (a + i)) 4
       (λ i lt. memory_byte-other o es e (a + i) none)
 
-  memory-after : (a : ℕ) (w : Write) → write_of es e ≡ w ∷ []
-      → memory_word o (es ++ e ∷ []) a ≡ joined (λ i. byte_after w (a + i) (memory_byte o es (a + i))) 4
+  memory-after : (a : ℕ) (w : Write) → write_of es e ≡ w ∷ [] → memory_word o (es ++ e ∷ []) a ≡ joined (λ i. byte_after w (a + i) (memory_byte o es (a + i))) 4
   memory-after a w is = joined-same (λ i. memory_byte o (es ++ e ∷ []) (a + i)) (λ i. byte_after w (a + i) (memory_byte o es (a + i))) 4
       (λ i lt. memory_byte-write o es e w (a + i) is)
 
@@ -70,10 +69,8 @@ module _ (es : List Entry) (e : Entry) (h : ℕ) (le : lands h es ≤ length (st
       ∙ ap (λ ws. pending h es ++ ws) none ∙ append-nil (pending h es)
 
   pub pending-more : (w : Write) → store_of h e ≡ w ∷ [] → land_of h e ≡ 0 → pending h (es ++ e ∷ []) ≡ pending h es ++ w ∷ []
-  pending-more w one still = pending-last h es e le ∙ ap (λ n. drop n (pending h es ++ store_of h e)) still
-      ∙ ap (λ ws. pending h es ++ ws) one
+  pending-more w one still = pending-last h es e le ∙ ap (λ n. drop n (pending h es ++ store_of h e)) still ∙ ap (λ ws. pending h es ++ ws) one
 
-  pub pending-first : (w : Write) (rest : List Write) → pending h es ≡ w ∷ rest → store_of h e ≡ [] → land_of h e ≡ 1
-      → pending h (es ++ e ∷ []) ≡ rest
+  pub pending-first : (w : Write) (rest : List Write) → pending h es ≡ w ∷ rest → store_of h e ≡ [] → land_of h e ≡ 1 → pending h (es ++ e ∷ []) ≡ rest
   pending-first w rest is none one = pending-last h es e le ∙ ap (λ n. drop n (pending h es ++ store_of h e)) one
       ∙ ap (λ ws. drop 1 (pending h es ++ ws)) none ∙ ap (drop 1) (append-nil (pending h es)) ∙ ap (drop 1) is

@@ -206,8 +206,7 @@ receive_ends lamport false = record { entry = refl; enters = refl; begun = refl;
 receive_ends lamport true = record { entry = refl; enters = refl; begun = refl; over = refl; return = refl }
 receive_ends fastforward c = record { entry = refl; enters = refl; begun = refl; over = refl; return = refl }
 
-pub is_send : (k : Kind) (c : Bool)
-    → IsSend 64 (opening k c) (queue k c) [] before_send (send k c) (sender_after k c before_send)
+pub is_send : (k : Kind) (c : Bool) → IsSend 64 (opening k c) (queue k c) [] before_send (send k c) (sender_after k c before_send)
     (sender_after k c (before_send ++ send k c))
 is_send k c =
     let ends = send_ends k c in

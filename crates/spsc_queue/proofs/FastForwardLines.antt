@@ -46,8 +46,7 @@ module _ (M n a b : ℕ) (k : Block) (is : IsBlock M k) (h : ℕ) (s : HartState
       let bound : IsOffset k (slice_index x 5) = knows-offset k p (slice_index x 5) (part p t) row.knows near in
       let sum : ℕ = slice_index x 10 + slice_index x 5 in
       to_line M n a b p fastforward k is h s t v has c ws at_08 (leaves_in s (reg_of 7) sum)
-      (sum_line here (omega (arith, row.frame.block, bound.0, is.inside, is.small)))
-      (on M n a b p fastforward k is h s t v has c ws 1 place (omega arith)) (
+      (sum_line here (omega (arith, row.frame.block, bound.0, is.inside, is.small))) (on M n a b p fastforward k is h s t v has c ws 1 place (omega arith)) (
         indexed_7 M n a b p fastforward k is h s t v has c ws sum row,
         set-same x 7 sum (omega (arith, has.size)) ∙ ap (λ q. q + slice_index x 5) row.frame.block
             ∙ ap (λ q. k.base + q) (sym (set-other x 7 5 sum (λ e. omega arith))),
@@ -55,8 +54,7 @@ module _ (M n a b : ℕ) (k : Block) (is : IsBlock M k) (h : ℕ) (s : HartState
 
   -- where x7 leads to the slot
   slot_below : (p : Party) (has : Equipped M n (listing_of fastforward k.caches p) s) → Near k (part p t) → (c : Course) (ws : List ℕ)
-      → Row n p fastforward k r c ws at_08 x (part p t)
-      → (slice_index x 7 % 4 ≡ 0) × (slice_index x 7 + 128 < 4 * s.words) × (4 * s.words ≤ 2 ^ 32)
+      → Row n p fastforward k r c ws at_08 x (part p t) → (slice_index x 7 % 4 ≡ 0) × (slice_index x 7 + 128 < 4 * s.words) × (4 * s.words ≤ 2 ^ 32)
   slot_below p has near c ws row =
       let bound : IsOffset k (slice_index x 5) = knows-offset k p (slice_index x 5) (part p t) row.0.knows near in
       (omega (arith, row.1, is.aligned, bound.1), omega (arith, row.1, bound.0, is.inside, has.words), omega (arith, has.words, is.small))
@@ -133,13 +131,11 @@ module _ (M n a b : ℕ) (k : Block) (is : IsBlock M k) (h : ℕ) (s : HartState
         (slot_stores M n a b the_sender fastforward k is h s t v has near c ws 7 place (omega arith) at_20 8 (omega arith) (λ u. next r u) (λ u. k.base + u)
         (reg_of 7) (reg_of 11) 5 refl (line_at M n a b the_sender fastforward k is h s t v has c ws 7 place refl) row row.x7 refl row.x5
         (sender_puts fastforward r t row.place (slice_index x 11) row.knows (omega (arith, row.word, row.frame.left.args.word))
-        (subst (IsSendable fastforward) (sym row.word)
-        (subst (λ q. IsSendable q (slice_index c.entry.registers 11)) kind row.frame.left.args.sendable)))
+        (subst (IsSendable fastforward) (sym row.word) (subst (λ q. IsSendable q (slice_index c.entry.registers 11)) kind row.frame.left.args.sendable)))
         (λ made q. q))
     sends_at at_20 place row = sends at_20 (λ e. omega arith) (λ e. omega arith) place
         (index_stores M n a b the_sender fastforward k is h s t v has near c ws 8 place (omega arith) (reg_of 5) refl (omega arith)
-        (line_at M n a b the_sender fastforward k is h s t v has c ws 8 place refl) row refl
-        (sender_publishes fastforward r t row.place row.knows)
+        (line_at M n a b the_sender fastforward k is h s t v has c ws 8 place refl) row refl (sender_publishes fastforward r t row.place row.knows)
         (send_whole fastforward r t row.place row.copy row.seen (slice_index x 11) row.some))
     sends_at line place row = absurd row
 

@@ -27,8 +27,7 @@ none-there : (a v : ℕ) (f : ℕ → Write) (i n : ℕ) → ((p : ℕ) → i �
 none-there a v f i zero other = refl
 none-there a v f i (suc n) other =
     let off : ((f i).addr == a) ≡ false = grind (arith, nat_tests, other i) in
-    ap (λ b. seen a (if b then (f i).value else v) (spread f (suc i) n)) off
-    ∙ none-there a v f (suc i) n (λ p from below. other p (omega arith) (omega arith))
+    ap (λ b. seen a (if b then (f i).value else v) (spread f (suc i) n)) off ∙ none-there a v f (suc i) n (λ p from below. other p (omega arith) (omega arith))
 
 -- the q-th goes there, and none after it
 last-there : (a x v : ℕ) (f : ℕ → Write) (i n q : ℕ) → i ≤ q → q < i + n → f q ≡ write a 4 x
@@ -78,16 +77,14 @@ module _ (r : RingBuffer) (is : IsRingBuffer r) (L : ℕ → ℕ) (small : (j : 
       (spread-all IsWholeWord (cleared_store r) (d.cleared + d.tails) inv.buffers.unread cleared-whole)
 
   sender-head : read o es r.sender r.head 4 ≡ offset r s.published
-  sender-head = reads-word r o es r.sender r.head is.head mine-whole
-      ∙ ap (seen r.head (memory_word o es r.head)) inv.buffers.rows.mine
+  sender-head = reads-word r o es r.sender r.head is.head mine-whole ∙ ap (seen r.head (memory_word o es r.head)) inv.buffers.rows.mine
       ∙ ap (λ v. seen r.head v (spread (sent_store r L) (d.slots + d.heads) inv.buffers.unsent))
       (inv.words.head ∙ ap (offset r) (omega (arith, inv.order.mine.heads_slots, inv.order.mine.slots_heads)))
       ∙ seen-heads r is L (d.slots + d.heads) inv.buffers.unsent
       ∙ ap (offset r) (omega (arith, inv.buffers.mine_count, inv.order.mine.published_stored, inv.order.mine.stored_published))
 
   receiver-tail : read o es r.receiver r.tail 4 ≡ offset r s.consumed
-  receiver-tail = reads-word r o es r.receiver r.tail is.tail theirs-whole
-      ∙ ap (seen r.tail (memory_word o es r.tail)) inv.buffers.rows.theirs
+  receiver-tail = reads-word r o es r.receiver r.tail is.tail theirs-whole ∙ ap (seen r.tail (memory_word o es r.tail)) inv.buffers.rows.theirs
       ∙ ap (λ v. seen r.tail v (spread (cleared_store r) (d.cleared + d.tails) inv.buffers.unread))
       (inv.words.tail ∙ ap (offset r) (omega (arith, inv.order.theirs.heads_slots, inv.order.theirs.slots_heads)))
       ∙ seen-heads (turned r) (turned_is r is) zeros (d.cleared + d.tails) inv.buffers.unread
@@ -97,8 +94,7 @@ module _ (r : RingBuffer) (is : IsRingBuffer r) (L : ℕ → ℕ) (small : (j : 
   sender-full : s.stored ≡ s.published → s.stored ≡ d.cleared + r.size → read o es r.sender (slot r s.stored) 4 ≡ L d.cleared
   sender-full level full =
       reads-word r o es r.sender (slot r s.stored) (slot_word r is s.stored) mine-whole
-      ∙ ap (seen (slot r s.stored) (memory_word o es (slot r s.stored))) inv.buffers.rows.mine
-      ∙ at (cases_lt d.cleared d.slots)
+      ∙ ap (seen (slot r s.stored) (memory_word o es (slot r s.stored))) inv.buffers.rows.mine ∙ at (cases_lt d.cleared d.slots)
     where
       at : (d.cleared < d.slots) ⊎ (d.slots ≤ d.cleared) → seen (slot r s.stored) (memory_word o es (slot r s.stored))
           (spread (sent_store r L) (d.slots + d.heads) inv.buffers.unsent) ≡ L d.cleared
@@ -107,15 +103,13 @@ module _ (r : RingBuffer) (is : IsRingBuffer r) (L : ℕ → ℕ) (small : (j : 
           (λ p from below. row_apart r is L p s.stored (λ even. (
             omega (arith, below, even, level, inv.buffers.mine_count),
             omega (arith, from, even, full, landed, inv.order.mine.heads_slots, inv.order.mine.slots_heads),
-          )))
-          ∙ ap (memory_word o es) (slot_again r is d.cleared s.stored full) ∙ inv.words.full d.cleared (omega arith) landed
+          ))) ∙ ap (memory_word o es) (slot_again r is d.cleared s.stored full) ∙ inv.words.full d.cleared (omega arith) landed
       at (inr none) =
           let same : d.cleared ≡ d.slots = omega (arith, none, inv.order.theirs.slots_stored, inv.order.taken_there) in
           last-there (slot r s.stored) (L d.cleared) (memory_word o es (slot r s.stored)) (sent_store r L) (d.slots + d.heads) inv.buffers.unsent
           (2 * d.cleared) (omega (arith, same, inv.order.mine.heads_slots)) (omega (arith, same, level, full, is.some_slots, inv.buffers.mine_count))
           (sent-slot r L (2 * d.cleared) d.cleared refl ∙ ap (λ a. write a 4 (L d.cleared)) (sym (slot_again r is d.cleared s.stored full)))
-          (λ p from below. row_apart r is L p s.stored (λ even.
-          (omega (arith, below, even, level, inv.buffers.mine_count), omega (arith, from, even, full))))
+          (λ p from below. row_apart r is L p s.stored (λ even. (omega (arith, below, even, level, inv.buffers.mine_count), omega (arith, from, even, full))))
 
   -- and 0 where the slot is free in memory
   pub sender-free : s.stored ≡ s.published → s.stored < d.cleared + r.size → read o es r.sender (slot r s.stored) 4 ≡ 0
@@ -126,8 +120,7 @@ module _ (r : RingBuffer) (is : IsRingBuffer r) (L : ℕ → ℕ) (small : (j : 
       (λ p from below. row_apart r is L p s.stored (λ even. (
         omega (arith, below, even, level, inv.buffers.mine_count),
         omega (arith, from, even, room, inv.order.theirs.slots_stored, inv.order.taken_there, inv.order.mine.heads_slots, inv.order.mine.slots_heads),
-      )))
-      ∙ inv.words.free refl s.stored inv.order.mine.slots_stored room
+      ))) ∙ inv.words.free refl s.stored inv.order.mine.slots_stored room
 
   -- what the receiver reads in its slot
   slot-reads : read o es r.receiver (slot r s.taken) 4
@@ -136,8 +129,7 @@ module _ (r : RingBuffer) (is : IsRingBuffer r) (L : ℕ → ℕ) (small : (j : 
       ∙ ap (seen (slot r s.taken) (memory_word o es (slot r s.taken))) inv.buffers.rows.theirs
 
   slot-near : s.taken ≡ s.consumed → s.taken < d.cleared + r.size → read o es r.receiver (slot r s.taken) 4 ≡ memory_word o es (slot r s.taken)
-  slot-near level near = slot-reads
-      ∙ none-there (slot r s.taken) (memory_word o es (slot r s.taken)) (cleared_store r) (d.cleared + d.tails) inv.buffers.unread
+  slot-near level near = slot-reads ∙ none-there (slot r s.taken) (memory_word o es (slot r s.taken)) (cleared_store r) (d.cleared + d.tails) inv.buffers.unread
       (λ p from below. row_apart (turned r) (turned_is r is) zeros p s.taken (λ even. (
         omega (arith, below, even, level, inv.buffers.theirs_count),
         omega (arith, from, even, near, inv.order.theirs.heads_slots, inv.order.theirs.slots_heads),

@@ -109,8 +109,7 @@ module _ (r : RingBuffer) (is : IsRingBuffer r) (L : ℕ → ℕ) (c : Earlier) 
         let p : SenderState = send_load lamport r a v s.sending in
         stays lamport r is L c o es s inv e even p s.receiving block more.0 inv.receiving
         (copied-on lamport r.copy r o es (es ++ e ∷ []) (s.stored + ready_by_state p) inv.landed.tails
-        (s.stored + ready_by_state p) inv.landed.tails refl copied
-        (omega arith) (omega arith) more.1)
+        (s.stored + ready_by_state p) inv.landed.tails refl copied (omega arith) (omega arith) more.1)
     sender-loads fastforward inv block a v found = stays fastforward r is L c o es s inv e even (send_load fastforward r a v s.sending) s.receiving block
         (fastforwards.sending-load r is L small c o es s inv a v s.sending found inv.sending) inv.receiving inv.copy
 

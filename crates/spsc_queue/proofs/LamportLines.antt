@@ -64,8 +64,7 @@ module _ (M n a b : ℕ) (k : Block) (is : IsBlock M k) (h : ℕ) (s : HartState
 
   module _ (has : Equipped M n (listing_of lamport k.caches the_sender) s) (near : Near k (part the_sender t)) (c : Course) (ws : List ℕ) where
     abbrev Sends : At → Type 0
-    Sends line = s.pc ≡ 4 * (n + number line) → Row n the_sender lamport k r c ws line x (part the_sender t)
-        → Moves n the_sender lamport k r true ws c h s t v
+    Sends line = s.pc ≡ 4 * (n + number line) → Row n the_sender lamport k r c ws line x (part the_sender t) → Moves n the_sender lamport k r true ws c h s t v
 
     -- lw x6,d(x10), of the tail or of its copy
     sends_04 : (d : ℕ) → IsAt s (Load load_op.Word (reg_of 6) (reg_of 10) (pos d)) → d % 4 ≡ 0 → 4 ≤ d → d ≤ 64
@@ -278,9 +277,7 @@ module _ (M n a b : ℕ) (k : Block) (is : IsBlock M k) (h : ℕ) (s : HartState
               did = append-nil c.did ∙ row.did
                   ∙ sym (ap (λ q. load r.head 4 (slice_index x 5) ∷ (look_accesses q lamport r (slice_index x 5) row.copy (slice_index x 6)
                   ++ (if sees_full q lamport r (slice_index x 5) row.copy (slice_index x 6) then []
-                  else stores_of r (slice_index x 11)
-                  (slice_index x 5)))) copies
-                  ∙ ap (λ q. load r.head 4 (slice_index x 5) ∷ (load (k.base + 4) 4 row.copy
+                  else stores_of r (slice_index x 11) (slice_index x 5)))) copies ∙ ap (λ q. load r.head 4 (slice_index x 5) ∷ (load (k.base + 4) 4 row.copy
                   ∷ (if q then load r.tail 4 (slice_index x 6) ∷ (if says_full lamport r (slice_index x 5) (slice_index x 6) then []
                   else store (write (k.base + 4) 4 (slice_index x 6)) ∷ []) else [])
                   ++ (if q && says_full lamport r (slice_index x 5) (slice_index x 6) then [] else stores_of r (slice_index x 11) (slice_index x 5)))) row.full
@@ -322,8 +319,7 @@ module _ (M n a b : ℕ) (k : Block) (is : IsBlock M k) (h : ℕ) (s : HartState
             sends at_34 (λ e. omega arith) (λ e. omega arith) place
             (loads_to M n a b the_sender lamport k is h s t v has c ws at_38 (slice_index x 10 + 64) (reg_of 6)
             (load_line (line_here 13 place refl) (omega (arith, row.frame.block, is.aligned)) refl
-            (omega (arith, row.frame.block, is.inside, has.words)) (omega (arith, has.words, is.small)))
-            (ahead 13 place (omega arith)) (record {
+            (omega (arith, row.frame.block, is.inside, has.words)) (omega (arith, has.words, is.small))) (ahead 13 place (omega arith)) (record {
               copy = row.copy;
               copies = copies;
               frame = frame_set does 6 v free_6 (λ e. omega arith) row.frame;
@@ -335,8 +331,7 @@ module _ (M n a b : ℕ) (k : Block) (is : IsBlock M k) (h : ℕ) (s : HartState
               full = subst (λ q. says_full lamport r q row.copy ≡ true) five row.full;
               after = set-other x 6 7 v (λ e. omega arith) ∙ row.after ∙ ap (next r) five;
               words = row.words;
-              did = ap (λ zs. zs ++ does ∷ []) row.did
-                  ∙ ap (λ q. load r.head 4 (slice_index x 5) ∷ load (k.base + 4) 4 row.copy ∷ load q 4 v ∷ []) tail
+              did = ap (λ zs. zs ++ does ∷ []) row.did ∙ ap (λ q. load r.head 4 (slice_index x 5) ∷ load (k.base + 4) 4 row.copy ∷ load q 4 v ∷ []) tail
                   ∙ ap (λ q. load r.head 4 q ∷ load (k.base + 4) 4 row.copy ∷ load r.tail 4 v ∷ []) five
                   ∙ ap (λ q. load r.head 4 (slice_index (slice_set x 6 v) 5) ∷ load (k.base + 4) 4 row.copy ∷ load r.tail 4 q ∷ []) got;
             }))
@@ -378,8 +373,7 @@ module _ (M n a b : ℕ) (k : Block) (is : IsBlock M k) (h : ℕ) (s : HartState
             sends at_3C (λ e. omega arith) (λ e. omega arith) place
             (stores_to M n a b the_sender lamport k is h s t v has c ws at_40 (slice_index x 10 + 4) (slice_index x 6)
             (store_line (line_here 15 place refl) (omega (arith, row.0.frame.block, is.aligned)) refl
-            (omega (arith, row.0.frame.block, is.inside, has.words)) (omega (arith, has.words, is.small)))
-            (ahead 15 place (omega arith))
+            (omega (arith, row.0.frame.block, is.inside, has.words)) (omega (arith, has.words, is.small))) (ahead 15 place (omega arith))
             (subst (λ q. IsSenderStore lamport r q made) (sym row.0.knows)
             (subst (λ q. IsCopyStore q (slice_index x 6) made) (sym copies) (record { place = here; width = refl }, refl))) (
               record {
@@ -402,8 +396,7 @@ module _ (M n a b : ℕ) (k : Block) (is : IsBlock M k) (h : ℕ) (s : HartState
                     ∙ sym (ap (λ q. load r.head 4 (slice_index x 5) ∷ look_accesses q lamport r (slice_index x 5) row.0.copy (slice_index x 6)) copies
                     ∙ ap (λ q. load r.head 4 (slice_index x 5) ∷ load (k.base + 4) 4 row.0.copy ∷ (if q then load r.tail 4 (slice_index x 6)
                     ∷ (if says_full lamport r (slice_index x 5) (slice_index x 6) then []
-                    else store (write (k.base + 4) 4 (slice_index x 6))
-                    ∷ []) else [])) row.0.full
+                    else store (write (k.base + 4) 4 (slice_index x 6)) ∷ []) else [])) row.0.full
                     ∙ ap (λ q. load r.head 4 (slice_index x 5) ∷ load (k.base + 4) 4 row.0.copy ∷ load r.tail 4 (slice_index x 6)
                     ∷ (if q then [] else store (write (k.base + 4) 4 (slice_index x 6)) ∷ [])) row.1);
               },
@@ -535,8 +528,7 @@ module _ (M n a b : ℕ) (k : Block) (is : IsBlock M k) (h : ℕ) (s : HartState
           words = ap (λ (y : Part). y.words) becomes ∙ ap (λ zs. zs ++ slice_index x 11 ∷ []) row.words;
           did = ap (λ zs. zs ++ store made ∷ []) row.did
               ∙ ap (λ y. looked the_receiver lamport r u row.seen ++ load (r.slots + u) 4 (slice_index x 11) ∷ store y ∷ []) is_made
-              ∙ ap (λ zs. looked the_receiver lamport r u row.seen ++ zs)
-              (if_false (row.seen == u) [] (take_accesses lamport r (slice_index x 11) u) row.some);
+              ∙ ap (λ zs. looked the_receiver lamport r u row.seen ++ zs) (if_false (row.seen == u) [] (take_accesses lamport r (slice_index x 11) u) row.some);
           answers = if_false (row.seen == u) 0 1 row.some;
         })
 

@@ -24,8 +24,7 @@ pub role-cases : (r : RingBuffer) (h : ℕ) → ((h ≡ r.sender) × (role_of r 
     ⊎ (((h ≢ r.sender) × (h ≡ r.receiver) × (role_of r h ≡ receives)) ⊎ ((h ≢ r.sender) × (h ≢ r.receiver) × (role_of r h ≡ passes)))
 role-cases r h = at (h == r.sender) refl (h == r.receiver) refl
   where
-    at : (b : Bool) → (h == r.sender) ≡ b → (c : Bool) → (h == r.receiver) ≡ c
-        → ((h ≡ r.sender) × (role_of r h ≡ sends))
+    at : (b : Bool) → (h == r.sender) ≡ b → (c : Bool) → (h == r.receiver) ≡ c → ((h ≡ r.sender) × (role_of r h ≡ sends))
         ⊎ (((h ≢ r.sender) × (h ≡ r.receiver) × (role_of r h ≡ receives)) ⊎ ((h ≢ r.sender) × (h ≢ r.receiver) × (role_of r h ≡ passes)))
     at true one c two = inl (eqb-true h r.sender one, ap (λ x. if x then sends else (if h == r.receiver then receives else passes)) one)
     at false one true two = inr (inl (
@@ -196,14 +195,12 @@ module _ (K : Kind) (r : RingBuffer) (is : IsRingBuffer r) (L : ℕ → ℕ) (sm
 -- a 0 of FastForward's receiver
 module _ (r : RingBuffer) (is : IsRingBuffer r) (L : ℕ → ℕ) (small : (j : ℕ) → L j < 2 ^ 32) (c : Earlier) (o : OpeningValue) (es : List Entry)
     (s : ProtocolState) (inv : Invariant fastforward r L c o es s) (e : Entry)
-    (copied : CopyStays r o es (es ++ e ∷ [])) (w : Write) (written : Lands r o es (es ++ e ∷ []) w) (m : ℕ)
-    (count : inv.buffers.unread ≡ suc m)
+    (copied : CopyStays r o es (es ++ e ∷ [])) (w : Write) (written : Lands r o es (es ++ e ∷ []) w) (m : ℕ) (count : inv.buffers.unread ≡ suc m)
     (rows : Rows r c (sent_store r L) (their_store fastforward r) (es ++ e ∷ []) (inv.landed.slots + inv.landed.heads) inv.buffers.unsent
     (suc (inv.landed.cleared + inv.landed.tails)) m) where
   zero-lands : inv.landed.cleared ≡ inv.landed.tails → w ≡ write (slot r inv.landed.cleared) 4 0 → Invariant fastforward r L c o (es ++ e ∷ []) s
   zero-lands level is_zero = theirs-land fastforward r is L small c o es s inv e copied w written m count rows
-      (suc z) inv.landed.tails (omega arith) (omega arith)
-      (slot-landed inv.order.theirs level some) (record {
+      (suc z) inv.landed.tails (omega arith) (omega arith) (slot-landed inv.order.theirs level some) (record {
         head = same_at fastforward r is L small c o es s inv e copied w written r.head is.head whole
             (λ e. slot_not_head r is z (sym place ∙ e)) ∙ inv.words.head;
         tail = same_at fastforward r is L small c o es s inv e copied w written r.tail is.tail whole
@@ -225,8 +222,7 @@ module _ (r : RingBuffer) (is : IsRingBuffer r) (L : ℕ → ℕ) (small : (j : 
       whole : IsWholeWord w
       whole = subst IsWholeWord (sym is_zero) (record { whole = refl; aligned = (slot_word r is inv.landed.cleared).aligned; small = omega arith })
 
-      apart-from : (j : ℕ) → inv.landed.cleared < j → j < inv.landed.cleared + r.size
-          → memory_word o (es ++ e ∷ []) (slot r j) ≡ memory_word o es (slot r j)
+      apart-from : (j : ℕ) → inv.landed.cleared < j → j < inv.landed.cleared + r.size → memory_word o (es ++ e ∷ []) (slot r j) ≡ memory_word o es (slot r j)
       apart-from j from below = same_at fastforward r is L small c o es s inv e copied w written (slot r j) (slot_word r is j) whole
           (λ same. slot_apart r is inv.landed.cleared j from below (sym place ∙ same))
 
@@ -259,8 +255,7 @@ theirs-lands fastforward r is L small c o es s inv e copied w written m count ro
 -- the oldest pending store of the entry's hart lands
 pub lands-store : (K : Kind) (r : RingBuffer) (is : IsRingBuffer r) (L : ℕ → ℕ) (small : (j : ℕ) → L j < 2 ^ 32) (c : Earlier) (o : OpeningValue)
     (es : List Entry) (s : ProtocolState) (inv : Invariant K r L c o es s) (e : Entry) → ((h : ℕ) → lands h es ≤ length (stores h es))
-    → CopyStays r o es (es ++ e ∷ []) → access_of e ≡ land
-    → 0 < length (pending (hart_of e) es) → Invariant K r L c o (es ++ e ∷ []) s
+    → CopyStays r o es (es ++ e ∷ []) → access_of e ≡ land → 0 < length (pending (hart_of e) es) → Invariant K r L c o (es ++ e ∷ []) s
 lands-store K r is L small c o es s inv e even copied does some =
     elim (landing r is o es e even c (sent_store r L) (their_store K r) (inv.landed.slots + inv.landed.heads) inv.buffers.unsent
     (their_landed K inv.landed.cleared inv.landed.tails) inv.buffers.unread inv.buffers.rows does some) [

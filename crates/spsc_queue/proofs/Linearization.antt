@@ -92,8 +92,7 @@ module _ (r : RingBuffer) (is : IsRingBuffer r) (L : ℕ → ℕ) (small : (j : 
       omega (arith, all, left, inv.buffers.theirs_count, inv.order.theirs.heads_published)
 
   -- and of Lamport's never more
-  never_fuller : (k : Kind) → Invariant k r L c o es T → k ≡ lamport
-      → T.stored + length (writes_to r (pending r.receiver es)) ≤ T.taken + capacity_of k r.size
+  never_fuller : (k : Kind) → Invariant k r L c o es T → k ≡ lamport → T.stored + length (writes_to r (pending r.receiver es)) ≤ T.taken + capacity_of k r.size
   never_fuller lamport inv is_lamport =
       let left : length (writes_to r (pending r.receiver es)) ≡ inv.buffers.unread =
       row_whole r (pending r.receiver es) (alone r.copy refl inv.copy)
@@ -105,8 +104,7 @@ module _ (r : RingBuffer) (is : IsRingBuffer r) (L : ℕ → ℕ) (small : (j : 
       alone None none copy a some = absurd (let no : Some a ≡ None = sym some ∙ none in cc)
       alone (Some x) is_x copy a some =
           let same : x ≡ a = (let one : Some x ≡ Some a = sym is_x ∙ some in cc) in
-          subst (λ y. All (LeavesByte y) (pending r.receiver es)) same
-          (copy.alone x (omega arith) (omega arith) r.receiver (λ e. is.parties (sym e)))
+          subst (λ y. All (LeavesByte y) (pending r.receiver es)) same (copy.alone x (omega arith) (omega arith) r.receiver (λ e. is.parties (sym e)))
   never_fuller fastforward inv is_lamport = cc
 
 module _ (B : ℕ) (r : RingBuffer) (o : OpeningValue) (before es : List Entry) (e : Entry) (fs : List Entry)
@@ -126,8 +124,7 @@ module _ (B : ℕ) (r : RingBuffer) (o : OpeningValue) (before es : List Entry) 
   -- what a load read
   loaded : (h a v : ℕ) → hart_of e ≡ h → access_of e ≡ load a 4 v → v ≡ read o (before ++ es) h a 4
   loaded h a v mine does = subst (AllowedBy B (pending (hart_of e) (before ++ es)) (read o (before ++ es) (hart_of e))) does
-      (LegalAfter-back B o before es (e ∷ fs) (LegalAfter-back B o [] before (es ++ e ∷ fs) t.legal)).0
-      ∙ ap (λ g. read o (before ++ es) g a 4) mine
+      (LegalAfter-back B o before es (e ∷ fs) (LegalAfter-back B o [] before (es ++ e ∷ fs) t.legal)).0 ∙ ap (λ g. read o (before ++ es) g a 4) mine
 
   pub empty_landed : (u v : ℕ) → hart_of e ≡ r.receiver → access_of e ≡ load (word_at r.kind r u) 4 v → says_empty r.kind u v ≡ true
       → T.receiving ≡ asked u → available_count r T ≤ T.taken + length (writes_to r (pending r.sender (before ++ es)))

@@ -70,35 +70,28 @@ module _ (r : RingBuffer) (is : IsRingBuffer r) (L : ℕ → ℕ) (small : (j : 
   freed-whole p = record { whole = refl; aligned = is.tail.aligned; small = omega (arith, offset_low r is (p + 1), is.small) }
 
   pub theirs-whole : All IsWholeWord (row_of r (pending r.receiver es))
-  theirs-whole = subst (All IsWholeWord) (sym inv.buffers.rows.theirs)
-      (spread-all IsWholeWord (freed_store r) d.tails inv.buffers.unread freed-whole)
+  theirs-whole = subst (All IsWholeWord) (sym inv.buffers.rows.theirs) (spread-all IsWholeWord (freed_store r) d.tails inv.buffers.unread freed-whole)
 
   -- the sender reads its own head, and the tail that landed last
   pub sender-head : read o es r.sender r.head 4 ≡ offset r s.published
-  sender-head = reads-word r o es r.sender r.head is.head mine-whole
-      ∙ ap (seen r.head (memory_word o es r.head)) inv.buffers.rows.mine
+  sender-head = reads-word r o es r.sender r.head is.head mine-whole ∙ ap (seen r.head (memory_word o es r.head)) inv.buffers.rows.mine
       ∙ ap (λ v. seen r.head v (spread (sent_store r L) (d.slots + d.heads) inv.buffers.unsent))
       (inv.words.head ∙ ap (offset r) (omega (arith, inv.order.mine.heads_slots, inv.order.mine.slots_heads)))
       ∙ seen-heads r is L (d.slots + d.heads) inv.buffers.unsent
       ∙ ap (offset r) (omega (arith, inv.buffers.mine_count, inv.order.mine.published_stored, inv.order.mine.stored_published))
 
   pub sender-tail : read o es r.sender r.tail 4 ≡ offset r d.tails
-  sender-tail = reads-word r o es r.sender r.tail is.tail mine-whole
-      ∙ ap (seen r.tail (memory_word o es r.tail)) inv.buffers.rows.mine
-      ∙ seen-none r.tail (memory_word o es r.tail) (sent_store r L) (d.slots + d.heads) inv.buffers.unsent (sent-not-tail r is L)
-      ∙ inv.words.tail
+  sender-tail = reads-word r o es r.sender r.tail is.tail mine-whole ∙ ap (seen r.tail (memory_word o es r.tail)) inv.buffers.rows.mine
+      ∙ seen-none r.tail (memory_word o es r.tail) (sent_store r L) (d.slots + d.heads) inv.buffers.unsent (sent-not-tail r is L) ∙ inv.words.tail
 
   -- the receiver reads its own tail, and all else as memory has it
   pub receiver-tail : read o es r.receiver r.tail 4 ≡ offset r s.consumed
-  receiver-tail = reads-word r o es r.receiver r.tail is.tail theirs-whole
-      ∙ ap (seen r.tail (memory_word o es r.tail)) inv.buffers.rows.theirs
-      ∙ ap (λ v. seen r.tail v (spread (freed_store r) d.tails inv.buffers.unread)) inv.words.tail
-      ∙ seen-tails r d.tails inv.buffers.unread
+  receiver-tail = reads-word r o es r.receiver r.tail is.tail theirs-whole ∙ ap (seen r.tail (memory_word o es r.tail)) inv.buffers.rows.theirs
+      ∙ ap (λ v. seen r.tail v (spread (freed_store r) d.tails inv.buffers.unread)) inv.words.tail ∙ seen-tails r d.tails inv.buffers.unread
       ∙ ap (offset r) (omega (arith, inv.buffers.theirs_count))
 
   pub receiver-other : (a : ℕ) → IsWordIn r a → r.tail ≢ a → read o es r.receiver a 4 ≡ memory_word o es a
-  receiver-other a word other = reads-word r o es r.receiver a word theirs-whole
-      ∙ ap (seen a (memory_word o es a)) inv.buffers.rows.theirs
+  receiver-other a word other = reads-word r o es r.receiver a word theirs-whole ∙ ap (seen a (memory_word o es a)) inv.buffers.rows.theirs
       ∙ seen-none a (memory_word o es a) (freed_store r) d.tails inv.buffers.unread (λ p. other)
 
   -- the sender's loads, by which it knows more, and has seen more of its copy of the tail

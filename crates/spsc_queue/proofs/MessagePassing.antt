@@ -106,8 +106,7 @@ stays a x es e le alone leaves g other = subst (All (LeavesByte x)) (sym (pendin
     (All-append (LeavesByte x) (pending g es) (store_of g e) (alone g other) (stored-off x (hart_of e == g) (access_of e) leaves)))
 
 pub kept : (B : ℕ) (o : OpeningValue) (a x : ℕ) (es fs : List Entry) → ((g : ℕ) → lands g es ≤ length (stores g es)) → LegalAfter B o es fs
-    → IsOnlyWriter a x es
-    → AllLeaveByte x fs → (read_byte o (es ++ fs) a x ≡ read_byte o es a x) × IsOnlyWriter a x (es ++ fs)
+    → IsOnlyWriter a x es → AllLeaveByte x fs → (read_byte o (es ++ fs) a x ≡ read_byte o es a x) × IsOnlyWriter a x (es ++ fs)
 kept B o a x es [] le legal alone leave = subst (λ zs. (read_byte o zs a x ≡ read_byte o es a x) × IsOnlyWriter a x zs) (sym (append-nil es)) (refl, alone)
 kept B o a x es (e ∷ fs) le legal alone leave =
     let more = kept B o a x (es ++ e ∷ []) fs (λ g. balanced-last B o es g e legal.0 (le g)) legal.1 (stays a x es e le alone leave.0) leave.1 in

@@ -61,8 +61,7 @@ others_owe q e keeps not_sender not_receiver = nothing_is (buffer q) (access_of 
 
 -- each entry of a list that keeps all is one that keeps what it owes
 one_of : (M : ℕ) (o : OpeningValue) (q : SpscQueue) (c d : Bool) (front done : List Entry) (e : Entry) (more : List Entry)
-    → obligations_kept_from M o q c d front (done ++ e ∷ more) ≡ true
-    → obligation_kept M o q (is_in_call_from M o q.sender q.send_line q.block c front done)
+    → obligations_kept_from M o q c d front (done ++ e ∷ more) ≡ true → obligation_kept M o q (is_in_call_from M o q.sender q.send_line q.block c front done)
     (is_in_call_from M o q.receiver q.receive_line q.block d front done) (front ++ done) e ≡ true
 one_of M o q c d front [] e more kept =
     subst (λ zs. obligation_kept M o q c d zs e ≡ true) (sym (append-nil front))

@@ -101,8 +101,7 @@ looks_of the_sender K r is s z count did f none = at r.copy refl (chose (sees_fu
           index = f.head;
           seen = f.seen;
           first = [];
-          did = f.accesses
-              ∙ ap (λ q. load r.head 4 f.head ∷ (look_accesses q K r f.head f.copy f.seen
+          did = f.accesses ∙ ap (λ q. load r.head 4 f.head ∷ (look_accesses q K r f.head f.copy f.seen
               ++ (if sees_full q K r f.head f.copy f.seen then [] else stored))) is_none
               ∙ ap (λ b. load r.head 4 f.head ∷ load (room_at K r f.head) 4 f.seen ∷ (if b then [] else stored)) full;
           says = full;
@@ -118,8 +117,7 @@ looks_of the_sender K r is s z count did f none = at r.copy refl (chose (sees_fu
           index = f.head;
           seen = f.seen;
           first = load a 4 f.copy ∷ [];
-          did = f.accesses
-              ∙ ap (λ q. load r.head 4 f.head ∷ (look_accesses q K r f.head f.copy f.seen
+          did = f.accesses ∙ ap (λ q. load r.head 4 f.head ∷ (look_accesses q K r f.head f.copy f.seen
               ++ (if sees_full q K r f.head f.copy f.seen then [] else stored))) some
               ∙ ap (λ b. load r.head 4 f.head ∷ load a 4 f.copy ∷ ((if b then load (room_at K r f.head) 4 f.seen
               ∷ (if says_full K r f.head f.seen then [] else store (write a 4 f.seen) ∷ []) else [])
@@ -207,8 +205,7 @@ module _ (B M : ℕ) (o : OpeningValue) (q : SpscQueue) (before es : List Entry)
   starts =
       let f = fresh.1 in
       record {
-        stands = carry n p K k r (sym w.begun) refl refl (sym same_state) refl
-            (begins n p K k r (words_at done) s (part p (protocol done)) w.enters
+        stands = carry n p K k r (sym w.begun) refl refl (sym same_state) refl (begins n p K k r (words_at done) s (part p (protocol done)) w.enters
             (same_arguments p n k fresh.0.entry s f.same f.frame.left.args) f.level f.words);
         words = λ busy. refl;
         over = λ idle. absurd (let no : true ≡ false = sym w.begun ∙ idle in cc);
@@ -289,8 +286,7 @@ module _ (B M : ℕ) (o : OpeningValue) (q : SpscQueue) (before es : List Entry)
   go part (e ∷ next) more cut so =
       let there : es ≡ (done ++ part) ++ e ∷ ((next ++ more) ++ rest) = split part (e ∷ (next ++ more)) cut in
       let one = one_on (done ++ part) part e ((next ++ more) ++ rest) there (w.within part e (next ++ more) cut) so in
-      subst (λ zs. So (done ++ zs) zs) (append_assoc part (e ∷ []) next)
-      (go (part ++ e ∷ []) next more (cut ∙ sym (append_assoc part (e ∷ []) (next ++ more)))
+      subst (λ zs. So (done ++ zs) zs) (append_assoc part (e ∷ []) next) (go (part ++ e ∷ []) next more (cut ∙ sym (append_assoc part (e ∷ []) (next ++ more)))
       (subst (λ zs. So zs (part ++ e ∷ [])) (append_assoc done part (e ∷ [])) one))
 
   so_far : (part more : List Entry) → call ≡ part ++ more → So (done ++ part) part
@@ -418,8 +414,7 @@ module _ (B M : ℕ) (o : OpeningValue) (q : SpscQueue) (before es : List Entry)
           mine = l.mine;
           loads = l.does;
           knows = subst (Knows p u) (sym l.same) knows;
-          words = ap (λ (t : Part). t.words) l.same ∙ words
-              ∙ sym ((so_far l.upto (l.entry ∷ l.left) l.cut).words (w.within l.upto l.entry l.left l.cut));
+          words = ap (λ (t : Part). t.words) l.same ∙ words ∙ sym ((so_far l.upto (l.entry ∷ l.left) l.cut).words (w.within l.upto l.entry l.left l.cut));
         }
 
         at : (looks.first ≡ []) ⊎ ((x : Access) × (looks.first ≡ x ∷ []) × Keeps p K r u x) → Found

@@ -36,8 +36,7 @@ pub made_by : (B M : ℕ) (o : OpeningValue) (before done : List Entry) (e : Ent
     → WellFormed B M (history_of o (before ++ (done ++ e ∷ more))) → is_land e ≡ false → (s : HartState)
     → hart_of e < length o.harts → state_of M (history_of o (before ++ done)) (hart_of e) ≡ Some s → CanMake s e
 made_by B M o before done e more run act s known is =
-    Path-last M (history_of o (before ++ done)) (hart_of e) e s refl act
-    (path_upto M o (hart_of e) ((before ++ done) ++ e ∷ []) more
+    Path-last M (history_of o (before ++ done)) (hart_of e) e s refl act (path_upto M o (hart_of e) ((before ++ done) ++ e ∷ []) more
     (subst (λ xs. Path M (history_of o xs) (hart_of e)) (joined_on before done e more) (run.paths (hart_of e) known))) is
 
 -- the hart of each entry is one, and so has a state

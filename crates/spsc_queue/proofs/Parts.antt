@@ -188,8 +188,7 @@ module _ (K : Kind) (r : RingBuffer) where
       at idle l = chosen (a == r.tail) (asked v) idle tt tt
       at (asked u) l = chosen (a == r.tail) (asked v) (receive_look K r a v (asked u)) tt
           (chosen (a == look_at the_receiver K r u) (looks_for_word K u v) (asked u) (seen K u) tt)
-      at (waiting u) l = chosen (a == r.tail) (asked v) (receive_look K r a v (waiting u)) tt
-          (chosen (a == r.slots + u) (holding u v) (waiting u) tt tt)
+      at (waiting u) l = chosen (a == r.tail) (asked v) (receive_look K r a v (waiting u)) tt (chosen (a == r.slots + u) (holding u v) (waiting u) tt tt)
       at (holding u w) l = chosen (a == r.tail) (asked v) (holding u w) tt tt
       at (cleared u) l = absurd l
 
@@ -246,8 +245,7 @@ module _ (K : Kind) (r : RingBuffer) where
   pub look-load : (p : Party) (t : ProtocolState) (a v u : ℕ) → Knows p u (part p t) → a ≢ index_at p r → a ≡ look_at p K r u
       → Looked p K r u v (part p (next_by K r (role p) t (load a 4 v)))
   look-load the_sender t a v u knows other here =
-      ap (send_load K r a v) knows ∙ ap (λ b. if b then placed v else send_look K r a v (placed u)) (ne_eqb a r.head other)
-      ∙ first r.copy here
+      ap (send_load K r a v) knows ∙ ap (λ b. if b then placed v else send_look K r a v (placed u)) (ne_eqb a r.head other) ∙ first r.copy here
     where
       first : (q : Option ℕ) → a ≡ first_look q (room_at K r u) → looks_at q K r a u v ≡ looks_for_room K r u v
       first None here = ap (λ b. if b then looks_for_room K r u v else placed u) (eq-eqb a (room_at K r u) here)

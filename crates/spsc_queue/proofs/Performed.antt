@@ -15,8 +15,7 @@ use Rattle.step_machine.proofs.Landings.{landed-counted}
 use Rattle.spsc_queue.specs.StoreBuffers.{IsGloballyPerformed}
 
 reached_after : (whole : List Entry) (h n : ℕ) (w : Write) (before es : List Entry) → slice_get (stores h whole) n ≡ Some w
-    → lands h before ≤ n → n < lands h (before ++ es)
-    → (xs : List Write) × (ys : List Write) × (landed_by_count_after whole before es ≡ xs ++ w ∷ ys)
+    → lands h before ≤ n → n < lands h (before ++ es) → (xs : List Write) × (ys : List Write) × (landed_by_count_after whole before es ≡ xs ++ w ∷ ys)
 reached_after whole h n w before [] is from below =
     absurd (let none : lands h (before ++ []) ≡ lands h before = ap (lands h) (append-nil before) in omega arith)
 reached_after whole h n w before (e ∷ es) is from below =

@@ -50,17 +50,14 @@ pub code_line : (code : List ℕ) (n : ℕ) (listing : List Listed) (st : Stands
     → map meaning (words_of listing) ≡ map Some (lines_of listing) → (j : ℕ)
     → slice_get (map meaning code) (n + j) ≡ slice_get (map Some (lines_of listing) ++ map meaning st.back) j
 code_line code n listing st decoded j =
-    ap (λ ws. slice_get (map meaning ws) (n + j)) st.is
-    ∙ ap (λ m. slice_get (map meaning (st.front ++ (words_of listing ++ st.back))) (m + j)) (sym st.place)
-    ∙ past meaning st.front (words_of listing ++ st.back) j
-    ∙ ap (λ xs. slice_get xs j) (map-joined meaning (words_of listing) st.back)
+    ap (λ ws. slice_get (map meaning ws) (n + j)) st.is ∙ ap (λ m. slice_get (map meaning (st.front ++ (words_of listing ++ st.back))) (m + j)) (sym st.place)
+    ∙ past meaning st.front (words_of listing ++ st.back) j ∙ ap (λ xs. slice_get xs j) (map-joined meaning (words_of listing) st.back)
     ∙ ap (λ xs. slice_get (xs ++ map meaning st.back) j) decoded
 
 pub code_room : (code : List ℕ) (n : ℕ) (listing : List Listed) → StandsIn code n listing → n + length (words_of listing) ≤ length code
 code_room code n listing st =
     let whole : length code ≡ length st.front + (length (words_of listing) + length st.back) =
-    ap length st.is ∙ length-append st.front (words_of listing ++ st.back)
-    ∙ ap (λ m. length st.front + m) (length-append (words_of listing) st.back) in
+    ap length st.is ∙ length-append st.front (words_of listing ++ st.back) ∙ ap (λ m. length st.front + m) (length-append (words_of listing) st.back) in
     omega (arith, whole, st.place)
 
 -- the pc of the next line, and of a line further on

@@ -17,13 +17,11 @@ use Rattle.spsc_queue.proofs.Spread.{spread, spread-more}
 use Rattle.spsc_queue.proofs.Effects.{memory-quiet, memory-off, memory-whole, on-append, on-one, on-none, pending-quiet, pending-more, pending-first}
 
 -- where what is on the block is a word of a row, and what comes after it
-pub split_on : (r : RingBuffer) (w : Write) (rest : List Write) (f : ℕ → Write) (i n : ℕ) → shared r w ≡ true
-    → row_of r (w ∷ rest) ≡ spread f i n
+pub split_on : (r : RingBuffer) (w : Write) (rest : List Write) (f : ℕ → Write) (i n : ℕ) → shared r w ≡ true → row_of r (w ∷ rest) ≡ spread f i n
     → (m : ℕ) × (n ≡ suc m) × (w ≡ f i) × (row_of r rest ≡ spread f (suc i) m)
 split_on r w rest f i n on is = at n refl (sym (ap (λ b. if b then w ∷ row_of r rest else row_of r rest) on) ∙ is)
   where
-    at : (k : ℕ) → n ≡ k → w ∷ row_of r rest ≡ spread f i k
-        → (m : ℕ) × (n ≡ suc m) × (w ≡ f i) × (row_of r rest ≡ spread f (suc i) m)
+    at : (k : ℕ) → n ≡ k → w ∷ row_of r rest ≡ spread f i k → (m : ℕ) × (n ≡ suc m) × (w ≡ f i) × (row_of r rest ≡ spread f (suc i) m)
     at zero e same = cc
     at (suc m) e same = (m, e, (let one : w ≡ f i = cc in one), (let more : row_of r rest ≡ spread f (suc i) m = cc in more))
 

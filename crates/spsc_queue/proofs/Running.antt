@@ -94,5 +94,4 @@ pub runs_here : (B M : ℕ) (o : OpeningValue) (h n : ℕ) (listing : List Liste
 runs_here B M o h n listing has es run plain =
     let makes : Makes (opens_as M has.opens) (own h es) =
     subst (λ so. PathOf M so (own h es)) has.is (run.paths h (slice_get_within o.harts h has.opens has.is)) in
-    plain_runs (state_here M o h n listing has es)
-    (goes_by (opens_as M has.opens) (own h es) (settles _ refl) makes) plain
+    plain_runs (state_here M o h n listing has es) (goes_by (opens_as M has.opens) (own h es) (settles _ refl) makes) plain

@@ -178,12 +178,10 @@ keeps-back r s (e ∷ es) fs keeps = keeps-back r (protocol_next r s e) es fs ke
 -- the words of F, where the next of them is known
 pub word_ahead : (F sent more : List ℕ) (v n : ℕ) → length sent ≡ n → F ≡ (sent ++ v ∷ []) ++ more → v ≡ slice_index F n
 word_ahead F sent more v n size is =
-    sym (ap (slice_index F) (sym size) ∙ ap (λ xs. slice_index xs (length sent)) (is ∙ append_assoc sent (v ∷ []) more)
-    ∙ get_or-append_seam sent v more 0)
+    sym (ap (slice_index F) (sym size) ∙ ap (λ xs. slice_index xs (length sent)) (is ∙ append_assoc sent (v ∷ []) more) ∙ get_or-append_seam sent v more 0)
 
 module _ (B : ℕ) (r : RingBuffer) (is : IsRingBuffer r) (F : List ℕ) (small : AreSmall F) (c : Earlier) (o : OpeningValue) (es : List Entry) (s : ProtocolState)
-    (k : Kind) (inv : Invariant k r (slice_index F) c o es s) (e : Entry) (even : (h : ℕ) → lands h es ≤ length (stores h es))
-    (can : Allowed B o es e) where
+    (k : Kind) (inv : Invariant k r (slice_index F) c o es s) (e : Entry) (even : (h : ℕ) → lands h es ≤ length (stores h es)) (can : Allowed B o es e) where
   abbrev L : ℕ → ℕ
   L = slice_index F
 
@@ -317,8 +315,7 @@ module _ (B : ℕ) (r : RingBuffer) (is : IsRingBuffer r) (F : List ℕ) (small 
   acts (load a width v) does role whose keeps allowed ahead = loads-word a width v does allowed role whose
   acts (store w) does role whose keeps allowed ahead = stores-word w does role whose keeps ahead
   acts (exchange a old new) does role whose keeps allowed ahead =
-      others role (exchange a old new) refl refl
-      (rests (exchange-stays r is o es e even a old new does (off_shared r (write a 4 new) (off role keeps)))
+      others role (exchange a old new) refl refl (rests (exchange-stays r is o es e even a old new does (off_shared r (write a 4 new) (off role keeps)))
       (leaves (exchange a old new) does (λ d x copy from below. off_leaves r (write a 4 new) x (off role keeps)
       (omega (arith, from, (is.copy d copy).above)) (omega (arith, below, (is.copy d copy).below)))))
     where
@@ -353,8 +350,7 @@ pub invariant-of : (B : ℕ) (r : RingBuffer) (o : OpeningValue) (before es fs :
     → Invariant r.kind r (slice_index (protocol_after r at_start (es ++ fs)).sent) (earlier r before) o (before ++ es) (protocol_after r at_start es)
 invariant-of B r o before es fs t =
     holds-after B r t.ring F small (earlier r before) o before at_start es (at_rest r.kind r t.ring (slice_index F) o before t.rest refl)
-    (LegalAfter-front B o [] before (es ++ fs) t.legal)
-    (LegalAfter-front B o before es fs (LegalAfter-back B o [] before (es ++ fs) t.legal))
+    (LegalAfter-front B o [] before (es ++ fs) t.legal) (LegalAfter-front B o before es fs (LegalAfter-back B o [] before (es ++ fs) t.legal))
     (keeps-front r at_start es fs t.keeps) (grown.0, is)
   where
     F : List ℕ
@@ -404,7 +400,5 @@ delivered B r o before es t = (rest.0, whole)
     whole_count = omega (arith, facts.available_stored)
 
     whole : take n s.sent ≡ s.received ++ rest.0
-    whole = ap (take n) (facts.sent ∙ ap (firsts L) (sym whole_count) ∙ all.1)
-        ∙ ap (λ m. take m (firsts L n ++ all.0)) (sym (length-firsts L n))
-        ∙ take-append_seam (firsts L n) all.0
-        ∙ ap (firsts L) (sym upto) ∙ rest.1 ∙ ap (λ xs. xs ++ rest.0) (sym facts.received)
+    whole = ap (take n) (facts.sent ∙ ap (firsts L) (sym whole_count) ∙ all.1) ∙ ap (λ m. take m (firsts L n ++ all.0)) (sym (length-firsts L n))
+        ∙ take-append_seam (firsts L n) all.0 ∙ ap (firsts L) (sym upto) ∙ rest.1 ∙ ap (λ xs. xs ++ rest.0) (sym facts.received)

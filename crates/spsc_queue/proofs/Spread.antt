@@ -40,15 +40,13 @@ pub sent-slot : (r : RingBuffer) (L : ℕ → ℕ) (p j : ℕ) → p ≡ 2 * j �
 sent-slot r L p j is =
     let even : (p % 2 == 0) ≡ true = grind (arith, nat_tests) in
     let half : p / 2 ≡ j = omega arith in
-    ap (λ b. if b then write (slot r (p / 2)) 4 (L (p / 2)) else write r.head 4 (offset r (p / 2 + 1))) even
-    ∙ ap (λ k. write (slot r k) 4 (L k)) half
+    ap (λ b. if b then write (slot r (p / 2)) 4 (L (p / 2)) else write r.head 4 (offset r (p / 2 + 1))) even ∙ ap (λ k. write (slot r k) 4 (L k)) half
 
 pub sent-head : (r : RingBuffer) (L : ℕ → ℕ) (p j : ℕ) → p ≡ 2 * j + 1 → sent_store r L p ≡ write r.head 4 (offset r (j + 1))
 sent-head r L p j is =
     let odd : (p % 2 == 0) ≡ false = grind (arith, nat_tests) in
     let half : p / 2 ≡ j = omega arith in
-    ap (λ b. if b then write (slot r (p / 2)) 4 (L (p / 2)) else write r.head 4 (offset r (p / 2 + 1))) odd
-    ∙ ap (λ k. write r.head 4 (offset r (k + 1))) half
+    ap (λ b. if b then write (slot r (p / 2)) 4 (L (p / 2)) else write r.head 4 (offset r (p / 2 + 1))) odd ∙ ap (λ k. write r.head 4 (offset r (k + 1))) half
 
 -- none goes to this word
 pub seen-none : (a v : ℕ) (f : ℕ → Write) (i n : ℕ) → ((p : ℕ) → (f p).addr ≢ a) → seen a v (spread f i n) ≡ v
@@ -63,9 +61,7 @@ seen-tails r i zero = ap (offset r) (omega arith)
 seen-tails r i (suc n) =
     let on : (r.tail == r.tail) ≡ true = grind (arith, nat_tests) in
     ap (λ b. seen r.tail (if b then offset r (i + 1) else offset r i) (spread (freed_store r) (suc i) n)) on
-    ∙ ap (λ j. seen r.tail (offset r j) (spread (freed_store r) (suc i) n)) (omega arith)
-    ∙ seen-tails r (suc i) n
-    ∙ ap (offset r) (omega arith)
+    ∙ ap (λ j. seen r.tail (offset r j) (spread (freed_store r) (suc i) n)) (omega arith) ∙ seen-tails r (suc i) n ∙ ap (offset r) (omega arith)
 
 module _ (r : RingBuffer) (is : IsRingBuffer r) where
   pub offset_low : (j : ℕ) → offset r j + 4 ≤ 4 * r.size
@@ -105,16 +101,14 @@ module _ (r : RingBuffer) (is : IsRingBuffer r) where
     sent-not-tail p = sent-cases (λ w. w.addr ≢ r.tail) p slot_not_tail (λ j. is.apart)
 
     pub sent-whole : ((j : ℕ) → L j < 2 ^ 32) → (p : ℕ) → IsWholeWord (sent_store r L p)
-    sent-whole small p = sent-cases IsWholeWord p
-        (λ j. record { whole = refl; aligned = omega (arith, is.slots_aligned); small = small j })
+    sent-whole small p = sent-cases IsWholeWord p (λ j. record { whole = refl; aligned = omega (arith, is.slots_aligned); small = small j })
         (λ j. record { whole = refl; aligned = is.head.aligned; small = omega (arith, offset_low j, is.small) })
 
     -- the sender finds the head after its last store of one
     pub seen-heads : (p n : ℕ) → seen r.head (offset r (p / 2)) (spread (sent_store r L) p n) ≡ offset r ((p + n) / 2)
     seen-heads p zero = ap (offset r) (omega arith)
     seen-heads p (suc n) =
-        ap (λ v. seen r.head v (spread (sent_store r L) (suc p) n)) (one (cases_eq (p % 2) 0))
-        ∙ seen-heads (suc p) n ∙ ap (offset r) (omega arith)
+        ap (λ v. seen r.head v (spread (sent_store r L) (suc p) n)) (one (cases_eq (p % 2) 0)) ∙ seen-heads (suc p) n ∙ ap (offset r) (omega arith)
       where
         w : Write
         w = sent_store r L p
@@ -124,12 +118,10 @@ module _ (r : RingBuffer) (is : IsRingBuffer r) where
             let is : sent_store r L p ≡ write (slot r (p / 2)) 4 (L (p / 2)) = sent-slot r L p (p / 2) (omega arith) in
             let apart : slot r (p / 2) ≢ r.head = slot_not_head (p / 2) in
             let off : (slot r (p / 2) == r.head) ≡ false = grind (arith, nat_tests) in
-            ap (λ (x : Write). if x.addr == r.head then x.value else offset r (p / 2)) is
-            ∙ ap (λ b. if b then L (p / 2) else offset r (p / 2)) off
+            ap (λ (x : Write). if x.addr == r.head then x.value else offset r (p / 2)) is ∙ ap (λ b. if b then L (p / 2) else offset r (p / 2)) off
             ∙ ap (offset r) (omega arith)
         one (inr odd) =
             let is : sent_store r L p ≡ write r.head 4 (offset r (p / 2 + 1)) = sent-head r L p (p / 2) (omega arith) in
             let on : (r.head == r.head) ≡ true = grind (arith, nat_tests) in
-            ap (λ (x : Write). if x.addr == r.head then x.value else offset r (p / 2)) is
-            ∙ ap (λ b. if b then offset r (p / 2 + 1) else offset r (p / 2)) on
+            ap (λ (x : Write). if x.addr == r.head then x.value else offset r (p / 2)) is ∙ ap (λ b. if b then offset r (p / 2 + 1) else offset r (p / 2)) on
             ∙ ap (offset r) (omega arith)

@@ -52,8 +52,7 @@ module _ (K : Kind) (r : RingBuffer) (is : IsRingBuffer r) (L : ℕ → ℕ) (c 
 
   -- the block stays, and so do the stores to it: what a party knows may change
   pub stays : (p : SenderState) (q : ReceiverState) → Stays r o es after → SendingIs (spare K) r s.stored s.published (freed K d.cleared d.tails) p
-      → ReceivingIs K r L s.taken s.consumed (there K d.slots d.heads) q
-      → Copied K r.copy r o after (s.stored + ready_by_state p) (freed K d.cleared d.tails)
+      → ReceivingIs K r L s.taken s.consumed (there K d.slots d.heads) q → Copied K r.copy r o after (s.stored + ready_by_state p) (freed K d.cleared d.tails)
       → Invariant K r L c o after (record s { sending = p; receiving = q })
   stays p q block sending receiving copy = record {
     landed = d;

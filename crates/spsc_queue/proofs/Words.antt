@@ -101,16 +101,14 @@ pub whole_word : (w : Write) (a : ℕ) (f : ℕ → ℕ) → a % 4 ≡ 0 → IsW
     → joined (λ i. byte_after w (a + i) (f (a + i))) 4 ≡ (if w.addr == a then w.value else joined (λ i. f (a + i)) 4)
 whole_word w a f aligned is = at (w.addr == a) refl
   where
-    at : (c : Bool) → (w.addr == a) ≡ c
-        → joined (λ i. byte_after w (a + i) (f (a + i))) 4 ≡ (if c then w.value else joined (λ i. f (a + i)) 4)
+    at : (c : Bool) → (w.addr == a) ≡ c → joined (λ i. byte_after w (a + i) (f (a + i))) 4 ≡ (if c then w.value else joined (λ i. f (a + i)) 4)
     at true same =
         let here : w.addr ≡ a = eqb-true w.addr a same in
         let width : w.width ≡ 4 = is.whole in
         joined-same (λ i. byte_after w (a + i) (f (a + i))) (λ i. byte_at i w.value) 4 (λ i lt.
         let held : covers w (a + i) ≡ true = covers-yes w (a + i) (omega arith) (omega arith) in
         let place : a + i - w.addr ≡ i = omega arith in
-        ap (λ c. if c then byte_at (a + i - w.addr) w.value else f (a + i)) held ∙ ap (λ j. byte_at j w.value) place)
-        ∙ word_of_bytes w.value is.small
+        ap (λ c. if c then byte_at (a + i - w.addr) w.value else f (a + i)) held ∙ ap (λ j. byte_at j w.value) place) ∙ word_of_bytes w.value is.small
     at false apart =
         let elsewhere : w.addr ≡ a → ⊥ = eqb-false w.addr a apart in
         let width : w.width ≡ 4 = is.whole in
@@ -120,8 +118,7 @@ whole_word w a f aligned is = at (w.addr == a) refl
         ap (λ c. if c then byte_at (a + i - w.addr) w.value else f (a + i)) none)
 
 -- what is found before a list counts where nothing is found in it
-newest-found : (x d : ℕ) (found : Option ℕ) (ws : List Write)
-    → unwrap_or (newest_of x found ws) d ≡ unwrap_or (newest_of x None ws) (unwrap_or found d)
+newest-found : (x d : ℕ) (found : Option ℕ) (ws : List Write) → unwrap_or (newest_of x found ws) d ≡ unwrap_or (newest_of x None ws) (unwrap_or found d)
 newest-found x d found [] = refl
 newest-found x d found (w ∷ ws) = at (covers w x) (λ e g. newest-found x e g ws)
   where
@@ -129,20 +126,17 @@ newest-found x d found (w ∷ ws) = at (covers w x) (λ e g. newest-found x e g 
     b = byte_at (x - w.addr) w.value
 
     at : (c : Bool) → ((e : ℕ) (g : Option ℕ) → unwrap_or (newest_of x g ws) e ≡ unwrap_or (newest_of x None ws) (unwrap_or g e))
-        → unwrap_or (newest_of x (if c then Some b else found) ws) d
-        ≡ unwrap_or (newest_of x (if c then Some b else None) ws) (unwrap_or found d)
+        → unwrap_or (newest_of x (if c then Some b else found) ws) d ≡ unwrap_or (newest_of x (if c then Some b else None) ws) (unwrap_or found d)
     at true more = more d (Some b) ∙ sym (more (unwrap_or found d) (Some b))
     at false more = more d found
 
-newest-first : (x d : ℕ) (w : Write) (ws : List Write)
-    → unwrap_or (newest_of x None (w ∷ ws)) d ≡ unwrap_or (newest_of x None ws) (byte_after w x d)
+newest-first : (x d : ℕ) (w : Write) (ws : List Write) → unwrap_or (newest_of x None (w ∷ ws)) d ≡ unwrap_or (newest_of x None ws) (byte_after w x d)
 newest-first x d w ws = at (covers w x)
   where
     b : ℕ
     b = byte_at (x - w.addr) w.value
 
-    at : (c : Bool) → unwrap_or (newest_of x (if c then Some b else None) ws) d
-        ≡ unwrap_or (newest_of x None ws) (if c then b else d)
+    at : (c : Bool) → unwrap_or (newest_of x (if c then Some b else None) ws) d ≡ unwrap_or (newest_of x None ws) (if c then b else d)
     at true = newest-found x d (Some b) ws
     at false = refl
 
@@ -157,10 +151,8 @@ pub read_through : (r : RingBuffer) (a : ℕ) (f : ℕ → ℕ) (ws : List Write
     → joined (λ i. unwrap_or (newest_of (a + i) None ws) (f (a + i))) 4 ≡ seen a (joined (λ i. f (a + i)) 4) (row_of r ws)
 read_through r a f [] is all = refl
 read_through r a f (w ∷ ws) is all =
-    joined-same (λ i. unwrap_or (newest_of (a + i) None (w ∷ ws)) (f (a + i)))
-    (λ i. unwrap_or (newest_of (a + i) None ws) (byte_after w (a + i) (f (a + i)))) 4
-    (λ i lt. newest-first (a + i) (f (a + i)) w ws)
-    ∙ read_through r a (λ x. byte_after w x (f x)) ws is (All-tail (Tidy r) w ws all)
+    joined-same (λ i. unwrap_or (newest_of (a + i) None (w ∷ ws)) (f (a + i))) (λ i. unwrap_or (newest_of (a + i) None ws) (byte_after w (a + i) (f (a + i)))) 4
+    (λ i lt. newest-first (a + i) (f (a + i)) w ws) ∙ read_through r a (λ x. byte_after w x (f x)) ws is (All-tail (Tidy r) w ws all)
     ∙ at (shared r w) refl (All-head (Tidy r) w ws all)
   where
     v : ℕ
