@@ -3,3 +3,5 @@ pub mod EndLaws
 pub mod NumberLaws
 pub mod FitAfter
 pub mod GoingOn
+pub mod FieldLaws
+pub mod KeyLaws

@@ -1,3 +1,5 @@
 pub mod Ends
 pub mod Numbered
 pub mod inner
+pub mod Digits
+pub mod Fields

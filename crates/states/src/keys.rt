@@ -1,8 +1,9 @@
 //! Keys of states in the order in which they are met first, and a table by which each is found.
 
-ghost use Rattle.std.specs.Prelude.{◌≡◌, ◌≤◌, ◌++◌, ◌⊎◌, [], ◌∷◌, None, Some, false, length, slice_get, IsTrue};
-ghost use Rattle.std.specs.Prelude.{IfOk, OnOk, OnErr, if◌then◌else◌};
-ghost use Rattle.std.specs.List.{Contains};
+ghost use Rattle.std.specs.Prelude.{◌≡◌, ◌↔◌, ◌≤◌, ◌<◌, ◌++◌, ◌%◌, ◌^◌, All, [], ◌∷◌, Some, false, map, length, replicate, slice_get, IsTrue};
+ghost use Rattle.std.specs.Prelude.{IfOk, IfSome, OnOk, OnErr, if◌then◌else◌};
+ghost use Rattle.std.specs.List.{AllZip, Contains, slice_index_or};
+ghost use Rattle.states.specs.Digits.{HasRoomFor, row_of};
 
 use crate::layout::Layout;
 use std::alloc::{AllocError, Global};
@@ -51,6 +52,8 @@ impl<const N: usize> Draft<N> {
     }
 }
 
+/// A key's hash. It says where a search for the key begins and nothing of what it finds, since keys are compared: so no clause
+/// is about its value, nor about the slots.
 #[inline(always)]
 fn hash_of<const N: usize>(key: &[u64; N]) -> u64 {
     let mut hash = 0u64;
@@ -61,14 +64,19 @@ fn hash_of<const N: usize>(key: &[u64; N]) -> u64 {
     hash
 }
 
-/// The bits of a hash that stand beside a key's number.
+/// The bits of a hash that stand beside a key's number. One is set, so that the slot of a key isn't 0.
 #[inline(always)]
-fn tag_of(hash: u64) -> u32 {
+fn tag_of(hash: u64) -> u32
+    ensures some { 2 ^ 24 ≤ result }
+    ensures above { result % 2 ^ 24 ≡ 0 }
+{
     ((hash >> 56) as u32).max(1) << 24
 }
 
 /// The first slot from that of a hash on that is free.
-fn free_slot(slots: &[u32], hash: u64) -> usize {
+fn free_slot(slots: &[u32], hash: u64) -> usize
+    ensures { 0 < length slots.now → result < length slots.now }
+{
     let mask = slots.len().wrapping_sub(1);
     let mut at = (hash % 4_294_967_296) as u32 as usize & mask;
     for _ in 0..slots.len() {
@@ -105,7 +113,7 @@ impl<const N: usize> Keys<N> {
     /// The key of a number, and zeros where there is none.
     #[inline(always)]
     pub fn key(&self, number: usize) -> [u64; N]
-        ensures { slice_get self.now number ≡ Some result ⊎ (slice_get self.now number ≡ None) }
+        ensures { result ≡ slice_index_or self.now number (replicate N 0) }
     {
         match self.keys.get(number) {
             Some(key) => *key,
@@ -130,12 +138,12 @@ impl<const N: usize> Keys<N> {
         0
     }
 
-    /// Whether the key of the number in a slot is this one.
+    /// Whether this is the key of a number.
     #[inline(always)]
-    fn is_at(&self, slot: u32, key: &[u64; N]) -> bool
-        ensures { IsTrue result → Contains self.now key.now }
+    fn is_at(&self, number: u32, key: &[u64; N]) -> bool
+        ensures { IsTrue result ↔ (slice_get self.now number ≡ Some key.now) }
     {
-        match self.keys.get((slot & 0xFF_FFFF) as usize) {
+        match self.keys.get(number as usize) {
             Some(other) => *other == *key,
             None => false,
         }
@@ -148,22 +156,24 @@ impl<const N: usize> Keys<N> {
         drafts: &[Draft<N>],
         looks: &mut Vec<u32>,
         known: &mut Vec<bool>,
-    ) -> Result<(), AllocError> {
+    ) -> Result<(), AllocError>
+        ensures { OnOk result (AllZip (λ draft is_known. IsTrue is_known → Contains self.now draft.key) drafts.now known.new.items) }
+    {
         looks.clear();
         for draft in drafts {
             looks.push(self.look(draft.hash))?;
         }
         known.clear();
         for (draft, slot) in drafts.iter().zip(looks.iter()) {
-            known.push(*slot != 0 && self.is_at(*slot, &draft.key))?;
+            known.push(*slot != 0 && self.is_at(*slot & 0xFF_FFFF, &draft.key))?;
         }
         Ok(())
     }
 
-    /// The slot for a key that isn't there.
+    /// The number of a key, or else a slot for it.
     #[inline(always)]
-    fn slot_for(&self, draft: &Draft<N>) -> Option<usize>
-        ensures { result ≡ None → Contains self.now draft.now.key }
+    fn seek(&self, draft: &Draft<N>) -> Result<u32, usize>
+        ensures { IfOk result (λ number. slice_get self.now number ≡ Some draft.now.key) }
     {
         let mask = self.slots.len().wrapping_sub(1);
         let tag = tag_of(draft.hash);
@@ -171,15 +181,24 @@ impl<const N: usize> Keys<N> {
         for _ in 0..self.slots.len() {
             match self.slots.get(at) {
                 Some(slot) if *slot != 0 => {
-                    if *slot & 0xFF00_0000 == tag && self.is_at(*slot, &draft.key) {
-                        return None;
+                    let number = *slot & 0xFF_FFFF;
+                    if *slot & 0xFF00_0000 == tag && self.is_at(number, &draft.key) {
+                        return Ok(number);
                     }
                     at = at.wrapping_add(1) & mask;
                 }
-                _ => return Some(at),
+                _ => return Err(at),
             }
         }
-        Some(at)
+        Err(at)
+    }
+
+    /// The number of a key, if it is found.
+    #[inline(always)]
+    pub fn find(&self, draft: &Draft<N>) -> Option<u32>
+        ensures { IfSome result (λ number. slice_get self.now number ≡ Some draft.now.key) }
+    {
+        self.seek(draft).ok()
     }
 
     /// Appends a key, unless it is there, and answers whether it did.
@@ -189,7 +208,7 @@ impl<const N: usize> Keys<N> {
         ensures known { IfOk result (λ is_new. is_new ≡ false → Contains self.old draft.now.key) }
         ensures err { OnErr result (self.new ≡ self.old) }
     {
-        let Some(at) = self.slot_for(draft) else {
+        let Err(at) = self.seek(draft) else {
             return Ok(false);
         };
         let number = self.keys.len();
@@ -230,9 +249,10 @@ impl<const N: usize> Keys<N> {
         Ok(())
     }
 
-    /// Writes each key by another layout.
+    /// Writes each key by another layout, which must hold the numbers of all. After an error the keys are written all the same.
     pub fn move_to(&mut self, old: &Layout<N>, new: &Layout<N>) -> Result<(), AllocError>
-        ensures { length self.new ≡ length self.old }
+        ensures count { length self.new ≡ length self.old }
+        ensures rows { All (λ key. HasRoomFor new.now (row_of old.now key)) self.old → map (row_of new.now) self.new ≡ map (row_of old.now) self.old }
     {
         let size = self.slots.len();
         for index in 0..self.keys.len() {

@@ -1,6 +1,7 @@
 //! Numbers of lists of words, in the order in which they are met first.
 
-ghost use Rattle.std.specs.Prelude.{◌≡◌, ◌+◌, ◌<◌, ◌≤◌, [], length, IfOk, OnOk, OnErr, All};
+ghost use Rattle.std.specs.Prelude.{◌≡◌, ◌+◌, ◌<◌, ◌≤◌, [], length, slice_get, Ok, None, Some, IfOk, IfSome, OnOk, OnErr, All};
+ghost use Rattle.std.specs.List.{Contains};
 ghost use Rattle.states.specs.inner.Compact.{IsCompact};
 
 use crate::compact::{push_bytes, push_words};
@@ -64,6 +65,16 @@ impl Parts {
         let part = Vec::from_slice(*self.bytes.allocator(), &self.bytes)?;
         self.parts.insert(part)?;
         Ok(number)
+    }
+
+    /// The number of these words, if they are numbered. `bytes` is room for their bytes.
+    pub fn find(&self, words: &[u32], bytes: &mut Vec<u8>) -> Result<Option<usize>, AllocError>
+        ensures known { IfOk result (λ found. IfSome found (λ number. slice_get self.now number ≡ Some words.now)) }
+        ensures unknown { result ≡ Ok None → Contains self.now words.now → ⊥ }
+    {
+        bytes.clear();
+        push_bytes(bytes, words)?;
+        Ok(self.parts.get_index_of(bytes.as_slice()))
     }
 
     /// Writes the words of this number in the place of what `words` holds.

@@ -1,0 +1,95 @@
+-- Numbers in digits of a key's words, and the keys with other numbers there.
+use Rattle.std.proofs.Common.{◌≡◌, ℕ, ◌+◌, ◌^◌, ◌<◌, ◌≤◌, ◌⊎◌, inl, inr, List, length, map, get_or, Option, Some, None, refl, sym, ◌∙◌, ap, subst, arith}
+use Rattle.std.specs.Prelude.{option_map, slice_index, slice_set}
+use Rattle.std.specs.List.{slice_get}
+use Rattle.std.proofs.lemmas.Bool.{cases_order}
+use Rattle.std.proofs.lemmas.List.{get_or-set_same, get_or-set_other, length-map}
+use Rattle.std.proofs.lemmas.Option.{slice_get-map, slice_get_past, slice_get_read, slice_get_within}
+use Rattle.step_machine.proofs.Stays.{slice_get-set_same, slice_get-set_other}
+use Rattle.states.proofs.EndLaws.{by_places}
+use Rattle.states.specs.declared.layout.Field.{Field}
+use Rattle.states.specs.Digits.{AreApart, Digits, digits_of, number_in, row_of, with_number}
+use Rattle.states.specs.Fields.{field, with_field}
+use Rattle.states.proofs.FieldLaws.{digits_above, digits_below, field_set, small_pow}
+
+-- the number is there
+pub key_set : (digits : Digits) (key : List ℕ) (number : ℕ) → digits.word < length key → number < 2 ^ digits.width
+    → number_in digits (with_number digits key number) ≡ number
+key_set digits key number within small =
+    ap (λ (word : ℕ). field word (2 ^ digits.shift) (2 ^ digits.width))
+    (get_or-set_same key digits.word (with_field (slice_index key digits.word) (2 ^ digits.shift) (2 ^ digits.width) number) 0 within)
+    ∙ field_set (slice_index key digits.word) (2 ^ digits.shift) (2 ^ digits.width) number (small_pow digits.shift) small
+
+other_word : (digits other : Digits) (key : List ℕ) (number : ℕ) → (other.word ≡ digits.word → ⊥)
+    → number_in other (with_number digits key number) ≡ number_in other key
+other_word digits other key number words =
+    ap (λ (word : ℕ). field word (2 ^ other.shift) (2 ^ other.width))
+    (get_or-set_other key digits.word other.word (with_field (slice_index key digits.word) (2 ^ digits.shift) (2 ^ digits.width) number) 0 words)
+
+same_word : (digits other : Digits) (key : List ℕ) (number : ℕ) → digits.word ≡ other.word → digits.word < length key
+    → ((word : ℕ) → field (with_field word (2 ^ digits.shift) (2 ^ digits.width) number) (2 ^ other.shift) (2 ^ other.width)
+    ≡ field word (2 ^ other.shift) (2 ^ other.width))
+    → number_in other (with_number digits key number) ≡ number_in other key
+same_word digits other key number is within stays =
+    let new = with_field (slice_index key digits.word) (2 ^ digits.shift) (2 ^ digits.width) number in
+    ap (λ (word : ℕ). field word (2 ^ other.shift) (2 ^ other.width))
+    (ap (λ (i : ℕ). slice_index (slice_set key digits.word new) i) (sym is) ∙ get_or-set_same key digits.word new 0 within)
+    ∙ stays (slice_index key digits.word) ∙ ap (λ (i : ℕ). field (slice_index key i) (2 ^ other.shift) (2 ^ other.width)) is
+
+-- what stands apart stays
+pub key_keeps : (digits other : Digits) (key : List ℕ) (number : ℕ) → AreApart digits other → digits.word < length key → number < 2 ^ digits.width
+    → number_in other (with_number digits key number) ≡ number_in other key
+key_keeps digits other key number (inl words) within small = other_word digits other key number (λ is. words (sym is))
+key_keeps digits other key number (inr apart) within small = elim (cases_order digits.word other.word) [
+  | inl is ↦ same_word digits other key number is within (λ word. stays word apart)
+  | inr words ↦ other_word digits other key number (λ is. elim words [ inl less ↦ omega (arith, is, less) | inr more ↦ omega (arith, is, more) ])
+]
+  where
+    stays : (word : ℕ) → (digits.shift + digits.width ≤ other.shift) ⊎ (other.shift + other.width ≤ digits.shift)
+        → field (with_field word (2 ^ digits.shift) (2 ^ digits.width) number) (2 ^ other.shift) (2 ^ other.width)
+        ≡ field word (2 ^ other.shift) (2 ^ other.width)
+    stays word (inl above) = digits_above word digits.shift digits.width number other.shift (2 ^ other.width) above small
+    stays word (inr below) = digits_below word digits.shift digits.width number other.shift other.width below
+
+-- ---- rows
+
+-- the row of a key with another number at one place is the row with that number there
+pub row_set : (layout : List Digits) (key : List ℕ) (place number : ℕ) (digits : Digits) → slice_get layout place ≡ Some digits
+    → ((other : ℕ) (apart : Digits) → (other ≡ place → ⊥) → slice_get layout other ≡ Some apart → AreApart digits apart)
+    → digits.word < length key → number < 2 ^ digits.width → row_of layout (with_number digits key number) ≡ slice_set (row_of layout key) place number
+row_set layout key place number digits there apart within small =
+    by_places (row_of layout new) (slice_set (row_of layout key) place number) (λ i. elim (cases_order i place) [
+      | inl is ↦ subst (λ (j : ℕ). slice_get (row_of layout new) j ≡ slice_get (slice_set (row_of layout key) place number) j) (sym is) here
+      | inr other ↦ elsewhere i (λ is. elim other [ inl less ↦ omega (arith, is, less) | inr more ↦ omega (arith, is, more) ])
+    ])
+  where
+    new : List ℕ
+    new = with_number digits key number
+
+    here : slice_get (row_of layout (with_number digits key number)) place ≡ slice_get (slice_set (row_of layout key) place number) place
+    here =
+        slice_get-map (λ d. number_in d (with_number digits key number)) layout place ∙ ap (option_map (λ d. number_in d (with_number digits key number))) there
+        ∙ ap (λ (n : ℕ). Some n) (key_set digits key number within small)
+        ∙ sym (slice_get-set_same (row_of layout key) place number
+        (omega (arith, length-map layout (λ d. number_in d key), slice_get_within layout place digits there)))
+
+    at : (i : ℕ) (so : Option Digits) → slice_get layout i ≡ so → (i ≡ place → ⊥)
+        → option_map (λ d. number_in d (with_number digits key number)) so ≡ option_map (λ d. number_in d key) so
+    at i None is other = refl
+    at i (Some d) is other = ap (λ (n : ℕ). Some n) (key_keeps digits d key number (apart i d other is) within small)
+
+    elsewhere : (i : ℕ) → (i ≡ place → ⊥)
+        → slice_get (row_of layout (with_number digits key number)) i ≡ slice_get (slice_set (row_of layout key) place number) i
+    elsewhere i other =
+        slice_get-map (λ d. number_in d (with_number digits key number)) layout i ∙ at i (slice_get layout i) refl other
+        ∙ sym (slice_get-map (λ d. number_in d key) layout i) ∙ sym (slice_get-set_other (row_of layout key) place i number other)
+
+-- ---- the fields of a layout
+
+pub digits_at : (fields : List Field) (place : ℕ) (f : Field) → place < length fields → f ≡ get_or fields place f
+    → slice_get (map digits_of fields) place ≡ Some (digits_of f)
+digits_at fields place f within is =
+    slice_get-map digits_of fields place ∙ ap (option_map digits_of) (slice_get_read fields (length fields) place f refl within is)
+
+pub digits_past : (fields : List Field) (place : ℕ) → length fields ≤ place → slice_get (map digits_of fields) place ≡ None
+digits_past fields place past = slice_get-map digits_of fields place ∙ ap (option_map digits_of) (slice_get_past fields place past)
