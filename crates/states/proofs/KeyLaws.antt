@@ -1,10 +1,11 @@
 -- Numbers in digits of a key's words, and the keys with other numbers there.
 use Rattle.std.proofs.Common.{◌≡◌, ℕ, ◌+◌, ◌^◌, ◌<◌, ◌≤◌, ◌⊎◌, inl, inr, List, length, map, get_or, Option, Some, None, refl, sym, ◌∙◌, ap, subst, arith}
-use Rattle.std.specs.Prelude.{option_map, slice_index, slice_set}
+use Rattle.std.specs.Prelude.{option_map, slice_index, slice_set, unwrap_or}
+use Rattle.std.proofs.Math.Nat.{zero-div, zero-mod}
 use Rattle.std.specs.List.{slice_get}
 use Rattle.std.proofs.lemmas.Bool.{cases_order}
-use Rattle.std.proofs.lemmas.List.{get_or-set_same, get_or-set_other, length-map}
-use Rattle.std.proofs.lemmas.Option.{slice_get-map, slice_get_past, slice_get_read, slice_get_within}
+use Rattle.std.proofs.lemmas.List.{get_or_read, get_or-set_same, get_or-set_other, length-map}
+use Rattle.std.proofs.lemmas.Option.{get_or_from_slice_get, slice_get-map, slice_get_past, slice_get_read, slice_get_within, unwrap_or-slice_get}
 use Rattle.step_machine.proofs.Stays.{slice_get-set_same, slice_get-set_other}
 use Rattle.states.proofs.EndLaws.{by_places}
 use Rattle.states.specs.declared.layout.Field.{Field}
@@ -93,3 +94,26 @@ digits_at fields place f within is =
 
 pub digits_past : (fields : List Field) (place : ℕ) → length fields ≤ place → slice_get (map digits_of fields) place ≡ None
 digits_past fields place past = slice_get-map digits_of fields place ∙ ap (option_map digits_of) (slice_get_past fields place past)
+
+-- ---- a number at a place of a row
+
+read_at : (fields : List Field) (key : List ℕ) (place : ℕ) (f : Field) → place < length fields → f ≡ get_or fields place f
+    → number_in (digits_of f) key ≡ slice_index (row_of (map digits_of fields) key) place
+read_at fields key place f within is =
+    sym (get_or_from_slice_get (row_of (map digits_of fields) key) place (number_in (digits_of f) key) 0
+    (slice_get-map (λ d. number_in d key) (map digits_of fields) place ∙ ap (option_map (λ d. number_in d key)) (digits_at fields place f within is)))
+
+-- in a word of the key
+pub read_there : (fields : List Field) (key : List ℕ) (place word : ℕ) (f : Field) → place < length fields → f ≡ get_or fields place f
+    → f.word < length key → word ≡ get_or key f.word word
+    → field word (2 ^ f.shift) (2 ^ f.width) ≡ slice_index (row_of (map digits_of fields) key) place
+read_there fields key place word f within is there word_is =
+    ap (λ (w : ℕ). field w (2 ^ f.shift) (2 ^ f.width)) (get_or_read key f.word word there word_is 0) ∙ read_at fields key place f within is
+
+-- and beyond its words
+pub read_past : (fields : List Field) (key : List ℕ) (place : ℕ) (f : Field) → place < length fields → f ≡ get_or fields place f
+    → length key ≤ f.word → 0 ≡ slice_index (row_of (map digits_of fields) key) place
+read_past fields key place f within is past =
+    let none : slice_index key f.word ≡ 0 = sym (unwrap_or-slice_get key f.word 0) ∙ ap (λ (o : Option ℕ). unwrap_or o 0) (slice_get_past key f.word past) in
+    let zero : field 0 (2 ^ f.shift) (2 ^ f.width) ≡ 0 = grind (arith, zero-div, zero-mod) in
+    sym zero ∙ ap (λ (w : ℕ). field w (2 ^ f.shift) (2 ^ f.width)) (sym none) ∙ read_at fields key place f within is

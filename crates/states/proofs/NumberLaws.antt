@@ -1,9 +1,9 @@
 -- Positions among the numbered ones.
 use Rattle.std.proofs.Common.{◌≡◌, ℕ, zero, suc, Bool, true, false, ◌||◌, List, [], ◌∷◌, ◌++◌, length, get_or}
-use Rattle.std.proofs.Common.{Option, Some, refl, sym, ◌∙◌, ap, subst}
+use Rattle.std.proofs.Common.{Option, None, Some, refl, sym, ◌∙◌, ap, subst}
 use Rattle.std.specs.Global.{Vec}
-use Rattle.std.specs.Prelude.{All, map, option_map, position, if◌then◌else◌, Result, Ok, Err, IfOk, OnErr}
-use Rattle.std.specs.List.{slice_get, list_any}
+use Rattle.std.specs.Prelude.{All, map, option_map, position, if◌then◌else◌, Result, Ok, Err, IfOk, IfSome, OnErr, is_some}
+use Rattle.std.specs.List.{Contains, slice_get, list_any}
 use Rattle.std.specs.Str.{bytes_eq}
 use Rattle.std.proofs.lemmas.List.{length-map, map-append}
 use Rattle.std.proofs.lemmas.List.Quantifiers.{position-Some}
@@ -76,3 +76,16 @@ pub stay_either : {E : Type 0} (r : Result Bool E) (keys new : List (Vec ℕ)) (
 stay_either (Ok added) keys new key words all key_is back inserted err =
     stay_compact keys new key words (list_any (has_bytes key.items) keys) all key_is back inserted
 stay_either (Err e) keys new key words all key_is back inserted err = subst (λ (ks : List (Vec ℕ)). All IsCompact ks) (sym err) all
+
+-- ---- whether words are numbered
+
+pub words_found : (r : Option ℕ) (keys : List (Vec ℕ)) (bytes words : List ℕ) → r ≡ position (has_bytes bytes) keys → words_in bytes ≡ words
+    → IfSome r (λ number. slice_get (map words_of keys) number ≡ Some words)
+words_found None keys bytes words is back = tt
+words_found (Some number) keys bytes words is back = words-there keys bytes words number is back
+
+pub words_unknown : (r : Option ℕ) (keys : List (Vec ℕ)) (words : List ℕ) → All IsCompact keys → is_some r ≡ list_any (has_bytes (bytes_of words)) keys
+    → r ≡ None → Contains (map words_of keys) words → ⊥
+words_unknown r keys words all found none contains =
+    words-absent keys words contains.0 all (ap is_some (sym none) ∙ found)
+    (slice_get-get_or (map words_of keys) contains.0 words contains.1 ∙ ap (λ (ws : List ℕ). Some ws) contains.2)
