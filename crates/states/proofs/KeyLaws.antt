@@ -1,15 +1,17 @@
 -- Numbers in digits of a key's words, and the keys with other numbers there.
-use Rattle.std.proofs.Common.{◌≡◌, ℕ, ◌+◌, ◌^◌, ◌<◌, ◌≤◌, ◌⊎◌, inl, inr, List, length, map, get_or, Option, Some, None, refl, sym, ◌∙◌, ap, subst, arith}
-use Rattle.std.specs.Prelude.{option_map, slice_index, slice_set, unwrap_or}
+use Rattle.std.proofs.Common.{◌≡◌, ℕ, ◌+◌, ◌^◌, ◌<◌, ◌≤◌, ◌⊎◌, inl, inr, zero, suc, List, [], ◌∷◌, length, map, get_or, Option, Some, None, refl, sym, ◌∙◌, ap, subst, arith}
+use Rattle.std.specs.Prelude.{All, IfSome, option_map, slice_index, slice_set, unwrap_or}
 use Rattle.std.proofs.Math.Nat.{zero-div, zero-mod}
-use Rattle.std.specs.List.{slice_get}
+use Rattle.std.specs.List.{AllPairs, slice_get}
 use Rattle.std.proofs.lemmas.Bool.{cases_order}
-use Rattle.std.proofs.lemmas.List.{get_or_read, get_or-set_same, get_or-set_other, length-map}
+use Rattle.std.proofs.lemmas.Slice.Zip.{AllZip-long}
+use Rattle.std.proofs.lemmas.List.{ext_get_or, get_or_read, get_or-set_same, get_or-set_other, length-map}
 use Rattle.std.proofs.lemmas.Option.{get_or_from_slice_get, slice_get-map, slice_get_past, slice_get_read, slice_get_within, unwrap_or-slice_get}
 use Rattle.step_machine.proofs.Stays.{slice_get-set_same, slice_get-set_other}
 use Rattle.states.proofs.EndLaws.{by_places}
 use Rattle.states.specs.declared.layout.Field.{Field}
-use Rattle.states.specs.Digits.{AreApart, Digits, digits_of, number_in, row_of, with_number}
+use Rattle.std.proofs.lemmas.List.Elements.{All-get_or}
+use Rattle.states.specs.Digits.{AreApart, AreOfWords, Digits, HasRoomFor, digits_of, number_in, row_of, with_number}
 use Rattle.states.specs.Fields.{field, with_field}
 use Rattle.states.proofs.FieldLaws.{digits_above, digits_below, field_set, small_pow}
 
@@ -117,3 +119,76 @@ read_past fields key place f within is past =
     let none : slice_index key f.word ≡ 0 = sym (unwrap_or-slice_get key f.word 0) ∙ ap (λ (o : Option ℕ). unwrap_or o 0) (slice_get_past key f.word past) in
     let zero : field 0 (2 ^ f.shift) (2 ^ f.width) ≡ 0 = grind (arith, zero-div, zero-mod) in
     sym zero ∙ ap (λ (w : ℕ). field w (2 ^ f.shift) (2 ^ f.width)) (sym none) ∙ read_at fields key place f within is
+
+-- ---- a number is set
+
+turned : (digits other : Digits) → AreApart digits other → AreApart other digits
+turned digits other (inl words) = inl (λ is. words (sym is))
+turned digits other (inr (inl above)) = inr (inr above)
+turned digits other (inr (inr below)) = inr (inl below)
+
+-- of digits that are apart from each other those at a place are so from all others
+apart_from : (layout : List Digits) (place i : ℕ) (digits other : Digits) → AllPairs AreApart layout → (i ≡ place → ⊥)
+    → slice_get layout place ≡ Some digits → slice_get layout i ≡ Some other → AreApart digits other
+apart_from layout place i digits other apart elsewhere there also =
+    let here : get_or layout place digits ≡ digits = get_or_from_slice_get layout place digits digits there in
+    let of_other : get_or layout i digits ≡ other = get_or_from_slice_get layout i other digits also in
+    elim (cases_order i place) [
+      | inl is ↦ absurd (elsewhere is)
+      | inr (inl less) ↦ turned other digits
+          (subst (λ d. AreApart other d) here (subst (λ d. AreApart d (get_or layout place digits)) of_other
+          (apart i place digits less (slice_get_within layout place digits there))))
+      | inr (inr more) ↦ subst (AreApart digits) of_other (subst (λ d. AreApart d (get_or layout i digits)) here
+          (apart place i digits more (slice_get_within layout i other also)))
+    ]
+
+pub word_within : (N : ℕ) (layout : List Digits) (place : ℕ) (digits : Digits) → All (λ d. d.word < N) layout → slice_get layout place ≡ Some digits
+    → digits.word < N
+word_within N layout place digits all there =
+    subst (λ (d : Digits). d.word < N) (get_or_from_slice_get layout place digits digits there)
+    (All-get_or (λ (d : Digits). d.word < N) layout place digits (slice_get_within layout place digits there) all)
+
+-- the row of a key with this word is the row with the number that was set in it
+pub row_with : (N : ℕ) (layout : List Digits) (key : List ℕ) (place number word : ℕ) (digits : Digits) → AreOfWords N layout → length key ≡ N
+    → slice_get layout place ≡ Some digits
+    → (number < 2 ^ digits.width → word ≡ with_field (slice_index key digits.word) (2 ^ digits.shift) (2 ^ digits.width) number)
+    → IfSome (slice_get layout place) (λ d. number < 2 ^ d.width)
+    → row_of layout (slice_set key digits.word word) ≡ slice_set (row_of layout key) place number
+row_with N layout key place number word digits words size there written small =
+    let few : number < 2 ^ digits.width = subst (λ so. IfSome so (λ d. number < 2 ^ d.width)) there small in
+    let within : digits.word < length key = omega (arith, size, word_within N layout place digits words.within there) in
+    ap (λ (w : ℕ). row_of layout (slice_set key digits.word w)) (written few)
+    ∙ row_set layout key place number digits there (λ i other elsewhere also. apart_from layout place i digits other words.apart elsewhere there also)
+    within few
+
+-- ---- a row is moved
+
+-- there is room for the number at a place
+pub room_at : (layout : List Digits) (row : List ℕ) (place : ℕ) → HasRoomFor layout row
+    → IfSome (slice_get layout place) (λ digits. slice_index row place < 2 ^ digits.width)
+room_at [] row place all = tt
+room_at (d ∷ layout) [] place all = absurd all
+room_at (d ∷ layout) (n ∷ row) zero all = all.0
+room_at (d ∷ layout) (n ∷ row) (suc place) all = room_at layout row place all.1
+
+-- the numbers below a place and the one that is set there are the row's
+pub moved_more : (old new row : List ℕ) (place : ℕ) → place < length old → new ≡ slice_set old place (slice_index row place)
+    → ((i : ℕ) → i < place → slice_index old i ≡ slice_index row i) → (i : ℕ) → i < place + 1 → slice_index new i ≡ slice_index row i
+moved_more old new row place within is below i less =
+    ap (λ (ns : List ℕ). slice_index ns i) is ∙ elim (cases_order i place) [
+      | inl here ↦ subst (λ (j : ℕ). slice_index (slice_set old place (slice_index row place)) j ≡ slice_index row j) (sym here)
+          (get_or-set_same old place (slice_index row place) 0 within)
+      | inr other ↦
+          let before : i < place = omega (arith, less, other) in
+          get_or-set_other old place i (slice_index row place) 0 (λ here. omega (arith, before, here)) ∙ below i before
+    ]
+
+pub row_length : (layout : List Digits) (key : List ℕ) → length (row_of layout key) ≡ length layout
+row_length layout key = length-map layout (λ d. number_in d key)
+
+pub row_moved : (old new : List Digits) (key moved : List ℕ) → HasRoomFor new (row_of old key)
+    → ((i : ℕ) → i < length old → slice_index (row_of new moved) i ≡ slice_index (row_of old key) i) → row_of new moved ≡ row_of old key
+row_moved old new key moved room each =
+    let count : length (row_of new moved) ≡ length (row_of old key) =
+    row_length new moved ∙ sym (AllZip-long (λ digits number. number < 2 ^ digits.width) new (row_of old key) room) in
+    ext_get_or 0 (row_of new moved) (row_of old key) count (λ i within. each i (omega (arith, within, count, row_length old key)))

@@ -5,3 +5,4 @@ pub mod FitAfter
 pub mod GoingOn
 pub mod FieldLaws
 pub mod KeyLaws
+pub mod Zipped

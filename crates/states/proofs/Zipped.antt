@@ -1,0 +1,28 @@
+-- Two lists place by place.
+use Rattle.std.proofs.Common.{◌≡◌, ◌≤◌, ◌^◌, ◌↔◌, ◌⊎◌, ℕ, inl, inr, List, [], ◌∷◌, length, map, sym, subst, arith}
+use Rattle.std.specs.List.{AllZip}
+use Rattle.states.specs.declared.layout.Field.{Field}
+use Rattle.states.specs.Digits.{HasRoomBelow, digits_of}
+
+-- the first items, and the others
+pub zipped_more : {A B : Type 0} (R : A → B → Type 0) (xs us : List A) (ys vs : List B) (x : A) (y : B) → xs ≡ x ∷ us → ys ≡ y ∷ vs
+    → AllZip R xs ys ↔ (R x y × AllZip R us vs)
+zipped_more R xs us ys vs x y first second = (
+  λ all. subst (λ zs. AllZip R (x ∷ us) zs) second (subst (λ zs. AllZip R zs ys) first all),
+  λ all. subst (λ zs. AllZip R zs ys) (sym first) (subst (λ zs. AllZip R (x ∷ us) zs) (sym second) all),
+)
+
+-- of lists of one length both end together
+pub zipped_none : {A B : Type 0} (R : A → B → Type 0) (xs : List A) (ys : List B) → length xs ≡ length ys → (length xs ≡ 0) ⊎ (length ys ≡ 0)
+    → AllZip R xs ys
+zipped_none R [] [] count none = tt
+zipped_none R xs ys count (inl none) = absurd (omega (arith, count, none))
+zipped_none R xs ys count (inr none) = absurd (omega (arith, count, none))
+
+-- whether fields have room
+pub fields_room : (fields : List Field) (counts : List ℕ)
+    → HasRoomBelow (map digits_of fields) counts ↔ AllZip (λ (field : Field) (count : ℕ). count ≤ 2 ^ field.width) fields counts
+fields_room [] [] = (λ all. all, λ all. all)
+fields_room [] (n ∷ counts) = (λ all. all, λ all. all)
+fields_room (f ∷ fields) [] = (λ all. all, λ all. all)
+fields_room (f ∷ fields) (n ∷ counts) = let rest = fields_room fields counts in (λ all. (all.0, rest.0 all.1), λ all. (all.0, rest.1 all.1))
