@@ -2,7 +2,7 @@
 use Rattle.std.proofs.Common.{◌≡◌, ℕ, ◌+◌, ◌^◌, ◌<◌, ◌≤◌, ◌⊎◌, inl, inr, zero, suc, List, [], ◌∷◌, length, map, get_or, Option, Some, None, refl, sym, ◌∙◌, ap, subst, arith}
 use Rattle.std.specs.Prelude.{All, IfSome, option_map, slice_index, slice_set, unwrap_or}
 use Rattle.std.proofs.Math.Nat.{zero-div, zero-mod}
-use Rattle.std.specs.List.{AllPairs, slice_get}
+use Rattle.std.specs.List.{AllPairs, Contains, slice_get}
 use Rattle.std.proofs.lemmas.Bool.{cases_order}
 use Rattle.std.proofs.lemmas.Slice.Zip.{AllZip-long}
 use Rattle.std.proofs.lemmas.List.{ext_get_or, get_or_read, get_or-set_same, get_or-set_other, length-map}
@@ -10,7 +10,7 @@ use Rattle.std.proofs.lemmas.Option.{get_or_from_slice_get, slice_get-map, slice
 use Rattle.step_machine.proofs.Stays.{slice_get-set_same, slice_get-set_other}
 use Rattle.states.proofs.EndLaws.{by_places}
 use Rattle.states.specs.declared.layout.Field.{Field}
-use Rattle.std.proofs.lemmas.List.Elements.{All-get_or}
+use Rattle.std.proofs.lemmas.List.Elements.{All-get_or, All-head, All-tail}
 use Rattle.states.specs.Digits.{AreApart, AreOfWords, Digits, HasRoomFor, digits_of, number_in, row_of, with_number}
 use Rattle.states.specs.Fields.{field, with_field}
 use Rattle.states.proofs.FieldLaws.{digits_above, digits_below, field_set, small_pow}
@@ -192,3 +192,23 @@ row_moved old new key moved room each =
     let count : length (row_of new moved) ≡ length (row_of old key) =
     row_length new moved ∙ sym (AllZip-long (λ digits number. number < 2 ^ digits.width) new (row_of old key) room) in
     ext_get_or 0 (row_of new moved) (row_of old key) count (λ i within. each i (omega (arith, within, count, row_length old key)))
+
+-- the rows of keys that were moved one by one
+pub rows_moved : (old new : List Digits) (before after : List (List ℕ)) → length after ≡ length before
+    → ((i : ℕ) → i < length before → HasRoomFor new (row_of old (get_or before i [])) → row_of new (get_or after i []) ≡ row_of old (get_or before i []))
+    → All (λ key. HasRoomFor new (row_of old key)) before → map (row_of new) after ≡ map (row_of old) before
+rows_moved old new [] [] count each room = refl
+rows_moved old new (key ∷ before) (other ∷ after) count each room =
+    let first : row_of new other ≡ row_of old key = each 0 (omega arith) (All-head (λ k. HasRoomFor new (row_of old k)) key before room) in
+    let rest : length after ≡ length before = omega (arith, count) in
+    let others : map (row_of new) after ≡ map (row_of old) before =
+    rows_moved old new before after rest (λ i within. let next : suc i < suc (length before) = omega (arith, within) in each (suc i) next)
+    (All-tail (λ k. HasRoomFor new (row_of old k)) key before room) in
+    λ k. first k ∷ others k
+rows_moved old new [] (other ∷ after) count each room = absurd (omega (arith, count))
+rows_moved old new (key ∷ before) [] count each room = absurd (omega (arith, count))
+
+-- ---- keys that are there
+
+pub contains_there : (keys : List (List ℕ)) (number : ℕ) (key : List ℕ) → slice_get keys number ≡ Some key → Contains keys key
+contains_there keys number key there = (number, slice_get_within keys number key there, get_or_from_slice_get keys number key key there)

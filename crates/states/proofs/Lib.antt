@@ -5,4 +5,5 @@ pub mod FitAfter
 pub mod GoingOn
 pub mod FieldLaws
 pub mod KeyLaws
+pub mod LayoutLaws
 pub mod Zipped

@@ -1,6 +1,6 @@
 //! Keys of states in the order in which they are met first, and a table by which each is found.
 
-ghost use Rattle.std.specs.Prelude.{◌≡◌, ◌↔◌, ◌≤◌, ◌<◌, ◌++◌, ◌%◌, ◌^◌, All, [], ◌∷◌, Some, false, map, length, replicate, slice_get, IsTrue};
+ghost use Rattle.std.specs.Prelude.{◌≡◌, ◌↔◌, ◌≤◌, ◌<◌, ◌++◌, ◌*◌, ◌/◌, ◌^◌, ◌≢◌, max, All, [], ◌∷◌, Some, false, map, length, replicate, slice_get, IsTrue};
 ghost use Rattle.std.specs.Prelude.{IfOk, IfSome, OnOk, OnErr, if◌then◌else◌};
 ghost use Rattle.std.specs.List.{AllZip, Contains, slice_index_or};
 ghost use Rattle.states.specs.Digits.{HasRoomFor, row_of};
@@ -67,8 +67,7 @@ fn hash_of<const N: usize>(key: &[u64; N]) -> u64 {
 /// The bits of a hash that stand beside a key's number. One is set, so that the slot of a key isn't 0.
 #[inline(always)]
 fn tag_of(hash: u64) -> u32
-    ensures some { 2 ^ 24 ≤ result }
-    ensures above { result % 2 ^ 24 ≡ 0 }
+    ensures { result ≡ max (hash / 2 ^ 56) 1 * 2 ^ 24 }
 {
     ((hash >> 56) as u32).max(1) << 24
 }
@@ -123,7 +122,9 @@ impl<const N: usize> Keys<N> {
 
     /// The first slot from that of a hash on that is free or may be that of its key.
     #[inline(always)]
-    fn look(&self, hash: u64) -> u32 {
+    fn look(&self, hash: u64) -> u32
+        ensures { result ≢ 0 → result / 2 ^ 24 ≡ max (hash / 2 ^ 56) 1 }
+    {
         let mask = self.slots.len().wrapping_sub(1);
         let tag = tag_of(hash);
         let mut at = (hash % 4_294_967_296) as u32 as usize & mask;
@@ -170,7 +171,7 @@ impl<const N: usize> Keys<N> {
         Ok(())
     }
 
-    /// The number of a key, or else a slot for it.
+    /// The number of a key, or else a slot for it: the first from that of its hash on that is free.
     #[inline(always)]
     fn seek(&self, draft: &Draft<N>) -> Result<u32, usize>
         ensures { IfOk result (λ number. slice_get self.now number ≡ Some draft.now.key) }
@@ -193,7 +194,7 @@ impl<const N: usize> Keys<N> {
         Err(at)
     }
 
-    /// The number of a key, if it is found.
+    /// The number of a key, if it is found: one that isn't may be there all the same.
     #[inline(always)]
     pub fn find(&self, draft: &Draft<N>) -> Option<u32>
         ensures { IfSome result (λ number. slice_get self.now number ≡ Some draft.now.key) }

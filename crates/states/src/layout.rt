@@ -29,14 +29,13 @@ impl Field {
         (number % 4_294_967_296) as u32
     }
 
-    /// The word with another number in it. `old` is the one that it holds.
+    /// The word with another number in it, which must be one that the field can hold.
     #[inline(always)]
-    fn with(self, word: u64, old: u32, new: u32) -> u64
-        requires { old ≡ field word (2 ^ self.shift) (2 ^ self.width) }
-        ensures { new < 2 ^ self.width → result ≡ with_field word (2 ^ self.shift) (2 ^ self.width) new }
+    fn with(self, word: u64, number: u32) -> u64
+        ensures { number < 2 ^ self.width → result ≡ with_field word (2 ^ self.shift) (2 ^ self.width) number }
     {
-        let without = word.wrapping_sub(u64::from(old) << self.shift);
-        without.wrapping_add(u64::from(new) << self.shift)
+        let without = word.wrapping_sub(u64::from(self.number_in(word)) << self.shift);
+        without.wrapping_add(u64::from(number) << self.shift)
     }
 
     /// Whether it can hold the numbers below this one.
@@ -154,8 +153,7 @@ impl<const N: usize> Layout<N> {
         if let Some(field) = self.fields.get(place) {
             let at = field.word as usize;
             if at < N {
-                let word = key[at];
-                key[at] = field.with(word, field.number_in(word), number);
+                key[at] = field.with(key[at], number);
             }
         }
     }

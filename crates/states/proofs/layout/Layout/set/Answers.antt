@@ -22,5 +22,9 @@ returns-else-at g c = λ small.
     let there : slice_get (map digits_of c.self.inside.fields.items) c.args.place ≡ Some (digits_of c.in-Some.field.now) =
     ap (λ (ds : List Digits). slice_get ds c.args.place) (sym view)
     ∙ digits_at c.deref.result.now c.args.place c.in-Some.field.now field.3.0 field.1 in
-    absurd (omega (arith, c.if-at.false, word_within g.row.N (map digits_of c.self.inside.fields.items) c.args.place (digits_of c.in-Some.field.now)
-    c.self.invariant.within there))
+    absurd (omega (
+      arith,
+      c.if-at.false,
+      word_within g.row.N (map digits_of c.self.inside.fields.items) c.args.place (digits_of c.in-Some.field.now)
+          c.self.invariant.within there,
+    ))
