@@ -1,4 +1,4 @@
-use Rattle.std.proofs.Common.{◌≡◌, ◌∙◌, ◌≤◌, ◌^◌, ◌↔◌, ◌⊎◌, ℕ, inl, inr, List, length, map, sym, ap, subst, arith, refl}
+use Rattle.std.proofs.Common.{◌≡◌, ◌∙◌, ◌≤◌, ◌^◌, ◌↔◌, ℕ, inl, inr, List, length, sym, ap, subst, arith, refl}
 use Rattle.std.specs.List.{AllZip}
 use Rattle.std.proofs.lemmas.List.{length-map}
 use Rattle.states.specs.Digits.{Digits, HasRoomBelow, digits_of}

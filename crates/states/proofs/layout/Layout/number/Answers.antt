@@ -1,4 +1,4 @@
-use Rattle.std.proofs.Common.{◌≡◌, ◌∙◌, List, ap, map, slice_index}
+use Rattle.std.proofs.Common.{◌∙◌, List, ap, map, slice_index}
 use Rattle.states.specs.Digits.{Digits, digits_of, row_of}
 use Rattle.states.proofs.KeyLaws.{read_past, read_there}
 use Rattle.states.proofs.layout.Layout.number.Goals as goal

@@ -1,8 +1,7 @@
-use Rattle.std.proofs.Common.{◌≡◌, ◌∙◌, List, None, Some, map, refl, sym, ap, subst, arith}
+use Rattle.std.proofs.Common.{◌≡◌, ◌∙◌, List, Some, map, sym, ap, subst, arith}
 use Rattle.std.specs.Prelude.{slice_get}
-use Rattle.std.proofs.lemmas.List.{set_past}
-use Rattle.states.specs.Digits.{AreOfWords, Digits, digits_of, row_of}
-use Rattle.states.proofs.KeyLaws.{digits_at, row_length, row_with, word_within}
+use Rattle.states.specs.Digits.{AreOfWords, Digits, digits_of}
+use Rattle.states.proofs.KeyLaws.{digits_at, row_with, word_within}
 use Rattle.states.proofs.layout.Layout.set.Goals as goal
 
 pub returns-then-at : goal.returns-then-at
