@@ -14,7 +14,7 @@ field_set word low size number some small =
     ap (λ (n : ℕ). n % size) (shifted word low size number some) ∙ mod-mul-add (word / low / size) size number small
 
 -- a field above has what it had
-pub field_above : (word low size number more other : ℕ) → 0 < low → number < size
+field_above : (word low size number more other : ℕ) → 0 < low → number < size
     → field (with_field word low size number) (low * size * more) other ≡ field word (low * size * more) other
 field_above word low size number more other some small =
     let parted = λ (n : ℕ). sym (div-div-eq-div-mul n (low * size) more) ∙ ap (λ (m : ℕ). m / more) (sym (div-div-eq-div-mul n low size)) in
@@ -34,7 +34,7 @@ below high lowest low size more some =
     ∙ add-mul-mod_self_right (lowest / low) (high * more) size
 
 -- a field below has what it had
-pub field_below : (word low size number more other : ℕ) → 0 < low
+field_below : (word low size number more other : ℕ) → 0 < low
     → field (with_field word (low * size * more) other number) low size ≡ field word low size
 field_below word low size number more other some =
     let high = low * size * more in
@@ -44,7 +44,7 @@ field_below word low size number more other some =
 -- ---- digits of base 2, as shifts read and write them
 
 -- `shift` digits stand below these `width`, and `above` above them
-pub read_field : (word shift width above : ℕ) → word * 2 ^ above % 2 ^ (width + shift + above) / 2 ^ (above + shift) ≡ field word (2 ^ shift) (2 ^ width)
+read_field : (word shift width above : ℕ) → word * 2 ^ above % 2 ^ (width + shift + above) / 2 ^ (above + shift) ≡ field word (2 ^ shift) (2 ^ width)
 read_field word shift width above =
     let up : word * 2 ^ above % 2 ^ (width + shift + above) ≡ word % 2 ^ (width + shift) * 2 ^ above =
     mod-pow-add (word * 2 ^ above) (width + shift) above
@@ -61,7 +61,7 @@ replaced : (all high old new low : ℕ) → all ≡ high + old + low → all - o
 replaced all high old new low is = omega (arith, is)
 
 -- the number is taken out, and another put there
-pub write_field : (word low size number : ℕ) → word - field word low size * low + number * low ≡ with_field word low size number
+write_field : (word low size number : ℕ) → word - field word low size * low + number * low ≡ with_field word low size number
 write_field word low size number =
     let high = word / low / size * size in
     let parted : word ≡ high * low + field word low size * low + word % low =
@@ -71,7 +71,7 @@ write_field word low size number =
     ∙ ap (λ (n : ℕ). n + word % low) (sym (add-mul high number low))
 
 -- what is taken out is no more than the word
-pub field_few : (word low size : ℕ) → field word low size * low ≤ word
+field_few : (word low size : ℕ) → field word low size * low ≤ word
 field_few word low size = omega (arith, parted)
   where
     parted : word ≡ word / low / size * size * low + field word low size * low + word % low

@@ -1,5 +1,6 @@
 -- Numbers in digits of a key's words, and the keys with other numbers there.
-use Rattle.std.proofs.Common.{◌≡◌, ℕ, ◌+◌, ◌^◌, ◌<◌, ◌≤◌, ◌⊎◌, inl, inr, zero, suc, List, [], ◌∷◌, length, map, get_or, Option, Some, None, refl, sym, ◌∙◌, ap, subst, arith}
+use Rattle.std.proofs.Common.{◌≡◌, ℕ, ◌+◌, ◌^◌, ◌<◌, ◌≤◌, ◌⊎◌, inl, inr, zero, suc, List, [], ◌∷◌, length, map, get_or}
+use Rattle.std.proofs.Common.{Option, Some, None, refl, sym, ◌∙◌, ap, subst, arith}
 use Rattle.std.specs.Prelude.{All, IfSome, option_map, slice_index, slice_set, unwrap_or}
 use Rattle.std.proofs.Math.Nat.{zero-div, zero-mod}
 use Rattle.std.specs.List.{AllPairs, Contains, slice_get}
@@ -16,7 +17,7 @@ use Rattle.states.specs.Fields.{field, with_field}
 use Rattle.states.proofs.FieldLaws.{digits_above, digits_below, field_set, small_pow}
 
 -- the number is there
-pub key_set : (digits : Digits) (key : List ℕ) (number : ℕ) → digits.word < length key → number < 2 ^ digits.width
+key_set : (digits : Digits) (key : List ℕ) (number : ℕ) → digits.word < length key → number < 2 ^ digits.width
     → number_in digits (with_number digits key number) ≡ number
 key_set digits key number within small =
     ap (λ (word : ℕ). field word (2 ^ digits.shift) (2 ^ digits.width))
@@ -40,7 +41,7 @@ same_word digits other key number is within stays =
     ∙ stays (slice_index key digits.word) ∙ ap (λ (i : ℕ). field (slice_index key i) (2 ^ other.shift) (2 ^ other.width)) is
 
 -- what stands apart stays
-pub key_keeps : (digits other : Digits) (key : List ℕ) (number : ℕ) → AreApart digits other → digits.word < length key → number < 2 ^ digits.width
+key_keeps : (digits other : Digits) (key : List ℕ) (number : ℕ) → AreApart digits other → digits.word < length key → number < 2 ^ digits.width
     → number_in other (with_number digits key number) ≡ number_in other key
 key_keeps digits other key number (inl words) within small = other_word digits other key number (λ is. words (sym is))
 key_keeps digits other key number (inr apart) within small = elim (cases_order digits.word other.word) [
@@ -57,7 +58,7 @@ key_keeps digits other key number (inr apart) within small = elim (cases_order d
 -- ---- rows
 
 -- the row of a key with another number at one place is the row with that number there
-pub row_set : (layout : List Digits) (key : List ℕ) (place number : ℕ) (digits : Digits) → slice_get layout place ≡ Some digits
+row_set : (layout : List Digits) (key : List ℕ) (place number : ℕ) (digits : Digits) → slice_get layout place ≡ Some digits
     → ((other : ℕ) (apart : Digits) → (other ≡ place → ⊥) → slice_get layout other ≡ Some apart → AreApart digits apart)
     → digits.word < length key → number < 2 ^ digits.width → row_of layout (with_number digits key number) ≡ slice_set (row_of layout key) place number
 row_set layout key place number digits there apart within small =
@@ -93,9 +94,6 @@ pub digits_at : (fields : List Field) (place : ℕ) (f : Field) → place < leng
     → slice_get (map digits_of fields) place ≡ Some (digits_of f)
 digits_at fields place f within is =
     slice_get-map digits_of fields place ∙ ap (option_map digits_of) (slice_get_read fields (length fields) place f refl within is)
-
-pub digits_past : (fields : List Field) (place : ℕ) → length fields ≤ place → slice_get (map digits_of fields) place ≡ None
-digits_past fields place past = slice_get-map digits_of fields place ∙ ap (option_map digits_of) (slice_get_past fields place past)
 
 -- ---- a number at a place of a row
 

@@ -1,10 +1,12 @@
 -- Layouts that are made digits by digits.
-use Rattle.std.proofs.Common.{◌≡◌, ℕ, ◌+◌, ◌*◌, ◌/◌, ◌^◌, ◌<◌, ◌≤◌, ◌⊎◌, inl, inr, List, [], ◌∷◌, ◌++◌, length, get_or, refl, sym, subst, arith, length-append}
+use Rattle.std.proofs.Common.{◌≡◌, ℕ, ◌+◌, ◌*◌, ◌/◌, ◌^◌, ◌<◌, ◌≤◌, ◌⊎◌, ◌↔◌, inl, inr, List, [], ◌∷◌, ◌++◌, length}
+use Rattle.std.proofs.Common.{map, get_or, refl, sym, subst, arith, length-append}
 use Rattle.std.specs.Prelude.{All}
 use Rattle.std.proofs.lemmas.Bool.{cases_lt}
 use Rattle.std.proofs.lemmas.List.Elements.{All-get_or, All-nil, All-push, All-weaker}
 use Rattle.std.proofs.lemmas.List.Quantifiers.{all_pairs_push}
-use Rattle.states.specs.Digits.{AreApart, AreOfWords, Digits}
+use Rattle.states.specs.declared.layout.Field.{Field}
+use Rattle.states.specs.Digits.{AreApart, AreOfWords, Digits, HasRoomBelow, digits_of}
 
 -- digits of a word before this one, or that stand below this place of it
 abbrev pub IsBefore : (word shift : ℕ) → Digits → Type 0
@@ -16,13 +18,6 @@ pub record IsBegun (N : ℕ) (layout : List Digits) (word shift : ℕ) : Type 0 
   pub words : AreOfWords N layout
   pub before : All (IsBefore word shift) layout
   pub few : 64 * word + shift ≤ 32 * length layout
-
-pub none_begun : (N : ℕ) → IsBegun N [] 0 0
-none_begun N = record {
-  words = record { apart = λ i j d less within. absurd (omega (arith, within)); within = All-nil (λ digits. digits.word < N) };
-  before = All-nil (IsBefore 0 0);
-  few = omega arith;
-}
 
 -- where the next digits stand there
 pub record IsPlaced (N : ℕ) (layout : List Digits) (word shift width : ℕ) : Type 0 where
@@ -82,3 +77,11 @@ small_count count width small few enough = elim (cases_lt width 32) [
   | inl less ↦ omega (arith, enough less)
   | inr more ↦ let all : width ≡ 32 = omega (arith, more, few) in subst (λ (w : ℕ). count ≤ 2 ^ w) (sym all) small
 ]
+
+-- whether fields have room
+pub fields_room : (fields : List Field) (counts : List ℕ)
+    → HasRoomBelow (map digits_of fields) counts ↔ AllZip (λ (field : Field) (count : ℕ). count ≤ 2 ^ field.width) fields counts
+fields_room [] [] = (λ all. all, λ all. all)
+fields_room [] (n ∷ counts) = (λ all. all, λ all. all)
+fields_room (f ∷ fields) [] = (λ all. all, λ all. all)
+fields_room (f ∷ fields) (n ∷ counts) = let rest = fields_room fields counts in (λ all. (all.0, rest.0 all.1), λ all. (all.0, rest.1 all.1))

@@ -1,8 +1,6 @@
 -- Two lists place by place.
 use Rattle.std.proofs.Common.{◌≡◌, ◌≤◌, ◌^◌, ◌↔◌, ◌⊎◌, ℕ, inl, inr, List, [], ◌∷◌, length, map, sym, subst, arith}
 use Rattle.std.specs.List.{AllZip}
-use Rattle.states.specs.declared.layout.Field.{Field}
-use Rattle.states.specs.Digits.{HasRoomBelow, digits_of}
 
 -- the first items, and the others
 pub zipped_more : {A B : Type 0} (R : A → B → Type 0) (xs us : List A) (ys vs : List B) (x : A) (y : B) → xs ≡ x ∷ us → ys ≡ y ∷ vs
@@ -18,11 +16,3 @@ pub zipped_none : {A B : Type 0} (R : A → B → Type 0) (xs : List A) (ys : Li
 zipped_none R [] [] count none = tt
 zipped_none R xs ys count (inl none) = absurd (omega (arith, count, none))
 zipped_none R xs ys count (inr none) = absurd (omega (arith, count, none))
-
--- whether fields have room
-pub fields_room : (fields : List Field) (counts : List ℕ)
-    → HasRoomBelow (map digits_of fields) counts ↔ AllZip (λ (field : Field) (count : ℕ). count ≤ 2 ^ field.width) fields counts
-fields_room [] [] = (λ all. all, λ all. all)
-fields_room [] (n ∷ counts) = (λ all. all, λ all. all)
-fields_room (f ∷ fields) [] = (λ all. all, λ all. all)
-fields_room (f ∷ fields) (n ∷ counts) = let rest = fields_room fields counts in (λ all. (all.0, rest.0 all.1), λ all. (all.0, rest.1 all.1))

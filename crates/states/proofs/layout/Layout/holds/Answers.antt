@@ -3,7 +3,8 @@ use Rattle.std.specs.List.{AllZip}
 use Rattle.std.proofs.lemmas.List.{length-map}
 use Rattle.states.specs.Digits.{Digits, HasRoomBelow, digits_of}
 use Rattle.states.specs.declared.layout.Field.{Field}
-use Rattle.states.proofs.Zipped.{fields_room, zipped_more, zipped_none}
+use Rattle.states.proofs.LayoutLaws.{fields_room}
+use Rattle.states.proofs.Zipped.{zipped_more, zipped_none}
 use Rattle.states.proofs.layout.Layout.holds.Goals as goal
 
 abbrev HasRoom : Field → ℕ → Type 0
@@ -20,7 +21,8 @@ loop-field-init g c =
     let b : c.into_iter-field-iterator.result.b.rest.now ≡ c.args.counts.now = grind (arith, gives, c.zip-field-items.ensures.second) in
     record {
       count = λ same. omega (arith, same, all, ap length a, ap length b);
-      room = subst (λ (zs : List Field). HasRoomBelow c.args.self.now c.args.counts.now ↔ AllZip HasRoom zs c.into_iter-field-iterator.result.b.rest.now) (sym a)
+      room = subst (λ (zs : List Field). HasRoomBelow c.args.self.now c.args.counts.now ↔ AllZip HasRoom zs
+          c.into_iter-field-iterator.result.b.rest.now) (sym a)
           (subst (λ (ns : List ℕ). HasRoomBelow c.args.self.now c.args.counts.now ↔ AllZip HasRoom fields ns) (sym b)
           (subst (λ (ds : List Digits). HasRoomBelow ds c.args.counts.now ↔ AllZip HasRoom fields c.args.counts.now) c.self.view_is
           (fields_room fields c.args.counts.now)));

@@ -7,7 +7,8 @@ use Rattle.states.specs.Digits.{Digits, HasRoomBelow, digits_of}
 use Rattle.states.proofs.LayoutLaws.{IsBegun, IsPlaced, in_next_word, in_same_word, one_more, small_count}
 use Rattle.states.proofs.layout.Layout.of.Goals as goal
 use Rattle.states.proofs.layout.Layout.of.Goals.{then-shift-width-gt64, else-shift-width-gt64}
-use Rattle.states.proofs.layout.Layout.of.Goals.{then-word-via-then-word, then-word-via-else-word+then-word-2, then-word-via-else-word+else-word-2+then-not-holds}
+use Rattle.states.proofs.layout.Layout.of.Goals.{then-word-via-then-word, then-word-via-else-word+then-word-2}
+use Rattle.states.proofs.layout.Layout.of.Goals.{then-word-via-else-word+else-word-2+then-not-holds}
 
 pub loop-count-preserved : goal.loop-count-preserved
 loop-count-preserved g c =
