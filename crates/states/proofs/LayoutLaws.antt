@@ -2,8 +2,9 @@
 use Rattle.std.proofs.Common.{◌≡◌, ℕ, ◌+◌, ◌*◌, ◌/◌, ◌^◌, ◌<◌, ◌≤◌, ◌⊎◌, ◌↔◌, inl, inr, List, [], ◌∷◌, ◌++◌, length}
 use Rattle.std.proofs.Common.{map, get_or, refl, sym, subst, arith, length-append}
 use Rattle.std.specs.Prelude.{All}
+use Rattle.std.specs.List.{AllZip}
 use Rattle.std.proofs.lemmas.Bool.{cases_lt}
-use Rattle.std.proofs.lemmas.List.Elements.{All-get_or, All-nil, All-push, All-weaker}
+use Rattle.std.proofs.lemmas.List.Elements.{All-get_or, All-push, All-weaker}
 use Rattle.std.proofs.lemmas.List.Quantifiers.{all_pairs_push}
 use Rattle.states.specs.declared.layout.Field.{Field}
 use Rattle.states.specs.Digits.{AreApart, AreOfWords, Digits, HasRoomBelow, digits_of}

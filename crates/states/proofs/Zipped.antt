@@ -1,5 +1,5 @@
 -- Two lists place by place.
-use Rattle.std.proofs.Common.{◌≡◌, ◌≤◌, ◌^◌, ◌↔◌, ◌⊎◌, ℕ, inl, inr, List, [], ◌∷◌, length, map, sym, subst, arith}
+use Rattle.std.proofs.Common.{◌≡◌, ◌↔◌, ◌⊎◌, inl, inr, List, [], ◌∷◌, length, sym, subst, arith}
 use Rattle.std.specs.List.{AllZip}
 
 -- the first items, and the others

@@ -2,8 +2,9 @@
 //!
 //! The contract: a [`States`] is seen as the list of the positions that were numbered, each once, as words;
 //! [`States::number`] finds a machine's position there or appends it, and [`States::words_into`] gives the
-//! words of a number's position, which a machine unpacks. A hash finds a candidate, and the positions are compared in full. This crate
-//! knows no schedule and no way from one state to the next.
+//! words of a number's position, which a machine unpacks. A hash finds a candidate, and the positions are compared in full.
+//! [`Keys`] numbers states that are known by the numbers of their parts, each in the bits of a key that a [`Layout`] gives it.
+//! This crate knows no schedule and no way from one state to the next.
 
 #![tactic(auto)]
 
