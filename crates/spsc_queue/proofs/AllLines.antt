@@ -89,8 +89,31 @@ pub line_of : (M n : ℕ) (listing : List Listed) (s : HartState) (has : Equippe
     → slice_get (map Some (lines_of listing) ++ map meaning has.code.back) j ≡ Some (Some i) → IsAt s i
 line_of M n listing s has decoded j place found = at_line s (n + j) place (code_line s.code n listing has.code decoded j ∙ found)
 
-module _ (M n a b : ℕ) (p : Party) (K : Kind) (k : Block) (is : IsBlock M k) (h : ℕ) (s : HartState) (t : ProtocolState) (v : ℕ)
-    (has : Equipped M n (listing_of K k.caches p) s) (c : Course) (ws : List ℕ) where
+-- a hart whose state is s, at which it reads v, and which has the function of a party for a block; the protocol's state, its call so far, and
+-- the words that its calls completed
+pub record Spot (p : Party) (K : Kind) : Type 0 where
+  pub M : ℕ
+  pub n : ℕ
+  pub a : ℕ
+  pub b : ℕ
+  pub k : Block
+  pub is : IsBlock M k
+  pub h : ℕ
+  pub s : HartState
+  pub t : ProtocolState
+  pub v : ℕ
+  pub has : Equipped M n (listing_of K k.caches p) s
+  pub c : Course
+  pub ws : List ℕ
+
+abbrev pub spot : (M n a b : ℕ) (p : Party) (K : Kind) (k : Block) (is : IsBlock M k) (h : ℕ) (s : HartState) (t : ProtocolState) (v : ℕ)
+    (has : Equipped M n (listing_of K k.caches p) s) (c : Course) (ws : List ℕ) → Spot p K
+spot M n a b p K k is h s t v has c ws =
+    record { M = M; n = n; a = a; b = b; k = k; is = is; h = h; s = s; t = t; v = v; has = has; c = c; ws = ws }
+
+module _ {p : Party} {K : Kind} (g : Spot p K) where
+  open g use {M, n, a, b, k, is, h, s, t, v, has, c, ws}
+
   abbrev pub r : RingBuffer
   r = ring_of k a b
 

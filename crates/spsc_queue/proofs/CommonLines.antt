@@ -14,22 +14,22 @@ use Rattle.rv_decode.specs.declared.instruction.Instr.TheVariants.{Jalr, Branch,
 use Rattle.rv_decode.specs.declared.instruction.Instr.{Instr}
 use Rattle.memory.specs.declared.writes.Write.{Write}
 use Rattle.memory.specs.Writes.{write}
-use Rattle.hart.specs.State.{HartState}
 use Rattle.hart.specs.Effects.{next_pc, address, read}
 use Rattle.hart.proofs.Instructions.{IsAt}
 use Rattle.step_machine.specs.Access.{nothing, load, store}
 use Rattle.spsc_queue.specs.RingBuffers.{Kind, lamport, fastforward, RingBuffer, IsWordIn, next, overlaps}
 use Rattle.spsc_queue.specs.Protocol.{roomy, filled, ProtocolState, sends, next_by, IsWordAt, IsSendable, IsSenderStore}
 use Rattle.spsc_queue.specs.Listings.{lines_of}
-use Rattle.spsc_queue.specs.Calls.{Block, IsBlock, Party, the_sender, the_receiver, copy_in, listing_of, ring_of}
+use Rattle.spsc_queue.specs.Calls.{Block, Party, the_sender, the_receiver, copy_in, listing_of, ring_of}
 use Rattle.spsc_queue.specs.CallEffects.{sees_full, look_accesses, send_accesses}
 use Rattle.step_machine.proofs.Lines.{word-plus, add_line, load_line, store_line, other_jumps, same_goes_on, goes_to, leaves_in}
-use Rattle.spsc_queue.proofs.Courses.{At, at_00, at_04, at_24, at_28, at_2C, at_30, number, Equipped, Course, went, bytes_of}
+use Rattle.spsc_queue.proofs.Courses.{At, at_00, at_04, at_24, at_28, at_2C, at_30, number, went, bytes_of}
 use Rattle.spsc_queue.proofs.Words.{word_overlaps}
 use Rattle.spsc_queue.proofs.Outline.{part, role, IsOffset, Near, index_at, ready, put, all_accesses, Ready, Half, Row}
 use Rattle.spsc_queue.proofs.Outline.{IsStore, Moves, Part, Stored, more}
 use Rattle.spsc_queue.proofs.Parts.{copied, ready-offset, stored-offset, slot-sent}
-use Rattle.spsc_queue.proofs.AllLines.{to_line, loads_to, stores_to, line_at, on, over, wraps_not, wraps, to_indexed, ready_5, ready_on, to_half, to_finished}
+use Rattle.spsc_queue.proofs.AllLines.{Spot, to_line, loads_to, stores_to, line_at, on, over, wraps_not, wraps}
+use Rattle.spsc_queue.proofs.AllLines.{to_indexed, ready_5, ready_on, to_half, to_finished}
 use Rattle.spsc_queue.proofs.AllLines.{if_false, short, Answered, none, returns_1, returns_0, answers_1, answers_0}
 
 -- where a party's index lies in the block
@@ -50,9 +50,9 @@ gap_low : (p : Party) → (gap p ≤ 64) × (gap p % 4 ≡ 0)
 gap_low the_sender = (omega arith, refl)
 gap_low the_receiver = (omega arith, refl)
 
-module _ (M n a b : ℕ) (p : Party) (K : Kind) (k : Block) (is : IsBlock M k) (h : ℕ) (s : HartState) (t : ProtocolState) (v : ℕ)
-    (has : Equipped M n (listing_of K k.caches p) s) (near : Near k (part p t)) (c : Course) (ws : List ℕ) (j : ℕ)
-    (place : s.pc ≡ 4 * (n + j)) (below : j ≤ 11) where
+module _ {p : Party} {K : Kind} (g : Spot p K) (near : Near g.k (part p g.t)) (j : ℕ) (place : g.s.pc ≡ 4 * (g.n + j)) (below : j ≤ 11) where
+  open g use {M, n, a, b, k, is, h, s, t, v, has, c, ws}
+
   abbrev r : RingBuffer
   r = ring_of k a b
 
@@ -61,10 +61,10 @@ module _ (M n a b : ℕ) (p : Party) (K : Kind) (k : Block) (is : IsBlock M k) (
 
   -- the next line, and the one after it
   ahead : (m : ℕ) → m ≡ j + 1 → next_pc s.pc ≡ 4 * (n + m)
-  ahead m is_next = on M n a b p K k is h s t v has c ws j place (omega (arith, below)) ∙ ap (λ i. 4 * (n + i)) (sym is_next)
+  ahead m is_next = on g j place (omega (arith, below)) ∙ ap (λ i. 4 * (n + i)) (sym is_next)
 
   beyond : (m : ℕ) → j ≤ 10 → m ≡ j + 2 → address s.pc (pos 8) ≡ 4 * (n + m)
-  beyond m low is_next = over M n a b p K k is h s t v has c ws j 2 place (omega (arith, low)) ∙ ap (λ i. 4 * (n + i)) (sym is_next)
+  beyond m low is_next = over g j 2 place (omega (arith, low)) ∙ ap (λ i. 4 * (n + i)) (sym is_next)
 
   module _ (to : At) where
     -- addi x5,x5,4
@@ -74,19 +74,18 @@ module _ (M n a b : ℕ) (p : Party) (K : Kind) (k : Block) (is : IsBlock M k) (
         → Row n p K k r (went c nothing) ws to (slice_set x 5 (slice_index x 5 + 4)) (part p t)) → Moves n p K k r true ws c h s t v
     bumps seven is_next here row so =
         let bound : IsOffset k row.place = ready-offset k p row.place (slice_index x 11) (part p t) row.knows near in
-        to_line M n a b p K k is h s t v has c ws to (leaves_in s (reg_of 5) (slice_index x 5 + 4))
+        to_line g to (leaves_in s (reg_of 5) (slice_index x 5 + 4))
         (add_line here (word-plus (slice_index x 5) 4 (omega (arith, row.x5, bound.0, is.inside, is.small)))) (ahead (number to) is_next)
-        (so (ready_5 M n a b p K k is h s t v has c ws (λ u. u) seven (λ u. u + 4) (slice_index x 5 + 4) row (ap (λ q. q + 4) row.x5)))
+        (so (ready_5 g (λ u. u) seven (λ u. u + 4) (slice_index x 5 + 4) row (ap (λ q. q + 4) row.x5)))
 
     -- addi x5,x0,0
     pub zeroes : {m : ℕ} (seven : ℕ → ℕ) → number to ≡ j + 1 → IsAt s (Immediate immediate.Add (reg_of 5) (reg_of 0) (pos 0))
         → Ready n p K k r c m ws x (part p t) (λ u. u + 4) seven → slice_index x 5 ≡ 4 * k.size
         → ((q : Ready n p K k r (went c nothing) (m + 1) ws (slice_set x 5 0) (part p t) (λ u. next r u) seven)
         → Row n p K k r (went c nothing) ws to (slice_set x 5 0) (part p t)) → Moves n p K k r true ws c h s t v
-    zeroes seven is_next here row full so = to_line M n a b p K k is h s t v has c ws to (leaves_in s (reg_of 5) 0)
+    zeroes seven is_next here row full so = to_line g to (leaves_in s (reg_of 5) 0)
         (add_line here (word-plus (slice_index x 0) 0 (omega (arith, has.zero)) ∙ omega (arith, has.zero))) (ahead (number to) is_next)
-        (so (ready_5 M n a b p K k is h s t v has c ws (λ u. u + 4) seven (λ u. next r u) 0 row
-        (wraps M n a b p K k is h s t v has c ws row.place (sym row.x5 ∙ full))))
+        (so (ready_5 g (λ u. u + 4) seven (λ u. next r u) 0 row (wraps g row.place (sym row.x5 ∙ full))))
 
     -- bne x5,x12,8: on to this line, or to the one after it
     pub tests : {m : ℕ} (after : At) (seven : ℕ → ℕ) → j ≤ 10 → number to ≡ j + 1 → number after ≡ j + 2
@@ -98,12 +97,12 @@ module _ (M n a b : ℕ) (p : Party) (K : Kind) (k : Block) (is : IsBlock M k) (
     tests {m} after seven low is_next is_after here row so other_so = at (cases_eq (slice_index x 5) (slice_index x 12))
       where
         at : (slice_index x 5 ≡ slice_index x 12) ⊎ (slice_index x 5 ≢ slice_index x 12) → Moves n p K k r true ws c h s t v
-        at (inl equal) = to_line M n a b p K k is h s t v has c ws to (goes_to s (next_pc s.pc)) (same_goes_on here equal) (ahead (number to) is_next)
-            (so (ready_on M n a b p K k is h s t v has c ws (λ u. u + 4) seven (λ u. u + 4) (omega arith) row refl, equal ∙ bytes_of row.frame.left))
-        at (inr other) = to_line M n a b p K k is h s t v has c ws after (goes_to s (address s.pc (pos 8)))
+        at (inl equal) = to_line g to (goes_to s (next_pc s.pc)) (same_goes_on here equal) (ahead (number to) is_next)
+            (so (ready_on g (λ u. u + 4) seven (λ u. u + 4) (omega arith) row refl, equal ∙ bytes_of row.frame.left))
+        at (inr other) = to_line g after (goes_to s (address s.pc (pos 8)))
             (other_jumps here other (omega (arith, beyond (number after) low is_after))) (beyond (number after) low is_after)
-            (other_so (ready_on M n a b p K k is h s t v has c ws (λ u. u + 4) seven (λ u. next r u) (omega arith) row
-            (wraps_not M n a b p K k is h s t v has c ws row.place (λ e. other (row.x5 ∙ e ∙ sym (bytes_of row.frame.left))))))
+            (other_so (ready_on g (λ u. u + 4) seven (λ u. next r u) (omega arith) row
+            (wraps_not g row.place (λ e. other (row.x5 ∙ e ∙ sym (bytes_of row.frame.left))))))
 
     -- sw of register `from` to the slot, 128 bytes after what register `rs` holds
     pub slot_stores : {m : ℕ} (l : ℕ) → m + 1 ≤ l → (five seven : ℕ → ℕ) (rs from : Reg) (i : ℕ) → number to ≡ j + 1
@@ -129,9 +128,9 @@ module _ (M n a b : ℕ) (p : Party) (K : Kind) (k : Block) (is : IsBlock M k) (
         } in
         let hits : overlaps r made ≡ true = word_overlaps r made (r.slots + u) inside (record { place = omega (arith, base); width = refl }) in
         let made_so = makes made hits is_made in
-        stores_to M n a b p K k is h s t v has c ws to (read x rs + 128) (read x from) (store_line here (omega (arith, base, is.aligned, bound.1)) refl
+        stores_to g to (read x rs + 128) (read x from) (store_line here (omega (arith, base, is.aligned, bound.1)) refl
         (omega (arith, base, bound.0, is.inside, has.words)) (omega (arith, has.words, is.small)))
-        (ahead (number to) is_next) made_so.0 (so made (to_half M n a b p K k is h s t v has c ws l le made i five seven row is_made after made_so.1 made_so.2))
+        (ahead (number to) is_next) made_so.0 (so made (to_half g l le made i five seven row is_made after made_so.1 made_so.2))
 
   -- sw of register i to the index
   pub index_stores : {m i : ℕ} (from : Reg) → j ≡ 8 → m + 1 ≤ 9 + more p r → IsAt s (Store store_op.Word (reg_of 10) from (pos (gap p)))
@@ -152,11 +151,9 @@ module _ (M n a b : ℕ) (p : Party) (K : Kind) (k : Block) (is : IsBlock M k) (
         aligned = omega (arith, index_is k a b p, is.aligned, (gap_low p).1);
         no_copy = λ d at. off_index k a b p d at;
       } in
-      stores_to M n a b p K k is h s t v has c ws at_24 (slice_index x 10 + gap p) (read x from)
-      (store_line here (omega (arith, row.frame.block, is.aligned)) (gap_low p).1
+      stores_to g at_24 (slice_index x 10 + gap p) (read x from) (store_line here (omega (arith, row.frame.block, is.aligned)) (gap_low p).1
       (omega (arith, row.frame.block, is.inside, has.words, (gap_low p).0)) (omega (arith, has.words, is.small)))
-      (ahead 9 (omega (arith, is_8))) (rule made word value)
-      (to_finished M n a b p K k is h s t v has c ws (9 + more p r) le made (word_overlaps r made (index_at p r) inside word) row
+      (ahead 9 (omega (arith, is_8))) (rule made word value) (to_finished g (9 + more p r) le made (word_overlaps r made (index_at p r) inside word) row
       (ap (λ y. write y 4 (read x from)) at ∙ ap (write (index_at p r) 4) value) bound whole)
 
 -- ---- the lines that all functions have in the same place: the first loads a party's own index, the last ones answer and return
@@ -175,35 +172,32 @@ ends lamport caches the_receiver rest = (refl, refl, refl, refl, refl)
 ends fastforward caches the_sender rest = (refl, refl, refl, refl, refl)
 ends fastforward caches the_receiver rest = (refl, refl, refl, refl, refl)
 
-module _ (M n a b : ℕ) (p : Party) (K : Kind) (k : Block) (is : IsBlock M k) (h : ℕ) (s : HartState) (t : ProtocolState) (v : ℕ)
-    (has : Equipped M n (listing_of K k.caches p) s) (c : Course) (ws : List ℕ) where
+module _ {p : Party} {K : Kind} (g : Spot p K) where
+  open g use {M, n, a, b, k, is, h, s, t, v, has, c, ws}
+
   abbrev Common : At → Type 0
-  Common line = s.pc ≡ 4 * (n + number line) → Row n p K k (ring_of k a b) c ws line s.registers (part p t) → Answered M n a b p K k is h s t v has c ws
+  Common line = s.pc ≡ 4 * (n + number line) → Row n p K k (ring_of k a b) c ws line s.registers (part p t) → Answered g
 
   all_ends : Ends (gap p) (map Some (lines_of (listing_of K k.caches p)) ++ map meaning has.code.back)
   all_ends = ends K k.caches p (map meaning has.code.back)
 
   pub common_00 : Common at_00
-  common_00 place row = none M n a b p K k is h s t v has c ws at_00 place (λ e. omega arith) (λ e. omega arith)
-      (loads_to M n a b p K k is h s t v has c ws at_04 (slice_index s.registers 10 + gap p) (reg_of 5)
-      (load_line (line_at M n a b p K k is h s t v has c ws 0 place all_ends.0) (omega (arith, row.frame.block, is.aligned)) (gap_low p).1
+  common_00 place row = none g at_00 place (λ e. omega arith) (λ e. omega arith) (loads_to g at_04 (slice_index s.registers 10 + gap p) (reg_of 5)
+      (load_line (line_at g 0 place all_ends.0) (omega (arith, row.frame.block, is.aligned)) (gap_low p).1
       (omega (arith, row.frame.block, is.inside, has.words, (gap_low p).0)) (omega (arith, has.words, is.small)))
-      (on M n a b p K k is h s t v has c ws 0 place (omega arith)) (to_indexed M n a b p K k is h s t v has c ws (slice_index s.registers 10 + gap p)
-      (ap (λ y. y + gap p) row.frame.block ∙ sym (index_is k a b p)) row))
+      (on g 0 place (omega arith)) (to_indexed g (slice_index s.registers 10 + gap p) (ap (λ y. y + gap p) row.frame.block ∙ sym (index_is k a b p)) row))
 
   pub common_24 : Common at_24
-  common_24 place row = answers_1 M n a b p K k is h s t v has c ws place (line_at M n a b p K k is h s t v has c ws 9 place all_ends.1) row
+  common_24 place row = answers_1 g place (line_at g 9 place all_ends.1) row
 
   pub common_28 : Common at_28
-  common_28 place row = returns_1 M n a b p K k is h s t v has c ws (short p (ring_of k a b)) place
-      (line_at M n a b p K k is h s t v has c ws 10 place all_ends.2) row
+  common_28 place row = returns_1 g (short p (ring_of k a b)) place (line_at g 10 place all_ends.2) row
 
   pub common_2C : Common at_2C
-  common_2C place row = answers_0 M n a b p K k is h s t v has c ws place (line_at M n a b p K k is h s t v has c ws 11 place all_ends.3) row
+  common_2C place row = answers_0 g place (line_at g 11 place all_ends.3) row
 
   pub common_30 : Common at_30
-  common_30 place row = returns_0 M n a b p K k is h s t v has c ws (omega (arith, short p (ring_of k a b))) place
-      (line_at M n a b p K k is h s t v has c ws 12 place all_ends.4) row
+  common_30 place row = returns_0 g (omega (arith, short p (ring_of k a b))) place (line_at g 12 place all_ends.4) row
 
 -- ---- the sender's stores, of each kind
 

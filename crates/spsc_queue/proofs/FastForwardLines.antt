@@ -26,7 +26,8 @@ use Rattle.spsc_queue.proofs.Courses.{Course}
 use Rattle.spsc_queue.proofs.Courses.{free_6, free_11}
 use Rattle.spsc_queue.proofs.Outline.{Part, part, IsOffset, Near, first_look, Stored, IsStore, OwnRow, Row, Moves}
 use Rattle.spsc_queue.proofs.Parts.{slot-taken, knows-offset, looked-offset}
-use Rattle.spsc_queue.proofs.AllLines.{to_line, to_ready, loads_to, line_at, on, over, indexed_7, to_seen, to_no, word_set, if_false, found_room, looked_once}
+use Rattle.spsc_queue.proofs.AllLines.{Spot, spot, to_line, to_ready, loads_to, line_at, on, over, indexed_7, to_seen}
+use Rattle.spsc_queue.proofs.AllLines.{to_no, word_set, if_false, found_room, looked_once}
 use Rattle.spsc_queue.proofs.AllLines.{Answered, none}
 use Rattle.spsc_queue.proofs.CommonLines.{bumps, zeroes, tests, slot_stores, index_stores, sender_puts, sender_publishes}
 use Rattle.spsc_queue.proofs.CommonLines.{send_whole}
@@ -45,9 +46,10 @@ module _ (M n a b : ℕ) (k : Block) (is : IsBlock M k) (h : ℕ) (s : HartState
   at-04 p has near c ws here place row =
       let bound : IsOffset k (slice_index x 5) = knows-offset k p (slice_index x 5) (part p t) row.knows near in
       let sum : ℕ = slice_index x 10 + slice_index x 5 in
-      to_line M n a b p fastforward k is h s t v has c ws at_08 (leaves_in s (reg_of 7) sum)
-      (sum_line here (omega (arith, row.frame.block, bound.0, is.inside, is.small))) (on M n a b p fastforward k is h s t v has c ws 1 place (omega arith)) (
-        indexed_7 M n a b p fastforward k is h s t v has c ws sum row,
+      to_line (spot M n a b p fastforward k is h s t v has c ws) at_08 (leaves_in s (reg_of 7) sum)
+      (sum_line here (omega (arith, row.frame.block, bound.0, is.inside, is.small)))
+      (on (spot M n a b p fastforward k is h s t v has c ws) 1 place (omega arith)) (
+        indexed_7 (spot M n a b p fastforward k is h s t v has c ws) sum row,
         set-same x 7 sum (omega (arith, has.size)) ∙ ap (λ q. q + slice_index x 5) row.frame.block
             ∙ ap (λ q. k.base + q) (sym (set-other x 7 5 sum (λ e. omega arith))),
       )
@@ -65,6 +67,9 @@ module _ (M n a b : ℕ) (k : Block) (is : IsBlock M k) (h : ℕ) (s : HartState
     no_copy : r.copy ≡ None
     no_copy = ap (λ q. copy_in q k.caches k.base) kind
 
+    abbrev sending : Spot the_sender fastforward
+    sending = spot M n a b the_sender fastforward k is h s t v has c ws
+
     abbrev Sends : At → Type 0
     Sends line = s.pc ≡ 4 * (n + number line) → Row n the_sender fastforward k r c ws line x (part the_sender t)
         → Moves n the_sender fastforward k r true ws c h s t v
@@ -75,12 +80,10 @@ module _ (M n a b : ℕ) (k : Block) (is : IsBlock M k) (h : ℕ) (s : HartState
     sends_08 : Sends at_08  -- lw x6,128(x7)
     sends_08 place row =
         let low = slot_below the_sender has near c ws row in
-        loads_to M n a b the_sender fastforward k is h s t v has c ws at_0C (slice_index x 7 + 128) (reg_of 6)
-        (load_line (line_at M n a b the_sender fastforward k is h s t v has c ws 2 place refl) low.0 refl low.1 low.2)
-        (on M n a b the_sender fastforward k is h s t v has c ws 2 place (omega arith)) (
-          to_seen M n a b the_sender fastforward k is h s t v has c ws (slice_index x 7 + 128) 6 free_6 (λ e. omega arith) (λ e. omega arith) (omega arith)
-              (word_set M n a b the_sender fastforward k is h s t v has c ws 6 v (λ e. omega arith) row.0.word)
-              (λ e. omega (arith, row.1)) (look (slice_index x 7 + 128) (omega (arith, row.1))) row.0,
+        loads_to sending at_0C (slice_index x 7 + 128) (reg_of 6) (load_line (line_at sending 2 place refl) low.0 refl low.1 low.2)
+        (on sending 2 place (omega arith)) (
+          to_seen sending (slice_index x 7 + 128) 6 free_6 (λ e. omega arith) (λ e. omega arith) (omega arith)
+              (word_set sending 6 v (λ e. omega arith) row.0.word) (λ e. omega (arith, row.1)) (look (slice_index x 7 + 128) (omega (arith, row.1))) row.0,
           set-other x 6 7 v (λ e. omega arith) ∙ row.1 ∙ ap (λ q. k.base + q) (sym (set-other x 6 5 v (λ e. omega arith))),
         )
 
@@ -90,58 +93,50 @@ module _ (M n a b : ℕ) (k : Block) (is : IsBlock M k) (h : ℕ) (s : HartState
         at : (slice_index x 6 ≡ slice_index x 0) ⊎ (slice_index x 6 ≢ slice_index x 0) → Moves n the_sender fastforward k r true ws c h s t v
         at (inl equal) =
             let some : not (slice_index x 6 == 0) ≡ false = ap not (eq-eqb (slice_index x 6) 0 (equal ∙ has.zero)) in
-            to_line M n a b the_sender fastforward k is h s t v has c ws at_10 (goes_to s (next_pc s.pc))
-            (same_goes_on (line_at M n a b the_sender fastforward k is h s t v has c ws 3 place refl) equal)
-            (on M n a b the_sender fastforward k is h s t v has c ws 3 place (omega arith))
-            (to_ready M n a b the_sender fastforward k is h s t v has c ws (λ u. k.base + u) 4 (omega arith)
-            (found_room r.copy fastforward r (slice_index x 5) (slice_index x 6) some) tt
+            to_line sending at_10 (goes_to s (next_pc s.pc)) (same_goes_on (line_at sending 3 place refl) equal) (on sending 3 place (omega arith))
+            (to_ready sending (λ u. k.base + u) 4 (omega arith) (found_room r.copy fastforward r (slice_index x 5) (slice_index x 6) some) tt
             (row.0.knows ∙ ap (λ q. if q then placed (slice_index x 5) else roomy (slice_index x 5)) some) row.1
             (looked_once fastforward r (slice_index x 5) (slice_index x 6) some) row.0)
         at (inr other) =
             let full : not (slice_index x 6 == 0) ≡ true = ap not (ne_eqb (slice_index x 6) 0 (λ e. other (e ∙ sym has.zero))) in
-            to_line M n a b the_sender fastforward k is h s t v has c ws at_2C (goes_to s (address s.pc (pos 32)))
-            (other_jumps (line_at M n a b the_sender fastforward k is h s t v has c ws 3 place refl) other
-            (omega (arith, over M n a b the_sender fastforward k is h s t v has c ws 3 8 place (omega arith))))
-            (over M n a b the_sender fastforward k is h s t v has c ws 3 8 place (omega arith))
-            (to_no M n a b the_sender fastforward k is h s t v has c ws (omega arith) (λ e. no_copy)
+            to_line sending at_2C (goes_to s (address s.pc (pos 32))) (other_jumps (line_at sending 3 place refl) other
+            (omega (arith, over sending 3 8 place (omega arith)))) (over sending 3 8 place (omega arith)) (to_no sending (omega arith) (λ e. no_copy)
             (ap (λ q. sees_full q fastforward r (slice_index x 5) (slice_index x 6) (slice_index x 6)) no_copy ∙ full) tt
             (looked-offset k the_sender fastforward r (slice_index x 5) (slice_index x 6) (part the_sender t) row.0.knows near) row.0)
 
     -- a line that doesn't return
     sends : (line : At) → number line ≢ 10 → number line ≢ 12 → s.pc ≡ 4 * (n + number line) → Moves n the_sender fastforward k r true ws c h s t v
-        → Answered M n a b the_sender fastforward k is h s t v has c ws
-    sends line ten twelve place moves = none M n a b the_sender fastforward k is h s t v has c ws line place ten twelve moves
+        → Answered sending
+    sends line ten twelve place moves = none sending line place ten twelve moves
 
-    pub sends_at : (line : At) → s.pc ≡ 4 * (n + number line) → OwnRow n the_sender fastforward k r c ws line x (part the_sender t)
-        → Answered M n a b the_sender fastforward k is h s t v has c ws
-    sends_at at_04 place row = sends at_04 (λ e. omega arith) (λ e. omega arith) place
-        (at-04 the_sender has near c ws (line_at M n a b the_sender fastforward k is h s t v has c ws 1 place refl) place row)
+    pub sends_at : (line : At) → s.pc ≡ 4 * (n + number line) → OwnRow n the_sender fastforward k r c ws line x (part the_sender t) → Answered sending
+    sends_at at_04 place row = sends at_04 (λ e. omega arith) (λ e. omega arith) place (at-04 the_sender has near c ws (line_at sending 1 place refl) place row)
     sends_at at_08 place row = sends at_08 (λ e. omega arith) (λ e. omega arith) place (sends_08 place row)
     sends_at at_0C place row = sends at_0C (λ e. omega arith) (λ e. omega arith) place (sends_0C place row)
-    sends_at at_10 place row = sends at_10 (λ e. omega arith) (λ e. omega arith) place
-        (bumps M n a b the_sender fastforward k is h s t v has near c ws 4 place (omega arith) at_14 (λ u. k.base + u) refl
-        (line_at M n a b the_sender fastforward k is h s t v has c ws 4 place refl) row (λ q. q))
+    sends_at at_10 place row = sends at_10 (λ e. omega arith) (λ e. omega arith) place (bumps sending near 4 place (omega arith) at_14 (λ u. k.base + u) refl
+        (line_at sending 4 place refl) row (λ q. q))
     sends_at at_14 place row = sends at_14 (λ e. omega arith) (λ e. omega arith) place
-        (tests M n a b the_sender fastforward k is h s t v has near c ws 5 place (omega arith) at_18 at_1C (λ u. k.base + u) (omega arith) refl refl
-        (line_at M n a b the_sender fastforward k is h s t v has c ws 5 place refl) row (λ q. q) (λ q. q))
-    sends_at at_18 place row = sends at_18 (λ e. omega arith) (λ e. omega arith) place
-        (zeroes M n a b the_sender fastforward k is h s t v has near c ws 6 place (omega arith) at_1C (λ u. k.base + u) refl
-        (line_at M n a b the_sender fastforward k is h s t v has c ws 6 place refl) row.0 row.1 (λ q. q))
+        (tests sending near 5 place (omega arith) at_18 at_1C (λ u. k.base + u) (omega arith) refl refl (line_at sending 5 place refl) row (λ q. q) (λ q. q))
+    sends_at at_18 place row = sends at_18 (λ e. omega arith) (λ e. omega arith) place (zeroes sending near 6 place (omega arith) at_1C (λ u. k.base + u) refl
+        (line_at sending 6 place refl) row.0 row.1 (λ q. q))
     sends_at at_1C place row = sends at_1C (λ e. omega arith) (λ e. omega arith) place
-        (slot_stores M n a b the_sender fastforward k is h s t v has near c ws 7 place (omega arith) at_20 8 (omega arith) (λ u. next r u) (λ u. k.base + u)
-        (reg_of 7) (reg_of 11) 5 refl (line_at M n a b the_sender fastforward k is h s t v has c ws 7 place refl) row row.x7 refl row.x5
+        (slot_stores sending near 7 place (omega arith) at_20 8 (omega arith) (λ u. next r u) (λ u. k.base + u)
+        (reg_of 7) (reg_of 11) 5 refl (line_at sending 7 place refl) row row.x7 refl row.x5
         (sender_puts fastforward r t row.place (slice_index x 11) row.knows (omega (arith, row.word, row.frame.left.args.word))
         (subst (IsSendable fastforward) (sym row.word) (subst (λ q. IsSendable q (slice_index c.entry.registers 11)) kind row.frame.left.args.sendable)))
         (λ made q. q))
     sends_at at_20 place row = sends at_20 (λ e. omega arith) (λ e. omega arith) place
-        (index_stores M n a b the_sender fastforward k is h s t v has near c ws 8 place (omega arith) (reg_of 5) refl (omega arith)
-        (line_at M n a b the_sender fastforward k is h s t v has c ws 8 place refl) row refl (sender_publishes fastforward r t row.place row.knows)
+        (index_stores sending near 8 place (omega arith) (reg_of 5) refl (omega arith)
+        (line_at sending 8 place refl) row refl (sender_publishes fastforward r t row.place row.knows)
         (send_whole fastforward r t row.place row.copy row.seen (slice_index x 11) row.some))
     sends_at line place row = absurd row
 
   -- ---- fastforward_receive
 
   module _ (has : Equipped M n fastforward_receive s) (near : Near k (part the_receiver t)) (c : Course) (ws : List ℕ) where
+    abbrev taking : Spot the_receiver fastforward
+    taking = spot M n a b the_receiver fastforward k is h s t v has c ws
+
     abbrev Takes : At → Type 0
     Takes line = s.pc ≡ 4 * (n + number line) → Row n the_receiver fastforward k r c ws line x (part the_receiver t)
         → Moves n the_receiver fastforward k r true ws c h s t v
@@ -149,10 +144,9 @@ module _ (M n a b : ℕ) (k : Block) (is : IsBlock M k) (h : ℕ) (s : HartState
     takes_08 : Takes at_08  -- lw x11,128(x7)
     takes_08 place row =
         let low = slot_below the_receiver has near c ws row in
-        loads_to M n a b the_receiver fastforward k is h s t v has c ws at_0C (slice_index x 7 + 128) (reg_of 11)
-        (load_line (line_at M n a b the_receiver fastforward k is h s t v has c ws 2 place refl) low.0 refl low.1 low.2)
-        (on M n a b the_receiver fastforward k is h s t v has c ws 2 place (omega arith)) (
-          to_seen M n a b the_receiver fastforward k is h s t v has c ws (slice_index x 7 + 128) 11 free_11 (λ e. omega arith) (λ e. omega arith) (omega arith)
+        loads_to taking at_0C (slice_index x 7 + 128) (reg_of 11) (load_line (line_at taking 2 place refl) low.0 refl low.1 low.2)
+        (on taking 2 place (omega arith)) (
+          to_seen taking (slice_index x 7 + 128) 11 free_11 (λ e. omega arith) (λ e. omega arith) (omega arith)
               tt (λ e. omega (arith, row.1)) (omega (arith, row.1)) row.0,
           set-other x 11 7 v (λ e. omega arith) ∙ row.1 ∙ ap (λ q. k.base + q) (sym (set-other x 11 5 v (λ e. omega arith))),
         )
@@ -162,18 +156,14 @@ module _ (M n a b : ℕ) (k : Block) (is : IsBlock M k) (h : ℕ) (s : HartState
       where
         at : (slice_index x 11 ≡ slice_index x 0) ⊎ (slice_index x 11 ≢ slice_index x 0) → Moves n the_receiver fastforward k r true ws c h s t v
         at (inl equal) =
-            to_line M n a b the_receiver fastforward k is h s t v has c ws at_2C (goes_to s (address s.pc (pos 32)))
-            (same_jumps (line_at M n a b the_receiver fastforward k is h s t v has c ws 3 place refl) equal
-            (omega (arith, over M n a b the_receiver fastforward k is h s t v has c ws 3 8 place (omega arith))))
-            (over M n a b the_receiver fastforward k is h s t v has c ws 3 8 place (omega arith))
-            (to_no M n a b the_receiver fastforward k is h s t v has c ws (omega arith) (λ e. cc) (eq-eqb (slice_index x 11) 0 (equal ∙ has.zero)) refl
+            to_line taking at_2C (goes_to s (address s.pc (pos 32))) (same_jumps (line_at taking 3 place refl) equal
+            (omega (arith, over taking 3 8 place (omega arith)))) (over taking 3 8 place (omega arith))
+            (to_no taking (omega arith) (λ e. cc) (eq-eqb (slice_index x 11) 0 (equal ∙ has.zero)) refl
             (looked-offset k the_receiver fastforward r (slice_index x 5) (slice_index x 11) (part the_receiver t) row.0.knows near) row.0)
         at (inr other) =
             let some : (slice_index x 11 == 0) ≡ false = ne_eqb (slice_index x 11) 0 (λ e. other (e ∙ sym has.zero)) in
-            to_line M n a b the_receiver fastforward k is h s t v has c ws at_10 (goes_to s (next_pc s.pc))
-            (other_goes_on (line_at M n a b the_receiver fastforward k is h s t v has c ws 3 place refl) other)
-            (on M n a b the_receiver fastforward k is h s t v has c ws 3 place (omega arith))
-            (to_ready M n a b the_receiver fastforward k is h s t v has c ws (λ u. k.base + u) 4 (omega arith) some refl
+            to_line taking at_10 (goes_to s (next_pc s.pc)) (other_goes_on (line_at taking 3 place refl) other) (on taking 3 place (omega arith))
+            (to_ready taking (λ u. k.base + u) 4 (omega arith) some refl
             (row.0.knows ∙ ap (λ q. if q then asked (slice_index x 5) else holding (slice_index x 5) (slice_index x 11)) some) row.1 refl row.0)
 
     -- the 0 goes to the slot, of which the word is taken
@@ -196,31 +186,26 @@ module _ (M n a b : ℕ) (k : Block) (is : IsBlock M k) (h : ℕ) (s : HartState
 
     -- a line that doesn't return
     takes : (line : At) → number line ≢ 10 → number line ≢ 12 → s.pc ≡ 4 * (n + number line) → Moves n the_receiver fastforward k r true ws c h s t v
-        → Answered M n a b the_receiver fastforward k is h s t v has c ws
-    takes line ten twelve place moves = none M n a b the_receiver fastforward k is h s t v has c ws line place ten twelve moves
+        → Answered taking
+    takes line ten twelve place moves = none taking line place ten twelve moves
 
-    pub takes_at : (line : At) → s.pc ≡ 4 * (n + number line) → OwnRow n the_receiver fastforward k r c ws line x (part the_receiver t)
-        → Answered M n a b the_receiver fastforward k is h s t v has c ws
+    pub takes_at : (line : At) → s.pc ≡ 4 * (n + number line) → OwnRow n the_receiver fastforward k r c ws line x (part the_receiver t) → Answered taking
     takes_at at_04 place row = takes at_04 (λ e. omega arith) (λ e. omega arith) place
-        (at-04 the_receiver has near c ws (line_at M n a b the_receiver fastforward k is h s t v has c ws 1 place refl) place row)
+        (at-04 the_receiver has near c ws (line_at taking 1 place refl) place row)
     takes_at at_08 place row = takes at_08 (λ e. omega arith) (λ e. omega arith) place (takes_08 place row)
     takes_at at_0C place row = takes at_0C (λ e. omega arith) (λ e. omega arith) place (takes_0C place row)
-    takes_at at_10 place row = takes at_10 (λ e. omega arith) (λ e. omega arith) place
-        (bumps M n a b the_receiver fastforward k is h s t v has near c ws 4 place (omega arith) at_14 (λ u. k.base + u) refl
-        (line_at M n a b the_receiver fastforward k is h s t v has c ws 4 place refl) row (λ q. q))
+    takes_at at_10 place row = takes at_10 (λ e. omega arith) (λ e. omega arith) place (bumps taking near 4 place (omega arith) at_14 (λ u. k.base + u) refl
+        (line_at taking 4 place refl) row (λ q. q))
     takes_at at_14 place row = takes at_14 (λ e. omega arith) (λ e. omega arith) place
-        (tests M n a b the_receiver fastforward k is h s t v has near c ws 5 place (omega arith) at_18 at_1C (λ u. k.base + u) (omega arith) refl refl
-        (line_at M n a b the_receiver fastforward k is h s t v has c ws 5 place refl) row (λ q. q) (λ q. q))
-    takes_at at_18 place row = takes at_18 (λ e. omega arith) (λ e. omega arith) place
-        (zeroes M n a b the_receiver fastforward k is h s t v has near c ws 6 place (omega arith) at_1C (λ u. k.base + u) refl
-        (line_at M n a b the_receiver fastforward k is h s t v has c ws 6 place refl) row.0 row.1 (λ q. q))
+        (tests taking near 5 place (omega arith) at_18 at_1C (λ u. k.base + u) (omega arith) refl refl (line_at taking 5 place refl) row (λ q. q) (λ q. q))
+    takes_at at_18 place row = takes at_18 (λ e. omega arith) (λ e. omega arith) place (zeroes taking near 6 place (omega arith) at_1C (λ u. k.base + u) refl
+        (line_at taking 6 place refl) row.0 row.1 (λ q. q))
     takes_at at_1C place row = takes at_1C (λ e. omega arith) (λ e. omega arith) place
-        (slot_stores M n a b the_receiver fastforward k is h s t v has near c ws 7 place (omega arith) at_20 8 (omega arith) (λ u. next r u) (λ u. k.base + u)
-        (reg_of 7) (reg_of 0) 5 refl (line_at M n a b the_receiver fastforward k is h s t v has c ws 7 place refl) row row.x7 has.zero row.x5
+        (slot_stores taking near 7 place (omega arith) at_20 8 (omega arith) (λ u. next r u) (λ u. k.base + u)
+        (reg_of 7) (reg_of 0) 5 refl (line_at taking 7 place refl) row row.x7 has.zero row.x5
         (receiver_puts row.place (slice_index x 11) row.knows) (λ made q. q))
     takes_at at_20 place row = takes at_20 (λ e. omega arith) (λ e. omega arith) place
-        (index_stores M n a b the_receiver fastforward k is h s t v has near c ws 8 place (omega arith) (reg_of 5) refl (omega arith)
-        (line_at M n a b the_receiver fastforward k is h s t v has c ws 8 place refl) row refl
+        (index_stores taking near 8 place (omega arith) (reg_of 5) refl (omega arith) (line_at taking 8 place refl) row refl
         (λ made word value. subst (λ q. IsReceiverStore fastforward r q made) (sym row.knows) (word, value))
         (receive_whole row.place row.seen (slice_index x 11) row.some))
     takes_at line place row = absurd row

@@ -39,7 +39,7 @@ use Rattle.spsc_queue.proofs.Outline.{Part, part, Level, IsOffset, IsNear, IsFit
 use Rattle.spsc_queue.proofs.Outline.{looked, Seen, Past, Ready, Finished}
 use Rattle.spsc_queue.proofs.Outline.{detour, OwnRow, Row, Moves}
 use Rattle.spsc_queue.proofs.Parts.{copied, level-next, past-load, word-load, copy-stored, tail-taken, looked-offset, ready-offset}
-use Rattle.spsc_queue.proofs.AllLines.{to_line, to_ready, loads_to, stores_to, line_at, line_of, on, over, wraps_not}
+use Rattle.spsc_queue.proofs.AllLines.{Spot, spot, to_line, to_ready, loads_to, stores_to, line_at, line_of, on, over, wraps_not}
 use Rattle.spsc_queue.proofs.AllLines.{wraps, to_seen, to_no, ready_5, ready_on, word_set}
 use Rattle.spsc_queue.proofs.AllLines.{if_false, found_room, looked_once, Answered, none}
 use Rattle.spsc_queue.proofs.CommonLines.{bumps, zeroes, tests, slot_stores, index_stores, sender_puts, sender_publishes}
@@ -63,6 +63,9 @@ module _ (M n a b : ℕ) (k : Block) (is : IsBlock M k) (h : ℕ) (s : HartState
   -- ---- the functions that send, with a copy of the tail and without one
 
   module _ (has : Equipped M n (listing_of lamport k.caches the_sender) s) (near : Near k (part the_sender t)) (c : Course) (ws : List ℕ) where
+    abbrev sending : Spot the_sender lamport
+    sending = spot M n a b the_sender lamport k is h s t v has c ws
+
     abbrev Sends : At → Type 0
     Sends line = s.pc ≡ 4 * (n + number line) → Row n the_sender lamport k r c ws line x (part the_sender t) → Moves n the_sender lamport k r true ws c h s t v
 
@@ -70,12 +73,9 @@ module _ (M n a b : ℕ) (k : Block) (is : IsBlock M k) (h : ℕ) (s : HartState
     sends_04 : (d : ℕ) → IsAt s (Load load_op.Word (reg_of 6) (reg_of 10) (pos d)) → d % 4 ≡ 0 → 4 ≤ d → d ≤ 64
         → k.base + d ≡ first_look r.copy r.tail → Sends at_04
     sends_04 d here even from upto looks place row =
-        loads_to M n a b the_sender lamport k is h s t v has c ws at_08 (slice_index x 10 + d) (reg_of 6)
-        (load_line here (omega (arith, row.frame.block, is.aligned)) even
-        (omega (arith, row.frame.block, is.inside, has.words, upto)) (omega (arith, has.words, is.small)))
-        (on M n a b the_sender lamport k is h s t v has c ws 1 place (omega arith))
-        (to_seen M n a b the_sender lamport k is h s t v has c ws (slice_index x 10 + d) 6 free_6 (λ e. omega arith) (λ e. omega arith) (omega arith)
-        (word_set M n a b the_sender lamport k is h s t v has c ws 6 v (λ e. omega arith) row.word)
+        loads_to sending at_08 (slice_index x 10 + d) (reg_of 6) (load_line here (omega (arith, row.frame.block, is.aligned)) even
+        (omega (arith, row.frame.block, is.inside, has.words, upto)) (omega (arith, has.words, is.small))) (on sending 1 place (omega arith))
+        (to_seen sending (slice_index x 10 + d) 6 free_6 (λ e. omega arith) (λ e. omega arith) (omega arith) (word_set sending 6 v (λ e. omega arith) row.word)
         (λ e. omega (arith, row.frame.block, from)) (ap (λ y. y + d) row.frame.block ∙ looks) row)
 
     -- x7 is written, or nothing
@@ -86,7 +86,7 @@ module _ (M n a b : ℕ) (k : Block) (is : IsBlock M k) (h : ℕ) (s : HartState
         let five : slice_index x 5 ≡ slice_index (slice_set x 7 y) 5 = sym (set-other x 7 5 y (λ e. omega arith)) in
         record {
           frame = frame_set nothing 7 y free_7 (λ e. omega arith) f.frame;
-          word = word_set M n a b the_sender lamport k is h s t v has c ws 7 y (λ e. omega arith) f.word;
+          word = word_set sending 7 y (λ e. omega arith) f.word;
           knows = subst (λ q. Looked the_sender lamport r q (slice_index (slice_set x 7 y) 6) (part the_sender t)) five
               (subst (λ q. Looked the_sender lamport r (slice_index x 5) q (part the_sender t)) six f.knows);
           level = f.level;
@@ -111,9 +111,8 @@ module _ (M n a b : ℕ) (k : Block) (is : IsBlock M k) (h : ℕ) (s : HartState
         let up : ℕ = slice_index x 5 + 4 in
         let bound : IsOffset k (slice_index x 5) = looked-offset k the_sender lamport r (slice_index x 5)
         (slice_index x 6) (part the_sender t) row.knows near in
-        to_line M n a b the_sender lamport k is h s t v has c ws at_0C (leaves_in s (reg_of 7) up)
-        (add_line here (word-plus (slice_index x 5) 4 (omega (arith, bound.0, is.inside, is.small))))
-        (on M n a b the_sender lamport k is h s t v has c ws 2 place (omega arith)) (
+        to_line sending at_0C (leaves_in s (reg_of 7) up) (add_line here (word-plus (slice_index x 5) 4 (omega (arith, bound.0, is.inside, is.small))))
+        (on sending 2 place (omega arith)) (
           still up row,
           set-same x 7 up (omega (arith, has.size)) ∙ ap (λ q. q + 4) (sym (set-other x 7 5 up (λ e. omega arith))),
         )
@@ -123,26 +122,21 @@ module _ (M n a b : ℕ) (k : Block) (is : IsBlock M k) (h : ℕ) (s : HartState
       where
         at : (slice_index x 7 ≡ slice_index x 12) ⊎ (slice_index x 7 ≢ slice_index x 12) → Moves n the_sender lamport k r true ws c h s t v
         at (inl equal) =
-            to_line M n a b the_sender lamport k is h s t v has c ws at_10 (goes_to s (next_pc s.pc)) (same_goes_on here equal)
-            (on M n a b the_sender lamport k is h s t v has c ws 3 place (omega arith))
+            to_line sending at_10 (goes_to s (next_pc s.pc)) (same_goes_on here equal) (on sending 3 place (omega arith))
             (same (omega arith) row.0, omega (arith, equal, row.1, bytes_of row.0.frame.left))
         at (inr other) =
-            to_line M n a b the_sender lamport k is h s t v has c ws at_14 (goes_to s (address s.pc (pos 8)))
-            (other_jumps here other (omega (arith, over M n a b the_sender lamport k is h s t v has c ws 3 2 place (omega arith))))
-            (over M n a b the_sender lamport k is h s t v has c ws 3 2 place (omega arith)) (
+            to_line sending at_14 (goes_to s (address s.pc (pos 8))) (other_jumps here other (omega (arith, over sending 3 2 place (omega arith))))
+            (over sending 3 2 place (omega arith)) (
               same (omega arith) row.0,
-              row.1 ∙ wraps_not M n a b the_sender lamport k is h s t v has c ws (slice_index x 5)
-                  (λ e. other (omega (arith, row.1, e, bytes_of row.0.frame.left))),
+              row.1 ∙ wraps_not sending (slice_index x 5) (λ e. other (omega (arith, row.1, e, bytes_of row.0.frame.left))),
             )
 
     sends_10 : IsAt s (Immediate immediate.Add (reg_of 7) (reg_of 0) (pos 0)) → Sends at_10  -- addi x7,x0,0
     sends_10 here place row =
-        to_line M n a b the_sender lamport k is h s t v has c ws at_14 (leaves_in s (reg_of 7) 0)
-        (add_line here (word-plus (slice_index x 0) 0 (omega (arith, has.zero)) ∙ omega (arith, has.zero)))
-        (on M n a b the_sender lamport k is h s t v has c ws 4 place (omega arith)) (
+        to_line sending at_14 (leaves_in s (reg_of 7) 0) (add_line here (word-plus (slice_index x 0) 0 (omega (arith, has.zero)) ∙ omega (arith, has.zero)))
+        (on sending 4 place (omega arith)) (
           still 0 row.0,
-          set-same x 7 0 (omega (arith, has.size)) ∙ wraps M n a b the_sender lamport k is h s t v has c ws (slice_index x 5) row.1
-              ∙ ap (next r) (sym (set-other x 7 5 0 (λ e. omega arith))),
+          set-same x 7 0 (omega (arith, has.size)) ∙ wraps sending (slice_index x 5) row.1 ∙ ap (next r) (sym (set-other x 7 5 0 (λ e. omega arith))),
         )
 
     -- beq x6,x7,further: if there is room on, or else to this line
@@ -154,48 +148,44 @@ module _ (M n a b : ℕ) (k : Block) (is : IsBlock M k) (h : ℕ) (s : HartState
       where
         by : (slice_index x 6 ≡ slice_index x 7) ⊎ (slice_index x 6 ≢ slice_index x 7) → Moves n the_sender lamport k r true ws c h s t v
         by (inl equal) =
-            to_line M n a b the_sender lamport k is h s t v has c ws to (goes_to s (address s.pc (pos m))) (same_jumps here equal (omega (arith, there))) there
+            to_line sending to (goes_to s (address s.pc (pos m))) (same_jumps here equal (omega (arith, there))) there
             (full row.0 row.1 (eq-eqb (slice_index x 6) (next r (slice_index x 5)) (equal ∙ row.1)))
         by (inr other) =
             let some : (slice_index x 6 == next r (slice_index x 5)) ≡ false =
             ne_eqb (slice_index x 6) (next r (slice_index x 5)) (λ e. other (e ∙ sym row.1)) in
-            to_line M n a b the_sender lamport k is h s t v has c ws at_18 (goes_to s (next_pc s.pc)) (other_goes_on here other)
-            (on M n a b the_sender lamport k is h s t v has c ws 5 place (omega arith))
-            (to_ready M n a b the_sender lamport k is h s t v has c ws (λ u. next r u) (6 + detour r.copy) (omega arith)
-            (found_room r.copy lamport r (slice_index x 5) (slice_index x 6) some) tt
+            to_line sending at_18 (goes_to s (next_pc s.pc)) (other_goes_on here other) (on sending 5 place (omega arith))
+            (to_ready sending (λ u. next r u) (6 + detour r.copy) (omega arith) (found_room r.copy lamport r (slice_index x 5) (slice_index x 6) some) tt
             (row.0.knows ∙ ap (λ q. if q then placed (slice_index x 5) else roomy (slice_index x 5)) some) row.1
             (looked_once lamport r (slice_index x 5) (slice_index x 6) some) row.0)
 
     sends_18 : IsAt s (Register register.Add (reg_of 5) (reg_of 10) (reg_of 5)) → Sends at_18  -- add x5,x10,x5
     sends_18 here place row =
         let bound : IsOffset k row.place = ready-offset k the_sender row.place (slice_index x 11) (part the_sender t) row.knows near in
-        to_line M n a b the_sender lamport k is h s t v has c ws at_1C (leaves_in s (reg_of 5) (slice_index x 10 + slice_index x 5))
-        (sum_line here (omega (arith, row.frame.block, row.x5, bound.0, is.inside, is.small)))
-        (on M n a b the_sender lamport k is h s t v has c ws 6 place (omega arith))
+        to_line sending at_1C (leaves_in s (reg_of 5) (slice_index x 10 + slice_index x 5))
+        (sum_line here (omega (arith, row.frame.block, row.x5, bound.0, is.inside, is.small))) (on sending 6 place (omega arith))
         (subst (λ m. Ready n the_sender lamport k r (went c nothing) m ws (slice_set x 5 (slice_index x 10 + slice_index x 5)) (part the_sender t)
-        (λ u. k.base + u) (λ u. next r u)) (omega arith)
-        (ready_5 M n a b the_sender lamport k is h s t v has c ws (λ u. u) (λ u. next r u) (λ u. k.base + u) (slice_index x 10 + slice_index x 5) row
+        (λ u. k.base + u) (λ u. next r u)) (omega arith) (ready_5 sending (λ u. u) (λ u. next r u) (λ u. k.base + u) (slice_index x 10 + slice_index x 5) row
         (ap (λ q. q + slice_index x 5) row.frame.block ∙ ap (λ q. k.base + q) row.x5)))
 
     -- a line that doesn't return
     sends : (line : At) → number line ≢ 10 → number line ≢ 12 → s.pc ≡ 4 * (n + number line) → Moves n the_sender lamport k r true ws c h s t v
-        → Answered M n a b the_sender lamport k is h s t v has c ws
-    sends line ten twelve place moves = none M n a b the_sender lamport k is h s t v has c ws line place ten twelve moves
+        → Answered sending
+    sends line ten twelve place moves = none sending line place ten twelve moves
 
     sends_1C : IsAt s (Store store_op.Word (reg_of 5) (reg_of 11) (pos 128)) → Sends at_1C
     sends_1C here place row =
-        slot_stores M n a b the_sender lamport k is h s t v has near c ws 7 place (omega arith) at_20 (8 + detour r.copy) (omega arith) (λ u. k.base + u)
+        slot_stores sending near 7 place (omega arith) at_20 (8 + detour r.copy) (omega arith) (λ u. k.base + u)
         (λ u. next r u) (reg_of 5) (reg_of 11) 7 refl here row row.x5 refl row.x7
         (sender_puts lamport r t row.place (slice_index x 11) row.knows (omega (arith, row.word, row.frame.left.args.word)) tt) (λ made q. q)
 
     sends_20 : IsAt s (Store store_op.Word (reg_of 10) (reg_of 7) (pos 0)) → Sends at_20
     sends_20 here place row =
-        index_stores M n a b the_sender lamport k is h s t v has near c ws 8 place (omega arith) (reg_of 7) refl (omega arith) here row refl
+        index_stores sending near 8 place (omega arith) (reg_of 7) refl (omega arith) here row refl
         (sender_publishes lamport r t row.place row.knows) (send_whole lamport r t row.place row.copy row.seen (slice_index x 11) row.some)
 
     -- try_send
     pub sends_at : k.caches ≡ false → (line : At) → s.pc ≡ 4 * (n + number line) → OwnRow n the_sender lamport k r c ws line x (part the_sender t)
-        → Answered M n a b the_sender lamport k is h s t v has c ws
+        → Answered sending
     sends_at plain = plain_at
       where
         own : Equipped M n try_send s
@@ -211,16 +201,14 @@ module _ (M n a b : ℕ) (k : Block) (is : IsBlock M k) (h : ℕ) (s : HartState
         none_past : {m : ℕ} {q : SenderState} {more : List Access} → Past n k r c m ws x (part the_sender t) q more → ⊥
         none_past row = absurd (let no : Some (k.base + 4) ≡ None = sym row.copies ∙ no_copy in cc)
 
-        plain_at : (line : At) → s.pc ≡ 4 * (n + number line) → OwnRow n the_sender lamport k r c ws line x (part the_sender t)
-            → Answered M n a b the_sender lamport k is h s t v has c ws
+        plain_at : (line : At) → s.pc ≡ 4 * (n + number line) → OwnRow n the_sender lamport k r c ws line x (part the_sender t) → Answered sending
         plain_at at_04 place row = sends at_04 (λ e. omega arith) (λ e. omega arith) place
             (sends_04 64 (line_here 1 place refl) refl (omega arith) (omega arith) (sym (ap (λ q. first_look q r.tail) no_copy)) place row)
         plain_at at_08 place row = sends at_08 (λ e. omega arith) (λ e. omega arith) place (sends_08 (line_here 2 place refl) place row)
         plain_at at_0C place row = sends at_0C (λ e. omega arith) (λ e. omega arith) place (sends_0C (line_here 3 place refl) place row)
         plain_at at_10 place row = sends at_10 (λ e. omega arith) (λ e. omega arith) place (sends_10 (line_here 4 place refl) place row)
         plain_at at_14 place row = sends at_14 (λ e. omega arith) (λ e. omega arith) place
-            (sends_14 24 at_2C (over M n a b the_sender lamport k is h s t v has c ws 5 6 place (omega arith)) (line_here 5 place refl)
-            (λ f after full. to_no M n a b the_sender lamport k is h s t v has c ws (omega arith) (λ e. no_copy)
+            (sends_14 24 at_2C (over sending 5 6 place (omega arith)) (line_here 5 place refl) (λ f after full. to_no sending (omega arith) (λ e. no_copy)
             (ap (λ q. sees_full q lamport r (slice_index x 5) (slice_index x 6) (slice_index x 6)) no_copy ∙ full) tt
             (looked-offset k the_sender lamport r (slice_index x 5) (slice_index x 6) (part the_sender t) f.knows near) f) place row)
         plain_at at_18 place row = sends at_18 (λ e. omega arith) (λ e. omega arith) place (sends_18 (line_here 6 place refl) place row)
@@ -234,7 +222,7 @@ module _ (M n a b : ℕ) (k : Block) (is : IsBlock M k) (h : ℕ) (s : HartState
 
     -- cached_send
     pub caches_at : k.caches ≡ true → k.kind ≡ lamport → (line : At) → s.pc ≡ 4 * (n + number line)
-        → OwnRow n the_sender lamport k r c ws line x (part the_sender t) → Answered M n a b the_sender lamport k is h s t v has c ws
+        → OwnRow n the_sender lamport k r c ws line x (part the_sender t) → Answered sending
     caches_at keeps kind = cached_at
       where
         own : Equipped M n cached_send s
@@ -287,8 +275,7 @@ module _ (M n a b : ℕ) (k : Block) (is : IsBlock M k) (h : ℕ) (s : HartState
               answers = sym (ap (λ q. if q then 0 else 1) found);
             }
 
-        cached_at : (line : At) → s.pc ≡ 4 * (n + number line) → OwnRow n the_sender lamport k r c ws line x (part the_sender t)
-            → Answered M n a b the_sender lamport k is h s t v has c ws
+        cached_at : (line : At) → s.pc ≡ 4 * (n + number line) → OwnRow n the_sender lamport k r c ws line x (part the_sender t) → Answered sending
         cached_at at_04 place row = sends at_04 (λ e. omega arith) (λ e. omega arith) place
             (sends_04 4 (line_here 1 place refl) refl (omega arith) (omega arith) (sym (ap (λ q. first_look q r.tail) copies)) place row)
         cached_at at_08 place row = sends at_08 (λ e. omega arith) (λ e. omega arith) place (sends_08 (line_here 2 place refl) place row)
@@ -316,14 +303,13 @@ module _ (M n a b : ℕ) (k : Block) (is : IsBlock M k) (h : ℕ) (s : HartState
             let five : slice_index x 5 ≡ slice_index (slice_set x 6 v) 5 = sym (set-other x 6 5 v (λ e. omega arith)) in
             let tail : slice_index x 10 + 64 ≡ r.tail = ap (λ y. y + 64) row.frame.block in
             let does : Access = load (slice_index x 10 + 64) 4 v in
-            sends at_34 (λ e. omega arith) (λ e. omega arith) place
-            (loads_to M n a b the_sender lamport k is h s t v has c ws at_38 (slice_index x 10 + 64) (reg_of 6)
+            sends at_34 (λ e. omega arith) (λ e. omega arith) place (loads_to sending at_38 (slice_index x 10 + 64) (reg_of 6)
             (load_line (line_here 13 place refl) (omega (arith, row.frame.block, is.aligned)) refl
             (omega (arith, row.frame.block, is.inside, has.words)) (omega (arith, has.words, is.small))) (ahead 13 place (omega arith)) (record {
               copy = row.copy;
               copies = copies;
               frame = frame_set does 6 v free_6 (λ e. omega arith) row.frame;
-              word = word_set M n a b the_sender lamport k is h s t v has c ws 6 v (λ e. omega arith) row.word;
+              word = word_set sending 6 v (λ e. omega arith) row.word;
               knows = past-load lamport r t (slice_index x 10 + 64) v (slice_index x 5) (k.base + 4) row.knows copies (λ e. omega (arith, tail, e))
                   (λ e. omega (arith, tail, e)) tail
                   ∙ ap (λ q. looks_past_copy lamport r q v) five ∙ ap (λ q. looks_past_copy lamport r (slice_index (slice_set x 6 v) 5) q) got;
@@ -342,14 +328,12 @@ module _ (M n a b : ℕ) (k : Block) (is : IsBlock M k) (h : ℕ) (s : HartState
             by (inl equal) =
                 let there : address s.pc (negsuc 11) ≡ 4 * (n + 11) =
                 line_back s.pc (n + 14) 3 11 place (omega (arith, room)) refl (omega arith) ∙ omega arith in
-                to_line M n a b the_sender lamport k is h s t v has c ws at_2C (goes_to s (address s.pc (negsuc 11)))
-                (same_jumps (line_here 14 place refl) equal (omega (arith, there))) there
+                to_line sending at_2C (goes_to s (address s.pc (negsuc 11))) (same_jumps (line_here 14 place refl) equal (omega (arith, there))) there
                 (full_too row (omega arith) (eq-eqb (slice_index x 6) (next r (slice_index x 5)) (equal ∙ row.after)))
             by (inr other) =
                 let some : (slice_index x 6 == next r (slice_index x 5)) ≡ false =
                 ne_eqb (slice_index x 6) (next r (slice_index x 5)) (λ e. other (e ∙ sym row.after)) in
-                to_line M n a b the_sender lamport k is h s t v has c ws at_3C (goes_to s (next_pc s.pc)) (other_goes_on (line_here 14 place refl) other)
-                (ahead 14 place (omega arith)) (
+                to_line sending at_3C (goes_to s (next_pc s.pc)) (other_goes_on (line_here 14 place refl) other) (ahead 14 place (omega arith)) (
                   record {
                     copy = row.copy;
                     copies = copies;
@@ -370,8 +354,7 @@ module _ (M n a b : ℕ) (k : Block) (is : IsBlock M k) (h : ℕ) (s : HartState
             let here : slice_index x 10 + 4 ≡ k.base + 4 = ap (λ y. y + 4) row.0.frame.block in
             let hits : overlaps r made ≡ true = grind (arith, nat_tests, row.0.frame.block) in
             let becomes = copy-stored lamport r made hits t (slice_index x 5) (slice_index x 6) row.0.knows in
-            sends at_3C (λ e. omega arith) (λ e. omega arith) place
-            (stores_to M n a b the_sender lamport k is h s t v has c ws at_40 (slice_index x 10 + 4) (slice_index x 6)
+            sends at_3C (λ e. omega arith) (λ e. omega arith) place (stores_to sending at_40 (slice_index x 10 + 4) (slice_index x 6)
             (store_line (line_here 15 place refl) (omega (arith, row.0.frame.block, is.aligned)) refl
             (omega (arith, row.0.frame.block, is.inside, has.words)) (omega (arith, has.words, is.small))) (ahead 15 place (omega arith))
             (subst (λ q. IsSenderStore lamport r q made) (sym row.0.knows)
@@ -405,26 +388,26 @@ module _ (M n a b : ℕ) (k : Block) (is : IsBlock M k) (h : ℕ) (s : HartState
         -- jal x0,18
         cached_at at_40 place row =
             let there : address s.pc (negsuc 39) ≡ 4 * (n + 6) = line_back s.pc (n + 16) 10 39 place (omega (arith, room)) refl (omega arith) ∙ omega arith in
-            sends at_40 (λ e. omega arith) (λ e. omega arith) place
-            (to_line M n a b the_sender lamport k is h s t v has c ws at_18 (goes_to s (address s.pc (negsuc 39)))
+            sends at_40 (λ e. omega arith) (λ e. omega arith) place (to_line sending at_18 (goes_to s (address s.pc (negsuc 39)))
             (jump_line (line_here 16 place refl) (omega (arith, there))) there
-            (ready_on M n a b the_sender lamport k is h s t v has c ws (λ u. u) (λ u. next r u) (λ u. u) (omega (arith, ap detour copies)) row.0 refl))
+            (ready_on sending (λ u. u) (λ u. next r u) (λ u. u) (omega (arith, ap detour copies)) row.0 refl))
         cached_at line place row = absurd row
 
   -- ---- try_receive
 
   module _ (has : Equipped M n try_receive s) (near : Near k (part the_receiver t)) (c : Course) (ws : List ℕ) where
+    abbrev taking : Spot the_receiver lamport
+    taking = spot M n a b the_receiver lamport k is h s t v has c ws
+
     abbrev Takes : At → Type 0
     Takes line = s.pc ≡ 4 * (n + number line) → Row n the_receiver lamport k r c ws line x (part the_receiver t)
         → Moves n the_receiver lamport k r true ws c h s t v
 
     takes_04 : Takes at_04  -- lw x6,0(x10)
     takes_04 place row =
-        loads_to M n a b the_receiver lamport k is h s t v has c ws at_08 (slice_index x 10 + 0) (reg_of 6)
-        (load_line (line_at M n a b the_receiver lamport k is h s t v has c ws 1 place refl) (omega (arith, row.frame.block, is.aligned)) refl
-        (omega (arith, row.frame.block, is.inside, has.words)) (omega (arith, has.words, is.small)))
-        (on M n a b the_receiver lamport k is h s t v has c ws 1 place (omega arith))
-        (to_seen M n a b the_receiver lamport k is h s t v has c ws (slice_index x 10 + 0) 6 free_6 (λ e. omega arith) (λ e. omega arith) (omega arith)
+        loads_to taking at_08 (slice_index x 10 + 0) (reg_of 6) (load_line (line_at taking 1 place refl) (omega (arith, row.frame.block, is.aligned)) refl
+        (omega (arith, row.frame.block, is.inside, has.words)) (omega (arith, has.words, is.small))) (on taking 1 place (omega arith))
+        (to_seen taking (slice_index x 10 + 0) 6 free_6 (λ e. omega arith) (λ e. omega arith) (omega arith)
         tt (λ e. omega (arith, row.frame.block)) (omega (arith, row.frame.block)) row)
 
     takes_08 : Takes at_08  -- beq x5,x6,2C
@@ -432,17 +415,13 @@ module _ (M n a b : ℕ) (k : Block) (is : IsBlock M k) (h : ℕ) (s : HartState
       where
         at : (slice_index x 5 ≡ slice_index x 6) ⊎ (slice_index x 5 ≢ slice_index x 6) → Moves n the_receiver lamport k r true ws c h s t v
         at (inl equal) =
-            to_line M n a b the_receiver lamport k is h s t v has c ws at_2C (goes_to s (address s.pc (pos 36)))
-            (same_jumps (line_at M n a b the_receiver lamport k is h s t v has c ws 2 place refl) equal
-            (omega (arith, over M n a b the_receiver lamport k is h s t v has c ws 2 9 place (omega arith))))
-            (over M n a b the_receiver lamport k is h s t v has c ws 2 9 place (omega arith))
-            (to_no M n a b the_receiver lamport k is h s t v has c ws (omega arith) (λ e. cc) (eq-eqb (slice_index x 6) (slice_index x 5) (sym equal)) tt
+            to_line taking at_2C (goes_to s (address s.pc (pos 36))) (same_jumps (line_at taking 2 place refl) equal
+            (omega (arith, over taking 2 9 place (omega arith)))) (over taking 2 9 place (omega arith))
+            (to_no taking (omega arith) (λ e. cc) (eq-eqb (slice_index x 6) (slice_index x 5) (sym equal)) tt
             (looked-offset k the_receiver lamport r (slice_index x 5) (slice_index x 6) (part the_receiver t) row.knows near) row)
         at (inr other) =
             let some : (slice_index x 6 == slice_index x 5) ≡ false = ne_eqb (slice_index x 6) (slice_index x 5) (λ e. other (sym e)) in
-            to_line M n a b the_receiver lamport k is h s t v has c ws at_0C (goes_to s (next_pc s.pc))
-            (other_goes_on (line_at M n a b the_receiver lamport k is h s t v has c ws 2 place refl) other)
-            (on M n a b the_receiver lamport k is h s t v has c ws 2 place (omega arith)) (record {
+            to_line taking at_0C (goes_to s (next_pc s.pc)) (other_goes_on (line_at taking 2 place refl) other) (on taking 2 place (omega arith)) (record {
               seen = slice_index x 6;
               frame = frame_on nothing row.frame;
               knows = row.knows ∙ ap (λ q. if q then asked (slice_index x 5) else waiting (slice_index x 5)) some;
@@ -457,9 +436,8 @@ module _ (M n a b : ℕ) (k : Block) (is : IsBlock M k) (h : ℕ) (s : HartState
         let bound : IsOffset k (slice_index x 5) = subst (IsFit k) row.knows near.receiving in
         let sum : ℕ = slice_index x 10 + slice_index x 5 in
         let five : slice_index x 5 ≡ slice_index (slice_set x 7 sum) 5 = sym (set-other x 7 5 sum (λ e. omega arith)) in
-        to_line M n a b the_receiver lamport k is h s t v has c ws at_10 (leaves_in s (reg_of 7) sum)
-        (sum_line (line_at M n a b the_receiver lamport k is h s t v has c ws 3 place refl) (omega (arith, row.frame.block, bound.0, is.inside, is.small)))
-        (on M n a b the_receiver lamport k is h s t v has c ws 3 place (omega arith)) (
+        to_line taking at_10 (leaves_in s (reg_of 7) sum)
+        (sum_line (line_at taking 3 place refl) (omega (arith, row.frame.block, bound.0, is.inside, is.small))) (on taking 3 place (omega arith)) (
           record {
             seen = row.seen;
             frame = frame_set nothing 7 sum free_7 (λ e. omega arith) row.frame;
@@ -477,10 +455,8 @@ module _ (M n a b : ℕ) (k : Block) (is : IsBlock M k) (h : ℕ) (s : HartState
         let u : ℕ = slice_index x 5 in
         let bound : IsOffset k u = subst (IsFit k) row.0.knows near.receiving in
         let eleven : v ≡ slice_index (slice_set x 11 v) 11 = sym (set-same x 11 v (omega (arith, has.size))) in
-        loads_to M n a b the_receiver lamport k is h s t v has c ws at_14 (slice_index x 7 + 128) (reg_of 11)
-        (load_line (line_at M n a b the_receiver lamport k is h s t v has c ws 4 place refl) (omega (arith, row.1, is.aligned, bound.1)) refl
-        (omega (arith, row.1, bound.0, is.inside, has.words)) (omega (arith, has.words, is.small)))
-        (on M n a b the_receiver lamport k is h s t v has c ws 4 place (omega arith)) (record {
+        loads_to taking at_14 (slice_index x 7 + 128) (reg_of 11) (load_line (line_at taking 4 place refl) (omega (arith, row.1, is.aligned, bound.1)) refl
+        (omega (arith, row.1, bound.0, is.inside, has.words)) (omega (arith, has.words, is.small))) (on taking 4 place (omega arith)) (record {
           place = u;
           copy = row.0.seen;
           seen = row.0.seen;
@@ -512,10 +488,9 @@ module _ (M n a b : ℕ) (k : Block) (is : IsBlock M k) (h : ℕ) (s : HartState
           no_copy = λ d at. inl (omega (arith, copied k d at));
         } in
         let becomes = tail-taken lamport r made (word_overlaps r made r.tail inside here) t u (slice_index x 11) row.knows in
-        stores_to M n a b the_receiver lamport k is h s t v has c ws at_24 (slice_index x 10 + 64) (slice_index x 5)
-        (store_line (line_at M n a b the_receiver lamport k is h s t v has c ws 8 place refl) (omega (arith, row.frame.block, is.aligned)) refl
-        (omega (arith, row.frame.block, is.inside, has.words)) (omega (arith, has.words, is.small)))
-        (on M n a b the_receiver lamport k is h s t v has c ws 8 place (omega arith))
+        stores_to taking at_24 (slice_index x 10 + 64) (slice_index x 5)
+        (store_line (line_at taking 8 place refl) (omega (arith, row.frame.block, is.aligned)) refl
+        (omega (arith, row.frame.block, is.inside, has.words)) (omega (arith, has.words, is.small))) (on taking 8 place (omega arith))
         (subst (λ q. IsReceiverStore lamport r q made) (sym row.knows) (here, row.x5)) (record {
           place = u;
           copy = row.copy;
@@ -534,23 +509,19 @@ module _ (M n a b : ℕ) (k : Block) (is : IsBlock M k) (h : ℕ) (s : HartState
 
     -- a line that doesn't return
     takes : (line : At) → number line ≢ 10 → number line ≢ 12 → s.pc ≡ 4 * (n + number line) → Moves n the_receiver lamport k r true ws c h s t v
-        → Answered M n a b the_receiver lamport k is h s t v has c ws
-    takes line ten twelve place moves = none M n a b the_receiver lamport k is h s t v has c ws line place ten twelve moves
+        → Answered taking
+    takes line ten twelve place moves = none taking line place ten twelve moves
 
-    pub takes_at : (line : At) → s.pc ≡ 4 * (n + number line) → OwnRow n the_receiver lamport k r c ws line x (part the_receiver t)
-        → Answered M n a b the_receiver lamport k is h s t v has c ws
+    pub takes_at : (line : At) → s.pc ≡ 4 * (n + number line) → OwnRow n the_receiver lamport k r c ws line x (part the_receiver t) → Answered taking
     takes_at at_04 place row = takes at_04 (λ e. omega arith) (λ e. omega arith) place (takes_04 place row)
     takes_at at_08 place row = takes at_08 (λ e. omega arith) (λ e. omega arith) place (takes_08 place row)
     takes_at at_0C place row = takes at_0C (λ e. omega arith) (λ e. omega arith) place (takes_0C place row)
     takes_at at_10 place row = takes at_10 (λ e. omega arith) (λ e. omega arith) place (takes_10 place row)
-    takes_at at_14 place row = takes at_14 (λ e. omega arith) (λ e. omega arith) place
-        (bumps M n a b the_receiver lamport k is h s t v has near c ws 5 place (omega arith) at_18 (λ u. k.base + u) refl
-        (line_at M n a b the_receiver lamport k is h s t v has c ws 5 place refl) row (λ q. q))
+    takes_at at_14 place row = takes at_14 (λ e. omega arith) (λ e. omega arith) place (bumps taking near 5 place (omega arith) at_18 (λ u. k.base + u) refl
+        (line_at taking 5 place refl) row (λ q. q))
     takes_at at_18 place row = takes at_18 (λ e. omega arith) (λ e. omega arith) place
-        (tests M n a b the_receiver lamport k is h s t v has near c ws 6 place (omega arith) at_1C at_20 (λ u. k.base + u) (omega arith) refl refl
-        (line_at M n a b the_receiver lamport k is h s t v has c ws 6 place refl) row (λ q. q) (λ q. q))
-    takes_at at_1C place row = takes at_1C (λ e. omega arith) (λ e. omega arith) place
-        (zeroes M n a b the_receiver lamport k is h s t v has near c ws 7 place (omega arith) at_20 (λ u. k.base + u) refl
-        (line_at M n a b the_receiver lamport k is h s t v has c ws 7 place refl) row.0 row.1 (λ q. q))
+        (tests taking near 6 place (omega arith) at_1C at_20 (λ u. k.base + u) (omega arith) refl refl (line_at taking 6 place refl) row (λ q. q) (λ q. q))
+    takes_at at_1C place row = takes at_1C (λ e. omega arith) (λ e. omega arith) place (zeroes taking near 7 place (omega arith) at_20 (λ u. k.base + u) refl
+        (line_at taking 7 place refl) row.0 row.1 (λ q. q))
     takes_at at_20 place row = takes at_20 (λ e. omega arith) (λ e. omega arith) place (takes_20 place row)
     takes_at line place row = absurd row
