@@ -100,11 +100,7 @@ first_access h (e ∷ es) x xs is = at (is_own h e) refl (access_of e) refl (fir
 -- an entry of which the party makes no access leaves its part
 none-made : (K : Kind) (r : RingBuffer) (p : Party) (t : ProtocolState) (x : Access) → memory_access x ≡ [] → part p (next_by K r (role p) t x) ≡ part p t
 none-made K r p t nothing none = ap (part p) (inner-leaves K r (role p) t)
-none-made K r p t (load a width v) none = cc
-none-made K r p t (store w) none = cc
-none-made K r p t (exchange a old new) none = cc
-none-made K r p t (fence full) none = cc
-none-made K r p t land none = cc
+none-made K r p t x none = cc
 
 front_none : (h : ℕ) (e : Entry) (es : List Entry) → accesses h (e ∷ es) ≡ [] → (accesses h (e ∷ []) ≡ []) × (accesses h es ≡ [])
 front_none h e es none = at (is_own h e) (memory_access (access_of e)) none

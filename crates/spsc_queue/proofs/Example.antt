@@ -7,10 +7,11 @@ use Rattle.std.proofs.lemmas.List.Elements.{All-nil, All-cons}
 use Rattle.rv_decode.specs.Meaning.{meaning}
 use Rattle.hart.specs.State.{HartState}
 use Rattle.hart.specs.Steps.{need_of, advanced}
+use Rattle.hart.specs.declared.status.Status.TheVariants as status
 use Rattle.step_machine.specs.declared.events.Entry.{Entry}
 use Rattle.step_machine.specs.History.{history_of}
 use Rattle.step_machine.specs.Entries.{hart_of, own, memory_word}
-use Rattle.step_machine.specs.Paths.{Makes, opens_as, Path, state_of}
+use Rattle.step_machine.specs.Paths.{value_of, entry_of, CanMake, Makes, opens_as, Path, state_of}
 use Rattle.step_machine.specs.Legal.{Legal, IsOfHarts, WellFormed}
 use Rattle.spsc_queue.specs.RingBuffers.{Kind, lamport, fastforward}
 use Rattle.spsc_queue.specs.Listings.{words_of}
@@ -22,60 +23,50 @@ use Rattle.spsc_queue.specs.Example.{queue, sender_hart, receiver_hart, opening,
 use Rattle.spsc_queue.specs.Example.{receiver_after}
 use Rattle.spsc_queue.proofs.Registers.{thirteen}
 use Rattle.spsc_queue.proofs.Parts.{copied_in}
-use Rattle.spsc_queue.proofs.Obligations.{obligations_decided, both}
+use Rattle.spsc_queue.proofs.Words.{both}
+use Rattle.spsc_queue.proofs.Obligations.{obligations_decided}
 
-also : {X Y : Type 0} → X → Y → X × Y
-also x y = (x, y)
+infixr 5 ◌&◌
+◌&◌ : {A B : Type 0} → A → B → A × B
+a & b = (a, b)
+
+can : {s : HartState} {e : Entry} → s.status ≡ status.Running → e ≡ entry_of (hart_of e) (need_of s) (value_of e) → CanMake s e
+can running made = record { running = running; made = made }
 
 legal : (k : Kind) (c : Bool) → Legal 4 (history_of (opening k c) (entries k c))
 legal lamport false =
-    also tt (also refl (also refl (also tt (also tt (also tt (also tt (also (omega arith) (also (omega arith) (also tt (also tt (also (omega arith) (
-    also (omega arith) (also tt (also refl (also refl (also tt (also tt (also refl (also tt (also tt (also (omega arith) (also tt (also tt (
-    also (omega arith) (tt)))))))))))))))))))))))))
+    tt & refl & refl & tt & tt & tt & tt & omega arith & omega arith & tt & tt & omega arith & omega arith & tt & refl & refl & tt & tt & refl & tt
+    & tt & omega arith & tt & tt & omega arith & tt
 legal lamport true =
-    also tt (also refl (also refl (also tt (also tt (also tt (also tt (also (omega arith) (also (omega arith) (also tt (also tt (also (omega arith) (
-    also (omega arith) (also tt (also refl (also refl (also tt (also tt (also refl (also tt (also tt (also (omega arith) (also tt (also tt (
-    also (omega arith) (tt)))))))))))))))))))))))))
+    tt & refl & refl & tt & tt & tt & tt & omega arith & omega arith & tt & tt & omega arith & omega arith & tt & refl & refl & tt & tt & refl & tt
+    & tt & omega arith & tt & tt & omega arith & tt
 legal fastforward c =
-    also tt (also refl (also tt (also refl (also tt (also tt (also tt (also (omega arith) (also (omega arith) (also tt (also tt (also (omega arith) (
-    also (omega arith) (also tt (also refl (also tt (also refl (also tt (also tt (also tt (also (omega arith) (also (omega arith) (also tt (also tt (
-    also (omega arith) (tt)))))))))))))))))))))))))
+    tt & refl & tt & refl & tt & tt & tt & omega arith & omega arith & tt & tt & omega arith & omega arith & tt & refl & tt & refl & tt & tt & tt
+    & omega arith & omega arith & tt & tt & omega arith & tt
 
 sender_path : (k : Kind) (c : Bool) → Makes (opens_as 64 (sender_hart k c)) (own 0 (entries k c))
 unfolding need_of advanced meaning
 sender_path lamport false =
-    also (record { running = refl; made = refl }) (also (record { running = refl; made = refl }) (also (record { running = refl; made = refl }) (
-    also (record { running = refl; made = refl }) (also (record { running = refl; made = refl }) (also (record { running = refl; made = refl }) (
-    also (record { running = refl; made = refl }) (also (record { running = refl; made = refl }) (also (record { running = refl; made = refl }) (
-    also (record { running = refl; made = refl }) (also (record { running = refl; made = refl }) (tt)))))))))))
+    can refl refl & can refl refl & can refl refl & can refl refl & can refl refl & can refl refl & can refl refl & can refl refl & can refl refl
+    & can refl refl & can refl refl & tt
 sender_path lamport true =
-    also (record { running = refl; made = refl }) (also (record { running = refl; made = refl }) (also (record { running = refl; made = refl }) (
-    also (record { running = refl; made = refl }) (also (record { running = refl; made = refl }) (also (record { running = refl; made = refl }) (
-    also (record { running = refl; made = refl }) (also (record { running = refl; made = refl }) (also (record { running = refl; made = refl }) (
-    also (record { running = refl; made = refl }) (also (record { running = refl; made = refl }) (tt)))))))))))
+    can refl refl & can refl refl & can refl refl & can refl refl & can refl refl & can refl refl & can refl refl & can refl refl & can refl refl
+    & can refl refl & can refl refl & tt
 sender_path fastforward c =
-    also (record { running = refl; made = refl }) (also (record { running = refl; made = refl }) (also (record { running = refl; made = refl }) (
-    also (record { running = refl; made = refl }) (also (record { running = refl; made = refl }) (also (record { running = refl; made = refl }) (
-    also (record { running = refl; made = refl }) (also (record { running = refl; made = refl }) (also (record { running = refl; made = refl }) (
-    also (record { running = refl; made = refl }) (also (record { running = refl; made = refl }) (tt)))))))))))
+    can refl refl & can refl refl & can refl refl & can refl refl & can refl refl & can refl refl & can refl refl & can refl refl & can refl refl
+    & can refl refl & can refl refl & tt
 
 receiver_path : (k : Kind) (c : Bool) → Makes (opens_as 64 (receiver_hart k c)) (own 1 (entries k c))
 unfolding need_of advanced meaning
 receiver_path lamport false =
-    also (record { running = refl; made = refl }) (also (record { running = refl; made = refl }) (also (record { running = refl; made = refl }) (
-    also (record { running = refl; made = refl }) (also (record { running = refl; made = refl }) (also (record { running = refl; made = refl }) (
-    also (record { running = refl; made = refl }) (also (record { running = refl; made = refl }) (also (record { running = refl; made = refl }) (
-    also (record { running = refl; made = refl }) (also (record { running = refl; made = refl }) (tt)))))))))))
+    can refl refl & can refl refl & can refl refl & can refl refl & can refl refl & can refl refl & can refl refl & can refl refl & can refl refl
+    & can refl refl & can refl refl & tt
 receiver_path lamport true =
-    also (record { running = refl; made = refl }) (also (record { running = refl; made = refl }) (also (record { running = refl; made = refl }) (
-    also (record { running = refl; made = refl }) (also (record { running = refl; made = refl }) (also (record { running = refl; made = refl }) (
-    also (record { running = refl; made = refl }) (also (record { running = refl; made = refl }) (also (record { running = refl; made = refl }) (
-    also (record { running = refl; made = refl }) (also (record { running = refl; made = refl }) (tt)))))))))))
+    can refl refl & can refl refl & can refl refl & can refl refl & can refl refl & can refl refl & can refl refl & can refl refl & can refl refl
+    & can refl refl & can refl refl & tt
 receiver_path fastforward c =
-    also (record { running = refl; made = refl }) (also (record { running = refl; made = refl }) (also (record { running = refl; made = refl }) (
-    also (record { running = refl; made = refl }) (also (record { running = refl; made = refl }) (also (record { running = refl; made = refl }) (
-    also (record { running = refl; made = refl }) (also (record { running = refl; made = refl }) (also (record { running = refl; made = refl }) (
-    also (record { running = refl; made = refl }) (also (record { running = refl; made = refl }) (tt)))))))))))
+    can refl refl & can refl refl & can refl refl & can refl refl & can refl refl & can refl refl & can refl refl & can refl refl & can refl refl
+    & can refl refl & can refl refl & tt
 
 paths : (k : Kind) (c : Bool) (h : ℕ) → h < 2 → Path 64 (history_of (opening k c) (entries k c)) h
 paths k c zero below = sender_path k c

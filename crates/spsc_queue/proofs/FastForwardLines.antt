@@ -28,7 +28,7 @@ use Rattle.spsc_queue.proofs.Outline.{Part, part, IsOffset, Near, first_look, St
 use Rattle.spsc_queue.proofs.Parts.{slot-taken, knows-offset, looked-offset}
 use Rattle.spsc_queue.proofs.AllLines.{Spot, spot, to_line, to_ready, loads_to, line_at, on, over, indexed_7, to_seen}
 use Rattle.spsc_queue.proofs.AllLines.{to_no, word_set, if_false, found_room, looked_once}
-use Rattle.spsc_queue.proofs.AllLines.{Answered, none}
+use Rattle.spsc_queue.proofs.AllLines.{}
 use Rattle.spsc_queue.proofs.CommonLines.{bumps, zeroes, tests, slot_stores, index_stores, sender_puts, sender_publishes}
 use Rattle.spsc_queue.proofs.CommonLines.{send_whole}
 
@@ -104,31 +104,25 @@ module _ (M n a b : ℕ) (k : Block) (is : IsBlock M k) (h : ℕ) (s : HartState
             (ap (λ q. sees_full q fastforward r (slice_index x 5) (slice_index x 6) (slice_index x 6)) no_copy ∙ full) tt
             (looked-offset k the_sender fastforward r (slice_index x 5) (slice_index x 6) (part the_sender t) row.0.knows near) row.0)
 
-    -- a line that doesn't return
-    sends : (line : At) → number line ≢ 10 → number line ≢ 12 → s.pc ≡ 4 * (n + number line) → Moves n the_sender fastforward k r true ws c h s t v
-        → Answered sending
-    sends line ten twelve place moves = none sending line place ten twelve moves
-
-    pub sends_at : (line : At) → s.pc ≡ 4 * (n + number line) → OwnRow n the_sender fastforward k r c ws line x (part the_sender t) → Answered sending
-    sends_at at_04 place row = sends at_04 (λ e. omega arith) (λ e. omega arith) place (at-04 the_sender has near c ws (line_at sending 1 place refl) place row)
-    sends_at at_08 place row = sends at_08 (λ e. omega arith) (λ e. omega arith) place (sends_08 place row)
-    sends_at at_0C place row = sends at_0C (λ e. omega arith) (λ e. omega arith) place (sends_0C place row)
-    sends_at at_10 place row = sends at_10 (λ e. omega arith) (λ e. omega arith) place (bumps sending near 4 place (omega arith) at_14 (λ u. k.base + u) refl
-        (line_at sending 4 place refl) row (λ q. q))
-    sends_at at_14 place row = sends at_14 (λ e. omega arith) (λ e. omega arith) place
-        (tests sending near 5 place (omega arith) at_18 at_1C (λ u. k.base + u) (omega arith) refl refl (line_at sending 5 place refl) row (λ q. q) (λ q. q))
-    sends_at at_18 place row = sends at_18 (λ e. omega arith) (λ e. omega arith) place (zeroes sending near 6 place (omega arith) at_1C (λ u. k.base + u) refl
-        (line_at sending 6 place refl) row.0 row.1 (λ q. q))
-    sends_at at_1C place row = sends at_1C (λ e. omega arith) (λ e. omega arith) place
-        (slot_stores sending near 7 place (omega arith) at_20 8 (omega arith) (λ u. next r u) (λ u. k.base + u)
+    pub sends_at : (line : At) → s.pc ≡ 4 * (n + number line)
+        → OwnRow n the_sender fastforward k r c ws line x (part the_sender t)
+        → Moves n the_sender fastforward k r true ws c h s t v
+    sends_at at_04 place row = at-04 the_sender has near c ws (line_at sending 1 place refl) place row
+    sends_at at_08 place row = sends_08 place row
+    sends_at at_0C place row = sends_0C place row
+    sends_at at_10 place row = bumps sending near 4 place (omega arith) at_14 (λ u. k.base + u) refl (line_at sending 4 place refl) row (λ q. q)
+    sends_at at_14 place row =
+        tests sending near 5 place (omega arith) at_18 at_1C (λ u. k.base + u) (omega arith) refl refl
+        (line_at sending 5 place refl) row (λ q. q) (λ q. q)
+    sends_at at_18 place row = zeroes sending near 6 place (omega arith) at_1C (λ u. k.base + u) refl (line_at sending 6 place refl) row.0 row.1 (λ q. q)
+    sends_at at_1C place row = slot_stores sending near 7 place (omega arith) at_20 8 (omega arith) (λ u. next r u) (λ u. k.base + u)
         (reg_of 7) (reg_of 11) 5 refl (line_at sending 7 place refl) row row.x7 refl row.x5
         (sender_puts fastforward r t row.place (slice_index x 11) row.knows (omega (arith, row.word, row.frame.left.args.word))
         (subst (IsSendable fastforward) (sym row.word) (subst (λ q. IsSendable q (slice_index c.entry.registers 11)) kind row.frame.left.args.sendable)))
-        (λ made q. q))
-    sends_at at_20 place row = sends at_20 (λ e. omega arith) (λ e. omega arith) place
-        (index_stores sending near 8 place (omega arith) (reg_of 5) refl (omega arith)
+        (λ made q. q)
+    sends_at at_20 place row = index_stores sending near 8 place (omega arith) (reg_of 5) refl (omega arith)
         (line_at sending 8 place refl) row refl (sender_publishes fastforward r t row.place row.knows)
-        (send_whole fastforward r t row.place row.copy row.seen (slice_index x 11) row.some))
+        (send_whole fastforward r t row.place row.copy row.seen (slice_index x 11) row.some)
     sends_at line place row = absurd row
 
   -- ---- fastforward_receive
@@ -184,28 +178,21 @@ module _ (M n a b : ℕ) (k : Block) (is : IsBlock M k) (h : ℕ) (s : HartState
         → load r.tail 4 u ∷ load (r.slots + u) 4 v ∷ take_accesses fastforward r w u ≡ receive_accesses fastforward r w u v
     receive_whole u v w some = ap (λ ys. load r.tail 4 u ∷ load (r.slots + u) 4 v ∷ ys) (if_false (v == 0) [] (take_accesses fastforward r w u) some)
 
-    -- a line that doesn't return
-    takes : (line : At) → number line ≢ 10 → number line ≢ 12 → s.pc ≡ 4 * (n + number line) → Moves n the_receiver fastforward k r true ws c h s t v
-        → Answered taking
-    takes line ten twelve place moves = none taking line place ten twelve moves
-
-    pub takes_at : (line : At) → s.pc ≡ 4 * (n + number line) → OwnRow n the_receiver fastforward k r c ws line x (part the_receiver t) → Answered taking
-    takes_at at_04 place row = takes at_04 (λ e. omega arith) (λ e. omega arith) place
-        (at-04 the_receiver has near c ws (line_at taking 1 place refl) place row)
-    takes_at at_08 place row = takes at_08 (λ e. omega arith) (λ e. omega arith) place (takes_08 place row)
-    takes_at at_0C place row = takes at_0C (λ e. omega arith) (λ e. omega arith) place (takes_0C place row)
-    takes_at at_10 place row = takes at_10 (λ e. omega arith) (λ e. omega arith) place (bumps taking near 4 place (omega arith) at_14 (λ u. k.base + u) refl
-        (line_at taking 4 place refl) row (λ q. q))
-    takes_at at_14 place row = takes at_14 (λ e. omega arith) (λ e. omega arith) place
-        (tests taking near 5 place (omega arith) at_18 at_1C (λ u. k.base + u) (omega arith) refl refl (line_at taking 5 place refl) row (λ q. q) (λ q. q))
-    takes_at at_18 place row = takes at_18 (λ e. omega arith) (λ e. omega arith) place (zeroes taking near 6 place (omega arith) at_1C (λ u. k.base + u) refl
-        (line_at taking 6 place refl) row.0 row.1 (λ q. q))
-    takes_at at_1C place row = takes at_1C (λ e. omega arith) (λ e. omega arith) place
-        (slot_stores taking near 7 place (omega arith) at_20 8 (omega arith) (λ u. next r u) (λ u. k.base + u)
+    pub takes_at : (line : At) → s.pc ≡ 4 * (n + number line)
+        → OwnRow n the_receiver fastforward k r c ws line x (part the_receiver t)
+        → Moves n the_receiver fastforward k r true ws c h s t v
+    takes_at at_04 place row = at-04 the_receiver has near c ws (line_at taking 1 place refl) place row
+    takes_at at_08 place row = takes_08 place row
+    takes_at at_0C place row = takes_0C place row
+    takes_at at_10 place row = bumps taking near 4 place (omega arith) at_14 (λ u. k.base + u) refl (line_at taking 4 place refl) row (λ q. q)
+    takes_at at_14 place row =
+        tests taking near 5 place (omega arith) at_18 at_1C (λ u. k.base + u) (omega arith) refl refl
+        (line_at taking 5 place refl) row (λ q. q) (λ q. q)
+    takes_at at_18 place row = zeroes taking near 6 place (omega arith) at_1C (λ u. k.base + u) refl (line_at taking 6 place refl) row.0 row.1 (λ q. q)
+    takes_at at_1C place row = slot_stores taking near 7 place (omega arith) at_20 8 (omega arith) (λ u. next r u) (λ u. k.base + u)
         (reg_of 7) (reg_of 0) 5 refl (line_at taking 7 place refl) row row.x7 has.zero row.x5
-        (receiver_puts row.place (slice_index x 11) row.knows) (λ made q. q))
-    takes_at at_20 place row = takes at_20 (λ e. omega arith) (λ e. omega arith) place
-        (index_stores taking near 8 place (omega arith) (reg_of 5) refl (omega arith) (line_at taking 8 place refl) row refl
+        (receiver_puts row.place (slice_index x 11) row.knows) (λ made q. q)
+    takes_at at_20 place row = index_stores taking near 8 place (omega arith) (reg_of 5) refl (omega arith) (line_at taking 8 place refl) row refl
         (λ made word value. subst (λ q. IsReceiverStore fastforward r q made) (sym row.knows) (word, value))
-        (receive_whole row.place row.seen (slice_index x 11) row.some))
+        (receive_whole row.place row.seen (slice_index x 11) row.some)
     takes_at line place row = absurd row

@@ -7,20 +7,20 @@ use Rattle.spsc_queue.specs.Calls.{Block, IsBlock, Party, the_sender, the_receiv
 use Rattle.spsc_queue.proofs.Courses.{At, at_00, at_04, at_08, at_0C, at_10, at_14, at_18, at_1C, at_20, at_24, at_28}
 use Rattle.spsc_queue.proofs.Courses.{at_2C, at_30, at_34, at_38, at_3C, at_40, number, Equipped}
 use Rattle.spsc_queue.proofs.Courses.{Course}
-use Rattle.spsc_queue.proofs.Outline.{Part, part, Level, Near, OwnRow, more, Row, Inside, Stands, Told}
+use Rattle.spsc_queue.proofs.Outline.{Part, part, Level, Near, OwnRow, more, Row, Inside, Stands, Told, Moves}
 use Rattle.spsc_queue.proofs.Completed.{entered}
 use Rattle.spsc_queue.specs.CallEffects.{longest}
-use Rattle.spsc_queue.proofs.AllLines.{spot, short, Answered}
+use Rattle.spsc_queue.proofs.AllLines.{spot, short, Answered, none}
 use Rattle.spsc_queue.proofs.CommonLines.{common_00, common_24, common_28, common_2C, common_30}
 use Rattle.spsc_queue.proofs.LamportLines as lamports
 use Rattle.spsc_queue.proofs.FastForwardLines as fastforwards
 
 own_moves : (M n a b : ℕ) (p : Party) (K : Kind) (k : Block) (is : IsBlock M k) (h : ℕ) (s : HartState) (t : ProtocolState) (v : ℕ) → k.kind ≡ K
     → (has : Equipped M n (listing_of K k.caches p) s) → Near k (part p t) → (c : Course) (ws : List ℕ) (line : At) → s.pc ≡ 4 * (n + number line)
-    → OwnRow n p K k (ring_of k a b) c ws line s.registers (part p t) → Answered (spot M n a b p K k is h s t v has c ws)
+    → OwnRow n p K k (ring_of k a b) c ws line s.registers (part p t) → Moves n p K k (ring_of k a b) true ws c h s t v
 own_moves M n a b the_sender lamport k is h s t v kind has near c ws line place row = at k.caches refl
   where
-    at : (b2 : Bool) → k.caches ≡ b2 → Answered (spot M n a b the_sender lamport k is h s t v has c ws)
+    at : (b2 : Bool) → k.caches ≡ b2 → Moves n the_sender lamport k (ring_of k a b) true ws c h s t v
     at false plain = lamports.sends_at M n a b k is h s t v has near c ws plain line place row
     at true keeps = lamports.caches_at M n a b k is h s t v has near c ws keeps kind line place row
 own_moves M n a b the_receiver lamport k is h s t v kind has near c ws line place row = lamports.takes_at M n a b k is h s t v has near c ws line place row
@@ -41,12 +41,15 @@ pub moves_at : (M n a b : ℕ) (p : Party) (K : Kind) (k : Block) (is : IsBlock 
     → Row n p K k (ring_of k a b) c ws line s.registers (part p t) → Answered (spot M n a b p K k is h s t v has c ws)
 moves_at M n a b p K k is h s t v kind has near c ws at_00 place row = common_00 (spot M n a b p K k is h s t v has c ws) place row
 moves_at M n a b p K k is h s t v kind has near c ws at_04 place row =
-    own_moves M n a b p K k is h s t v kind has near c ws at_04 place (own_04 n p K k (ring_of k a b) c ws s.registers (part p t) row)
+    none (spot M n a b p K k is h s t v has c ws) at_04 place (λ e. omega arith) (λ e. omega arith)
+    (own_moves M n a b p K k is h s t v kind has near c ws at_04 place (own_04 n p K k (ring_of k a b) c ws s.registers (part p t) row))
 moves_at M n a b p K k is h s t v kind has near c ws at_24 place row = common_24 (spot M n a b p K k is h s t v has c ws) place row
 moves_at M n a b p K k is h s t v kind has near c ws at_28 place row = common_28 (spot M n a b p K k is h s t v has c ws) place row
 moves_at M n a b p K k is h s t v kind has near c ws at_2C place row = common_2C (spot M n a b p K k is h s t v has c ws) place row
 moves_at M n a b p K k is h s t v kind has near c ws at_30 place row = common_30 (spot M n a b p K k is h s t v has c ws) place row
-moves_at M n a b p K k is h s t v kind has near c ws line place row = own_moves M n a b p K k is h s t v kind has near c ws line place row
+moves_at M n a b p K k is h s t v kind has near c ws line place row =
+    none (spot M n a b p K k is h s t v has c ws) line place (λ e. omega arith) (λ e. omega arith)
+    (own_moves M n a b p K k is h s t v kind has near c ws line place row)
 
 -- what a party's words are at each line, and that a call isn't too long
 module _ (n : ℕ) (p : Party) (K : Kind) (k : Block) (r : RingBuffer) (c : Course) (ws : List ℕ) where

@@ -135,19 +135,15 @@ pub record Invariant (K : Kind) (r : RingBuffer) (L : ℕ → ℕ) (c : Earlier)
 
 pub sending-more : (spare : ℕ) (r : RingBuffer) (stored published n m : ℕ) (p : SenderState) → n ≤ m → SendingIs spare r stored published n p
     → SendingIs spare r stored published m p
-sending-more spare r stored published n m resting le h = h
-sending-more spare r stored published n m (placed x) le h = h
 sending-more spare r stored published n m (renewing x v) le h = (h.0, h.1, (h.2.0, h.2.1, h.2.2, omega (arith, le, h.2.3)))
 sending-more spare r stored published n m (roomy x) le h = (h.0, h.1, omega (arith, le, h.2))
-sending-more spare r stored published n m (filled x) le h = h
+sending-more spare r stored published n m p le h = h
 
 pub receiving-more : (K : Kind) (r : RingBuffer) (L : ℕ → ℕ) (taken consumed g h : ℕ) (p : ReceiverState) → g ≤ h
     → ReceivingIs K r L taken consumed g p → ReceivingIs K r L taken consumed h p
-receiving-more K r L taken consumed g h idle le is = is
-receiving-more K r L taken consumed g h (asked u) le is = is
 receiving-more K r L taken consumed g h (waiting u) le is = (is.0, is.1, omega (arith, le, is.2), is.3)
 receiving-more K r L taken consumed g h (holding u w) le is = (is.0, is.1, omega (arith, le, is.2), is.3)
-receiving-more K r L taken consumed g h (cleared u) le is = is
+receiving-more K r L taken consumed g h p le is = is
 
 -- what is freed was taken, what is there is in its slot, and more is there where more has landed
 pub freed_taken : (K : Kind) (n m z t : ℕ) → Theirs K n m z t → freed K z t ≤ n

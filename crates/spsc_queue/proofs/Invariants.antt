@@ -53,11 +53,9 @@ pub record Known (k : Kind) (r : RingBuffer) (L : ℕ → ℕ) (s : ProtocolStat
   pub room : s.stored ≤ s.taken + capacity_of k r.size
 
 placed-of : (spare : ℕ) (r : RingBuffer) (stored published n : ℕ) (p : SenderState) → SendingIs spare r stored published n p → IsPlaced r stored published p
-placed-of spare r stored published n resting h = h
-placed-of spare r stored published n (placed u) h = h
 placed-of spare r stored published n (renewing u v) h = (h.0, h.1)
 placed-of spare r stored published n (roomy u) h = (h.0, h.1)
-placed-of spare r stored published n (filled u) h = h
+placed-of spare r stored published n p h = h
 
 asked-of : (K : Kind) (r : RingBuffer) (L : ℕ → ℕ) (taken consumed n : ℕ) (p : ReceiverState) → ReceivingIs K r L taken consumed n p → IsAsked r consumed p
 asked-of K r L taken consumed n idle is = tt

@@ -41,7 +41,7 @@ use Rattle.spsc_queue.proofs.Outline.{detour, OwnRow, Row, Moves}
 use Rattle.spsc_queue.proofs.Parts.{copied, level-next, past-load, word-load, copy-stored, tail-taken, looked-offset, ready-offset}
 use Rattle.spsc_queue.proofs.AllLines.{Spot, spot, to_line, to_ready, loads_to, stores_to, line_at, line_of, on, over, wraps_not}
 use Rattle.spsc_queue.proofs.AllLines.{wraps, to_seen, to_no, ready_5, ready_on, word_set}
-use Rattle.spsc_queue.proofs.AllLines.{if_false, found_room, looked_once, Answered, none}
+use Rattle.spsc_queue.proofs.AllLines.{if_false, found_room, looked_once}
 use Rattle.spsc_queue.proofs.CommonLines.{bumps, zeroes, tests, slot_stores, index_stores, sender_puts, sender_publishes}
 use Rattle.spsc_queue.proofs.CommonLines.{send_whole}
 
@@ -167,11 +167,6 @@ module _ (M n a b : ℕ) (k : Block) (is : IsBlock M k) (h : ℕ) (s : HartState
         (λ u. k.base + u) (λ u. next r u)) (omega arith) (ready_5 sending (λ u. u) (λ u. next r u) (λ u. k.base + u) (slice_index x 10 + slice_index x 5) row
         (ap (λ q. q + slice_index x 5) row.frame.block ∙ ap (λ q. k.base + q) row.x5)))
 
-    -- a line that doesn't return
-    sends : (line : At) → number line ≢ 10 → number line ≢ 12 → s.pc ≡ 4 * (n + number line) → Moves n the_sender lamport k r true ws c h s t v
-        → Answered sending
-    sends line ten twelve place moves = none sending line place ten twelve moves
-
     sends_1C : IsAt s (Store store_op.Word (reg_of 5) (reg_of 11) (pos 128)) → Sends at_1C
     sends_1C here place row =
         slot_stores sending near 7 place (omega arith) at_20 (8 + detour r.copy) (omega arith) (λ u. k.base + u)
@@ -185,7 +180,7 @@ module _ (M n a b : ℕ) (k : Block) (is : IsBlock M k) (h : ℕ) (s : HartState
 
     -- try_send
     pub sends_at : k.caches ≡ false → (line : At) → s.pc ≡ 4 * (n + number line) → OwnRow n the_sender lamport k r c ws line x (part the_sender t)
-        → Answered sending
+        → Moves n the_sender lamport k r true ws c h s t v
     sends_at plain = plain_at
       where
         own : Equipped M n try_send s
@@ -201,19 +196,22 @@ module _ (M n a b : ℕ) (k : Block) (is : IsBlock M k) (h : ℕ) (s : HartState
         none_past : {m : ℕ} {q : SenderState} {more : List Access} → Past n k r c m ws x (part the_sender t) q more → ⊥
         none_past row = absurd (let no : Some (k.base + 4) ≡ None = sym row.copies ∙ no_copy in cc)
 
-        plain_at : (line : At) → s.pc ≡ 4 * (n + number line) → OwnRow n the_sender lamport k r c ws line x (part the_sender t) → Answered sending
-        plain_at at_04 place row = sends at_04 (λ e. omega arith) (λ e. omega arith) place
-            (sends_04 64 (line_here 1 place refl) refl (omega arith) (omega arith) (sym (ap (λ q. first_look q r.tail) no_copy)) place row)
-        plain_at at_08 place row = sends at_08 (λ e. omega arith) (λ e. omega arith) place (sends_08 (line_here 2 place refl) place row)
-        plain_at at_0C place row = sends at_0C (λ e. omega arith) (λ e. omega arith) place (sends_0C (line_here 3 place refl) place row)
-        plain_at at_10 place row = sends at_10 (λ e. omega arith) (λ e. omega arith) place (sends_10 (line_here 4 place refl) place row)
-        plain_at at_14 place row = sends at_14 (λ e. omega arith) (λ e. omega arith) place
-            (sends_14 24 at_2C (over sending 5 6 place (omega arith)) (line_here 5 place refl) (λ f after full. to_no sending (omega arith) (λ e. no_copy)
+        plain_at : (line : At) → s.pc ≡ 4 * (n + number line)
+            → OwnRow n the_sender lamport k r c ws line x (part the_sender t)
+            → Moves n the_sender lamport k r true ws c h s t v
+        plain_at at_04 place row = sends_04 64 (line_here 1 place refl) refl (omega arith) (omega arith)
+            (sym (ap (λ q. first_look q r.tail) no_copy)) place row
+        plain_at at_08 place row = sends_08 (line_here 2 place refl) place row
+        plain_at at_0C place row = sends_0C (line_here 3 place refl) place row
+        plain_at at_10 place row = sends_10 (line_here 4 place refl) place row
+        plain_at at_14 place row =
+            sends_14 24 at_2C (over sending 5 6 place (omega arith)) (line_here 5 place refl)
+            (λ f after full. to_no sending (omega arith) (λ e. no_copy)
             (ap (λ q. sees_full q lamport r (slice_index x 5) (slice_index x 6) (slice_index x 6)) no_copy ∙ full) tt
-            (looked-offset k the_sender lamport r (slice_index x 5) (slice_index x 6) (part the_sender t) f.knows near) f) place row)
-        plain_at at_18 place row = sends at_18 (λ e. omega arith) (λ e. omega arith) place (sends_18 (line_here 6 place refl) place row)
-        plain_at at_1C place row = sends at_1C (λ e. omega arith) (λ e. omega arith) place (sends_1C (line_here 7 place refl) place row)
-        plain_at at_20 place row = sends at_20 (λ e. omega arith) (λ e. omega arith) place (sends_20 (line_here 8 place refl) place row)
+            (looked-offset k the_sender lamport r (slice_index x 5) (slice_index x 6) (part the_sender t) f.knows near) f) place row
+        plain_at at_18 place row = sends_18 (line_here 6 place refl) place row
+        plain_at at_1C place row = sends_1C (line_here 7 place refl) place row
+        plain_at at_20 place row = sends_20 (line_here 8 place refl) place row
         plain_at at_34 place row = absurd (none_past row)
         plain_at at_38 place row = absurd (none_past row)
         plain_at at_3C place row = absurd (none_past row.0)
@@ -222,7 +220,7 @@ module _ (M n a b : ℕ) (k : Block) (is : IsBlock M k) (h : ℕ) (s : HartState
 
     -- cached_send
     pub caches_at : k.caches ≡ true → k.kind ≡ lamport → (line : At) → s.pc ≡ 4 * (n + number line)
-        → OwnRow n the_sender lamport k r c ws line x (part the_sender t) → Answered sending
+        → OwnRow n the_sender lamport k r c ws line x (part the_sender t) → Moves n the_sender lamport k r true ws c h s t v
     caches_at keeps kind = cached_at
       where
         own : Equipped M n cached_send s
@@ -275,14 +273,17 @@ module _ (M n a b : ℕ) (k : Block) (is : IsBlock M k) (h : ℕ) (s : HartState
               answers = sym (ap (λ q. if q then 0 else 1) found);
             }
 
-        cached_at : (line : At) → s.pc ≡ 4 * (n + number line) → OwnRow n the_sender lamport k r c ws line x (part the_sender t) → Answered sending
-        cached_at at_04 place row = sends at_04 (λ e. omega arith) (λ e. omega arith) place
-            (sends_04 4 (line_here 1 place refl) refl (omega arith) (omega arith) (sym (ap (λ q. first_look q r.tail) copies)) place row)
-        cached_at at_08 place row = sends at_08 (λ e. omega arith) (λ e. omega arith) place (sends_08 (line_here 2 place refl) place row)
-        cached_at at_0C place row = sends at_0C (λ e. omega arith) (λ e. omega arith) place (sends_0C (line_here 3 place refl) place row)
-        cached_at at_10 place row = sends at_10 (λ e. omega arith) (λ e. omega arith) place (sends_10 (line_here 4 place refl) place row)
-        cached_at at_14 place row = sends at_14 (λ e. omega arith) (λ e. omega arith) place
-            (sends_14 32 at_34 (line_on s.pc (n + 5) 8 place (omega (arith, room)) ∙ omega arith) (line_here 5 place refl) (λ f after full. record {
+        cached_at : (line : At) → s.pc ≡ 4 * (n + number line)
+            → OwnRow n the_sender lamport k r c ws line x (part the_sender t)
+            → Moves n the_sender lamport k r true ws c h s t v
+        cached_at at_04 place row = sends_04 4 (line_here 1 place refl) refl (omega arith) (omega arith)
+            (sym (ap (λ q. first_look q r.tail) copies)) place row
+        cached_at at_08 place row = sends_08 (line_here 2 place refl) place row
+        cached_at at_0C place row = sends_0C (line_here 3 place refl) place row
+        cached_at at_10 place row = sends_10 (line_here 4 place refl) place row
+        cached_at at_14 place row =
+            sends_14 32 at_34 (line_on s.pc (n + 5) 8 place (omega (arith, room)) ∙ omega arith)
+            (line_here 5 place refl) (λ f after full. record {
               copy = slice_index x 6;
               copies = copies;
               frame = frame_on nothing f.frame;
@@ -293,18 +294,17 @@ module _ (M n a b : ℕ) (k : Block) (is : IsBlock M k) (h : ℕ) (s : HartState
               after = after;
               words = f.words;
               did = append-nil c.did ∙ f.did ∙ ap (λ q. load r.head 4 (slice_index x 5) ∷ load (first_look q r.tail) 4 (slice_index x 6) ∷ []) copies;
-            }) place row)
-        cached_at at_18 place row = sends at_18 (λ e. omega arith) (λ e. omega arith) place (sends_18 (line_here 6 place refl) place row)
-        cached_at at_1C place row = sends at_1C (λ e. omega arith) (λ e. omega arith) place (sends_1C (line_here 7 place refl) place row)
-        cached_at at_20 place row = sends at_20 (λ e. omega arith) (λ e. omega arith) place (sends_20 (line_here 8 place refl) place row)
+            }) place row
+        cached_at at_18 place row = sends_18 (line_here 6 place refl) place row
+        cached_at at_1C place row = sends_1C (line_here 7 place refl) place row
+        cached_at at_20 place row = sends_20 (line_here 8 place refl) place row
         -- lw x6,64(x10)
         cached_at at_34 place row =
             let got : v ≡ slice_index (slice_set x 6 v) 6 = sym (set-same x 6 v (omega (arith, has.size))) in
             let five : slice_index x 5 ≡ slice_index (slice_set x 6 v) 5 = sym (set-other x 6 5 v (λ e. omega arith)) in
             let tail : slice_index x 10 + 64 ≡ r.tail = ap (λ y. y + 64) row.frame.block in
             let does : Access = load (slice_index x 10 + 64) 4 v in
-            sends at_34 (λ e. omega arith) (λ e. omega arith) place (loads_to sending at_38 (slice_index x 10 + 64) (reg_of 6)
-            (load_line (line_here 13 place refl) (omega (arith, row.frame.block, is.aligned)) refl
+            (loads_to sending at_38 (slice_index x 10 + 64) (reg_of 6) (load_line (line_here 13 place refl) (omega (arith, row.frame.block, is.aligned)) refl
             (omega (arith, row.frame.block, is.inside, has.words)) (omega (arith, has.words, is.small))) (ahead 13 place (omega arith)) (record {
               copy = row.copy;
               copies = copies;
@@ -322,7 +322,7 @@ module _ (M n a b : ℕ) (k : Block) (is : IsBlock M k) (h : ℕ) (s : HartState
                   ∙ ap (λ q. load r.head 4 (slice_index (slice_set x 6 v) 5) ∷ load (k.base + 4) 4 row.copy ∷ load r.tail 4 q ∷ []) got;
             }))
         -- beq x6,x7,2C
-        cached_at at_38 place row = sends at_38 (λ e. omega arith) (λ e. omega arith) place (by (cases_eq (slice_index x 6) (slice_index x 7)))
+        cached_at at_38 place row = by (cases_eq (slice_index x 6) (slice_index x 7))
           where
             by : (slice_index x 6 ≡ slice_index x 7) ⊎ (slice_index x 6 ≢ slice_index x 7) → Moves n the_sender lamport k r true ws c h s t v
             by (inl equal) =
@@ -354,7 +354,7 @@ module _ (M n a b : ℕ) (k : Block) (is : IsBlock M k) (h : ℕ) (s : HartState
             let here : slice_index x 10 + 4 ≡ k.base + 4 = ap (λ y. y + 4) row.0.frame.block in
             let hits : overlaps r made ≡ true = grind (arith, nat_tests, row.0.frame.block) in
             let becomes = copy-stored lamport r made hits t (slice_index x 5) (slice_index x 6) row.0.knows in
-            sends at_3C (λ e. omega arith) (λ e. omega arith) place (stores_to sending at_40 (slice_index x 10 + 4) (slice_index x 6)
+            (stores_to sending at_40 (slice_index x 10 + 4) (slice_index x 6)
             (store_line (line_here 15 place refl) (omega (arith, row.0.frame.block, is.aligned)) refl
             (omega (arith, row.0.frame.block, is.inside, has.words)) (omega (arith, has.words, is.small))) (ahead 15 place (omega arith))
             (subst (λ q. IsSenderStore lamport r q made) (sym row.0.knows)
@@ -388,8 +388,7 @@ module _ (M n a b : ℕ) (k : Block) (is : IsBlock M k) (h : ℕ) (s : HartState
         -- jal x0,18
         cached_at at_40 place row =
             let there : address s.pc (negsuc 39) ≡ 4 * (n + 6) = line_back s.pc (n + 16) 10 39 place (omega (arith, room)) refl (omega arith) ∙ omega arith in
-            sends at_40 (λ e. omega arith) (λ e. omega arith) place (to_line sending at_18 (goes_to s (address s.pc (negsuc 39)))
-            (jump_line (line_here 16 place refl) (omega (arith, there))) there
+            (to_line sending at_18 (goes_to s (address s.pc (negsuc 39))) (jump_line (line_here 16 place refl) (omega (arith, there))) there
             (ready_on sending (λ u. u) (λ u. next r u) (λ u. u) (omega (arith, ap detour copies)) row.0 refl))
         cached_at line place row = absurd row
 
@@ -507,21 +506,17 @@ module _ (M n a b : ℕ) (k : Block) (is : IsBlock M k) (h : ℕ) (s : HartState
           answers = if_false (row.seen == u) 0 1 row.some;
         })
 
-    -- a line that doesn't return
-    takes : (line : At) → number line ≢ 10 → number line ≢ 12 → s.pc ≡ 4 * (n + number line) → Moves n the_receiver lamport k r true ws c h s t v
-        → Answered taking
-    takes line ten twelve place moves = none taking line place ten twelve moves
-
-    pub takes_at : (line : At) → s.pc ≡ 4 * (n + number line) → OwnRow n the_receiver lamport k r c ws line x (part the_receiver t) → Answered taking
-    takes_at at_04 place row = takes at_04 (λ e. omega arith) (λ e. omega arith) place (takes_04 place row)
-    takes_at at_08 place row = takes at_08 (λ e. omega arith) (λ e. omega arith) place (takes_08 place row)
-    takes_at at_0C place row = takes at_0C (λ e. omega arith) (λ e. omega arith) place (takes_0C place row)
-    takes_at at_10 place row = takes at_10 (λ e. omega arith) (λ e. omega arith) place (takes_10 place row)
-    takes_at at_14 place row = takes at_14 (λ e. omega arith) (λ e. omega arith) place (bumps taking near 5 place (omega arith) at_18 (λ u. k.base + u) refl
-        (line_at taking 5 place refl) row (λ q. q))
-    takes_at at_18 place row = takes at_18 (λ e. omega arith) (λ e. omega arith) place
-        (tests taking near 6 place (omega arith) at_1C at_20 (λ u. k.base + u) (omega arith) refl refl (line_at taking 6 place refl) row (λ q. q) (λ q. q))
-    takes_at at_1C place row = takes at_1C (λ e. omega arith) (λ e. omega arith) place (zeroes taking near 7 place (omega arith) at_20 (λ u. k.base + u) refl
-        (line_at taking 7 place refl) row.0 row.1 (λ q. q))
-    takes_at at_20 place row = takes at_20 (λ e. omega arith) (λ e. omega arith) place (takes_20 place row)
+    pub takes_at : (line : At) → s.pc ≡ 4 * (n + number line)
+        → OwnRow n the_receiver lamport k r c ws line x (part the_receiver t)
+        → Moves n the_receiver lamport k r true ws c h s t v
+    takes_at at_04 place row = takes_04 place row
+    takes_at at_08 place row = takes_08 place row
+    takes_at at_0C place row = takes_0C place row
+    takes_at at_10 place row = takes_10 place row
+    takes_at at_14 place row = bumps taking near 5 place (omega arith) at_18 (λ u. k.base + u) refl (line_at taking 5 place refl) row (λ q. q)
+    takes_at at_18 place row =
+        tests taking near 6 place (omega arith) at_1C at_20 (λ u. k.base + u) (omega arith) refl refl
+        (line_at taking 6 place refl) row (λ q. q) (λ q. q)
+    takes_at at_1C place row = zeroes taking near 7 place (omega arith) at_20 (λ u. k.base + u) refl (line_at taking 7 place refl) row.0 row.1 (λ q. q)
+    takes_at at_20 place row = takes_20 place row
     takes_at line place row = absurd row

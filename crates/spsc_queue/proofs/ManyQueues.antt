@@ -7,7 +7,7 @@ use Rattle.std.proofs.lemmas.Bool.Decides.{nat_tests}
 use Rattle.memory.specs.declared.writes.Write.{Write}
 use Rattle.step_machine.specs.declared.events.Entry.{Entry}
 use Rattle.step_machine.specs.History.{OpeningValue}
-use Rattle.step_machine.specs.Access.{Access, nothing, load, store, exchange, fence, land, access_of}
+use Rattle.step_machine.specs.Access.{Access, store, exchange, access_of}
 use Rattle.step_machine.specs.Entries.{hart_of, is_land}
 use Rattle.spsc_queue.specs.RingBuffers.{Kind, lamport, fastforward, RingBuffer, overlaps}
 use Rattle.spsc_queue.specs.Protocol.{SenderState, resting, placed, renewing, roomy, filled, ReceiverState, idle, asked}
@@ -57,13 +57,10 @@ module _ (K : Kind) (k : Block) (a b : ℕ) (r : RingBuffer) (apart : IsApart k 
   freed_off w (cleared u) near does = elsewhere k r w apart (omega (arith, does.0.place)) (omega (arith, does.0.place, does.0.width))
 
   call_off : (p : Party) (t : ProtocolState) (x : Access) → Does p K (ring_of k a b) t x × Near k (part p t) → WritesNothingTo r x
-  call_off p t nothing does = tt
-  call_off p t (load c width v) does = tt
   call_off the_sender t (store w) does = sent_off w t.sending does.1.sending does.0
   call_off the_receiver t (store w) does = freed_off w t.receiving does.1.receiving does.0
   call_off p t (exchange c old new) does = absurd does.0
-  call_off p t (fence full) does = tt
-  call_off p t land does = tt
+  call_off p t x does = tt
 
 module _ (B M : ℕ) (o : OpeningValue) (count : ℕ) (queues : ℕ → SpscQueue) (before es : List Entry) (c : UsesManyQueues B M o count queues before es) where
   abbrev AllStand : List Entry → Type 0

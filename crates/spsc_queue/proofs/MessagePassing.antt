@@ -93,11 +93,7 @@ step B o a x es e le allowed alone leaves =
 stored-off : (x : ℕ) (b : Bool) (y : Access) → LeavesByteBy x y → All (LeavesByte x) (stored_by b y)
 stored-off x true (store w) leaves = All-cons (LeavesByte x) w [] leaves (All-nil (LeavesByte x))
 stored-off x false (store w) leaves = All-nil (LeavesByte x)
-stored-off x b nothing leaves = All-nil (LeavesByte x)
-stored-off x b (load a width v) leaves = All-nil (LeavesByte x)
-stored-off x b (exchange a old new) leaves = All-nil (LeavesByte x)
-stored-off x b (fence full) leaves = All-nil (LeavesByte x)
-stored-off x b land leaves = All-nil (LeavesByte x)
+stored-off x b y leaves = All-nil (LeavesByte x)
 
 stays : (a x : ℕ) (es : List Entry) (e : Entry) → ((g : ℕ) → lands g es ≤ length (stores g es)) → IsOnlyWriter a x es → LeavesByteBy x (access_of e)
     → IsOnlyWriter a x (es ++ e ∷ [])

@@ -1,11 +1,11 @@
 -- The computation of what a caller owes is sound.
-use Rattle.std.proofs.Common.{ℕ, ◌≡◌, ◌≢◌, ◌==◌, ◌&&◌, ◌||◌, not, Bool, true, false, if◌then◌else◌, List, [], ◌∷◌, ◌++◌, Some, refl, sym, ◌∙◌, ap, subst, arith}
+use Rattle.std.proofs.Common.{ℕ, ◌≡◌, ◌≢◌, ◌==◌, ◌&&◌, ◌||◌, not, Bool, true, false, if◌then◌else◌, List, [], ◌∷◌, ◌++◌, Some, sym, ◌∙◌, ap, subst, arith}
 use Rattle.std.proofs.Common.{append-nil, append_assoc}
 use Rattle.std.proofs.lemmas.Bool.{ne_eqb, eq-eqb}
 use Rattle.hart.specs.State.{HartState}
 use Rattle.hart.specs.Steps.{advanced}
 use Rattle.step_machine.specs.declared.events.Entry.{Entry}
-use Rattle.step_machine.specs.Access.{Access, nothing, load, store, exchange, fence, land, access_of}
+use Rattle.step_machine.specs.Access.{Access, store, exchange, access_of}
 use Rattle.step_machine.specs.History.{OpeningValue, history_of}
 use Rattle.step_machine.specs.Entries.{hart_of}
 use Rattle.step_machine.specs.Paths.{value_of, state_of}
@@ -15,21 +15,14 @@ use Rattle.spsc_queue.specs.Calls.{Block, SpscQueue, Party, the_sender, the_rece
 use Rattle.spsc_queue.specs.Calls.{MayPass, HasArguments, PartyOwes, CallerObligation}
 use Rattle.spsc_queue.specs.Obligations.{writes_nothing_to, may_pass, has_arguments, party_keeps_in, party_keeps, others_keep, obligation_kept}
 use Rattle.spsc_queue.specs.Obligations.{obligations_kept_from, obligations_kept}
+use Rattle.spsc_queue.proofs.Words.{both}
 use Rattle.spsc_queue.proofs.OwnEntries.{own_is}
 use Rattle.spsc_queue.proofs.Parties.{is_busy}
-
-pub both : (p q : Bool) → (p && q) ≡ true → (p ≡ true) × (q ≡ true)
-both true true is = (refl, refl)
-both true false is = absurd (cc)
-both false q is = absurd (cc)
 
 nothing_is : (r : RingBuffer) (y : Access) → writes_nothing_to r y ≡ true → WritesNothingTo r y
 nothing_is r (store w) is = grind (arith, is)
 nothing_is r (exchange a old new) is = grind (arith, is)
-nothing_is r nothing is = tt
-nothing_is r (load a width v) is = tt
-nothing_is r (fence full) is = tt
-nothing_is r land is = tt
+nothing_is r y is = tt
 
 passes_is : (p : Party) (K : Kind) (w : ℕ) → may_pass p K w ≡ true → MayPass p K w
 passes_is the_sender lamport w is = tt

@@ -10,7 +10,7 @@ use Rattle.hart.specs.State.{HartState}
 use Rattle.hart.specs.Steps.{advanced}
 use Rattle.step_machine.specs.declared.events.Entry.{Entry}
 use Rattle.step_machine.specs.History.{HartOpeningValue, OpeningValue, history_of}
-use Rattle.step_machine.specs.Access.{Access, nothing, load, store, exchange, fence, land}
+use Rattle.step_machine.specs.Access.{Access, land}
 use Rattle.step_machine.specs.Entries.{hart_of, is_landing, is_land, is_own, own}
 use Rattle.step_machine.specs.Paths.{value_of, CanMake, opens_as, state_of, PathOf, Path}
 use Rattle.step_machine.specs.Legal.{WellFormed, IsOfHarts}
@@ -103,12 +103,8 @@ pub own_other : (h : ℕ) (e : Entry) → hart_of e ≢ h → is_own h e ≡ fal
 own_other h e other = ap (λ b. b && not (is_land e)) (ne_eqb (hart_of e) h other)
 
 pub land_is : (x : Access) → is_landing x ≡ true → x ≡ land
-land_is nothing is = cc
-land_is (load a width v) is = cc
-land_is (store w) is = cc
-land_is (exchange a old new) is = cc
-land_is (fence full) is = cc
 land_is land is = refl
+land_is x is = cc
 
 pub own_is : (h : ℕ) (e : Entry) → hart_of e ≡ h → is_land e ≡ false → is_own h e ≡ true
 own_is h e mine act = ap (λ b. b && not (is_land e)) (eq-eqb (hart_of e) h mine) ∙ ap not act

@@ -4,7 +4,7 @@ use Rattle.std.proofs.Common.{List, [], ◌∷◌, ◌++◌, refl, sym, ◌∙�
 use Rattle.std.proofs.lemmas.Bool.{eq-eqb, ne_eqb}
 use Rattle.memory.specs.declared.writes.Write.{Write}
 use Rattle.step_machine.specs.declared.events.Entry.{Entry}
-use Rattle.step_machine.specs.Access.{Access, nothing, load, store, exchange, fence, land, access_of}
+use Rattle.step_machine.specs.Access.{Access, nothing, load, store, exchange, land, access_of}
 use Rattle.step_machine.specs.Entries.{hart_of}
 use Rattle.spsc_queue.specs.RingBuffers.{Kind, lamport, fastforward, RingBuffer, IsRingBuffer, overlaps}
 use Rattle.spsc_queue.specs.Protocol.{SenderState, resting, placed, renewing, roomy, filled, ReceiverState, idle, asked}
@@ -62,29 +62,16 @@ keeps-more r s (d ∷ es) e keeps one = (keeps.0, keeps-more r (protocol_next r 
 
 module _ (K : Kind) (r : RingBuffer) where
   pub stays-keeps : (q : Role) (t : ProtocolState) (x : Access) → WritesNothingTo r x → KeepsProtocolBy K r q t x
-  stays-keeps sends t nothing off = tt
-  stays-keeps sends t (load a width v) off = tt
   stays-keeps sends t (store w) off = inl off
-  stays-keeps sends t (exchange a old new) off = off
-  stays-keeps sends t (fence full) off = tt
-  stays-keeps sends t land off = tt
-  stays-keeps receives t nothing off = tt
-  stays-keeps receives t (load a width v) off = tt
   stays-keeps receives t (store w) off = inl off
-  stays-keeps receives t (exchange a old new) off = off
-  stays-keeps receives t (fence full) off = tt
-  stays-keeps receives t land off = tt
-  stays-keeps passes t x off = off
+  stays-keeps q t x off = off
 
   -- a line of a function keeps the protocol
   pub does-keeps : (p : Party) (t : ProtocolState) (x : Access) → Does p K r t x → KeepsProtocolBy K r (role p) t x
-  does-keeps p t nothing does = stays-keeps (role p) t nothing tt
-  does-keeps p t (load a width v) does = stays-keeps (role p) t (load a width v) tt
   does-keeps the_sender t (store w) does = inr does
   does-keeps the_receiver t (store w) does = inr does
   does-keeps p t (exchange a old new) does = absurd does
-  does-keeps p t (fence full) does = stays-keeps (role p) t (fence full) tt
-  does-keeps p t land does = stays-keeps (role p) t land tt
+  does-keeps p t x does = stays-keeps (role p) t x tt
 
   pub land-leaves : (q : Role) (t : ProtocolState) → next_by K r q t land ≡ t
   land-leaves sends t = refl
@@ -94,7 +81,6 @@ module _ (K : Kind) (r : RingBuffer) where
   -- ---- what an access leaves of each party's part
 
   sends-leave : (t : ProtocolState) (x : Access) → part the_receiver (next_by K r sends t x) ≡ part the_receiver t
-  sends-leave t nothing = refl
   sends-leave t (load a width v) = at (width == 4)
     where
       at : (c : Bool) → part the_receiver (if c then record t { sending = send_load K r a v t.sending } else t) ≡ part the_receiver t
@@ -104,25 +90,17 @@ module _ (K : Kind) (r : RingBuffer) where
     where
       at : (c : Bool) (p : SenderState) → part the_receiver (if c then send_store w p t else t) ≡ part the_receiver t
       at true resting = refl
-      at true (placed u) = refl
-      at true (renewing u v) = refl
-      at true (roomy u) = refl
-      at true (filled u) = refl
+      at true p = refl
       at false p = refl
-  sends-leave t (exchange a old new) = refl
-  sends-leave t (fence full) = refl
-  sends-leave t land = refl
+  sends-leave t x = refl
 
   store-leaves : (k : Kind) (p : ReceiverState) (t : ProtocolState) → part the_sender (receive_store k p t) ≡ part the_sender t
-  store-leaves k idle t = refl
-  store-leaves k (asked u) t = refl
-  store-leaves k (waiting u) t = refl
-  store-leaves lamport (holding u v) t = refl
-  store-leaves fastforward (holding u v) t = refl
-  store-leaves k (cleared u) t = refl
+  store-leaves lamport idle t = refl
+  store-leaves lamport p t = refl
+  store-leaves fastforward idle t = refl
+  store-leaves fastforward p t = refl
 
   receives-leave : (t : ProtocolState) (x : Access) → part the_sender (next_by K r receives t x) ≡ part the_sender t
-  receives-leave t nothing = refl
   receives-leave t (load a width v) = at (width == 4)
     where
       at : (c : Bool) → part the_sender (if c then record t { receiving = receive_load K r a v t.receiving } else t) ≡ part the_sender t
@@ -133,9 +111,7 @@ module _ (K : Kind) (r : RingBuffer) where
       at : (c : Bool) → part the_sender (if c then receive_store K t.receiving t else t) ≡ part the_sender t
       at true = store-leaves K t.receiving t
       at false = refl
-  receives-leave t (exchange a old new) = refl
-  receives-leave t (fence full) = refl
-  receives-leave t land = refl
+  receives-leave t x = refl
 
   -- an access of the other party
   pub other-leaves : (p q : Party) → q ≢ p → (t : ProtocolState) (x : Access) → part p (next_by K r (role q) t x) ≡ part p t
@@ -195,7 +171,6 @@ module _ (K : Kind) (r : RingBuffer) where
   -- outside of the functions no word becomes half passed, and none is passed
   pub level-next : (p : Party) (t : ProtocolState) (x : Access) → WritesNothingTo r x → Level (part p t)
       → Level (part p (next_by K r (role p) t x)) × ((part p (next_by K r (role p) t x)).words ≡ (part p t).words)
-  level-next the_sender t nothing off level = (level, refl)
   level-next the_sender t (load a width v) off level = at (width == 4)
     where
       at : (c : Bool) → Level (part the_sender (if c then record t { sending = send_load K r a v t.sending } else t))
@@ -205,10 +180,7 @@ module _ (K : Kind) (r : RingBuffer) where
   level-next the_sender t (store w) off level =
       subst (λ c. Level (part the_sender (if c then send_store w t.sending t else t))
       × ((part the_sender (if c then send_store w t.sending t else t)).words ≡ t.sent)) (sym off) (level, refl)
-  level-next the_sender t (exchange a old new) off level = (level, refl)
-  level-next the_sender t (fence full) off level = (level, refl)
-  level-next the_sender t land off level = (level, refl)
-  level-next the_receiver t nothing off level = (level, refl)
+  level-next the_sender t x off level = (level, refl)
   level-next the_receiver t (load a width v) off level = at (width == 4)
     where
       at : (c : Bool) → Level (part the_receiver (if c then record t { receiving = receive_load K r a v t.receiving } else t))
@@ -218,9 +190,7 @@ module _ (K : Kind) (r : RingBuffer) where
   level-next the_receiver t (store w) off level =
       subst (λ c. Level (part the_receiver (if c then receive_store K t.receiving t else t))
       × ((part the_receiver (if c then receive_store K t.receiving t else t)).words ≡ t.received)) (sym off) (level, refl)
-  level-next the_receiver t (exchange a old new) off level = (level, refl)
-  level-next the_receiver t (fence full) off level = (level, refl)
-  level-next the_receiver t land off level = (level, refl)
+  level-next the_receiver t x off level = (level, refl)
 
   -- a load of a party's own index
   pub first-load : (p : Party) (t : ProtocolState) (a v : ℕ) → Level (part p t) → a ≡ index_at p r → Knows p v (part p (next_by K r (role p) t (load a 4 v)))

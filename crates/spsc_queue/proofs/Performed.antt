@@ -7,7 +7,7 @@ use Rattle.std.proofs.lemmas.Bool.{cases_eq, eqb-true}
 use Rattle.memory.specs.declared.writes.Write.{Write}
 use Rattle.step_machine.specs.declared.events.Entry.{Entry}
 use Rattle.step_machine.specs.History.{OpeningValue, history_of}
-use Rattle.step_machine.specs.Access.{Access, nothing, load, store, exchange, fence, land, access_of}
+use Rattle.step_machine.specs.Access.{Access, land, access_of}
 use Rattle.step_machine.specs.Entries.{hart_of, landed_by, written_by, land_of, stores, lands, landed_after, write_by_count, landed_by_count_after}
 use Rattle.step_machine.specs.Legal.{Legal}
 use Rattle.step_machine.proofs.Appended.{lands-append, landed_after-append}
@@ -44,11 +44,6 @@ reached_after whole h n w before (e ∷ es) is from below =
 
     at : (x : Access) → access_of e ≡ x → (b : Bool) → (hart_of e == h) ≡ b → (lands h before ≡ n) ⊎ (lands h before ≢ n)
         → (lands h (before ++ e ∷ []) ≤ n → Later) → Found
-    at nothing does b mine c on = more (on (passed nothing does b mine refl))
-    at (load a width v) does b mine c on = more (on (passed (load a width v) does b mine refl))
-    at (store x) does b mine c on = more (on (passed (store x) does b mine refl))
-    at (exchange a old new) does b mine c on = more (on (passed (exchange a old new) does b mine refl))
-    at (fence full) does b mine c on = more (on (passed (fence full) does b mine refl))
     at land does false mine c on = more (on (passed land does false mine refl))
     at land does true mine (inr other) on =
         let once : land_of h e ≡ 1 = ap (landed_by (hart_of e == h)) does ∙ ap (λ c. landed_by c land) mine in
@@ -60,6 +55,7 @@ reached_after whole h n w before (e ∷ es) is from below =
         ∙ ap (λ g. option_to_list (slice_get (stores g whole) (lands g before))) hart
         ∙ ap (λ k. option_to_list (slice_get (stores h whole) k)) here ∙ ap option_to_list is in
         ([], landed_by_count_after whole (before ++ e ∷ []) es, ap (λ ws. ws ++ landed_by_count_after whole (before ++ e ∷ []) es) written)
+    at x does b mine c on = more (on (passed x does b mine refl))
 
 pub reached : (B : ℕ) (o : OpeningValue) (es : List Entry) (h n : ℕ) (w : Write) → Legal B (history_of o es)
     → slice_get (stores h es) n ≡ Some w → n < lands h es → IsGloballyPerformed es w

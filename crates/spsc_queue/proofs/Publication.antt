@@ -5,8 +5,8 @@ use Rattle.step_machine.specs.declared.events.Entry.{Entry}
 use Rattle.step_machine.specs.History.{OpeningValue}
 use Rattle.step_machine.specs.Entries.{stores, lands}
 use Rattle.spsc_queue.specs.RingBuffers.{Kind, lamport, fastforward, RingBuffer, IsRingBuffer, capacity_of, capacity}
-use Rattle.spsc_queue.specs.Protocol.{SenderState, resting, placed, renewing, roomy, filled, ReceiverState, idle, asked}
-use Rattle.spsc_queue.specs.Protocol.{waiting, holding, cleared, ProtocolState}
+use Rattle.spsc_queue.specs.Protocol.{SenderState, roomy, ReceiverState}
+use Rattle.spsc_queue.specs.Protocol.{waiting, holding, ProtocolState}
 use Rattle.spsc_queue.specs.Protocol.{at_start, protocol_after}
 use Rattle.spsc_queue.specs.Laws.{FollowsSpscProtocol, available_of, available_count, known_count, known_by_state, ready_count, ready_by_state}
 use Rattle.spsc_queue.proofs.Spread.{sent_store}
@@ -18,19 +18,14 @@ use Rattle.spsc_queue.proofs.Runs.{invariant-of}
 
 known_there : (K : Kind) (r : RingBuffer) (L : ℕ → ℕ) (taken consumed n : ℕ) (p : ReceiverState) → taken ≤ n → ReceivingIs K r L taken consumed n p
     → taken + known_by_state p ≤ n
-known_there K r L taken consumed n idle le is = omega (arith, le)
-known_there K r L taken consumed n (asked u) le is = omega (arith, le)
 known_there K r L taken consumed n (waiting u) le is = omega (arith, is.2)
 known_there K r L taken consumed n (holding u w) le is = omega (arith, is.2)
-known_there K r L taken consumed n (cleared u) le is = omega (arith, le)
+known_there K r L taken consumed n p le is = omega (arith, le)
 
 ready_freed : (spare : ℕ) (r : RingBuffer) (stored published n : ℕ) (p : SenderState) → stored + spare ≤ n + r.size → SendingIs spare r stored published n p
     → stored + ready_by_state p + spare ≤ n + r.size
-ready_freed spare r stored published n resting le is = omega (arith, le)
-ready_freed spare r stored published n (placed u) le is = omega (arith, le)
-ready_freed spare r stored published n (renewing u v) le is = omega (arith, le)
 ready_freed spare r stored published n (roomy u) le is = omega (arith, is.2)
-ready_freed spare r stored published n (filled u) le is = omega (arith, le)
+ready_freed spare r stored published n p le is = omega (arith, le)
 
 -- where more words are there than were available, more of the sender's row has landed than it had made; and back
 more_landed : (K : Kind) (s : ProtocolState) (known n h : ℕ) → s.published ≤ s.stored → s.stored ≤ s.published + 1 → available_of K s < known

@@ -133,11 +133,7 @@ rows-stay r c f g o es fs i n j m rows stays = record {
 
 stored_none : (x : Access) → stored_by false x ≡ []
 stored_none nothing = refl
-stored_none (load a width v) = refl
-stored_none (store w) = refl
-stored_none (exchange a old new) = refl
-stored_none (fence full) = refl
-stored_none land = refl
+stored_none x = refl
 
 module _ (r : RingBuffer) (is : IsRingBuffer r) (o : OpeningValue) (es : List Entry) (e : Entry) (even : (h : ℕ) → lands h es ≤ length (stores h es)) where
   abbrev after : List Entry

@@ -55,15 +55,11 @@ by_word s None runs = settles _ runs
 by_word s (Some w) runs = settles _ runs
 
 by_need : (s : HartState) (v : ℕ) (m : Need) → need_of s ≡ m → s.status ≡ status.Running → RunsOrHalts (advanced_by s m v)
-by_need s v need.Inner is runs = by_meaning s v (fetched s) runs
-by_need s v (need.Load a width) is runs = by_meaning s v (fetched s) runs
-by_need s v (need.Store a width w) is runs = by_meaning s v (fetched s) runs
-by_need s v (need.Amo a op rs2) is runs = by_meaning s v (fetched s) runs
-by_need s v (need.Fence full) is runs = by_meaning s v (fetched s) runs
 by_need s v (need.Next w) is runs = by_word s w runs
 by_need s v (need.Report r) is runs = settles _ runs
 by_need s v need.Exit is runs = inr (halts_still s status.Ended (subst IsHalt (sym is) tt))
 by_need s v (need.Stop why) is runs = inr (halts_still s (status.Stopped why) (subst IsHalt (sym is) tt))
+by_need s v m is runs = by_meaning s v (fetched s) runs
 
 goes : (s : HartState) (v : ℕ) → s.status ≡ status.Running → RunsOrHalts (advanced s v)
 unfolding advanced
@@ -80,13 +76,7 @@ plain_runs s (inr halts) plain = absurd (no (need_of s) halts plain)
     no : (m : Need) → IsHalt m → IsPlainNeed m → ⊥
     no need.Exit halts plain = plain
     no (need.Stop why) halts plain = plain
-    no need.Inner halts plain = halts
-    no (need.Load a width) halts plain = halts
-    no (need.Store a width w) halts plain = halts
-    no (need.Amo a op rs2) halts plain = halts
-    no (need.Fence full) halts plain = halts
-    no (need.Next w) halts plain = halts
-    no (need.Report r) halts plain = halts
+    no m halts plain = halts
 
 -- a hart that opens with a function, where it wants nothing of memory, a load or a store
 pub runs_here : (B M : ℕ) (o : OpeningValue) (h n : ℕ) (listing : List Listed) (has : HasFunction o h n listing) (es : List Entry)

@@ -45,19 +45,14 @@ firsts-split L m (suc k) =
 
 stored-cases : (w : Write) (p : SenderState) (s : ProtocolState)
     → ((send_store w p s).sent ≡ s.sent) ⊎ ((u : ℕ) × (p ≡ roomy u) × ((send_store w p s).sent ≡ s.sent ++ w.value ∷ []))
-stored-cases w resting s = inl refl
-stored-cases w (placed u) s = inl refl
-stored-cases w (renewing u v) s = inl refl
 stored-cases w (roomy u) s = inr (u, refl, refl)
-stored-cases w (filled u) s = inl refl
+stored-cases w p s = inl refl
 
 freed-same : (k : Kind) (p : ReceiverState) (s : ProtocolState) → (receive_store k p s).sent ≡ s.sent
-freed-same k idle s = refl
-freed-same k (asked u) s = refl
-freed-same k (waiting u) s = refl
-freed-same lamport (holding u w) s = refl
-freed-same fastforward (holding u w) s = refl
-freed-same k (cleared u) s = refl
+freed-same lamport idle s = refl
+freed-same lamport p s = refl
+freed-same fastforward idle s = refl
+freed-same fastforward p s = refl
 
 abbrev Adds : Kind → RingBuffer → Role → ProtocolState → Access → Write → Type 0
 Adds k r role s x w = (x ≡ store w) × (role ≡ sends) × (overlaps r w ≡ true) × ((u : ℕ) × (s.sending ≡ roomy u))
@@ -65,7 +60,6 @@ Adds k r role s x w = (x ≡ store w) × (role ≡ sends) × (overlaps r w ≡ t
 
 next-sent : (k : Kind) (r : RingBuffer) (role : Role) (s : ProtocolState) (x : Access)
     → ((next_by k r role s x).sent ≡ s.sent) ⊎ ((w : Write) × Adds k r role s x w)
-next-sent k r sends s nothing = inl refl
 next-sent k r sends s (load a width v) = at (width == 4)
   where
     at : (b : Bool) → ((if b then record s { sending = send_load k r a v s.sending } else s).sent ≡ s.sent)
@@ -80,10 +74,6 @@ next-sent k r sends s (store w) = at (overlaps r w) refl (stored-cases w s.sendi
     at true on (inl same) = inl (ap (λ b. (if b then send_store w s.sending s else s).sent) on ∙ same)
     at true on (inr more) = inr (w, (refl, refl, on, (more.0, more.1), ap (λ b. (if b then send_store w s.sending s else s).sent) on ∙ more.2))
     at false off c = inl (ap (λ b. (if b then send_store w s.sending s else s).sent) off)
-next-sent k r sends s (exchange a old new) = inl refl
-next-sent k r sends s (fence full) = inl refl
-next-sent k r sends s land = inl refl
-next-sent k r receives s nothing = inl refl
 next-sent k r receives s (load a width v) = at (width == 4)
   where
     at : (b : Bool) → ((if b then record s { receiving = receive_load k r a v s.receiving } else s).sent ≡ s.sent)
@@ -95,10 +85,7 @@ next-sent k r receives s (store w) = inl (at (overlaps r w))
     at : (b : Bool) → (if b then receive_store k s.receiving s else s).sent ≡ s.sent
     at true = freed-same k s.receiving s
     at false = refl
-next-sent k r receives s (exchange a old new) = inl refl
-next-sent k r receives s (fence full) = inl refl
-next-sent k r receives s land = inl refl
-next-sent k r passes s x = inl refl
+next-sent k r role s x = inl refl
 
 pub next-grows : (r : RingBuffer) (s : ProtocolState) (e : Entry) → (more : List ℕ) × ((protocol_next r s e).sent ≡ s.sent ++ more)
 next-grows r s e = elim (next-sent r.kind r (role_of r (hart_of e)) s (access_of e)) [

@@ -7,30 +7,15 @@ use Rattle.step_machine.specs.Access.{access_of}
 use Rattle.step_machine.specs.Entries.{is_own, own}
 use Rattle.spsc_queue.specs.Calls.{Block, Party, MayPass, HasArguments}
 use Rattle.spsc_queue.specs.CallEffects.{accesses, memory_access}
-use Rattle.spsc_queue.proofs.Courses.{At, at_00, at_04, at_08, at_0C, at_10, at_14, at_18, at_1C, at_20, at_24, at_28}
-use Rattle.spsc_queue.proofs.Courses.{at_2C, at_30, at_34, at_38, at_3C, at_40, number, Course}
+use Rattle.spsc_queue.proofs.Courses.{At, at_00}
+use Rattle.spsc_queue.proofs.Courses.{number, Course}
 use Rattle.spsc_queue.proofs.Courses.{went}
 use Rattle.spsc_queue.proofs.Accesses.{other-accesses, other-own, mine-accesses, mine-own}
 
 -- where a hart stands at the entry, in a call, it stands at the first line
 pub first_line : (line : At) → number line ≡ 0 → line ≡ at_00
 first_line at_00 e = refl
-first_line at_04 e = absurd (omega (arith, e))
-first_line at_08 e = absurd (omega (arith, e))
-first_line at_0C e = absurd (omega (arith, e))
-first_line at_10 e = absurd (omega (arith, e))
-first_line at_14 e = absurd (omega (arith, e))
-first_line at_18 e = absurd (omega (arith, e))
-first_line at_1C e = absurd (omega (arith, e))
-first_line at_20 e = absurd (omega (arith, e))
-first_line at_24 e = absurd (omega (arith, e))
-first_line at_28 e = absurd (omega (arith, e))
-first_line at_2C e = absurd (omega (arith, e))
-first_line at_30 e = absurd (omega (arith, e))
-first_line at_34 e = absurd (omega (arith, e))
-first_line at_38 e = absurd (omega (arith, e))
-first_line at_3C e = absurd (omega (arith, e))
-first_line at_40 e = absurd (omega (arith, e))
+first_line line e = absurd (omega (arith, e))
 
 pub same_arguments : (p : Party) (n : ℕ) (k : Block) (s z : HartState) → s.registers ≡ z.registers → HasArguments p n k s → HasArguments p n k z
 same_arguments p n k s z same a = record {
