@@ -5,10 +5,13 @@ use Rattle.std.specs.Str.{bytes_eq}
 use Rattle.clap.specs.Words.{Text}
 use Rattle.clap.proofs.OnLiterals.{clap_on_literals}
 use Rattle.command_line.proofs.Pieces.{Piece, plain, other, text_in, ArePlain, IsCommand, said, pieces_fault, by_pieces}
-use Rattle.command_line.specs.CommandLines.{GivesJob, capacity_said, job_said, number_if_said, ring_said, ◌>>=◌}
+use Rattle.command_line.specs.CommandLines.{GivesJob, capacity_said, job_said, number_if_said, queue_kind_said, ring_said, ◌>>=◌}
 use Rattle.command_line.specs.Numbers.{number_within}
-use Rattle.command_line.specs.Spellings.{AsksByFlag, AsksFor, AsksForNumber, AsksForStride, IsOnFiles, IsSpelling, IsSpellingOf}
-use Rattle.command_line.specs.Spellings.{IsArgument, is_of_memory, is_svg, name_of, text_of}
+use Rattle.command_line.specs.Spellings.{AsksByFlag, AsksFor, AsksForKind, AsksForNumber, AsksForParties, AsksForStride, IsOnFiles, IsSpelling, IsSpellingOf}
+use Rattle.command_line.specs.Spellings.{IsArgument, is_of_memory, is_svg, kind_name, name_of, text_of}
+use Rattle.command_line.specs.declared.job.QueueKind.{QueueKind}
+use Rattle.command_line.specs.declared.job.QueueKind.TheVariants as kind
+use Rattle.command_line.specs.declared.job.CalledQueue.{CalledQueue}
 use Rattle.command_line.specs.declared.job.Ring.{Ring}
 use Rattle.command_line.specs.declared.job.Ring.TheVariants.{Lamport, FastForward, LamportCached}
 use Rattle.command_line.specs.declared.job.Command.{Command}
@@ -19,7 +22,7 @@ use Rattle.command_line.specs.declared.job.Job.{Job}
 use Rattle.command_line.specs.declared.job.CodeCommand.TheVariants.{Asm, Dis}
 use Rattle.command_line.specs.declared.job.Command.TheVariants.{Code, Machine, Find, Threads, Own, Ring as OwnRing}
 use Rattle.command_line.specs.declared.job.MachineCommand.{MachineCommand}
-use Rattle.command_line.specs.declared.job.MachineCommand.TheVariants.{Steps, Run, Replay, Move, Shrink, Chart, Show, Check, Debug, Try, Channel}
+use Rattle.command_line.specs.declared.job.MachineCommand.TheVariants.{Steps, Run, Replay, Move, Shrink, Chart, Show, Check, Debug, Try, Callers, Channel}
 use Rattle.poll_close.specs.declared.place.BlockPlace.{BlockPlace}
 use Rattle.chart.specs.declared.scenes.Selection.{Selection}
 use Rattle.chart.specs.declared.scenes.Selection.TheVariants.{EveryRow, MemoryRows}
@@ -640,6 +643,212 @@ ring_read sender receiver number s n l (Some k) (Some j) (Some b) (Some d) none 
 ring_read sender receiver number s n l (Some k) (Some j) (Some b) (Some d) blank t = refl
 ring_read sender receiver number s n l (Some k) (Some j) (Some b) (Some d) equals t = refl
 
+-- ---- `callers`
+
+abbrev callers_pieces : (file number s n l : Text) → List Piece → List Piece
+callers_pieces file number s n l tail =
+    plain file ∷ other (codes "--slots") ∷ plain number ∷ other (codes "--seed") ∷ plain s ∷ other (codes "--runs") ∷ plain n
+    ∷ other (codes "--length") ∷ plain l ∷ tail
+
+-- what stands for the two parties' harts, if they are given, before other pieces
+abbrev parties_pieces : Option (Text × Text) → List Piece → List Piece
+parties_pieces None tail = tail
+parties_pieces (Some p) tail = other (codes "--sender") ∷ plain p.0 ∷ other (codes "--receiver") ∷ plain p.1 ∷ tail
+
+abbrev sender_or : Option (Text × Text) → Text
+sender_or None = codes "0"
+sender_or (Some p) = p.0
+
+abbrev receiver_or : Option (Text × Text) → Text
+receiver_or None = codes "1"
+receiver_or (Some p) = p.1
+
+record PartiesSpelled (sender receiver : ℕ) (words : List Text) : Type 0 where
+  texts : Option (Text × Text)
+  sends : number_within 0 63 (sender_or texts) ≡ Some sender
+  receives : number_within 0 63 (receiver_or texts) ≡ Some receiver
+  are : (tail : List Piece) → ArePlain tail → ArePlain (parties_pieces texts tail)
+  is : (options : List Text) (tail : List Piece) → options ≡ map text_in tail → words ++ options ≡ map text_in (parties_pieces texts tail)
+
+first_hart : number_within 0 63 (codes "0") ≡ Some 0
+unfolding number_within
+first_hart = refl
+
+second_hart : number_within 0 63 (codes "1") ≡ Some 1
+unfolding number_within
+second_hart = refl
+
+parties_spelled : (sender receiver : ℕ) (words : List Text) → AsksForParties sender receiver words → PartiesSpelled sender receiver words
+parties_spelled sender receiver words (inl (silent, sends, receives)) = record {
+  texts = None;
+  sends = first_hart ∙ ap (λ (n : ℕ). Some n) (sym sends);
+  receives = second_hart ∙ ap (λ (n : ℕ). Some n) (sym receives);
+  are = λ tail plains. plains;
+  is = λ options tail same. ap₂ (λ (a b : List Text). a ++ b) silent same;
+}
+parties_spelled sender receiver words (inr (s, r, words_are, sends, receives)) = record {
+  texts = Some (s, r);
+  sends = sends.1;
+  receives = receives.1;
+  are = λ tail plains. (sends.0, (receives.0, plains));
+  is = λ options tail same. ap₂ (λ (a b : List Text). a ++ b) words_are same;
+}
+
+name_is_argument : (of_kind : QueueKind) → IsArgument (kind_name of_kind)
+name_is_argument kind.Lamport = λ e. omega (arith, e)
+name_is_argument kind.FastForward = λ e. omega (arith, e)
+
+name_says : (of_kind : QueueKind) → queue_kind_said (kind_name of_kind) ≡ Some of_kind
+name_says kind.Lamport = refl
+name_says kind.FastForward = refl
+
+abbrev KindSpelled : QueueKind → List Text → Type 0
+KindSpelled of_kind words = OptionSpelled (codes "--kind") words (λ text. queue_kind_said (text_or (codes "lamport") text) ≡ Some of_kind)
+
+kind_spelled : (of_kind : QueueKind) (words : List Text) → AsksForKind of_kind words → KindSpelled of_kind words
+kind_spelled of_kind words (inl silent) =
+    left_out (codes "--kind") words _ silent.0 (name_says kind.Lamport ∙ ap (λ (q : QueueKind). Some q) (sym silent.1))
+kind_spelled of_kind words (inr words_are) =
+    given (codes "--kind") (kind_name of_kind) words _ words_are (name_is_argument of_kind) (name_says of_kind)
+
+abbrev queue_by : (q base number sender receiver : Text) → Option CalledQueue
+queue_by q base number sender receiver = do
+  of_kind ← queue_kind_said q
+  from ← number_within 0 4294967295 base
+  slots ← number_within 0 4294967295 number
+  sends ← number_within 0 63 sender
+  receives ← number_within 0 63 receiver
+  Some (record { kind = of_kind; base = from; slots = slots; sender = sends; receiver = receives })
+
+queue_says : (q base number sender receiver : Text) (queue : CalledQueue) → queue_kind_said q ≡ Some queue.kind
+    → number_within 0 4294967295 base ≡ Some queue.base → number_within 0 4294967295 number ≡ Some queue.slots
+    → number_within 0 63 sender ≡ Some queue.sender → number_within 0 63 receiver ≡ Some queue.receiver
+    → queue_by q base number sender receiver ≡ Some queue
+queue_says q base number sender receiver queue a b c d e = rw (a, b, c, d, e) refl
+
+abbrev called : (file s n l k j : Text) → Option CalledQueue → Option Capacity → Option Wanted
+called file s n l k j queue found = on_file_of file (machine_of found (do
+  seed ← number_within 0 18446744073709551615 s
+  runs ← drawn_by k n l j
+  of_queue ← queue
+  Some (Callers seed runs of_queue)))
+
+called_says : (file s n l k j : Text) (asked : Option CalledQueue) (seed : ℕ) (runs : Runs) (queue : CalledQueue)
+    (capacity : Capacity) (found : Option Capacity)
+    → number_within 0 18446744073709551615 s ≡ Some seed → drawn_by k n l j ≡ Some runs → asked ≡ Some queue → found ≡ Some capacity
+    → called file s n l k j asked found ≡ Some (one_input (Machine (Callers seed runs queue) capacity) (File file))
+called_says file s n l k j asked seed runs queue capacity found a b c d = rw (a, b, c, d) refl
+
+callers_is_command : IsCommand (codes "callers")
+unfolding clap_on_literals
+callers_is_command = (refl, refl)
+
+abbrev asking_pieces : (base q : Option Text) → Option (Text × Text) → (skip jobs : Option Text) → List Piece → List Piece
+asking_pieces base q parties skip jobs tail =
+    number_pieces (codes "--base") base (number_pieces (codes "--kind") q (parties_pieces parties (drawing_pieces skip jobs tail)))
+
+callers_read : (file number s n l : Text) (base q : Option Text) (parties : Option (Text × Text)) (skip jobs : Option Text) (tail : Tail) (t : Text)
+    → said (codes "callers") (callers_pieces file number s n l (asking_pieces base q parties skip jobs (tail_of tail t)))
+    ≡ called file s n l (text_or (codes "0") skip) (text_or (codes "1") jobs)
+    (queue_by (text_or (codes "lamport") q) (text_or (codes "0") base) number (sender_or parties) (receiver_or parties)) (capacity_at tail t)
+unfolding clap_on_literals pieces_fault
+callers_read file number s n l None None None None None none t = refl
+callers_read file number s n l None None None None None blank t = refl
+callers_read file number s n l None None None None None equals t = refl
+callers_read file number s n l None None None None (Some j) none t = refl
+callers_read file number s n l None None None None (Some j) blank t = refl
+callers_read file number s n l None None None None (Some j) equals t = refl
+callers_read file number s n l None None None (Some k) None none t = refl
+callers_read file number s n l None None None (Some k) None blank t = refl
+callers_read file number s n l None None None (Some k) None equals t = refl
+callers_read file number s n l None None None (Some k) (Some j) none t = refl
+callers_read file number s n l None None None (Some k) (Some j) blank t = refl
+callers_read file number s n l None None None (Some k) (Some j) equals t = refl
+callers_read file number s n l None None (Some (h, g)) None None none t = refl
+callers_read file number s n l None None (Some (h, g)) None None blank t = refl
+callers_read file number s n l None None (Some (h, g)) None None equals t = refl
+callers_read file number s n l None None (Some (h, g)) None (Some j) none t = refl
+callers_read file number s n l None None (Some (h, g)) None (Some j) blank t = refl
+callers_read file number s n l None None (Some (h, g)) None (Some j) equals t = refl
+callers_read file number s n l None None (Some (h, g)) (Some k) None none t = refl
+callers_read file number s n l None None (Some (h, g)) (Some k) None blank t = refl
+callers_read file number s n l None None (Some (h, g)) (Some k) None equals t = refl
+callers_read file number s n l None None (Some (h, g)) (Some k) (Some j) none t = refl
+callers_read file number s n l None None (Some (h, g)) (Some k) (Some j) blank t = refl
+callers_read file number s n l None None (Some (h, g)) (Some k) (Some j) equals t = refl
+callers_read file number s n l None (Some q) None None None none t = refl
+callers_read file number s n l None (Some q) None None None blank t = refl
+callers_read file number s n l None (Some q) None None None equals t = refl
+callers_read file number s n l None (Some q) None None (Some j) none t = refl
+callers_read file number s n l None (Some q) None None (Some j) blank t = refl
+callers_read file number s n l None (Some q) None None (Some j) equals t = refl
+callers_read file number s n l None (Some q) None (Some k) None none t = refl
+callers_read file number s n l None (Some q) None (Some k) None blank t = refl
+callers_read file number s n l None (Some q) None (Some k) None equals t = refl
+callers_read file number s n l None (Some q) None (Some k) (Some j) none t = refl
+callers_read file number s n l None (Some q) None (Some k) (Some j) blank t = refl
+callers_read file number s n l None (Some q) None (Some k) (Some j) equals t = refl
+callers_read file number s n l None (Some q) (Some (h, g)) None None none t = refl
+callers_read file number s n l None (Some q) (Some (h, g)) None None blank t = refl
+callers_read file number s n l None (Some q) (Some (h, g)) None None equals t = refl
+callers_read file number s n l None (Some q) (Some (h, g)) None (Some j) none t = refl
+callers_read file number s n l None (Some q) (Some (h, g)) None (Some j) blank t = refl
+callers_read file number s n l None (Some q) (Some (h, g)) None (Some j) equals t = refl
+callers_read file number s n l None (Some q) (Some (h, g)) (Some k) None none t = refl
+callers_read file number s n l None (Some q) (Some (h, g)) (Some k) None blank t = refl
+callers_read file number s n l None (Some q) (Some (h, g)) (Some k) None equals t = refl
+callers_read file number s n l None (Some q) (Some (h, g)) (Some k) (Some j) none t = refl
+callers_read file number s n l None (Some q) (Some (h, g)) (Some k) (Some j) blank t = refl
+callers_read file number s n l None (Some q) (Some (h, g)) (Some k) (Some j) equals t = refl
+callers_read file number s n l (Some b) None None None None none t = refl
+callers_read file number s n l (Some b) None None None None blank t = refl
+callers_read file number s n l (Some b) None None None None equals t = refl
+callers_read file number s n l (Some b) None None None (Some j) none t = refl
+callers_read file number s n l (Some b) None None None (Some j) blank t = refl
+callers_read file number s n l (Some b) None None None (Some j) equals t = refl
+callers_read file number s n l (Some b) None None (Some k) None none t = refl
+callers_read file number s n l (Some b) None None (Some k) None blank t = refl
+callers_read file number s n l (Some b) None None (Some k) None equals t = refl
+callers_read file number s n l (Some b) None None (Some k) (Some j) none t = refl
+callers_read file number s n l (Some b) None None (Some k) (Some j) blank t = refl
+callers_read file number s n l (Some b) None None (Some k) (Some j) equals t = refl
+callers_read file number s n l (Some b) None (Some (h, g)) None None none t = refl
+callers_read file number s n l (Some b) None (Some (h, g)) None None blank t = refl
+callers_read file number s n l (Some b) None (Some (h, g)) None None equals t = refl
+callers_read file number s n l (Some b) None (Some (h, g)) None (Some j) none t = refl
+callers_read file number s n l (Some b) None (Some (h, g)) None (Some j) blank t = refl
+callers_read file number s n l (Some b) None (Some (h, g)) None (Some j) equals t = refl
+callers_read file number s n l (Some b) None (Some (h, g)) (Some k) None none t = refl
+callers_read file number s n l (Some b) None (Some (h, g)) (Some k) None blank t = refl
+callers_read file number s n l (Some b) None (Some (h, g)) (Some k) None equals t = refl
+callers_read file number s n l (Some b) None (Some (h, g)) (Some k) (Some j) none t = refl
+callers_read file number s n l (Some b) None (Some (h, g)) (Some k) (Some j) blank t = refl
+callers_read file number s n l (Some b) None (Some (h, g)) (Some k) (Some j) equals t = refl
+callers_read file number s n l (Some b) (Some q) None None None none t = refl
+callers_read file number s n l (Some b) (Some q) None None None blank t = refl
+callers_read file number s n l (Some b) (Some q) None None None equals t = refl
+callers_read file number s n l (Some b) (Some q) None None (Some j) none t = refl
+callers_read file number s n l (Some b) (Some q) None None (Some j) blank t = refl
+callers_read file number s n l (Some b) (Some q) None None (Some j) equals t = refl
+callers_read file number s n l (Some b) (Some q) None (Some k) None none t = refl
+callers_read file number s n l (Some b) (Some q) None (Some k) None blank t = refl
+callers_read file number s n l (Some b) (Some q) None (Some k) None equals t = refl
+callers_read file number s n l (Some b) (Some q) None (Some k) (Some j) none t = refl
+callers_read file number s n l (Some b) (Some q) None (Some k) (Some j) blank t = refl
+callers_read file number s n l (Some b) (Some q) None (Some k) (Some j) equals t = refl
+callers_read file number s n l (Some b) (Some q) (Some (h, g)) None None none t = refl
+callers_read file number s n l (Some b) (Some q) (Some (h, g)) None None blank t = refl
+callers_read file number s n l (Some b) (Some q) (Some (h, g)) None None equals t = refl
+callers_read file number s n l (Some b) (Some q) (Some (h, g)) None (Some j) none t = refl
+callers_read file number s n l (Some b) (Some q) (Some (h, g)) None (Some j) blank t = refl
+callers_read file number s n l (Some b) (Some q) (Some (h, g)) None (Some j) equals t = refl
+callers_read file number s n l (Some b) (Some q) (Some (h, g)) (Some k) None none t = refl
+callers_read file number s n l (Some b) (Some q) (Some (h, g)) (Some k) None blank t = refl
+callers_read file number s n l (Some b) (Some q) (Some (h, g)) (Some k) None equals t = refl
+callers_read file number s n l (Some b) (Some q) (Some (h, g)) (Some k) (Some j) none t = refl
+callers_read file number s n l (Some b) (Some q) (Some (h, g)) (Some k) (Some j) blank t = refl
+callers_read file number s n l (Some b) (Some q) (Some (h, g)) (Some k) (Some j) equals t = refl
+
 -- ---- each command
 
 spelled_of : (name : Text) (rest : List Text) (command : Command) (wanted : Wanted) → IsSpellingOf command wanted rest → job_said (name ∷ rest) ≡ Some wanted
@@ -692,6 +901,69 @@ spelled_of name rest (Machine (Try seed runs) capacity) wanted
     (skip.is (second ++ options) with_jobs (jobs.is options end to.is)))
     (try_read file s n l skip.text jobs.text to.tail to.text
     ∙ tried_says file s n l _ _ seed runs capacity _ seed_is.1 (drawn_says _ n l _ runs skip.says runs_are.1 events_are.1 jobs.says) to.says
+    ∙ ap (λ (w : Wanted). Some w) (sym wants))
+spelled_of name rest (Machine (Callers seed runs queue) capacity) wanted (
+  file,
+  number,
+  s,
+  n,
+  l,
+  first,
+  second,
+  third,
+  fourth,
+  fifth,
+  options,
+  is,
+  f,
+  slots_are,
+  seed_is,
+  runs_are,
+  events_are,
+  base_is,
+  kind_is,
+  parties_are,
+  skips,
+  jobs_are,
+  asks,
+  wants,
+) =
+    let to = capacity_spelled capacity options asks in
+    let jobs = number_spelled (codes "--jobs") (codes "1") 1 1 64 runs.jobs fifth one_job jobs_are in
+    let skip = number_spelled (codes "--skip") (codes "0") 0 0 18446744073709551615 runs.skip fourth no_skip skips in
+    let parties = parties_spelled queue.sender queue.receiver third parties_are in
+    let q = kind_spelled queue.kind second kind_is in
+    let base = number_spelled (codes "--base") (codes "0") 0 0 4294967295 queue.base first no_base base_is in
+    let end = tail_of to.tail to.text in
+    let with_jobs = number_pieces (codes "--jobs") jobs.text end in
+    let with_skip = number_pieces (codes "--skip") skip.text with_jobs in
+    let with_parties = parties_pieces parties.texts with_skip in
+    let with_kind = number_pieces (codes "--kind") q.text with_parties in
+    by_pieces name (codes "callers") (callers_pieces file number s n l (number_pieces (codes "--base") base.text with_kind)) rest wanted callers_is_command (
+      f,
+      (
+        slots_are.0,
+        (
+          seed_is.0,
+          (
+            runs_are.0,
+            (
+              events_are.0,
+              base.are with_kind (q.are with_parties (parties.are with_skip (skip.are with_jobs
+                  (jobs.are end to.are)))),
+            ),
+          ),
+        ),
+      ),
+    )
+    (is ∙ ap (λ (o : List Text). codes "callers" ∷ file ∷ codes "--slots" ∷ number ∷ codes "--seed" ∷ s ∷ codes "--runs" ∷ n ∷ codes "--length" ∷ l ∷ o)
+    (base.is (second ++ (third ++ (fourth ++ (fifth ++ options)))) with_kind (q.is (third ++ (fourth ++ (fifth ++ options))) with_parties
+    (parties.is (fourth ++ (fifth ++ options)) with_skip (skip.is (fifth ++ options) with_jobs (jobs.is options end to.is))))))
+    (callers_read file number s n l base.text q.text parties.texts skip.text jobs.text to.tail to.text
+    ∙ called_says file s n l (text_or (codes "0") skip.text) (text_or (codes "1") jobs.text) _ seed runs queue capacity _ seed_is.1
+    (drawn_says (text_or (codes "0") skip.text) n l (text_or (codes "1") jobs.text) runs skip.says runs_are.1 events_are.1 jobs.says)
+    (queue_says (text_or (codes "lamport") q.text) (text_or (codes "0") base.text) number (sender_or parties.texts) (receiver_or parties.texts) queue
+    q.says base.says slots_are.1 parties.sends parties.receives) to.says
     ∙ ap (λ (w : Wanted). Some w) (sym wants))
 spelled_of name rest (Machine (Channel ring place finish) capacity) wanted
     (number, schedule, first, second, third, options, is, slots_are, s, base_is, stride_is, finishes, asks, wants) =

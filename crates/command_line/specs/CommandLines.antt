@@ -11,6 +11,9 @@ use Rattle.command_line.specs.declared.job.Job.{Job}
 use Rattle.command_line.specs.Descriptions.{ztso_command}
 use Rattle.command_line.specs.declared.job.Ring.{Ring}
 use Rattle.command_line.specs.declared.job.Ring.TheVariants.{Lamport, FastForward, LamportCached}
+use Rattle.command_line.specs.declared.job.QueueKind.{QueueKind}
+use Rattle.command_line.specs.declared.job.QueueKind.TheVariants as kind
+use Rattle.command_line.specs.declared.job.CalledQueue.{CalledQueue}
 use Rattle.command_line.specs.declared.job.CodeCommand.TheVariants.{Asm, Dis}
 use Rattle.command_line.specs.declared.job.Command.{Command}
 use Rattle.command_line.specs.declared.job.Command.TheVariants.{Code, Machine, Find, Threads, Own, Ring as OwnRing}
@@ -22,7 +25,7 @@ use Rattle.chart.specs.declared.scenes.Selection.TheVariants.{EveryRow, MemoryRo
 use Rattle.chart.specs.declared.scenes.Style.{Style}
 use Rattle.chart.specs.declared.scenes.Style.TheVariants.{Svg}
 use Rattle.chart.specs.declared.scenes.Style.TheVariants as style
-use Rattle.command_line.specs.declared.job.MachineCommand.TheVariants.{Steps, Run, Replay, Move, Shrink, Chart, Show, Check, Debug, Try, Channel}
+use Rattle.command_line.specs.declared.job.MachineCommand.TheVariants.{Steps, Run, Replay, Move, Shrink, Chart, Show, Check, Debug, Try, Callers, Channel}
 use Rattle.command_line.specs.Jobs.{Input, Wanted, four_inputs, one_input, three_inputs, two_inputs, wanted_by}
 use Rattle.command_line.specs.Jobs.Input.{Standard, File}
 use Rattle.command_line.specs.Numbers.{number_within}
@@ -61,6 +64,33 @@ try_in options = do
   seed ← seed_in options
   runs ← runs_in options
   Some (Try seed runs)
+
+abbrev pub queue_kind_said : Text → Option QueueKind
+queue_kind_said text =
+    if bytes_eq text (codes "lamport") then Some kind.Lamport else (if bytes_eq text (codes "fastforward") then Some kind.FastForward else None)
+
+-- the queue whose functions code calls
+abbrev pub queue_in : List Row → Option CalledQueue
+queue_in options = do
+  kind_text ← first_of (codes "kind") options
+  of_kind ← queue_kind_said kind_text
+  base_text ← first_of (codes "base") options
+  base ← number_within 0 4294967295 base_text
+  slots_text ← first_of (codes "slots") options
+  slots ← number_within 0 4294967295 slots_text
+  sender_text ← first_of (codes "sender") options
+  sender ← number_within 0 63 sender_text
+  receiver_text ← first_of (codes "receiver") options
+  receiver ← number_within 0 63 receiver_text
+  Some (record { kind = of_kind; base = base; slots = slots; sender = sender; receiver = receiver })
+
+-- the runs of `callers`, from its options, and of which queue
+abbrev pub callers_in : List Row → Option MachineCommand
+callers_in options = do
+  seed ← seed_in options
+  runs ← runs_in options
+  queue ← queue_in options
+  Some (Callers seed runs queue)
 
 abbrev pub ring_said : Text → Option Ring
 ring_said text =
@@ -246,10 +276,11 @@ job_at p =
     else (if bytes_eq p.0 (codes "check") then on_file_and_standard p.1 (machine_in p.1 (Some Check))
     else (if bytes_eq p.0 (codes "find") then on_file p.1 (find_in p.1)
     else (if bytes_eq p.0 (codes "try") then on_file p.1 (machine_in p.1 (try_in p.1))
+    else (if bytes_eq p.0 (codes "callers") then on_file p.1 (machine_in p.1 (callers_in p.1))
     else (if bytes_eq p.0 (codes "channel") then on_channel p.1
     else (if bytes_eq p.0 (codes "threads") then on_file p.1 (threads_in p.1)
     else (if bytes_eq p.0 (codes "ring") then on_programs_and_standard p.1 (ring_in p.1)
-    else on_file_and_schedule p.1 (machine_in p.1 (scheduled_in p.0 p.1)))))))))))
+    else on_file_and_schedule p.1 (machine_in p.1 (scheduled_in p.0 p.1))))))))))))
 
 abbrev pub job_without : Kinds → Option (Text × List Row) → Option Wanted
 job_without [] found = option_and_then job_at found

@@ -80,6 +80,17 @@ try_rules = word_wanted (codes "file") ∷ option_wanted (codes "seed") ∷ opti
 abbrev pub try_command : App
 try_command = with_rules (new_app (codes "try")) try_rules
 
+-- `callers FILE --slots S --seed X --runs N --length L [--base A] [--sender H] [--receiver H] [--kind KIND] [--skip K] [--jobs J]
+-- [--buffer B]`
+abbrev pub callers_rules : List Rule
+callers_rules = word_wanted (codes "file") ∷ option_wanted (codes "slots") ∷ option_wanted (codes "seed") ∷ option_wanted (codes "runs")
+    ∷ option_wanted (codes "length") ∷ option_or (codes "base") (codes "0") ∷ option_or (codes "sender") (codes "0")
+    ∷ option_or (codes "receiver") (codes "1") ∷ option_or (codes "kind") (codes "lamport") ∷ option_or (codes "skip") (codes "0")
+    ∷ option_or (codes "jobs") (codes "1") ∷ buffer_option ∷ []
+
+abbrev pub callers_command : App
+callers_command = with_rules (new_app (codes "callers")) callers_rules
+
 -- `--name`, without a value
 abbrev pub flag : Text → Rule
 flag name = record (new_rule name) {
@@ -149,7 +160,7 @@ abbrev pub ztso_commands : List App
 ztso_commands =
     steps_command ∷ asm_command ∷ dis_command ∷ schedule_command (codes "run") ∷ schedule_command (codes "replay") ∷ schedule_command (codes "move")
     ∷ schedule_command (codes "shrink") ∷ chart_command ∷ show_command ∷ check_command ∷ find_command ∷ schedule_command (codes "debug")
-    ∷ try_command ∷ channel_command ∷ threads_command ∷ ring_command ∷ []
+    ∷ try_command ∷ callers_command ∷ channel_command ∷ threads_command ∷ ring_command ∷ []
 
 abbrev pub ztso_command : App
 ztso_command = with_commands (new_app (codes "ztso")) ztso_commands

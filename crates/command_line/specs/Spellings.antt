@@ -5,6 +5,8 @@ use Rattle.command_line.specs.declared.job.Capacity.{Capacity}
 use Rattle.command_line.specs.declared.job.Capacity.TheVariants.{One, Two, Four, Sixteen}
 use Rattle.command_line.specs.declared.job.Ring.{Ring}
 use Rattle.command_line.specs.declared.job.Ring.TheVariants.{Lamport, FastForward, LamportCached}
+use Rattle.command_line.specs.declared.job.QueueKind.{QueueKind}
+use Rattle.command_line.specs.declared.job.QueueKind.TheVariants as kind
 use Rattle.command_line.specs.declared.job.Command.{Command}
 use Rattle.command_line.specs.declared.job.CodeCommand.TheVariants.{Asm, Dis}
 use Rattle.command_line.specs.declared.job.Command.TheVariants.{Code, Machine, Find, Threads, Own, Ring as OwnRing}
@@ -14,7 +16,7 @@ use Rattle.chart.specs.declared.scenes.Selection.TheVariants.{EveryRow, MemoryRo
 use Rattle.chart.specs.declared.scenes.Style.{Style}
 use Rattle.chart.specs.declared.scenes.Style.TheVariants.{Svg}
 use Rattle.chart.specs.declared.scenes.Style.TheVariants as style
-use Rattle.command_line.specs.declared.job.MachineCommand.TheVariants.{Steps, Run, Replay, Move, Shrink, Chart, Show, Check, Debug, Try, Channel}
+use Rattle.command_line.specs.declared.job.MachineCommand.TheVariants.{Steps, Run, Replay, Move, Shrink, Chart, Show, Check, Debug, Try, Callers, Channel}
 use Rattle.recorder.specs.declared.reading.TheConstants.{MAX_EVENTS}
 use Rattle.command_line.specs.Jobs.{Wanted, four_inputs, one_input, three_inputs, two_inputs}
 use Rattle.command_line.specs.Jobs.Input.{Standard, File}
@@ -44,6 +46,11 @@ abbrev pub name_of : Ring → Text
 name_of Lamport = codes "lamport"
 name_of FastForward = codes "fastforward"
 name_of LamportCached = codes "cached"
+
+-- the text by which a kind of queue is asked for
+abbrev pub kind_name : QueueKind → Text
+kind_name kind.Lamport = codes "lamport"
+kind_name kind.FastForward = codes "fastforward"
 
 -- a word that says this number, within these limits
 abbrev pub SaysNumber : (least most number : ℕ) → Text → Type 0
@@ -79,6 +86,15 @@ AsksForBase base words = AsksForNumber (codes "--base") 0 0 4294967295 base word
 abbrev pub AsksForStride : Option ℕ → List Text → Type 0
 AsksForStride None words = words ≡ []
 AsksForStride (Some stride) words = (said : Text) × (words ≡ codes "--stride" ∷ said ∷ []) × SaysNumber 0 4294967295 stride said
+
+-- nothing, which asks for Lamport's queue, or a kind of queue
+abbrev pub AsksForKind : QueueKind → List Text → Type 0
+AsksForKind of_kind words = ((words ≡ []) × (of_kind ≡ kind.Lamport)) ⊎ (words ≡ codes "--kind" ∷ kind_name of_kind ∷ [])
+
+-- nothing, which asks for hart 0 to send and hart 1 to receive, or both
+abbrev pub AsksForParties : (sender receiver : ℕ) → List Text → Type 0
+AsksForParties sender receiver words = ((words ≡ []) × (sender ≡ 0) × (receiver ≡ 1))
+    ⊎ ((s r : Text) × (words ≡ codes "--sender" ∷ s ∷ codes "--receiver" ∷ r ∷ []) × SaysNumber 0 63 sender s × SaysNumber 0 63 receiver r)
 
 -- nothing, or a flag
 abbrev pub AsksByFlag : (flag : Text) → Bool → List Text → Type 0
@@ -141,6 +157,15 @@ IsSpellingOf (Machine (Try seed runs) capacity) wanted words =
     × IsArgument file × SaysNumber 0 18446744073709551615 seed s × SaysNumber 1 100000 runs.number n × SaysNumber 0 MAX_EVENTS runs.length l
     × AsksToSkip runs.skip first × AsksForJobs runs.jobs second × AsksFor capacity options
     × (wanted ≡ one_input (Machine (Try seed runs) capacity) (File file))
+IsSpellingOf (Machine (Callers seed runs queue) capacity) wanted words =
+    (file said s n l : Text) × (first second third fourth fifth options : List Text)
+    × (words ≡ codes "callers" ∷ file ∷ codes "--slots" ∷ said ∷ codes "--seed" ∷ s ∷ codes "--runs" ∷ n ∷ codes "--length" ∷ l
+    ∷ (first ++ (second ++ (third ++ (fourth ++ (fifth ++ options))))))
+    × IsArgument file × SaysNumber 0 4294967295 queue.slots said × SaysNumber 0 18446744073709551615 seed s
+    × SaysNumber 1 100000 runs.number n × SaysNumber 0 MAX_EVENTS runs.length l
+    × AsksForBase queue.base first × AsksForKind queue.kind second × AsksForParties queue.sender queue.receiver third
+    × AsksToSkip runs.skip fourth × AsksForJobs runs.jobs fifth × AsksFor capacity options
+    × (wanted ≡ one_input (Machine (Callers seed runs queue) capacity) (File file))
 IsSpellingOf (Machine (Channel ring place finish) capacity) wanted words =
     (said schedule : Text) × (first second third options : List Text)
     × (words ≡ codes "channel" ∷ name_of ring ∷ said ∷ schedule ∷ (first ++ (second ++ (third ++ options))))

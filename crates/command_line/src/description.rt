@@ -3,7 +3,7 @@
 ghost use Rattle.std.specs.Prelude.{◌≡◌, List, IfOk};
 ghost use Rattle.std.specs.List.{AllZip};
 ghost use Rattle.clap.specs.Words.{App, Rule, new_app, with_subcommand};
-ghost use Rattle.command_line.specs.Descriptions.{HasRule, IsDescribed, buffer_option, channel_command, chart_command};
+ghost use Rattle.command_line.specs.Descriptions.{HasRule, IsDescribed, buffer_option, callers_command, channel_command, chart_command};
 ghost use Rattle.command_line.specs.Descriptions.{check_command, find_command, flag, option_or, option_said, option_wanted};
 ghost use Rattle.command_line.specs.Descriptions.{ring_command, schedule_command, show_command, steps_command, threads_command};
 ghost use Rattle.command_line.specs.Descriptions.{try_command, with_rules, word_wanted, ztso_command};
@@ -100,6 +100,26 @@ fn try_command<'a>(alloc: Global) -> Result<Command<'a>, AllocError>
         buffer_option(alloc),
     ]?;
     command_with(alloc, "try", args)
+}
+
+fn callers_command<'a>(alloc: Global) -> Result<Command<'a>, AllocError>
+    ensures { IfOk result (λ command. IsDescribed command callers_command) }
+{
+    let args = vec![in alloc;
+        word_wanted(alloc, "file"),
+        option_wanted(alloc, "slots"),
+        option_wanted(alloc, "seed"),
+        option_wanted(alloc, "runs"),
+        option_wanted(alloc, "length"),
+        option_or(alloc, "base", "0"),
+        option_or(alloc, "sender", "0"),
+        option_or(alloc, "receiver", "1"),
+        option_or(alloc, "kind", "lamport"),
+        option_or(alloc, "skip", "0"),
+        option_or(alloc, "jobs", "1"),
+        buffer_option(alloc),
+    ]?;
+    command_with(alloc, "callers", args)
 }
 
 /// `--name`, which has no value.
@@ -228,6 +248,7 @@ pub fn ztso_command<'a>(alloc: Global) -> Result<Command<'a>, AllocError>
     let command = and(command, find_command(alloc));
     let command = and(command, schedule_command(alloc, "debug"));
     let command = and(command, try_command(alloc));
+    let command = and(command, callers_command(alloc));
     let command = and(command, channel_command(alloc));
     let command = and(command, threads_command(alloc));
     and(command, ring_command(alloc))

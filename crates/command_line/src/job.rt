@@ -30,6 +30,24 @@ pub enum Ring {
     LamportCached,
 }
 
+/// A kind of queue whose functions code calls.
+#[derive(Clone, Copy)]
+pub enum QueueKind {
+    Lamport,
+    FastForward,
+}
+
+/// A queue whose functions code calls: its kind, where its block lies, how many slots it has, and which harts send and
+/// receive.
+#[derive(Clone, Copy)]
+pub struct CalledQueue {
+    pub kind: QueueKind,
+    pub base: u32,
+    pub slots: u32,
+    pub sender: u32,
+    pub receiver: u32,
+}
+
 /// What is done with a machine.
 #[derive(Clone, Copy)]
 pub enum MachineCommand {
@@ -60,6 +78,13 @@ pub enum MachineCommand {
     Try {
         seed: u64,
         runs: Runs,
+    },
+    /// To make these runs of a litmus test whose harts call this queue's functions, by schedules that are drawn from a
+    /// generator of this seed, and to tell what its callers owe.
+    Callers {
+        seed: u64,
+        runs: Runs,
+        queue: CalledQueue,
     },
     /// To run a channel over lists of words by a schedule, through rings of this kind at this place, and to
     /// `finish` it by a plan.

@@ -3,6 +3,7 @@
 ghost use Rattle.std.specs.Prelude.{◌≡◌, ◌∷◌, ℕ, List, IfOk, map, option_and_then, option_map};
 ghost use Rattle.clap.specs.Words.{FailsBy, fault_of, first_of, found_of, rows_of, subcommand_of, subcommand_rows_of};
 ghost use Rattle.command_line.specs.CommandLines.{GivesJob, capacity_said, job_at, channel_in, chart_in, find_in, flag_said};
+ghost use Rattle.command_line.specs.CommandLines.{callers_in, queue_in, queue_kind_said};
 ghost use Rattle.command_line.specs.CommandLines.{show_in, style_said, selection_said, job_said, number_if_said};
 ghost use Rattle.command_line.specs.CommandLines.{machine_in, own_in, on_file, on_file_and_schedule, on_channel};
 ghost use Rattle.command_line.specs.CommandLines.{on_file_and_standard, on_own_channel, on_programs_and_standard};
@@ -14,7 +15,9 @@ ghost use Rattle.command_line.specs.Jobs.{Wanted, wanted_by};
 
 use crate::description::ztso_command;
 use crate::fault::CommandLineError;
-use crate::job::{Capacity, CodeCommand, Command, Input, Job, MachineCommand, Ring};
+use crate::job::{
+    CalledQueue, Capacity, CodeCommand, Command, Input, Job, MachineCommand, QueueKind, Ring,
+};
 use crate::numbers::{count_of, number_of};
 use chart::charts::{Selection, Style};
 use clap::ArgMatches;
@@ -24,11 +27,14 @@ use recorder::MAX_EVENTS;
 use std::alloc::Global;
 use std::convert::AsStr;
 
-/// The most runs that `try` and `ring` make.
+/// The most runs that `try`, `callers` and `ring` make.
 const MOST_RUNS: u32 = 100_000;
 
 /// The most threads that share them.
 const MOST_JOBS: u32 = 64;
+
+/// The greatest number of a hart.
+const LAST_HART: u32 = 63;
 
 /// The most states that `find` sees.
 const MOST_STATES: u32 = 16_777_216;
@@ -75,6 +81,7 @@ fn job_at<'a>(matches: &ArgMatches<'a>) -> Option<Job<'a>>
         ),
         ("find", options) => on_file(options, find_in(options)),
         ("try", options) => on_file(options, machine_in(options, try_in(options))),
+        ("callers", options) => on_file(options, machine_in(options, callers_in(options))),
         ("channel", options) => on_channel(options),
         ("threads", options) => on_file(options, threads_in(options)),
         ("ring", options) => on_programs_and_standard(options, ring_in(options)),
@@ -282,6 +289,34 @@ fn try_in(options: &ArgMatches<'_>) -> Option<MachineCommand>
     Some(MachineCommand::Try { seed, runs })
 }
 
+/// The queue whose functions code calls.
+fn queue_in(options: &ArgMatches<'_>) -> Option<CalledQueue>
+    ensures { result ≡ queue_in (rows_of (found_of options.now)) }
+{
+    let kind = queue_kind_of(word_in(options, "kind")?)?;
+    let base = count_of(word_in(options, "base")?, 0, u32::MAX)?;
+    let slots = count_of(word_in(options, "slots")?, 0, u32::MAX)?;
+    let sender = count_of(word_in(options, "sender")?, 0, LAST_HART)?;
+    let receiver = count_of(word_in(options, "receiver")?, 0, LAST_HART)?;
+    Some(CalledQueue {
+        kind,
+        base,
+        slots,
+        sender,
+        receiver,
+    })
+}
+
+/// The runs that `callers` is to make, and of which queue.
+fn callers_in(options: &ArgMatches<'_>) -> Option<MachineCommand>
+    ensures { result ≡ callers_in (rows_of (found_of options.now)) }
+{
+    let seed = seed_in(options)?;
+    let runs = runs_in(options)?;
+    let queue = queue_in(options)?;
+    Some(MachineCommand::Callers { seed, runs, queue })
+}
+
 /// The runs that `ring` is to make, and of which channel.
 fn ring_in(options: &ArgMatches<'_>) -> Option<Command>
     ensures { result ≡ ring_in (rows_of (found_of options.now)) }
@@ -401,6 +436,16 @@ fn ring_of(text: &str) -> Option<Ring>
         "lamport" => Some(Ring::Lamport),
         "fastforward" => Some(Ring::FastForward),
         "cached" => Some(Ring::LamportCached),
+        _ => None,
+    }
+}
+
+fn queue_kind_of(text: &str) -> Option<QueueKind>
+    ensures { result ≡ queue_kind_said text.now }
+{
+    match text {
+        "lamport" => Some(QueueKind::Lamport),
+        "fastforward" => Some(QueueKind::FastForward),
         _ => None,
     }
 }

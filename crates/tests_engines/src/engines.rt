@@ -1,6 +1,7 @@
 //! The engines under one call.
 
 use crate::devices::{Reader, Writer};
+use callers::{Queue, QueueKind, callers_engine};
 use channel_engines::channel::channel_engine;
 use channel_engines::own_channel::own_channel_engine;
 use channel_engines::ring::ring_engine;
@@ -32,6 +33,8 @@ use view_engines::shrinking::shrink_engine;
 #[derive(Clone, Copy)]
 pub enum Engine {
     Asm,
+    /// One run of Lamport's queue of 2 slots at 64, from hart 0 to hart 1.
+    Callers,
     /// As text.
     Chart,
     /// A Lamport ring of 2 slots.
@@ -78,6 +81,14 @@ const RING: BlockPlace = BlockPlace {
     slots: 2,
     base: 0,
     stride: None,
+};
+
+const QUEUE: Queue = Queue {
+    kind: QueueKind::Lamport,
+    base: 64,
+    slots: 2,
+    sender: 0,
+    receiver: 1,
 };
 
 const ONE_RUN: Runs = Runs {
@@ -131,6 +142,20 @@ pub fn answer(
     } = inputs;
     match engine {
         Engine::Asm => asm_engine(alloc, first, writer),
+        Engine::Callers => {
+            let generator = Pcg32::new(42, 54);
+            callers_engine::<4, 4096, _, _, _, _, _>(
+                rt,
+                alloc,
+                first,
+                QUEUE,
+                &generator,
+                ONE_RUN,
+                &mut Nobody,
+                writer,
+            )
+            .map(|_| ())
+        }
         Engine::Chart => {
             chart_engine::<4, 4096, _, _, _>(
                 alloc,

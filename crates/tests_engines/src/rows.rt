@@ -45,7 +45,7 @@ a0 store 0 0 1
 l0 land 0
 ";
 
-pub const ROWS: [Row; 18] = [
+pub const ROWS: [Row; 19] = [
     Row {
         engine: Engine::Asm,
         texts: [b"loop: addi x5,x5,-1\nbnez x5,loop\n", NONE, NONE, NONE],
@@ -84,6 +84,11 @@ Holds
         engine: Engine::Move,
         texts: [STORE_BUFFERING, SCHEDULE, NONE, NONE],
         wanted: RECORD,
+    },
+    Row {
+        engine: Engine::Callers,
+        texts: [STORE_BUFFERING, NONE, NONE, NONE],
+        wanted: b"ztso-schedule 1\nhart 0 has no lamport_try_send in its code\n",
     },
     // what a record says is read again
     Row {

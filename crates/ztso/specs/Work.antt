@@ -27,6 +27,10 @@ use Rattle.view_engines.specs.declared.showing.Form.TheVariants as form
 use Rattle.run_engines.specs.Replay.{IsReplayAnswer}
 use Rattle.debugger.specs.Transcripts.{EndsInteractive, IsDebugAnswer, IsDebugFront, IsDebugSome, OnStopped, OnUnwritten}
 use Rattle.tries.specs.Outcomes.{IsTryAnswer}
+use Rattle.callers.specs.Answers.{IsCallersAnswer}
+use Rattle.callers.specs.declared.queue.Queue.{Queue}
+use Rattle.callers.specs.declared.queue.QueueKind.{QueueKind}
+use Rattle.callers.specs.declared.queue.QueueKind.TheVariants as kind
 use Rattle.engine_support.specs.Schedules.{schedules}
 use Rattle.poll_close.specs.Places.{layout_of}
 use Rattle.poll_close.specs.declared.place.BlockPlace.{BlockPlace}
@@ -45,10 +49,13 @@ use Rattle.command_line.specs.declared.job.Capacity.{Capacity}
 use Rattle.command_line.specs.declared.job.Capacity.TheVariants.{One, Two, Four, Sixteen}
 use Rattle.command_line.specs.declared.job.Ring.{Ring as RingKind}
 use Rattle.command_line.specs.declared.job.Ring.TheVariants.{Lamport, FastForward, LamportCached}
+use Rattle.command_line.specs.declared.job.QueueKind.{QueueKind as KindAsked}
+use Rattle.command_line.specs.declared.job.QueueKind.TheVariants as asked
+use Rattle.command_line.specs.declared.job.CalledQueue.{CalledQueue}
 use Rattle.command_line.specs.declared.job.Command.{Command}
 use Rattle.command_line.specs.declared.job.Command.TheVariants.{Code, Machine, Find, Threads, Own, Ring}
 use Rattle.command_line.specs.declared.job.CodeCommand.TheVariants.{Asm, Dis}
-use Rattle.command_line.specs.declared.job.MachineCommand.TheVariants.{Steps, Run, Replay, Move, Shrink, Chart, Show, Check, Debug, Try, Channel}
+use Rattle.command_line.specs.declared.job.MachineCommand.TheVariants.{Steps, Run, Replay, Move, Shrink, Chart, Show, Check, Debug, Try, Callers, Channel}
 use Rattle.ztso.specs.declared.failure.Failure.{Failure}
 use Rattle.ztso.specs.declared.failure.Failure.TheVariants.{Engine}
 use Rattle.ztso.specs.declared.work.TheConstants.{WORDS}
@@ -74,6 +81,20 @@ abbrev pub tables_of : RingKind → RingTables
 tables_of Lamport = lamport
 tables_of FastForward = fastforward
 tables_of LamportCached = lamport_cached
+
+abbrev pub queue_kind_of : KindAsked → QueueKind
+queue_kind_of asked.Lamport = kind.Lamport
+queue_kind_of asked.FastForward = kind.FastForward
+
+-- the queue whose callers are asked about
+abbrev pub queue_of : CalledQueue → Queue
+queue_of called = record {
+  kind = queue_kind_of called.kind;
+  base = called.base;
+  slots = called.slots;
+  sender = called.sender;
+  receiver = called.receiver;
+}
 
 -- in which form `show` tells a test
 abbrev pub form_of : (steps : Bool) → Form
@@ -134,6 +155,8 @@ Does B (Machine Debug capacity) result given = DoneAlong done_exit (IsDebugAnswe
     (λ out. IsDebugSome B WORDS given.commands given.first given.second (Ok (out, tt))) result
 Does B (Machine (Try seed runs) capacity) result given = Done good_exit
     (IsTryAnswer B WORDS (left_after (runs.skip * runs.length) (drawn_from seed)) runs.number runs.length given.first) result
+Does B (Machine (Callers seed runs queue) capacity) result given = Done good_exit
+    (IsCallersAnswer B WORDS (queue_of queue) (left_after (runs.skip * runs.length) (drawn_from seed)) runs.number runs.length given.first) result
 Does B (Machine (Channel ring place finish) capacity) result given =
     Done done_exit (IsChannelAnswer (tables_of ring) B WORDS (layout_of place []) finish given.first given.second) result
 Does B (Find states capacity) result given = Done found_exit (IsFindAnswer B WORDS (max states 1) given.first) result
@@ -162,6 +185,7 @@ abbrev pub LeavesSecond : Command → Result ℕ Failure → (first : Option (Li
 LeavesSecond (Machine Steps capacity) result first = Unit {0}
 LeavesSecond (Machine (Show steps) capacity) result first = Unit {0}
 LeavesSecond (Machine (Try seed runs) capacity) result first = Unit {0}
+LeavesSecond (Machine (Callers seed runs queue) capacity) result first = Unit {0}
 LeavesSecond (Machine (Channel ring place finish) capacity) result first = IsRefused schedules first
 LeavesSecond (Machine Check capacity) result first = IsRefusal result × IsRefused tests first
 LeavesSecond (Machine command capacity) result first = IsRefused tests first

@@ -3,14 +3,15 @@
 //! The contract: [`command_line::job_of`] states which words ask for which job, [`work::do_command`] which
 //! engine does it with what capacity and with which exit status, and [`failure::Failure`] the exit status of each failure.
 //! This crate knows no text, no instruction and no machine. Only the command `threads` may wait, for the lock
-//! and for its threads. The jobs of `try` and `ring` are threads too, but what does any other command than `threads` has no
-//! leave to wait.
+//! and for its threads. The jobs of `try`, `callers` and `ring` are threads too, but what does any other command than
+//! `threads` has no leave to wait.
 
 #![tactic(auto)]
 
 ghost use Rattle.std.specs.Prelude.{◌≡◌, ◌≤◌, IfOk};
 ghost use Rattle.ztso.specs.Work.{judges_records};
 
+mod calling;
 mod clock_line;
 mod failure;
 mod lazy_input;

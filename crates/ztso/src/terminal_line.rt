@@ -1,4 +1,4 @@
-//! A line of a terminal that tells how far `try`, `ring` or `find` is, and which harts stopped.
+//! A line of a terminal that tells how far `try`, `callers`, `ring` or `find` is, and which harts stopped.
 
 ghost use Rattle.std.specs.Prelude.{◌≡◌, ◌≤◌, ◌*◌, ◌/◌, max, min, None, replicate, true};
 ghost use Rattle.tries.specs.declared.stops.TheConstants.{PLACES};

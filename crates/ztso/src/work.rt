@@ -22,6 +22,7 @@ ghost use Rattle.engine_support.specs.declared.fault.Role.TheVariants.{Sender, R
 ghost use Rattle.channel_engines.specs.Programs.{programs};
 ghost use Rattle.channel_engines.specs.Rings.{IsRingAnswer};
 
+use crate::calling::call_drawn;
 use crate::failure::{Failure, after, after_run, after_runs, after_search};
 use channel_engines::channel::channel_engine;
 use channel_engines::own_channel::own_channel_engine;
@@ -311,6 +312,9 @@ fn do_machine<const B: usize, T: Threads + Sync, I: Read, C: Read, W: Write, P: 
         MachineCommand::Try { seed, runs } => {
             after_runs(try_drawn::<B, _, _, _, _>(rt, alloc, seed, runs, first, progress, writer))
         }
+        MachineCommand::Callers { seed, runs, queue } => after_runs(call_drawn::<B, _, _, _, _>(
+            rt, alloc, seed, runs, queue, first, progress, writer,
+        )),
         MachineCommand::Channel {
             kind,
             place,
@@ -411,8 +415,8 @@ fn capacity_of(command: Command) -> Capacity
 
 /// Does a command on these streams: reads its inputs in their order, each after an accepted one before it, and a user's
 /// commands, and writes what it answers. It answers the exit status: 0, but 1 where the verdict is that the test fails or
-/// is unfinished, the runs that were tried don't show what the test asks, a record was refused, or a run of a channel isn't
-/// clean. `progress` gets the reports of runs that are tried, and `search` those of a search.
+/// is unfinished, the runs that were tried don't show what the test asks, a record was refused, callers of a queue owe
+/// something, or a run of a channel isn't clean. `progress` gets the reports of runs that are tried, and `search` those of a search.
 pub fn do_command<R, I: Read, C: Read, W: Write, P: Progress, Q: SearchProgress>(
     rt: &R,
     command: Command,

@@ -44,5 +44,8 @@ returns-in-Debug-clause-unasked g c = λ capacity. rw c.in-Debug.is
 pub returns-in-Try-clause-does : goal.returns-in-Try-clause-does
 returns-in-Try-clause-does g c = λ capacity. rw c.in-Try.is (c.try_drawn.result, c.after_runs-in-Try.ensures.ended, c.try_drawn.ensures)
 
+pub returns-in-Callers-clause-does : goal.returns-in-Callers-clause-does
+returns-in-Callers-clause-does g c = λ capacity. rw c.in-Callers.is (c.call_drawn.result, c.after_runs-in-Callers.ensures.ended, c.call_drawn.ensures)
+
 pub returns-in-Channel-clause-does : goal.returns-in-Channel-clause-does
 returns-in-Channel-clause-does g c = λ capacity. rw c.in-Channel.is (c.run_rings.result, c.after-in-Channel.ensures.ended, c.run_rings.ensures.ends)
