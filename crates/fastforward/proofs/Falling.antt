@@ -1,27 +1,20 @@
 -- What a plan needs of one block of FastForward.
-use Rattle.std.proofs.Common.{ℕ, ◌+◌, ◌*◌, ◌%◌, ◌^◌, ◌<◌, ◌≤◌, ◌≡◌, ◌≢◌, ◌==◌, inl, inr, true, false, not, []}
-use Rattle.std.proofs.Common.{Option, Some, refl, sym, ◌∙◌, ap, arith, lit≤}
-use Rattle.std.specs.Prelude.{slice_index, option_map}
+use Rattle.std.proofs.Common.{ℕ, ◌+◌, ◌<◌, ◌≤◌, ◌≡◌, ◌≢◌, ◌==◌, inl, inr, true, false, not, [], Some, refl, ◌∙◌, ap, arith, lit≤}
+use Rattle.std.specs.Prelude.{slice_index}
 use Rattle.std.proofs.lemmas.Bool.{cases_eq, and_parts}
 use Rattle.std.proofs.lemmas.Bool.Decides.{nat_tests}
 use Rattle.hart.specs.State.{HartState}
-use Rattle.hart.specs.declared.status.Status.{Status}
 use Rattle.hart.specs.declared.status.Status.TheVariants as status
-use Rattle.step_machine.specs.History.{History}
-use Rattle.step_machine.specs.Entries.{memory_word}
-use Rattle.step_machine.specs.Paths.{state_of}
-use Rattle.step_machine.specs.WordReads.{word_in_memory}
-use Rattle.poll_close.specs.Rankings.{Decreases, runs, rank_of, next_by, ready_if, is_ready}
+use Rattle.poll_close.specs.Rankings.{Decreases, runs, rank_of, next_by}
 use Rattle.poll_close.specs.Invariant.Blocks.{Block, slot, slot_store, tail_store}
-use Rattle.poll_close.specs.Invariant.SenderState.{SenderRegisters}
 use Rattle.poll_close.specs.Invariant.BlockInvariant.{unsent_of, unread_of}
 use Rattle.poll_close.specs.Invariant.Outlines.{stands, SenderIs, Standing}
 use Rattle.poll_close.proofs.Windows.{none_left, singles-length, pairs-length}
-use Rattle.poll_close.proofs.Blocks.{IsBlock, offset_low}
+use Rattle.poll_close.proofs.Blocks.{IsBlock, slot_at}
 use Rattle.poll_close.proofs.Outlines.{stands_at, has_ended, nearer}
 use Rattle.poll_close.proofs.Distance.{BlockProgress}
 use Rattle.poll_close.proofs.Progress.{falls}
-use Rattle.poll_close.proofs.Standing.{Sender, value_is}
+use Rattle.poll_close.proofs.MayLoad.{AllMayLoad, may_load}
 use Rattle.fastforward.specs.Listing.{fastforward}
 use Rattle.fastforward.specs.FastForward.{fastforward_blocks, fastforward_means, waits, fastforward_ranking}
 use Rattle.fastforward.specs.Invariant.Stores.{null_store, sender_stores, receiver_stores}
@@ -52,6 +45,13 @@ at_10 : (k : Block) (n : Counters) (s : HartState) → (st : Standing sender k n
     → (s ≡ stands sender k 0x10 n.sender st.written) × SenderIs sender 0x10 k n.sender st.written
 at_10 k n s st is = stands_at sender k n.sender s st 0x10 is (omega arith) (omega arith)
 
+place : (k : Block) (n : Counters) (s : HartState) → Standing sender k n.sender s → s.pc ≡ 0x10
+    → slice_index s.registers 28 + 16 ≡ slot k.size k.base n.sender.stored
+place k n s st is =
+    let at = at_10 k n s st is in
+    ap (λ (z : HartState). slice_index z.registers 28 + 16) at.0
+    ∙ (let same : st.written.x28 + 16 ≡ slot k.size k.base n.sender.stored = omega (arith, at.1.0.index, at.1.1) in same)
+
 -- a slot that is not empty when all has landed holds a word that the receiver has not taken
 ready : (k : Block) (n : Counters) (s : HartState) (word : ℕ → ℕ) → IsBlock k → 1 ≤ k.size → CounterInvariant k n
     → Words k n.landed word → Standing sender k n.sender s → s.status ≡ status.Running
@@ -59,11 +59,8 @@ ready : (k : Block) (n : Counters) (s : HartState) (word : ℕ → ℕ) → IsBl
     → n.receiver.tails < n.landed.slots
 ready k n s word is one order words st running none empty wait =
     let test = and_parts (s.pc == 0x10) (not (word (slice_index s.registers 28 + 16) == 0)) wait in
-    let at = at_10 k n s st (let on : (s.pc == 0x10) ≡ true = test.0 in grind (arith, nat_tests)) in
-    let r : SenderRegisters = st.written in
-    let place : slice_index s.registers 28 + 16 ≡ slot k.size k.base n.sender.stored =
-    ap (λ (z : HartState). slice_index z.registers 28 + 16) at.0
-    ∙ (let same : r.x28 + 16 ≡ slot k.size k.base n.sender.stored = omega (arith, at.1.0.index, at.1.1) in same) in
+    let here : s.pc ≡ 0x10 = let on : (s.pc == 0x10) ≡ true = test.0 in grind (arith, nat_tests) in
+    let at = at_10 k n s st here in
     let some : word (slice_index s.registers 28 + 16) ≢ 0 =
     let off : not (word (slice_index s.registers 28 + 16) == 0) ≡ true = test.1 in
     grind (arith, nat_tests) in
@@ -82,7 +79,7 @@ ready k n s word is one order words st running none empty wait =
         order.done_landed,
         order.tails_nulls,
       )
-      | inr free ↦ absurd (some (ap word place ∙ words.empty n.sender.stored (omega (arith, order.slots_landed)) (omega (arith, free, order.room))))
+      | inr free ↦ absurd (some (ap word (place k n s st here) ∙ words.empty n.sender.stored (omega (arith, order.slots_landed)) (omega (arith, free, order.room))))
     ]
 
 marked : (k : Block) (n : Counters) (s : HartState) → IsBlock k → CounterInvariant k n → Standing sender k n.sender s
@@ -103,33 +100,7 @@ fastforward_progress = record {
 pub fastforward_falls : Decreases fastforward fastforward_means (rank_of fastforward_ranking) (next_by fastforward_ranking)
 fastforward_falls = falls fastforward_blocks laws 1 (lit≤ tt) fastforward_progress
 
--- the address of its slot
-pub address : (M : ℕ) (t : History) (h : ℕ) (d : Sender fastforward_blocks M t h) (pc v : ℕ)
-    → option_map (λ (s : HartState). s.pc) (state_of M t h) ≡ Some pc → pc ≡ 0x10
-    → option_map (λ (s : HartState). slice_index s.registers 28) (state_of M t h) ≡ Some v
-    → (v + 16 < 2 ^ 32) × ((v + 16) % 4 ≡ 0) × (v + 16 < 4 * M)
-address M t h d pc v pc_at ten v_at =
-    let at = at_10 d.block d.numbers d.state d.stands (sym (value_is (λ (s : HartState). s.pc) (state_of M t h) d.state pc d.at pc_at) ∙ ten) in
-    let same : v ≡ d.stands.written.x28 = value_is (λ (s : HartState). slice_index s.registers 28) (state_of M t h)
-    d.state v d.at v_at ∙ ap (λ (s : HartState). slice_index s.registers 28) at.0 in
-    let low = offset_low d.block d.is d.numbers.sender.stored in (
-      omega (arith, same, at.1.1, at.1.0.index, low, d.is.inside, d.is.small),
-      omega (arith, same, at.1.1, at.1.0.index, d.is.even),
-      omega (arith, same, at.1.1, at.1.0.index, low, d.is.inside, d.words),
-    )
-
-ready_of : (word : ℕ → ℕ) (o : Option HartState) (s : HartState) (w : ℕ) → o ≡ Some s → s.status ≡ status.Running
-    → s.pc ≡ 0x10 → w ≡ word (slice_index s.registers 28 + 16) → (w == 0) ≡ ready_if fastforward_ranking word o
-ready_of word o s w is run at one = grind arith
-
-pub ready_is : (M : ℕ) (t : History) (h : ℕ) (d : Sender fastforward_blocks M t h) (stat : Status) (pc a w : ℕ)
-    → option_map (λ (s : HartState). s.status) (state_of M t h) ≡ Some stat → stat ≡ status.Running
-    → option_map (λ (s : HartState). s.pc) (state_of M t h) ≡ Some pc → pc ≡ 0x10
-    → option_map (λ (s : HartState). slice_index s.registers 28) (state_of M t h) ≡ Some a
-    → w ≡ memory_word t.opening t.entries (a + 16) → (w == 0) ≡ is_ready fastforward_ranking M t h
-ready_is M t h d stat pc a w stat_at run pc_at at a_at w_is =
-    let place : a ≡ slice_index d.state.registers 28 = value_is (λ (s : HartState). slice_index s.registers 28) (state_of M t h) d.state a d.at a_at in
-    ready_of (word_in_memory t.opening t.entries) (state_of M t h) d.state w d.at
-    (sym (value_is (λ (s : HartState). s.status) (state_of M t h) d.state stat d.at stat_at) ∙ run)
-    (sym (value_is (λ (s : HartState). s.pc) (state_of M t h) d.state pc d.at pc_at) ∙ at)
-    (w_is ∙ d.memory (a + 16) (address M t h d pc a pc_at at a_at).1 ∙ ap (λ z. word_in_memory t.opening t.entries (z + 16)) place)
+-- it reads its slot
+pub fastforward_loads : AllMayLoad fastforward fastforward_means 0x10 28 16
+fastforward_loads = may_load fastforward_blocks fastforward (lit≤ tt) 0x10 28 16
+    (λ k n s is st here. slot_at k is (slice_index s.registers 28 + 16) n.sender.stored (place k n s st here))

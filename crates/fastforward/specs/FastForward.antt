@@ -1,8 +1,9 @@
 -- FastForward, what its histories mean, and how far its harts are from their ends.
-use Rattle.std.specs.Prelude.{ℕ, ◌+◌, ◌==◌, Bool, not, ◌&&◌, slice_index, ◌<◌}
+use Rattle.std.specs.Prelude.{ℕ, ◌<◌, Bool, None}
 use Rattle.hart.specs.State.{HartState}
 use Rattle.poll_close.specs.Laws.{Meaning}
 use Rattle.poll_close.specs.Rankings.{Ranking}
+use Rattle.poll_close.specs.Waiting.{waits_at}
 use Rattle.poll_close.specs.Invariant.BlockInvariant.{BlockInvariant, ranking_of}
 use Rattle.poll_close.specs.Invariant.Channels.{means_by}
 use Rattle.fastforward.specs.Listing.{ring_lines}
@@ -13,7 +14,7 @@ use Rattle.fastforward.specs.Invariant.RingLines.{Level, Filled, rows}
 
 -- it is about to read its slot, and will find a word there
 abbrev pub waits : HartState → (ℕ → ℕ) → Bool
-waits s word = (s.pc == 0x10) && not (word (slice_index s.registers 28 + 16) == 0)
+waits = waits_at 0x10 28 16 None
 
 abbrev pub fastforward_blocks : BlockInvariant
 fastforward_blocks = record {

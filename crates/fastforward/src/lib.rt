@@ -8,8 +8,7 @@ ghost use Rattle.poll_close.specs.Listing.{lines_of};
 ghost use Rattle.fastforward.specs.Listing.{listing, fastforward};
 ghost use Rattle.poll_close.specs.Means.{AllMean};
 
-use hart::status::Status;
-use poll_close::{Finish, RingKind, receiver};
+use poll_close::{Finish, RingKind, is_ready_at, receiver};
 use step_machine::Machine;
 
 /// The words of the sender's listing.
@@ -53,13 +52,7 @@ impl<const B: usize, const M: usize> Finish<B, M> for FastForward {
     ghost ranking = { fastforward_ranking };
 
     fn is_ready(machine: &Machine<B, M>, hart: u32) -> bool {
-        match machine.status(hart) {
-            Status::Running => {
-                machine.pc(hart) != 0x10 || machine.word(machine.register(hart, 28) + 16) == 0
-            }
-            Status::Ended => false,
-            Status::Stopped(_) => false,
-        }
+        is_ready_at(machine, hart, 0x10, 28, 16, None)
     }
 
     #[tactic(auto, using(crate::proofs::Falling::fastforward_falls))]

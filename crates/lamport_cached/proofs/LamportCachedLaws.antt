@@ -12,10 +12,11 @@ use Rattle.poll_close.proofs.BlockLaws.{BlockLaws, opens_with}
 use Rattle.poll_close.proofs.Outlines.{stands_at}
 use Rattle.poll_close.proofs.ChannelLaws.{AllLaws, all_laws}
 use Rattle.poll_close.proofs.Progress.{falls}
+use Rattle.poll_close.proofs.MayLoad.{AllMayLoad}
 use Rattle.lamport_ring.specs.Invariant.Counters.{Sent, Counters, CounterInvariant, Words}
 use Rattle.lamport_ring.specs.Invariant.Programs.{outline_of}
 use Rattle.lamport_ring.proofs.Laws.{Reads, SenderLaws, block_laws, nothing}
-use Rattle.lamport_ring.proofs.Falling.{progress}
+use Rattle.lamport_ring.proofs.Falling.{progress, loads_tail}
 use Rattle.lamport_ring.proofs.SenderSteps.{none_read}
 use Rattle.lamport_cached.specs.Listing.{lamport_cached}
 use Rattle.lamport_cached.specs.LamportCached.{lamport_cached_blocks, lamport_cached_means, lamport_cached_ranking}
@@ -54,3 +55,6 @@ lamport_cached_laws = all_laws lamport_cached_blocks laws 2 (lit≤ tt) (lit≤ 
 
 pub lamport_cached_falls : Decreases lamport_cached lamport_cached_means (rank_of lamport_cached_ranking) (next_by lamport_cached_ranking)
 lamport_cached_falls = falls lamport_cached_blocks laws 2 (lit≤ tt) (progress program owes)
+
+pub lamport_cached_loads : AllMayLoad lamport_cached lamport_cached_means 0x1C 8 8
+lamport_cached_loads = loads_tail program lamport_cached (lit≤ tt)

@@ -8,8 +8,7 @@ ghost use Rattle.poll_close.specs.Listing.{lines_of};
 ghost use Rattle.lamport_cached.specs.Listing.{listing, lamport_cached};
 ghost use Rattle.poll_close.specs.Means.{AllMean};
 
-use hart::status::Status;
-use poll_close::{Finish, RingKind, receiver};
+use poll_close::{Finish, RingKind, is_ready_at, receiver};
 use step_machine::Machine;
 
 /// The words of the sender's listing.
@@ -54,14 +53,7 @@ impl<const B: usize, const M: usize> Finish<B, M> for LamportCached {
     ghost ranking = { lamport_cached_ranking };
 
     fn is_ready(machine: &Machine<B, M>, hart: u32) -> bool {
-        match machine.status(hart) {
-            Status::Running => {
-                machine.pc(hart) != 0x1C
-                    || machine.word(machine.register(hart, 8) + 8) != machine.register(hart, 6)
-            }
-            Status::Ended => false,
-            Status::Stopped(_) => false,
-        }
+        is_ready_at(machine, hart, 0x1C, 8, 8, Some(6))
     }
 
     #[tactic(auto, using(crate::proofs::LamportCachedLaws::lamport_cached_falls))]

@@ -1,25 +1,20 @@
 -- What a plan needs of one block, whatever the sender's program, by what that owes.
-use Rattle.std.proofs.Common.{ℕ, ◌+◌, ◌*◌, ◌%◌, ◌^◌, ◌<◌, ◌≤◌, ◌≡◌, ◌==◌, inl, inr, true, false, not, [], Option, Some, refl, sym, ◌∙◌, ap, arith}
-use Rattle.std.specs.Prelude.{slice_index, option_map}
+use Rattle.std.proofs.Common.{ℕ, ◌+◌, ◌<◌, ◌≤◌, ◌≡◌, ◌==◌, inl, inr, true, false, [], Some, refl, sym, ◌∙◌, ap, arith}
+use Rattle.std.specs.Prelude.{slice_index}
 use Rattle.std.proofs.lemmas.Bool.{cases_eq, and_parts}
 use Rattle.std.proofs.lemmas.Bool.Decides.{nat_tests}
 use Rattle.hart.specs.State.{HartState}
-use Rattle.hart.specs.declared.status.Status.{Status}
-use Rattle.hart.specs.declared.status.Status.TheVariants as status
-use Rattle.step_machine.specs.History.{History}
-use Rattle.step_machine.specs.Entries.{memory_word}
-use Rattle.step_machine.specs.Paths.{state_of}
-use Rattle.step_machine.specs.WordReads.{word_in_memory}
-use Rattle.poll_close.specs.Rankings.{runs, ready_if, is_ready}
+use Rattle.poll_close.specs.Laws.{Ring}
+use Rattle.poll_close.specs.Rankings.{runs}
 use Rattle.poll_close.specs.Invariant.Blocks.{Block, offset, slot_store, tail_store, window}
 use Rattle.poll_close.specs.Invariant.Outlines.{Standing}
-use Rattle.poll_close.specs.Invariant.BlockInvariant.{ranking_of}
+use Rattle.poll_close.specs.Invariant.Channels.{means_by}
 use Rattle.step_machine.proofs.Modulo.{same_offset}
 use Rattle.poll_close.proofs.Windows.{none_left, singles-length, pairs-length}
-use Rattle.poll_close.proofs.Blocks.{IsBlock}
+use Rattle.poll_close.proofs.Blocks.{IsBlock, word_from}
 use Rattle.poll_close.proofs.Outlines.{base_is, has_ended, nearer}
 use Rattle.poll_close.proofs.Distance.{BlockProgress}
-use Rattle.poll_close.proofs.Standing.{Sender, value_is}
+use Rattle.poll_close.proofs.MayLoad.{AllMayLoad, may_load}
 use Rattle.lamport_ring.specs.Invariant.Stores.{head_store, sender_stores, receiver_stores}
 use Rattle.lamport_ring.specs.Invariant.Counters.{Counters, sent, gone, CounterInvariant, Words, taken, freed}
 use Rattle.lamport_ring.specs.Invariant.Programs.{Program, outline_of, waits, blocks_of}
@@ -110,31 +105,7 @@ module _ (p : Program) (laws : SenderLaws p) where
     marked = λ k n s is order st off none. marked k n s order st off none;
   }
 
--- the tail's address
-pub address : (p : Program) (M : ℕ) (t : History) (h : ℕ) (d : Sender (blocks_of p) M t h) (v : ℕ)
-    → option_map (λ (s : HartState). slice_index s.registers 8) (state_of M t h) ≡ Some v
-    → (v + 8 < 2 ^ 32) × ((v + 8) % 4 ≡ 0) × (v + 8 < 4 * M)
-address p M t h d v at =
-    let same : v ≡ d.block.base = value_is (λ (s : HartState). slice_index s.registers 8) (state_of M t h) d.state v
-    d.at at ∙ base_is (outline_of p) d.block d.numbers.sender d.state d.stands in
-    (omega (arith, same, d.is.inside, d.is.small, d.is.some_slot), omega (arith, same, d.is.even), omega (arith, same, d.is.inside, d.words, d.is.some_slot))
-
-ready_of : (p : Program) (word : ℕ → ℕ) (o : Option HartState) (s : HartState) (w x : ℕ) → o ≡ Some s → s.status ≡ status.Running
-    → (s.pc == p.reads) ≡ true → w ≡ word (slice_index s.registers 8 + 8) → x ≡ slice_index s.registers 6
-    → not (w == x) ≡ ready_if (ranking_of (blocks_of p)) word o
-ready_of p word o s w x is run at one two = rw (is, run, at, one, two) refl
-
-pub ready_is : (p : Program) (M : ℕ) (t : History) (h : ℕ) (d : Sender (blocks_of p) M t h) (stat : Status) (pc a w x : ℕ)
-    → option_map (λ (s : HartState). s.status) (state_of M t h) ≡ Some stat → stat ≡ status.Running
-    → option_map (λ (s : HartState). s.pc) (state_of M t h) ≡ Some pc → (pc == p.reads) ≡ true
-    → option_map (λ (s : HartState). slice_index s.registers 8) (state_of M t h) ≡ Some a
-    → w ≡ memory_word t.opening t.entries (a + 8)
-    → option_map (λ (s : HartState). slice_index s.registers 6) (state_of M t h) ≡ Some x
-    → not (w == x) ≡ is_ready (ranking_of (blocks_of p)) M t h
-ready_is p M t h d stat pc a w x stat_at run pc_at at a_at w_is x_at =
-    let place : a ≡ slice_index d.state.registers 8 = value_is (λ (s : HartState). slice_index s.registers 8) (state_of M t h) d.state a d.at a_at in
-    ready_of p (word_in_memory t.opening t.entries) (state_of M t h) d.state w x d.at
-    (sym (value_is (λ (s : HartState). s.status) (state_of M t h) d.state stat d.at stat_at) ∙ run)
-    (ap (λ z. z == p.reads) (sym (value_is (λ (s : HartState). s.pc) (state_of M t h) d.state pc d.at pc_at)) ∙ at)
-    (w_is ∙ d.memory (a + 8) (address p M t h d a a_at).1 ∙ ap (λ z. word_in_memory t.opening t.entries (z + 8)) place)
-    (value_is (λ (s : HartState). slice_index s.registers 6) (state_of M t h) d.state x d.at x_at)
+-- it reads the tail in its block
+pub loads_tail : (p : Program) (ring : Ring) → 1 ≤ ring.least → AllMayLoad ring (means_by (blocks_of p)) p.reads 8 8
+loads_tail p ring some = may_load (blocks_of p) ring some p.reads 8 8
+    (λ k n s is st here. word_from k is (slice_index s.registers 8) 8 (base_is (outline_of p) k n.sender s st) (omega arith) refl)

@@ -11,13 +11,14 @@ use Rattle.poll_close.proofs.BlockLaws.{BlockLaws, opens_with}
 use Rattle.poll_close.proofs.Outlines.{stands_at}
 use Rattle.poll_close.proofs.ChannelLaws.{AllLaws, all_laws}
 use Rattle.poll_close.proofs.Progress.{falls}
+use Rattle.poll_close.proofs.MayLoad.{AllMayLoad}
 use Rattle.lamport_ring.specs.Listing.{lamport}
 use Rattle.lamport_ring.specs.Lamport.{lamport_blocks, lamport_means, lamport_ranking}
 use Rattle.lamport_ring.specs.Invariant.Programs.{outline_of}
 use Rattle.lamport_ring.specs.Invariant.Counters.{Sent}
 use Rattle.lamport_ring.specs.Invariant.Sender.{lamport_program}
 use Rattle.lamport_ring.proofs.Laws.{Reads, SenderLaws, block_laws, nothing}
-use Rattle.lamport_ring.proofs.Falling.{progress}
+use Rattle.lamport_ring.proofs.Falling.{progress, loads_tail}
 use Rattle.lamport_ring.proofs.Sender.{lamport_sender, reasons}
 
 stands : (k : Block) → IsBlock k → Standing (outline_of lamport_program) k nothing.sender (opens_with lamport_program.code k)
@@ -44,3 +45,6 @@ lamport_laws = all_laws lamport_blocks laws 2 (lit≤ tt) (lit≤ tt, lit≤ tt)
 
 pub lamport_falls : Decreases lamport lamport_means (rank_of lamport_ranking) (next_by lamport_ranking)
 lamport_falls = falls lamport_blocks laws 2 (lit≤ tt) (progress lamport_program owes)
+
+pub lamport_loads : AllMayLoad lamport lamport_means 0x18 8 8
+lamport_loads = loads_tail lamport_program lamport (lit≤ tt)

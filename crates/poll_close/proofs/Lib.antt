@@ -20,6 +20,7 @@ pub mod ChannelLaws
 pub mod Dense
 pub mod InBlocks
 pub mod Standing
+pub mod MayLoad
 pub mod Planning
 pub mod Distance
 pub mod Shares

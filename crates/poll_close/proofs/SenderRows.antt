@@ -184,7 +184,8 @@ module _ (m : BlockInvariant) (g : Sender m) (k : Block) (n : Count m) (word : �
   pub record Rows : Type 0 where
     -- it only computes or jumps
     pub computes : (j : ℕ) {i : Instr} → IsLine j i
-        → course j (next j i) n.sender (left j i) (need_for (here j) i) (after (here j) v i) (m.sent n.sender) (nat_lt (rank (next j i) (left j i)) (rank (4 * j) r))
+        → course j (next j i) n.sender (left j i) (need_for (here j) i) (after (here j) v i) (m.sent n.sender)
+        (nat_lt (rank (next j i) (left j i)) (rank (4 * j) r))
         ≡ stays_inside j (next j i) n.sender (left j i) need.Inner → SenderIs m.sender (next j i) k n.sender (left j i) → Row (4 * j)
     pub branch_equal : (j : ℕ) {a b : Reg} {o : ℤ} → IsLine j (Branch branch.Equal a b o) → ways j o ≡ inner_ways j o
         → (x a ≡ x b → (x a == x b) ≡ true → Arrives j (address (4 * j) o)) → (x a ≢ x b → (x a == x b) ≡ false → Arrives j (next_pc (4 * j)))
@@ -200,7 +201,8 @@ module _ (m : BlockInvariant) (g : Sender m) (k : Block) (n : Count m) (word : �
         → (v ≡ word (x rs + o) → m.waits (stands m.sender k (4 * j) n.sender r) word ≡ false → rank (next_pc (4 * j)) (loaded rd) < rank (4 * j) r)
         → Row (4 * j)
     pub stores_word : (j : ℕ) {rs from : Reg} {o : ℕ} (made : m.sender.Own) → IsLine j (Store store.Word rs from (pos o))
-        → course j (next_pc (4 * j)) made r need.Inner (goes_to (here j) (next_pc (4 * j))) (m.sent n.sender) (nat_lt (rank (next_pc (4 * j)) r) (rank (4 * j) r))
+        → course j (next_pc (4 * j)) made r need.Inner (goes_to (here j) (next_pc (4 * j))) (m.sent n.sender)
+        (nat_lt (rank (next_pc (4 * j)) r) (rank (4 * j) r))
         ≡ stays_inside j (next_pc (4 * j)) made r need.Inner → IsWordOf k (x rs + o) → m.CounterInvariant k (record n { sender = made })
         → AreNext (m.sender_stores k) (m.sent n.sender) (m.sent made) ((x rs + o, x from) ∷ []) → SenderIs m.sender (next_pc (4 * j)) k made r → Row (4 * j)
     -- it asks for the next word of its list

@@ -2,7 +2,7 @@
 -- sender's hart.
 use Rattle.std.proofs.Common.{◌≡◌, ℕ, ◌+◌, ◌<◌, Result, Ok, Err, List, [], ◌∷◌, length, take, map, refl, sym, ◌∙◌, ap}
 use Rattle.std.proofs.Common.{subst, arith, suc, ◌-◌, ◌%◌, ◌≤◌, Option, Some}
-use Rattle.std.specs.Prelude.{IfOk, IfErr, OnOk, OnErr, option_map}
+use Rattle.std.specs.Prelude.{IfOk, IfErr, OnOk, OnErr}
 use Rattle.hart.specs.declared.need.Report.{Report}
 use Rattle.step_machine.specs.declared.events.Event.{Event}
 use Rattle.step_machine.specs.declared.events.Outcome.{Outcome}
@@ -116,7 +116,3 @@ sender_at m ring some_slot B M t h st some less =
       memory = λ a aligned. memory-word t.opening t.entries a
           (subst OpensWithWords (sym st.opens.opening) st.opens.accepted.empty.small) st.meant.written aligned;
     }
-
--- what is read off its state
-pub value_is : {A : Type 0} (f : HartState → A) (o : Option HartState) (s : HartState) (v : A) → o ≡ Some s → option_map f o ≡ Some v → v ≡ f s
-value_is f o s v is at = let both : Some (f s) ≡ Some v = sym (ap (option_map f) is) ∙ at in let one : f s ≡ v = cc in sym one

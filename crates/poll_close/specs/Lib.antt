@@ -12,4 +12,5 @@ pub mod Refusals
 pub mod Standing
 pub mod Rankings
 pub mod Plans
+pub mod Waiting
 pub mod Invariant

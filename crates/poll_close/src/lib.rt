@@ -18,6 +18,7 @@ pub mod listing;
 pub mod openings;
 pub mod place;
 pub mod plans;
+pub mod waiting;
 
 pub use channel::Channel;
 pub use clean::{Breach, Share, is_clean, laws_of_breaches, no_shares, note_entry};
@@ -29,3 +30,4 @@ pub use kind::RingKind;
 pub use openings::{MAX_SENDERS, opening, opening_at, opening_of_programs};
 pub use place::BlockPlace;
 pub use plans::{Finish, plan_of, whole_reports_of};
+pub use waiting::is_ready_at;

@@ -1,8 +1,8 @@
 -- A sender's program over these blocks, and what it makes of them. Rings that differ in when their sender reads the
 -- tail differ in it alone: the numbers, the words of memory and the receiver are the same.
-use Rattle.std.proofs.Common.{ℕ, ◌+◌, ◌<◌, ◌==◌, Bool, ◌&&◌, List}
-use Rattle.std.specs.Prelude.{slice_index}
+use Rattle.std.proofs.Common.{ℕ, ◌<◌, Bool, Some, List}
 use Rattle.hart.specs.State.{HartState}
+use Rattle.poll_close.specs.Waiting.{waits_at}
 use Rattle.poll_close.specs.Invariant.BlockInvariant.{BlockInvariant}
 use Rattle.poll_close.specs.Invariant.Outlines.{Outline, SenderRow}
 use Rattle.lamport_ring.specs.Listing.{ring_lines}
@@ -30,7 +30,7 @@ outline_of p = record {
 
 -- it is about to read the tail, and will find its ring full
 abbrev pub waits : Program → HartState → (ℕ → ℕ) → Bool
-waits p s word = (s.pc == p.reads) && (word (slice_index s.registers 8 + 8) == slice_index s.registers 6)
+waits p = waits_at p.reads 8 8 (Some 6)
 
 -- the receiver takes a word out of its slot by its tail alone: it has no step of its own half done
 abbrev pub blocks_of : Program → BlockInvariant

@@ -1,30 +1,19 @@
-use Rattle.std.proofs.Common.{lit<, lit≤, arith, true, ◌≡◌, ◌==◌, ◌+◌, ◌^◌, ◌<◌}
-use Rattle.std.proofs.lemmas.Bool.Decides.{nat_tests}
-use Rattle.poll_close.proofs.Standing.{sender_at}
-use Rattle.lamport_cached.specs.Listing.{lamport_cached}
-use Rattle.lamport_cached.specs.LamportCached.{lamport_cached_blocks}
-use Rattle.lamport_cached.specs.Invariant.Sender.{program}
-use Rattle.lamport_ring.proofs.Falling.{address, ready_is}
+use Rattle.std.proofs.Common.{lit<}
+use Rattle.lamport_cached.proofs.LamportCachedLaws.{lamport_cached_loads}
 use Rattle.lamport_cached.proofs.LamportCachedFinish.is_ready.Goals as goal
 
-pub overflow_add-register : goal.overflow_add-register
-overflow_add-register g c =
-    let small : c.register.result + 8 < 2 ^ 32 = (address program g.row.M c.args.machine.now.history c.args.hart
-    (sender_at lamport_cached_blocks lamport_cached (lit≤ tt) g.row.B g.row.M c.args.machine.now.history c.args.hart
-    c.requires.stands c.requires.sender c.requires.hart) c.register.result c.register.ensures).0 in
-    omega (arith, small)
-
-pub word-requires : goal.word-requires
-word-requires g c =
-    let at = address program g.row.M c.args.machine.now.history c.args.hart
-    (sender_at lamport_cached_blocks lamport_cached (lit≤ tt) g.row.B g.row.M c.args.machine.now.history c.args.hart
-    c.requires.stands c.requires.sender c.requires.hart) c.register.result c.register.ensures in
-    (lit< tt, (at.1, at.2))
-
-pub returns-else-pc-ne28 : goal.returns-else-pc-ne28
-returns-else-pc-ne28 g c = ready_is program g.row.M c.args.machine.now.history c.args.hart
-    (sender_at lamport_cached_blocks lamport_cached (lit≤ tt) g.row.B g.row.M c.args.machine.now.history c.args.hart c.requires.stands
-    c.requires.sender c.requires.hart) c.status.result c.pc.result c.register.result c.word.result
-    c.register-else-pc-ne28.result c.status.ensures c.in-Running.is c.pc.ensures
-    (let at : (c.pc.result == 0x1C) ≡ true = grind (arith, nat_tests, c.if-pc-ne28.false) in at) c.register.ensures c.word.ensures
-    c.register-else-pc-ne28.ensures
+pub is_ready_at-requires : goal.is_ready_at-requires
+is_ready_at-requires g c = (
+  lit< tt,
+  (
+    c.requires.hart,
+    (
+      lit< tt,
+      (
+        lit< tt,
+        lamport_cached_loads g.row.B g.row.M c.args.machine.now.history c.args.hart c.requires.stands c.requires.sender
+            c.requires.hart,
+      ),
+    ),
+  ),
+)
