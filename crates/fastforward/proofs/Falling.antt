@@ -5,16 +5,9 @@ use Rattle.std.proofs.lemmas.Bool.{cases_eq, and_parts}
 use Rattle.std.proofs.lemmas.Bool.Decides.{nat_tests}
 use Rattle.hart.specs.State.{HartState}
 use Rattle.hart.specs.declared.status.Status.TheVariants as status
-use Rattle.poll_close.specs.Rankings.{Decreases, runs, rank_of, next_by}
-use Rattle.poll_close.specs.Invariant.Blocks.{Block, slot, slot_store, tail_store}
-use Rattle.poll_close.specs.Invariant.BlockInvariant.{unsent_of, unread_of}
-use Rattle.poll_close.specs.Invariant.Outlines.{stands, SenderIs, Standing}
-use Rattle.poll_close.proofs.Windows.{none_left, singles-length, pairs-length}
-use Rattle.poll_close.proofs.Blocks.{IsBlock, slot_at}
-use Rattle.poll_close.proofs.Outlines.{stands_at, has_ended, nearer}
-use Rattle.poll_close.proofs.Distance.{BlockProgress}
-use Rattle.poll_close.proofs.Progress.{falls}
-use Rattle.poll_close.proofs.MayLoad.{AllMayLoad, may_load}
+use Rattle.poll_close.proofs.Ring.{Decreases, runs, rank_of, next_by, Block, slot, slot_store, tail_store, unsent_of, unread_of, stands, SenderIs, Standing}
+use Rattle.poll_close.proofs.Ring.{none_left, singles-length, pairs-length, IsBlock, slot_at, stands_at, has_ended, nearer, BlockProgress, falls, AllMayLoad}
+use Rattle.poll_close.proofs.Ring.{may_load}
 use Rattle.fastforward.specs.Listing.{fastforward}
 use Rattle.fastforward.specs.FastForward.{fastforward_blocks, fastforward_means, waits, fastforward_ranking}
 use Rattle.fastforward.specs.Invariant.Stores.{null_store, sender_stores, receiver_stores}
@@ -79,7 +72,8 @@ ready k n s word is one order words st running none empty wait =
         order.done_landed,
         order.tails_nulls,
       )
-      | inr free ↦ absurd (some (ap word (place k n s st here) ∙ words.empty n.sender.stored (omega (arith, order.slots_landed)) (omega (arith, free, order.room))))
+      | inr free ↦ absurd (some (ap word (place k n s st here)
+          ∙ words.empty n.sender.stored (omega (arith, order.slots_landed)) (omega (arith, free, order.room))))
     ]
 
 marked : (k : Block) (n : Counters) (s : HartState) → IsBlock k → CounterInvariant k n → Standing sender k n.sender s

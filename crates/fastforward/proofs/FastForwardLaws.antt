@@ -1,12 +1,7 @@
 -- The laws of one block, all together, and so the laws of the ring.
 use Rattle.std.proofs.Common.{ℕ, ◌≡◌, refl, arith, lit≤}
 use Rattle.std.proofs.Math.Nat.{zero-mod}
-use Rattle.poll_close.specs.Invariant.Blocks.{Block}
-use Rattle.poll_close.proofs.Blocks.{IsBlock, Within, word_of, slot_of}
-use Rattle.poll_close.proofs.BlockLaws.{BlockLaws, Begins, opens_with}
-use Rattle.poll_close.proofs.Outlines.{◌&◌, sends}
-use Rattle.poll_close.proofs.ChannelLaws.{AllLaws, all_laws}
-use Rattle.poll_close.specs.Listing.{words_of}
+use Rattle.poll_close.proofs.Ring.{Block, IsBlock, Within, word_of, slot_of, BlockLaws, Begins, opens_with, ◌&◌, sends, AllLaws, all_laws, words_of}
 use Rattle.fastforward.specs.Listing.{listing, fastforward}
 use Rattle.fastforward.specs.FastForward.{fastforward_blocks, fastforward_means}
 use Rattle.fastforward.specs.Invariant.Counters.{Counters, Landed, CounterInvariant, Words}

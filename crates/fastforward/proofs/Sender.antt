@@ -5,17 +5,9 @@ use Rattle.std.specs.List.{slice_get}
 use Rattle.std.proofs.lemmas.Bool.{cases_eq, not-false}
 use Rattle.step_machine.proofs.Lines.{word-plus}
 use Rattle.step_machine.proofs.Modulo.{offset_step, offset_wrap}
-use Rattle.poll_close.specs.Listing.{lines_of}
-use Rattle.poll_close.specs.Invariant.Blocks.{Block, offset, slot}
-use Rattle.poll_close.specs.Invariant.SenderState.{SenderRegisters}
-use Rattle.poll_close.specs.Invariant.BlockInvariant.{unsent_of}
-use Rattle.poll_close.specs.Invariant.Outlines.{Reasons}
-use Rattle.poll_close.proofs.Found.{in_memory, newest_found}
-use Rattle.poll_close.proofs.Blocks.{IsBlock, base_plus, offset_low, word_of, slot_at}
-use Rattle.poll_close.proofs.BlockLaws.{found_in}
-use Rattle.poll_close.proofs.Outlines.{Sender, Right, ◌&◌}
+use Rattle.poll_close.proofs.Ring.{lines_of, Block, offset, slot, SenderRegisters, unsent_of, Reasons, in_memory, newest_found, IsBlock, base_plus, offset_low}
+use Rattle.poll_close.proofs.Ring.{word_of, slot_at, found_in, Sender, Right, ◌&◌, Rows, rows}
 use Rattle.poll_close.proofs.Outlines as outline
-use Rattle.poll_close.proofs.SenderRows.{Rows, rows}
 use Rattle.fastforward.specs.Listing.{listing}
 use Rattle.fastforward.specs.FastForward.{fastforward_blocks}
 use Rattle.fastforward.specs.Invariant.Stores.{sender_stores}

@@ -1,13 +1,7 @@
 -- Why each row of the sender's outline is right: from its assertion, the act there leads to the next row's.
 use Rattle.std.proofs.Common.{ℕ, suc, ◌+◌, ◌*◌, ◌≡◌, ◌==◌, true, false, refl, sym, ◌∙◌, ap, arith}
-use Rattle.poll_close.specs.Listing.{lines_of}
-use Rattle.poll_close.specs.Invariant.Blocks.{Block}
-use Rattle.poll_close.specs.Invariant.SenderState.{SenderRegisters}
-use Rattle.poll_close.specs.Invariant.Outlines.{Reasons}
-use Rattle.poll_close.proofs.Blocks.{IsBlock, base_plus, word_of, slot_at}
-use Rattle.poll_close.proofs.Outlines.{Sender, Right, ◌&◌}
+use Rattle.poll_close.proofs.Ring.{lines_of, Block, SenderRegisters, Reasons, IsBlock, base_plus, word_of, slot_at, Sender, Right, ◌&◌, Rows, rows}
 use Rattle.poll_close.proofs.Outlines as outline
-use Rattle.poll_close.proofs.SenderRows.{Rows, rows}
 use Rattle.lamport_ring.specs.Invariant.Counters.{Counters, CounterInvariant, Words}
 use Rattle.lamport_ring.proofs.SenderSteps as step
 use Rattle.lamport_cached.specs.Listing.{listing}

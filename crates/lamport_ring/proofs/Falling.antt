@@ -4,17 +4,9 @@ use Rattle.std.specs.Prelude.{slice_index}
 use Rattle.std.proofs.lemmas.Bool.{cases_eq, and_parts}
 use Rattle.std.proofs.lemmas.Bool.Decides.{nat_tests}
 use Rattle.hart.specs.State.{HartState}
-use Rattle.poll_close.specs.Laws.{Ring}
-use Rattle.poll_close.specs.Rankings.{runs}
-use Rattle.poll_close.specs.Invariant.Blocks.{Block, offset, slot_store, tail_store, window}
-use Rattle.poll_close.specs.Invariant.Outlines.{Standing}
-use Rattle.poll_close.specs.Invariant.Channels.{means_by}
+use Rattle.poll_close.proofs.Ring.{Ring, runs, Block, offset, slot_store, tail_store, window, Standing, means_by, none_left, singles-length, pairs-length}
+use Rattle.poll_close.proofs.Ring.{IsBlock, word_from, base_is, has_ended, nearer, BlockProgress, AllMayLoad, may_load}
 use Rattle.step_machine.proofs.Modulo.{same_offset}
-use Rattle.poll_close.proofs.Windows.{none_left, singles-length, pairs-length}
-use Rattle.poll_close.proofs.Blocks.{IsBlock, word_from}
-use Rattle.poll_close.proofs.Outlines.{base_is, has_ended, nearer}
-use Rattle.poll_close.proofs.Distance.{BlockProgress}
-use Rattle.poll_close.proofs.MayLoad.{AllMayLoad, may_load}
 use Rattle.lamport_ring.specs.Invariant.Stores.{head_store, sender_stores, receiver_stores}
 use Rattle.lamport_ring.specs.Invariant.Counters.{Counters, sent, gone, CounterInvariant, Words, taken, freed}
 use Rattle.lamport_ring.specs.Invariant.Programs.{Program, outline_of, waits, blocks_of}

@@ -3,15 +3,8 @@ use Rattle.std.proofs.Common.{◌≡◌, refl, ◌∙◌, ap, arith, lit≤}
 use Rattle.std.proofs.Math.Nat.{zero-mod}
 use Rattle.std.specs.Prelude.{slice_index}
 use Rattle.hart.specs.State.{HartState}
-use Rattle.poll_close.specs.Rankings.{Decreases, rank_of, next_by}
-use Rattle.poll_close.specs.Invariant.Blocks.{Block}
-use Rattle.poll_close.specs.Invariant.Outlines.{Standing}
-use Rattle.poll_close.proofs.Blocks.{IsBlock}
-use Rattle.poll_close.proofs.BlockLaws.{BlockLaws, opens_with}
-use Rattle.poll_close.proofs.Outlines.{stands_at}
-use Rattle.poll_close.proofs.ChannelLaws.{AllLaws, all_laws}
-use Rattle.poll_close.proofs.Progress.{falls}
-use Rattle.poll_close.proofs.MayLoad.{AllMayLoad}
+use Rattle.poll_close.proofs.Ring.{Decreases, rank_of, next_by, Block, Standing, IsBlock, BlockLaws, opens_with, stands_at, AllLaws, all_laws, falls}
+use Rattle.poll_close.proofs.Ring.{AllMayLoad}
 use Rattle.lamport_ring.specs.Listing.{lamport}
 use Rattle.lamport_ring.specs.Lamport.{lamport_blocks, lamport_means, lamport_ranking}
 use Rattle.lamport_ring.specs.Invariant.Programs.{outline_of}

@@ -3,12 +3,8 @@ use Rattle.std.proofs.Common.{ℕ, ◌+◌, ◌<◌, ◌≤◌, ◌≡◌, [], �
 use Rattle.std.proofs.Math.Nat.{zero-mod}
 use Rattle.std.specs.Prelude.{slice_index}
 use Rattle.hart.specs.State.{HartState}
-use Rattle.poll_close.specs.Invariant.Blocks.{Block, offset}
-use Rattle.poll_close.specs.Invariant.SenderState.{SenderRegisters}
-use Rattle.poll_close.specs.Invariant.Outlines.{Standing, Reasons}
-use Rattle.poll_close.proofs.Blocks.{IsBlock, Within, base_word, word_of, slot_of}
-use Rattle.poll_close.proofs.BlockLaws.{BlockLaws, Begins, Stepped, opens_with}
-use Rattle.poll_close.proofs.Outlines.{Sender, Right, ◌&◌, sends}
+use Rattle.poll_close.proofs.Ring.{Block, offset, SenderRegisters, Standing, Reasons, IsBlock, Within, base_word, word_of, slot_of, BlockLaws, Begins, Stepped}
+use Rattle.poll_close.proofs.Ring.{opens_with, Sender, Right, ◌&◌, sends}
 use Rattle.lamport_ring.specs.Invariant.Programs.{Program, outline_of, blocks_of}
 use Rattle.lamport_ring.specs.Invariant.Counters.{Sent, Counters, Landed, taken, CounterInvariant, Words}
 use Rattle.lamport_ring.proofs.Means.{receiver_decoded}

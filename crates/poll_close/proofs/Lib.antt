@@ -26,3 +26,4 @@ pub mod Distance
 pub mod Shares
 pub mod Progress
 pub mod Opened
+pub mod Ring

@@ -20,7 +20,8 @@ AllMayLoad ring means line base offset = (B M : ℕ) (t : History) (h : ℕ) →
 
 -- they may if the word there is the sender's block's
 pub may_load : (m : BlockInvariant) (ring : Ring) → 1 ≤ ring.least → (line base offset : ℕ)
-    → ((k : Block) (n : Count m) (s : HartState) → IsBlock k → Standing m.sender k n.sender s → s.pc ≡ line → IsWordOf k (slice_index s.registers base + offset))
+    → ((k : Block) (n : Count m) (s : HartState) → IsBlock k → Standing m.sender k n.sender s → s.pc ≡ line
+    → IsWordOf k (slice_index s.registers base + offset))
     → AllMayLoad ring (means_by m) line base offset
 may_load m ring some line base offset word B M t h stands sender hart s at here =
     let d : Sender m M t h = sender_at m ring some B M t h stands sender hart in
