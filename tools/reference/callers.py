@@ -1,0 +1,231 @@
+"""Code that calls a queue's functions: drawn runs of a litmus test, each held against what docs/functions.md says that a
+caller owes, for the command `callers`."""
+
+import pcg
+import programs
+import words
+from draws import event_of
+from machine import MEMORY, Machine, word_at
+
+# the functions as docs/functions.md lists them, each of 13 lines
+SEND = {"lamport": """
+lw x5,0(x10)
+lw x6,64(x10)
+addi x7,x5,4
+bne x7,x12,test
+addi x7,x0,0
+test: beq x6,x7,full
+add x5,x10,x5
+sw x11,128(x5)
+sw x7,0(x10)
+addi x10,x0,1
+jalr x0,0(x1)
+full: addi x10,x0,0
+jalr x0,0(x1)
+""", "fastforward": """
+lw x5,0(x10)
+add x7,x10,x5
+lw x6,128(x7)
+bne x6,x0,full
+addi x5,x5,4
+bne x5,x12,keep
+addi x5,x0,0
+keep: sw x11,128(x7)
+sw x5,0(x10)
+addi x10,x0,1
+jalr x0,0(x1)
+full: addi x10,x0,0
+jalr x0,0(x1)
+"""}
+RECEIVE = {"lamport": """
+lw x5,64(x10)
+lw x6,0(x10)
+beq x5,x6,empty
+add x7,x10,x5
+lw x11,128(x7)
+addi x5,x5,4
+bne x5,x12,keep
+addi x5,x0,0
+keep: sw x5,64(x10)
+addi x10,x0,1
+jalr x0,0(x1)
+empty: addi x10,x0,0
+jalr x0,0(x1)
+""", "fastforward": """
+lw x5,64(x10)
+add x7,x10,x5
+lw x11,128(x7)
+beq x11,x0,empty
+addi x5,x5,4
+bne x5,x12,keep
+addi x5,x0,0
+keep: sw x0,128(x7)
+sw x5,64(x10)
+addi x10,x0,1
+jalr x0,0(x1)
+empty: addi x10,x0,0
+jalr x0,0(x1)
+"""}
+KINDS = tuple(SEND)
+RETURNS = 0x28, 0x30
+HEAD, TAIL, SLOTS = 0, 64, 128
+STORED = {"store": 4, "store2": 2, "store1": 1, "amo": 4}
+
+
+def first_copy(code, text):
+    """The pc at which the first copy of a function stands in a hart's code, or None."""
+    function = [words.decoded(word)[0] for word in programs.read(text.strip())]
+    return next((4 * at for at in range(len(code)) if code[at:at + len(function)] == function), None)
+
+
+class Party:
+    """Where one party's function begins, and whose it is."""
+
+    def __init__(self, hart, entry, sends):
+        self.hart, self.entry, self.sends = hart, entry, sends
+
+    def enters(self, state, base):
+        pc, registers, *_ = state[0][self.hart]
+        return pc == self.entry and registers[10] == base
+
+    def goes_on(self, is_calling, before, state, base):
+        """Whether it is in a call once its hart went from `before` to a state."""
+        pc = before[0][self.hart][0]
+        return is_calling and pc - self.entry not in RETURNS or self.enters(state, base)
+
+
+class Callers:
+    """A test's runs, by pairs of a state and which parties are in a call. What an event makes of a pair is kept."""
+
+    def __init__(self, test, capacity, queue):
+        self.test, self.machine = test, Machine(test, capacity)
+        self.base, self.slots, self.sender, self.receiver, self.kind = queue
+        self.opening = self.machine.opening, (False, False)
+        self.known = {}
+
+    @property
+    def end(self):
+        return self.base + SLOTS + 4 * self.slots
+
+    def code(self, hart):
+        return self.test.codes[hart] if hart < len(self.test.codes) else []
+
+    def owed_at_opening(self):
+        """What isn't so where the queue begins, as a line, or None. It finds the functions."""
+        if self.base % 4 or not self.slots or self.end > MEMORY:
+            return "the block isn't aligned to 4 bytes, has no slot, or ends past the memory"
+        if self.sender == self.receiver:
+            return f"hart {self.sender} both sends and receives"
+        sends, receives = SEND[self.kind], RECEIVE[self.kind]
+        self.parties = (Party(self.sender, first_copy(self.code(self.sender), sends), True),
+                        Party(self.receiver, first_copy(self.code(self.receiver), receives), False))
+        for party in self.parties:
+            if party.entry is None:
+                name = f"{self.kind}_try_{'send' if party.sends else 'receive'}"
+                return f"hart {party.hart} has no {name} in its code"
+        return self.owed_by_words()
+
+    def owed_by_words(self):
+        """Both indices are the offset of one slot, and each slot of FastForward's is 0."""
+        opening = self.machine.opening[1]
+        head, tail = (word_at(opening, self.base + offset) for offset in (HEAD, TAIL))
+        if head % 4 or head >= 4 * self.slots:
+            return f"the index at {self.base} opens as {head}, not as the offset of a slot"
+        if head != tail:
+            return f"the indices open as {head} and {tail}, not alike"
+        if self.kind == "fastforward":
+            for address, word in opening:
+                if self.base + SLOTS <= address < self.end:
+                    return f"the slot at {address} opens as {word} and not as 0"
+        return None
+
+    def step(self, pair, event):
+        """The pair after an event, and what is owed at its entry, as a line, or None."""
+        if (pair, event) not in self.known:
+            self.known[pair, event] = self.stepped(pair, event)
+        return self.known[pair, event]
+
+    def stepped(self, pair, event):
+        before, calling = pair
+        outcome, is_entry, after = self.machine.step(before, event)
+        if not is_entry:
+            return pair, None
+        letter, hart = event
+        if letter == "l":
+            return (after, calling), None
+        owed = None if self.is_calling(hart, calling) else self.owed(hart, before, outcome, after)
+        calling = tuple(party.goes_on(is_calling, before, after, self.base) if party.hart == hart else is_calling
+                        for party, is_calling in zip(self.parties, calling))
+        return (after, calling), owed
+
+    def is_calling(self, hart, calling):
+        return any(party.hart == hart and is_calling for party, is_calling in zip(self.parties, calling))
+
+    def owed(self, hart, before, outcome, after):
+        """What a hart in no call owes at its entry."""
+        name, _, *numbers = outcome.split()
+        if name in STORED:
+            address = int(numbers[0])
+            if address < self.end and self.base < address + STORED[name]:
+                return f"hart {hart} wrote to the block at {address} outside of a call, at pc {before[0][hart][0]}"
+        for party in self.parties:
+            if party.hart == hart and party.enters(after, self.base):
+                return self.owed_by_call(party, after[0][hart][1])
+        return None
+
+    def owed_by_call(self, party, registers):
+        """What is owed by the registers with which a party enters its function."""
+        called = f"hart {party.hart} called with"
+        if registers[12] != 4 * self.slots:
+            return f"{called} a2 = {registers[12]}, not the bytes of the slots"
+        if self.kind == "fastforward" and party.sends and registers[11] == 0:
+            return f"{called} a1 = 0, which is no word"
+        back = registers[1] & ~1
+        if back % 4 or back == party.entry:
+            return f"{called} ra = {registers[1]}, no place to return to"
+        return None
+
+    def first_owed(self, events):
+        """What a run of these events owes first, or None."""
+        pair = self.opening
+        for event in events:
+            pair, owed = self.step(pair, event)
+            if owed:
+                return owed
+        return None
+
+    def shortened(self, events, owed):
+        """A part of these events that owes this first, and doesn't without any one of them. docs/looking.md has the
+        order in which pieces are tried."""
+        size = len(events) // 2
+        while size > 1:
+            events = self.without_pieces(events, size, owed)
+            size //= 2
+        while (left := self.without_pieces(events, 1, owed)) != events:
+            events = left
+        return events
+
+    def without_pieces(self, events, size, owed):
+        at = 0
+        while at < len(events):
+            left = events[:at] + events[at + size:]
+            if self.first_owed(left) == owed:
+                events = left
+            else:
+                at += size
+        return events
+
+
+def trial(callers, seed, runs, length, skip=0):
+    """None where each run keeps what callers owe. Else the events and the line of what is owed: at the opening, or first
+    in the earliest run that owes anything, made short."""
+    if owed := callers.owed_at_opening():
+        return [], owed
+    generator = pcg.Generator(pcg.seed_from_u64(seed))
+    generator.pass_over(skip * length)
+    harts = len(callers.test.codes)
+    for _ in range(runs):
+        events = [event_of(k, harts) for k in generator.remainders(2 * harts, length)]
+        if owed := callers.first_owed(events):
+            return callers.shortened(events, owed), owed
+    return None
