@@ -23,17 +23,19 @@ _ztso() {
     threads) inputs=(files) options='--buffer --turns' ;;
     channel) inputs=('lamport fastforward cached own' '' files) options='--buffer --base --stride --finish --sender --receiver' ;;
     ring) inputs=(files files '') options='--buffer --seed --runs --length --skip --jobs --base --stride' ;;
+    callers) inputs=(files) options='--buffer --seed --runs --length --skip --jobs --slots --base --sender --receiver --kind' ;;
     steps) inputs=() options='--buffer' ;;
     asm) inputs=() options='' ;;
     dis) inputs=() options='' ;;
     esac
     if ((COMP_CWORD == 1)); then
-        words='run replay move shrink chart show debug check find try threads channel ring steps asm dis'
+        words='run replay move shrink chart show debug check find try threads channel ring callers steps asm dis'
     elif ((at > COMP_CWORD)); then
         case $last in
         --buffer) words='1 2 4 16' ;;
-        --sender) compopt -o default ;;
-        --receiver) compopt -o default ;;
+        --kind) words='lamport fastforward' ;;
+        --sender) [[ ' channel ' != *" $command "* ]] || compopt -o default ;;
+        --receiver) [[ ' channel ' != *" $command "* ]] || compopt -o default ;;
         esac
     elif [[ $word == -* ]]; then
         words=$options

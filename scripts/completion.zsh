@@ -16,6 +16,7 @@ _ztso() {
             'threads:the schedule that threads of the system made'
             'channel:what the receiver reports'
             'ring:whether N drawn runs of L events report clean'
+            'callers:whether N drawn runs of L events keep what callers owe'
             'steps:the last state'
             'asm:words in hex'
             'dis:instructions'
@@ -122,6 +123,21 @@ _ztso() {
             '1:SENDER:_files' \
             '2:RECEIVER:_files' \
             '3:RING:()'
+        ;;
+    callers)
+        _arguments \
+            '--buffer[a hart'\''s store buffer holds N stores: 1, 2, 4 or 16; 4 if it is left out]:N:(1 2 4 16)' \
+            '--seed[the generator'\''s seed, 0 to 18446744073709551615]:X:()' \
+            '--runs[how many schedules are drawn, 1 to 100000]:N:()' \
+            '--length[how many events each schedule has, 0 to 1048576]:L:()' \
+            '--skip[the first K runs of the seed are passed over, 0 to 18446744073709551615; 0 if it is left out]:K:()' \
+            '--jobs[J threads share the runs, 1 to 64, and the output is the same; 1 if it is left out]:J:()' \
+            '--slots[the queue has S slots, 0 to 4294967295]:S:()' \
+            '--base[the queue'\''s block begins at byte B of memory, 0 to 4294967295; 0 if it is left out]:B:()' \
+            '--sender[hart H sends, 0 to 63; 0 if it is left out]:H:()' \
+            '--receiver[hart H receives, 0 to 63; 1 if it is left out]:H:()' \
+            '--kind[which queue it is: lamport or fastforward; lamport if it is left out]:KIND:(lamport fastforward)' \
+            '1:FILE:_files'
         ;;
     steps)
         _arguments \

@@ -65,7 +65,9 @@ def bash(rows):
     yield "    elif ((at > COMP_CWORD)); then"
     yield "        case $last in"
     yield from (f"        {option.name}) words='{' '.join(option.values)}' ;;" for option in options if option.values)
-    yield from (f"        {option.name}) compopt -o default ;;" for option in options if option.has_file)
+    # another command may have an option by the same name for something else
+    yield from (f"        {option.name}) [[ ' {' '.join(option.commands)} ' != *\" $command \"* ]] || compopt -o default ;;"
+                for option in options if option.has_file)
     yield "        esac"
     yield "    elif [[ $word == -* ]]; then"
     yield "        words=$options"

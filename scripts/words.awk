@@ -20,8 +20,10 @@ function is_number(text, least, most) {
 function wrong_value(name, value,    bounds, is_bounded) {
     if (name == "--buffer")
         return value ~ /^(1|2|4|16)$/ ? "" : "`" value "` is none of 1, 2, 4 and 16, for --buffer"
-    if (name == "--sender" || name == "--receiver")
+    if (value_of[name] == "SENDER" || value_of[name] == "RECEIVER")
         return ""
+    if (value_of[name] == "KIND")
+        return value == "lamport" || value == "fastforward" ? "" : "`" value "` is none of lamport and fastforward, for " name
     is_bounded = match(does[name], /[0-9]+ to [0-9]+/)
     split(is_bounded ? substr(does[name], RSTART, RLENGTH) : "0 to 4294967295", bounds, " to ")
     return is_number(value, bounds[1], bounds[2]) ? "" : "`" value "` is no number from " bounds[1] " to " bounds[2] ", for " name
@@ -50,15 +52,15 @@ function take_option(at,    name, value, has_value) {
         value = substr(name, has_value + 1)
         name = substr(name, 1, has_value - 1)
     }
-    if (takers[name] !~ " " command " ") {
+    if (!(name in does)) {
         say("`" name "` is no option of " command)
         return 1
     }
     if (name in given)
         say(name " is given twice")
     given[name] = value
-    if (!takes[name] || has_value) {
-        say(takes[name] ? wrong_value(name, value) : has_value ? name " takes no value" : "")
+    if (value_of[name] == "" || has_value) {
+        say(value_of[name] != "" ? wrong_value(name, value) : has_value ? name " takes no value" : "")
         return 1
     }
     if (at + 1 > last) {
@@ -132,10 +134,10 @@ $1 == "command" {
     }
 }
 
-$1 == "option" {
-    count = split($2, part, " ")
-    takers[part[1]] = " " $3 " "
-    takes[part[1]] = count > 1
+# the options of the command, of which another command may have one by the same name for something else
+$1 == "option" && " " $3 " " ~ " " command " " {
+    split($2, part, " ")
+    value_of[part[1]] = part[2]
     does[part[1]] = $4
 }
 

@@ -68,6 +68,7 @@ c: ebreak # the end
  ret
 """
 WORDS = b"FE029EE3 00000000\n00532023\tfff28293\r\n1821a0af 0330000f\n 8330000f\n"
+CALLERS = "examples/callers/lamport.litmus"
 RING_SENDER, RING_RECEIVER = (f"examples/rings/lamport-{role}.asm" for role in ("sender", "receiver"))
 # a schedule of version 2 of store buffering, with counts, blanks and all line ends, and one of a channel without words
 RECORD = b"""ztso-schedule 2\r
@@ -206,6 +207,12 @@ def kinds():
     yield ["ring", RING_SENDER, RING_RECEIVER, *drawn, "--jobs", "2"], LISTS, {}
     # an unclean run, of which only one schedule can be printed
     yield ["ring", "stops.asm", RING_RECEIVER, *drawn], b"7\n", {"stops.asm": b"ebreak\n"}
+    drawn = ["--base", "1024", "--slots", "2", "--seed", "7", "--runs", "20", "--length", "200"]
+    yield ["callers", CALLERS, *drawn], b"", {}
+    yield ["callers", CALLERS, *drawn, "--jobs", "2", "--skip", "3"], b"", {}
+    yield ["callers", "examples/callers/fastforward.litmus", *drawn, "--kind", "fastforward"], b"", {}
+    for wrong in ("clears-the-queue", "has-a-function-of-its-own"):
+        yield ["callers", f"examples/callers/wrong/{wrong}.litmus", *drawn], b"", {}
     own = ["--sender", RING_SENDER, "--receiver", RING_RECEIVER]
     yield ["channel", "own", "3", "examples/two-senders.schedule", *own], LISTS, {}
     yield ["debug", SB, WITNESS], COMMANDS, {}

@@ -14,6 +14,9 @@ NONE = b"ztso-schedule 1\n"
 SB = str(ROOT / "litmus/store-buffering/sb.litmus")
 SENDER, RECEIVER = (str(ROOT / f"examples/rings/lamport-{role}.asm") for role in ("sender", "receiver"))
 DRAWN = ["--seed", "1", "--runs", "1", "--length", "0"]
+CALLERS = str(ROOT / "examples/callers/lamport.litmus")
+QUEUE = ["--base", "1024", "--slots", "2"]
+NO_BLOCK = 1, b"", NONE + b"the block isn't aligned to 4 bytes, has no slot, or ends past the memory\n"
 KINDS = ["litmus", "schedules", "records", "shrink", "show", "steps", "asm", "dis", "debug", "channels", "options", "in little memory", "threads"]
 MIB = 1 << 20
 # slots of a ring at the least
@@ -187,6 +190,18 @@ def options(short):
                 words = [word for pair in options.items() for word in pair]
                 yield ["try", SB, *words], b"", wanted
                 yield ["ring", SENDER, RECEIVER, "2", *words], b"7\n", wanted
+                yield ["callers", CALLERS, *QUEUE, *words], b"", wanted
+    queue = dict(zip(QUEUE[::2], QUEUE[1::2]))
+    # a block of 136 bytes, or of 128 and 4 a slot from byte 1,024 on
+    for name, values in [
+            ("--base", [("16248", None), ("16252", NO_BLOCK), ("2", NO_BLOCK), (str(2**32 - 4), NO_BLOCK), (str(2**32), BAD_COMMAND_LINE)]),
+            ("--slots", [("1", None), ("0", NO_BLOCK), ("3808", None), ("3809", NO_BLOCK), (str(2**32 - 1), NO_BLOCK),
+                         (str(2**32), BAD_COMMAND_LINE)]),
+            ("--sender", [("0", None), ("64", BAD_COMMAND_LINE), ("-1", BAD_COMMAND_LINE)]),
+            ("--receiver", [("1", None), ("64", BAD_COMMAND_LINE)]), ("--kind", [("lamport", None), ("cached", BAD_COMMAND_LINE)])]:
+        for value, wanted in values:
+            words = [word for pair in {**queue, name: value}.items() for word in pair]
+            yield ["callers", CALLERS, *words, *DRAWN], b"", wanted
     for value, wanted in [("0", None), ("10000000", None), ("10000001", BAD_COMMAND_LINE), ("-1", BAD_COMMAND_LINE)]:
         yield ["threads", SB, "--turns", value], b"", wanted
 

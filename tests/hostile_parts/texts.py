@@ -54,7 +54,14 @@ def grammars():
         yield "debugger lines", text, ["debug", *files], text
 
 
-NAMES = ["litmus", "schedules", "records", "shrunk", "steps", "lists", "assembly", "words", "debugger lines"]
+def callers():
+    """Texts that `callers` reads, whose grammar is that of `run`."""
+    for name, kind in ((examples.CALLERS, "lamport"), ("examples/callers/wrong/sends-0.litmus", "fastforward")):
+        drawn = ["--base", "1024", "--slots", "2", "--seed", "1", "--runs", "2", "--length", "100", "--kind", kind]
+        yield "callers", read(name), ["callers", "text", *drawn], None
+
+
+NAMES = ["litmus", "callers", "schedules", "records", "shrunk", "steps", "lists", "assembly", "words", "debugger lines"]
 
 
 def hold(runs, grammar, text, words, stdin):
@@ -86,7 +93,7 @@ def changed(runs):
 
 def changes(runs):
     """Texts with one byte changed, so many of each as are drawn."""
-    for grammar, text, words, stdin in grammars():
+    for grammar, text, words, stdin in (*grammars(), *callers()):
         every = len(text) * len(TELLING)
         most = DRAWN_SHORT if runs.short else DRAWN
         drawn = range(every) if every <= most else runs.draw.sample(range(every), most)

@@ -35,10 +35,11 @@ class Draw:
     def __init__(self, seed, record_of):
         self.random, self.record_of = random.Random(seed), record_of
         self.tests = [Test(path) for part in ("litmus", "examples") for path in sorted((ROOT / part).rglob("*.litmus"))]
+        self.called = [test for test in self.tests if "/callers/" in test.name or "/handover." in test.name]
         self.grammars = list(texts.grammars())
         self.kinds = list(examples.kinds())
         self.ways = [self.litmus, self.litmus, self.schedule, self.search, self.drawn_runs, self.records, self.debugger,
-                     self.channel, self.ring, self.steps, self.assembly, self.words, self.grammar, self.words_of_a_command,
+                     self.channel, self.ring, self.callers, self.steps, self.assembly, self.words, self.grammar, self.words_of_a_command,
                      self.threads]
 
     def question(self, number):
@@ -145,6 +146,15 @@ class Draw:
                  "--runs", self.one_of("1", "10"), "--length", self.one_of("0", "100", "300")]
         options = self.options(("jobs", "1", "3"), ("skip", "5"), ("base", "64"), ("stride", "40", "9"))
         return Question("ring", [*words, *options, *self.buffer()], lists.encode())
+
+    def callers(self):
+        test = self.one_of(*self.called, *self.called, *self.tests)
+        text = self.whole_or_changed(test.text, 2)
+        words = ["--slots", self.one_of("2", "2", "2", "1", "3", "0"), "--base", self.one_of("1024", "1024", "1024", "16", "0", "2"),
+                 "--seed", str(self.random.randrange(2**64)), "--runs", self.one_of("1", "20"), "--length", self.one_of("0", "60", "300")]
+        options = self.options(("kind", "lamport", "fastforward", "cached"), ("jobs", "1", "3", "65"), ("skip", "5"),
+                               ("sender", "0", "1", "64"), ("receiver", "1", "0", "2"))
+        return self.on_test("callers", "callers", [*words, *options, *self.buffer()], None, "", text)
 
     def steps(self):
         lines = [f"hart {' '.join(f'{self.word():08x}' for _ in range(self.random.randrange(1, 6)))}"
