@@ -149,7 +149,7 @@ def sessions():
                     command += "\n" + answer.pop(0)
                 shown = re.fullmatch(r"cat (\S+)", command)
                 made = re.fullmatch(r"echo '([^']*)' > (\S+)", command)
-                written = re.search(r" > (\S+)$", command)
+                written = re.search(r" (?:>|-o) (\S+)$", command)
                 needs = "tools/" in command or LONG_CALL in command or any(name in command for name in foreign - files.keys())
                 if shown and not (ROOT / shown[1]).exists():
                     files[shown[1]] = text_of(answer)
