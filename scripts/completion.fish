@@ -13,7 +13,7 @@ complete -c ztso -n __fish_use_subcommand -a try -d 'the outcomes of N drawn sch
 complete -c ztso -n __fish_use_subcommand -a threads -d 'the schedule that threads of the system made'
 complete -c ztso -n __fish_use_subcommand -a channel -d 'what the receiver reports'
 complete -c ztso -n __fish_use_subcommand -a ring -d 'whether N drawn runs of L events report clean'
-complete -c ztso -n __fish_use_subcommand -a callers -d 'whether N drawn runs of L events keep what callers owe'
+complete -c ztso -n __fish_use_subcommand -a callers -d 'whether N drawn runs keep what callers owe'
 complete -c ztso -n __fish_use_subcommand -a steps -d 'the last state'
 complete -c ztso -n __fish_use_subcommand -a asm -d 'words in hex'
 complete -c ztso -n __fish_use_subcommand -a dis -d 'instructions'

@@ -16,7 +16,7 @@ _ztso() {
             'threads:the schedule that threads of the system made'
             'channel:what the receiver reports'
             'ring:whether N drawn runs of L events report clean'
-            'callers:whether N drawn runs of L events keep what callers owe'
+            'callers:whether N drawn runs keep what callers owe'
             'steps:the last state'
             'asm:words in hex'
             'dis:instructions'
