@@ -211,7 +211,7 @@ def short_names(count, places, prefix, top):
 
 
 def progress(count, place, share):
-    """`try`, `ring` and `check` still see that they are at a terminal."""
+    """`try`, `ring`, `callers` and `check` still see that they are at a terminal."""
     words = [place.wrapper, "try", share / SB[0], "--seed", "1", "--runs", "100000", "--length", "1000"]
     done, written = terminal.run(list(map(str, words)), stdout=subprocess.PIPE, timeout=SECONDS)
     shown, gone = terminal.shown(written)
@@ -221,6 +221,10 @@ def progress(count, place, share):
     done, written = terminal.run(list(map(str, words)), input=b"7\n", stdout=subprocess.PIPE, timeout=SECONDS)
     shown, gone = terminal.shown(written)
     count.told("the progress of ring", (shown, gone[-1:]) == (b"", [b"runs 9 of 9"]) and done.stdout, (shown, gone))
+    words = [place.wrapper, "callers", share / "examples/callers/lamport.litmus", "--slots", "2", "--base", "1024", *DRAWN]
+    done, written = terminal.run(list(map(str, words)), stdout=subprocess.PIPE, timeout=SECONDS)
+    shown, gone = terminal.shown(written)
+    count.same("the progress of callers", (shown, gone[-1:], done.stdout), (b"", [b"runs 10 of 10"], b"kept 10 runs\n"))
     # more than a second passes between two records
     record = "printf 'ztso-schedule 2\\n'"
     words = ["sh", "-c", f'({record}; sleep 2; {record}) | "$0" check "$1"', place.wrapper, share / SB[0]]
