@@ -8,7 +8,7 @@ README = """\
 A queue of words from one hart to another, for C11 and C++: ztso {version}
 
 queue.h      its block, and its functions' declarations (RV32, ilp32)
-functions.S  the functions: Lamport's queue and FastForward's, each to send and to receive
+functions.S  the functions: of Lamport's queue, with a cached tail too, and of FastForward's
 
     #include "queue.h"
 
