@@ -1,6 +1,6 @@
 -- A queue that can be used owes nothing at the opening, so two answers to one input have one exit status.
-use Rattle.std.proofs.Common.{ℕ, ◌≡◌, ◌+◌, ◌-◌, ◌*◌, ◌%◌, ◌<◌, ◌≤◌, inl, inr, ◌⊎◌, Bool, true, false, List, [], Some}
-use Rattle.std.proofs.Common.{None, refl, sym, ap, subst, ◌∙◌, arith, add-zero}
+use Rattle.std.proofs.Common.{ℕ, ◌≡◌, ◌+◌, ◌-◌, ◌*◌, ◌%◌, ◌<◌, inl, inr, Bool, true, false, List, []}
+use Rattle.std.proofs.Common.{refl, sym, ap, subst, ◌∙◌, arith, add-zero}
 use Rattle.std.proofs.lemmas.Bool.{cases_lt, cases_order}
 use Rattle.std.proofs.lemmas.Nat.{mod-mul-add}
 use Rattle.std.proofs.Math.Nat.{mod-eq_of_lt}
@@ -10,12 +10,12 @@ use Rattle.step_machine.specs.History.{OpeningValue, History, at_opening}
 use Rattle.step_machine.specs.Entries.{memory_word}
 use Rattle.step_machine.proofs.Running.{run-one}
 use Rattle.spsc_queue.specs.Listings.{Listed}
-use Rattle.spsc_queue.specs.RingBuffers.{RingBuffer, offset, slot}
+use Rattle.spsc_queue.specs.RingBuffers.{offset, slot}
 use Rattle.spsc_queue.specs.Calls.{buffer, HasFunction}
 use Rattle.callers.specs.Queues.{spsc_of, sends_by, receives_by, HasFirstCopy, IsLocated}
 use Rattle.callers.specs.Debts.{IsOpeningDebt, first_debt}
 use Rattle.callers.specs.Runs.{call_source, call_schedule, KeepsOwed, Owes}
-use Rattle.callers.specs.Answers.{IsCallersTold, IsToldLocated, IsToldKept, IsToldOwing, IsToldAtOnce}
+use Rattle.callers.specs.Answers.{IsCallersTold}
 use Rattle.callers.specs.declared.debts.Debt.{Debt}
 use Rattle.callers.specs.declared.debts.Debt.TheVariants as debt
 use Rattle.callers.specs.declared.queue.QueueKind.{QueueKind}

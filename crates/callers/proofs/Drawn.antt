@@ -12,7 +12,7 @@ use Rattle.step_machine.proofs.Running.{kept-at_opening, kept-run, opening_kept}
 use Rattle.recorder.specs.Drawing.{drawn, words, left_after}
 use Rattle.callers.specs.Queues.{spsc_of, IsLocated}
 use Rattle.callers.specs.Debts.{first_debt}
-use Rattle.callers.specs.Runs.{CallSource, call_schedule, KeepsOwed, AreKept, Owes, IsFirstOwing}
+use Rattle.callers.specs.Runs.{CallSource, call_schedule, KeepsOwed, Owes, IsFirstOwing}
 use Rattle.callers.specs.inner.Finding.{AreKeptFrom, IsOwingFrom, IsFoundFrom}
 use Rattle.callers.specs.declared.debts.Debt.{Debt}
 use Rattle.callers.specs.declared.runs.Owing.{Owing}

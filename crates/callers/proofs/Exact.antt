@@ -1,20 +1,18 @@
 -- A run that keeps what callers owe has no debt.
-use Rattle.std.proofs.Common.{ℕ, ◌≡◌, ◌≢◌, ◌==◌, ◌<◌, ◌*◌, ◌&&◌, ◌||◌, not, Bool, true, false, List, [], ◌∷◌, ◌++◌, length, Option, Some, None}
+use Rattle.std.proofs.Common.{ℕ, ◌≡◌, ◌≢◌, ◌==◌, ◌*◌, ◌||◌, not, Bool, true, false, List, [], ◌∷◌, ◌++◌, Option, Some, None}
 use Rattle.std.proofs.Common.{arith, refl, sym, ap, subst, ◌∙◌, append_assoc, append-nil, eq-eqb}
 use Rattle.std.specs.Prelude.{if◌then◌else◌, option_map, slice_index}
 use Rattle.std.specs.Option.{option_or}
 use Rattle.std.proofs.lemmas.Bool.{ne_eqb, eqb-true, eqb-false}
-use Rattle.memory.specs.declared.writes.Write.{Write}
-use Rattle.memory.specs.Writes.{write}
 use Rattle.hart.specs.State.{HartState}
 use Rattle.hart.specs.Steps.{advanced}
 use Rattle.step_machine.specs.declared.events.Entry.{Entry}
 use Rattle.step_machine.specs.Access.{Access, nothing, load, store, exchange, fence, land, access_of}
-use Rattle.step_machine.specs.History.{OpeningValue, History, history_of}
+use Rattle.step_machine.specs.History.{OpeningValue, history_of}
 use Rattle.step_machine.specs.Entries.{hart_of, is_land}
 use Rattle.step_machine.specs.Paths.{value_of, state_of}
 use Rattle.step_machine.proofs.Follows.{advance_by, state_of-mine}
-use Rattle.spsc_queue.specs.RingBuffers.{Kind, lamport, fastforward, RingBuffer, overlaps}
+use Rattle.spsc_queue.specs.RingBuffers.{Kind, lamport, fastforward, RingBuffer}
 use Rattle.spsc_queue.specs.Protocol.{WritesNothingTo}
 use Rattle.spsc_queue.specs.Listings.{Listed}
 use Rattle.spsc_queue.specs.Calls.{Block, SpscQueue, Party, the_sender, the_receiver, party_hart, party_line, buffer}
@@ -22,9 +20,8 @@ use Rattle.spsc_queue.specs.Calls.{enters, is_in_call, is_sender_in_call, is_rec
 use Rattle.spsc_queue.specs.Calls.{MayPass, HasArguments, HasFunction, PartyOwes, CallerObligation, UsesAsSpscQueue}
 use Rattle.spsc_queue.specs.Obligations.{may_pass, has_arguments}
 use Rattle.spsc_queue.proofs.OwnEntries.{state_here, is_here}
-use Rattle.callers.specs.Debts.{is_in_its_call, met_by, written_at, arguments_debt, entering_debt, party_debt, pc_in}
+use Rattle.callers.specs.Debts.{is_in_its_call, written_at, arguments_debt, entering_debt, party_debt, pc_in}
 use Rattle.callers.specs.Debts.{idle_debt, debt_of, debt_after, first_debt}
-use Rattle.callers.specs.declared.debts.Debt.{Debt}
 use Rattle.callers.specs.declared.debts.Debt.TheVariants as debt
 
 nothing_written : (r : RingBuffer) (x : Access) → WritesNothingTo r x → written_at r x ≡ None

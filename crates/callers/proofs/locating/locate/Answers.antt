@@ -1,4 +1,4 @@
-use Rattle.std.proofs.Common.{rules, ◌≡◌, refl, sym, subst}
+use Rattle.std.proofs.Common.{rules, refl, sym, subst}
 use Rattle.step_machine.specs.History.{OpeningValue}
 use Rattle.spsc_queue.specs.Calls.{IsBlock}
 use Rattle.callers.specs.Queues.{block_at, sends_by, receives_by, HasNoCopy, HasFirstCopy}

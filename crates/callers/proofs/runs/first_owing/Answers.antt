@@ -1,4 +1,4 @@
-use Rattle.std.proofs.Common.{rules, ◌≡◌, ◌<◌, ℕ, refl, ap, sym, ◌∙◌, arith}
+use Rattle.std.proofs.Common.{rules, ◌≡◌, refl, ap, sym, ◌∙◌, arith}
 use Rattle.step_machine.specs.History.{OpeningValue}
 use Rattle.recorder.proofs.Drawn.{left_after-more}
 use Rattle.callers.specs.Queues.{spsc_of}

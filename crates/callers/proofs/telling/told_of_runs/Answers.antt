@@ -1,4 +1,4 @@
-use Rattle.std.proofs.Common.{ℕ, ◌≡◌, ◌*◌, subst, arith}
+use Rattle.std.proofs.Common.{◌*◌, subst, arith}
 use Rattle.std.specs.String.{string_bytes}
 use Rattle.rand_core.specs.Stream.{Stream}
 use Rattle.recorder.specs.Drawing.{left_after}
