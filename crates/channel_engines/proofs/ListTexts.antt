@@ -1,5 +1,5 @@
 -- A text of lists: what is read is what it says, and what it says is read.
-use Rattle.std.proofs.Common.{◌≡◌, ℕ, List, Result, Ok}
+use Rattle.std.proofs.Common.{◌≡◌, ℕ, List, Ok}
 use Rattle.std.specs.Str.Lines.{lines}
 use Rattle.texts.specs.Numbers.{word_of}
 use Rattle.texts.specs.Pieces.{pieces}

@@ -1,12 +1,10 @@
 -- What answers `channel` is one answer.
-use Rattle.std.proofs.Common.{arith, ◌≡◌, ℕ, ◌<◌, inl, inr, Bool, true, false, List, [], All, Result, Ok, Err, sym, ap, ◌∙◌}
-use Rattle.std.specs.List.{flat_map}
+use Rattle.std.proofs.Common.{arith, ◌≡◌, ℕ, ◌<◌, inl, inr, Bool, true, false, List, [], All, Result, Ok, Err, ap}
 use Rattle.std.specs.Prelude.{Some}
 use Rattle.std.proofs.lemmas.List.{get_or-take, length-take-le}
-use Rattle.step_machine.specs.History.{History, at_opening}
-use Rattle.step_machine.specs.Entries.{reported}
+use Rattle.step_machine.specs.History.{History}
 use Rattle.step_machine.proofs.Running.{run-one}
-use Rattle.recorder.specs.Versions.{ScheduleValue, events_said}
+use Rattle.recorder.specs.Versions.{ScheduleValue}
 use Rattle.poll_close.specs.Layout.{Layout}
 use Rattle.poll_close.specs.Laws.{AreWords, Ring, AcceptedAt, opening_over}
 use Rattle.poll_close.specs.Refusals.{FitsAt, IsBeyond, ZeroAt, ZeroWordAt}
@@ -16,7 +14,7 @@ use Rattle.engine_support.specs.Runs.{Runs}
 use Rattle.engine_support.specs.Schedules.{schedules}
 use Rattle.engine_support.proofs.RunLaws.{one_difference, runs_or_differs}
 use Rattle.channel_engines.specs.Lists.{list_texts}
-use Rattle.channel_engines.specs.Channels.{HasNoChannel, IsChannelAnswer, IsChannelRun, IsDelivery, IsUnreported, report_line}
+use Rattle.channel_engines.specs.Channels.{HasNoChannel, IsChannelAnswer, IsChannelRun, IsDelivery, IsUnreported}
 use Rattle.channel_engines.proofs.ListTexts.{one_list_text}
 use Rattle.engine_support.proofs.InputLaws.{alike_after, one_after, one_schedule}
 use Rattle.engine_support.proofs.OneInput.{same_output}
@@ -73,20 +71,11 @@ module _ (ring : Ring) (B M : ℕ) (l : Layout) (said : ScheduleValue) (lists : 
       ran_or_reason is.is_reported.ran.0 r is.is_reported.within is.is_reported.ran.1
 
   one_delivery : (a b : Output) → IsDelivery ring B M l false said lists a → IsDelivery ring B M l false said lists b → a ≡ b
-  one_delivery a b is other =
-      let first = is.is_reported.delivers in
-      let second = other.is_reported.delivers in
-      let histories : first.history ≡ second.history = run-one B M (at_opening (opening_over ring lists l)) (events_said said)
-      first.history second.history first.run second.run in
-      same_output a b (is.text
-      ∙ ap (flat_map report_line) (first.answer ∙ ap (λ (h : History). reported 0 h.entries) histories ∙ sym second.answer) ∙ sym other.text)
+  one_delivery a b is other = grind (arith, run-one, same_output)
 
   alike_run : (finish : Bool) (a b : Result Output Refusal) → IsChannelRun ring B M l finish said lists a → IsChannelRun ring B M l finish said lists b
       → AreAlike a b
-  alike_run finish (Ok a) (Ok b) is other = tt
-  alike_run finish (Ok a) (Err s) is none = no_reason finish a s is none
-  alike_run finish (Err r) (Ok b) none is = no_reason finish b r is none
-  alike_run finish (Err r) (Err s) none other = one_reason r s none other
+  alike_run finish a b is other = grind (arith, no_reason, one_reason)
 
   one_channel_run : (a b : Result Output Refusal) → IsChannelRun ring B M l false said lists a → IsChannelRun ring B M l false said lists b → a ≡ b
   one_channel_run (Ok a) (Ok b) is other = ap (λ (out : Output). Ok out) (one_delivery a b is other)

@@ -1,7 +1,7 @@
 -- What answers `ring` is one answer where all runs are clean, and where they aren't each answer tells of that.
-use Rattle.std.proofs.Common.{◌≡◌, ℕ, zero, suc, ◌+◌, ◌<◌, Bool, true, false, List, [], ◌∷◌, ◌++◌, All, length, Result, Ok, Err}
+use Rattle.std.proofs.Common.{◌≡◌, ℕ, zero, suc, ◌+◌, ◌<◌, Bool, true, false, List, [], ◌∷◌, ◌++◌, All, length, Result, Ok}
 use Rattle.std.proofs.Common.{refl, sym, ap, ap₂, subst, ◌∙◌, arith}
-use Rattle.std.specs.Prelude.{Option, Some, None, codes}
+use Rattle.std.specs.Prelude.{Some, None, codes}
 use Rattle.std.specs.Fmt.{decimal}
 use Rattle.std.specs.List.{slice_get}
 use Rattle.std.proofs.lemmas.List.Elements.{All-head, All-tail}
@@ -61,9 +61,7 @@ one_lines ts i (x ∷ xs) (y ∷ ys) (list ∷ lists) e are also =
     (one_lines ts (i + 1) xs ys lists (omega (arith, e)) (totals_rest ts i x xs are) (totals_rest ts i y ys also))
 
 from_first : (ts : List History) (totals : List Total) → AreTotals ts totals → AreTotalsFrom ts 0 totals
-from_first ts totals are k s is =
-    let here : k ≡ 0 + k = omega arith in
-    subst (λ (n : ℕ). (s.most ≡ most_of n ts) × (s.closed ≡ closed_in n ts)) here (are.most k s is, are.closed k s is)
+from_first ts totals are k s is = grind (arith)
 
 -- ---- runs of channels with the same words
 
@@ -150,11 +148,7 @@ module _ (d : Draws) (sends receives : List ℕ) (ls : List (List ℕ)) where
     same_told = told_alike d own also same_rings (is.lists_are ∙ sym other.lists_are) same_layouts
 
   one_drawn : (a b : Result (List ℕ × Bool) Refusal) → AreDrawn d sends receives ls a → AreDrawn d sends receives ls b → AreAlikeRuns a b
-  one_drawn (Ok a) (Ok b) is other = same_told is.own other.own is.is_own other.is_own a b is.told other.told
-  one_drawn (Ok (a, true)) (Err s) is none = channel_or_refusal (ring_over sends receives) d.M (layout_of d.place []) ls s is.within none
-  one_drawn (Ok (a, false)) (Err s) is none = channel_or_refusal (ring_over sends receives) d.M (layout_of d.place []) ls s is.within none
-  one_drawn (Err r) (Ok b) none is = channel_or_refusal (ring_over sends receives) d.M (layout_of d.place []) ls r is.within none
-  one_drawn (Err r) (Err s) none other = one_channel_refusal (ring_over sends receives) d.M (layout_of d.place []) ls r s none other
+  one_drawn a b is other = grind (arith, channel_or_refusal, one_channel_refusal, same_told)
 
 pub one_ring : (d : Draws) (sender receiver input : List ℕ) (a b : Result (List ℕ × Bool) Refusal)
     → IsRingAnswer d (Some sender) (Some receiver) (Some input) a → IsRingAnswer d (Some sender) (Some receiver) (Some input) b → AreAlikeRuns a b

@@ -158,11 +158,7 @@ module _ (t : ScriptValue) (line name rest : List ℕ) (made : ScriptValue) (cut
       )
 
   name_made : (k : Option Keyword) → keyword_named name ≡ k → length t.events ≤ 1048576 → by_keyword t k rest ≡ Ok made → LineMakes t line made
-  name_made None k few e = absurd cc
-  name_made (Some keyword.Hart) k few e = hart_made k e
-  name_made (Some keyword.Register) k few e = register_made k e
-  name_made (Some keyword.Word) k few e = word_made k e
-  name_made (Some keyword.Steps) k few e = steps_made few k e
+  name_made k named few is = grind (arith, hart_made, register_made, steps_made, word_made)
 
 cut_made : (t : ScriptValue) (line : List ℕ) (made : ScriptValue) (cut : Option (List ℕ × List ℕ)) → first_cut line ≡ cut
     → length t.events ≤ 1048576 → by_cut t cut ≡ Ok made → LineMakes t line made

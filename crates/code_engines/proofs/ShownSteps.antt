@@ -118,9 +118,7 @@ last_set (first ∷ front) x n v = ap (λ (harts : List HartOpeningValue). first
 
 -- one more of a list that is 0 from there on
 one_set : (done : List ℕ) (n m v : ℕ) → n ≡ length done → set (done ++ replicate (suc m) 0) n v ≡ (done ++ v ∷ []) ++ replicate m 0
-one_set done n m v at =
-    subst (λ (k : ℕ). set (done ++ replicate (suc m) 0) k v ≡ (done ++ v ∷ []) ++ replicate m 0) (sym at)
-    (set-append_seam done 0 (replicate m 0) v ∙ sym (append_assoc done (v ∷ []) (replicate m 0)))
+one_set done n m v at = grind (arith, append_assoc, set-append_seam)
 
 register_leads : (front : List HartOpeningValue) (code words done : List ℕ) (n m v : ℕ) → length front < 64 → n ≡ length done → 1 ≤ n → n < 32 → IsWord v
     → Leads (and_last front code (done ++ replicate (suc m) 0) words) (register_line (length front) n v)

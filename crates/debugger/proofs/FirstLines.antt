@@ -1,12 +1,12 @@
 -- The first line of an input, which ends through its first LF, and what is left after it.
-use Rattle.std.proofs.Common.{◌≡◌, ℕ, zero, suc, ◌+◌, ◌-◌, ◌<◌, ◌≤◌, ◌⊎◌, Bool, true, false, List, [], ◌∷◌, ◌++◌, length, take, drop, Option, Some, None}
+use Rattle.std.proofs.Common.{◌≡◌, ℕ, ◌+◌, ◌-◌, ◌<◌, Bool, true, false, List, [], ◌∷◌, length, take, drop, Option, Some, None}
 use Rattle.std.proofs.Common.{◌||◌, refl, sym, ap, ◌∙◌, inl, inr, arith, take_all}
 use Rattle.std.specs.Prelude.{position, if◌then◌else◌, IfSome}
 use Rattle.std.specs.List.{concat, list_any, position_or_len}
 use Rattle.std.specs.Str.Lines.{lines, strip_carriage_return}
 use Rattle.std.specs.Io.BufRead.{take_through, drop_through, DropsThrough}
-use Rattle.std.proofs.lemmas.Bool.{cases_Bool, cases_lt, le-ltb, lt-ltb}
-use Rattle.std.proofs.lemmas.List.{drop_all, take-take, length-take, length-take-le}
+use Rattle.std.proofs.lemmas.Bool.{cases_Bool, lt-ltb}
+use Rattle.std.proofs.lemmas.List.{drop_all, take-take, length-take-le}
 use Rattle.texts.proofs.PieceLaws.{position_is, position_past, lines_found, lines_whole}
 use Rattle.litmus_reader.specs.Marks.{is_line_feed}
 use Rattle.engine_support.specs.WholeLines.{whole_lines}

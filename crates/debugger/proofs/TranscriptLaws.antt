@@ -1,5 +1,5 @@
 -- A user's lines, read one by one.
-use Rattle.std.proofs.Common.{◌≡◌, ℕ, ◌+◌, ◌<◌, Bool, true, false, List, [], ◌∷◌, ◌++◌, length, take, drop, Option}
+use Rattle.std.proofs.Common.{◌≡◌, ℕ, ◌+◌, Bool, true, false, List, [], ◌∷◌, ◌++◌, Option}
 use Rattle.std.proofs.Common.{Some, None, Result, Ok, Err, refl, sym, ap, subst, ◌∙◌, ◌⊎◌, inl, inr, arith}
 use Rattle.std.specs.Prelude.{IfSome, IfOk, IfErr, OnOk, MatchBool}
 use Rattle.std.specs.Result.{result_and}
@@ -22,7 +22,7 @@ use Rattle.debugger.specs.Transcripts.{IsDebugSome, IsTranscript, OnRefused, OnS
 use Rattle.debugger.specs.Transcripts.{PrintsFront, PrintsSome, Transcript, quits}
 use Rattle.engine_support.specs.inner.Making.{FindsUpToReads, IsEndOf, text_and_value}
 use Rattle.debugger.specs.inner.Asking.{AsksNext, IsNextLine}
-use Rattle.debugger.specs.inner.Failures.{IsFailure, IsReadFailure, IsAtStart}
+use Rattle.debugger.specs.inner.Failures.{IsFailure, IsAtStart}
 use Rattle.engine_support.specs.Engines.{Output}
 use Rattle.engine_support.specs.Histories.{AnswersEvents, ByEvents}
 use Rattle.engine_support.proofs.Written.{appends_more, appends_nothing, stopped}

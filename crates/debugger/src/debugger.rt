@@ -1,6 +1,6 @@
 //! A session that follows a schedule, with events of the user's between.
 
-ghost use Rattle.std.specs.Prelude.{◌≡◌, ◌≤◌, List, IfOk};
+ghost use Rattle.std.specs.Prelude.{◌≡◌, ◌≤◌, IfOk};
 ghost use Rattle.std.specs.List.{slice_get};
 ghost use Rattle.step_machine.specs.History.{FitsIn};
 ghost use Rattle.debugger.specs.DebuggerStates.{scheduled};

@@ -36,11 +36,7 @@ too_many known left after before chunk count was is within many = grind (arith, 
 -- with this chunk at most one chunk past the limit was taken
 pub taken_chunk : (known left after : Option (List ℕ)) (before chunk : List ℕ) (count : ℕ) → Consumes known left before
     → Consumes left after (take count chunk) → length before ≤ 1048576 → count ≤ length chunk → length chunk ≤ 4096 → TakesFew known after
-taken_chunk known left after before chunk count was is few within small = (
-  before ++ take count chunk,
-  consumes_more known left after before (take count chunk) was is,
-  omega (arith, length-append before (take count chunk), length-take count chunk),
-)
+taken_chunk known left after before chunk count was is few within small = grind (arith, consumes_more, length-append, length-take)
 
 -- what holds of the bytes more weakly
 pub weaker : (known : Option (List ℕ)) (P Q : List ℕ → Type 0) → ((bytes : List ℕ) → P bytes → Q bytes) → OfInput known P → OfInput known Q

@@ -1,18 +1,18 @@
 -- Inputs that are read one after the other: what is answered is one, and what a function leaves that reads them.
-use Rattle.std.proofs.Common.{arith, ◌≡◌, ℕ, List, Result, Ok, Err, refl, sym, ap, ◌∙◌, subst}
-use Rattle.std.specs.Prelude.{Option, Some, None, IsErrAnd, IsOkAnd}
+use Rattle.std.proofs.Common.{arith, ◌≡◌, ℕ, List, Result, Ok, Err, sym, ap, ◌∙◌}
+use Rattle.std.specs.Prelude.{Option, Some, IsErrAnd, IsOkAnd}
 use Rattle.std.specs.Result.{IsErr}
 use Rattle.texts.specs.Results.{map_err}
 use Rattle.engine_support.specs.declared.fault.Fault.{Fault}
 use Rattle.engine_support.specs.declared.fault.Refusal.{Refusal}
 use Rattle.engine_support.specs.Engines.{Accepted, decoded}
 use Rattle.engine_support.specs.Faults.{AnswersAs}
-use Rattle.engine_support.specs.Inputs.{After, Format, IsReadAs, IsRefused, Reads, format}
+use Rattle.engine_support.specs.Inputs.{After, Format, IsRefused, Reads, format}
 use Rattle.engine_support.specs.Inputs.After.{refused, read}
 use Rattle.engine_support.specs.inner.Making.{FindsUpToReads}
 use Rattle.engine_support.specs.Histories.{BySchedule}
 use Rattle.engine_support.proofs.Endings.{answered_by, handed_on, is_handed}
-use Rattle.engine_support.specs.Schedules.{schedule_of, schedules}
+use Rattle.engine_support.specs.Schedules.{schedules}
 use Rattle.engine_support.specs.Tests.{litmus_texts, tests, tests_with}
 use Rattle.engine_support.proofs.Judging.{decoded-text}
 use Rattle.engine_support.proofs.OneInput.{one_number, one_refusal, said-or_refusal, test_or_refusal, value_or_refusal}
@@ -57,11 +57,7 @@ is_one_without Says refusal_of value_at one none = record {
 
 -- schedules are, and litmus texts, whose refusals are the same if their numbers are
 pub one_schedule : IsOne schedules (λ r s. r ≡ s)
-one_schedule = record {
-  one_value = one_said;
-  one_reason = λ input r s. one_refusal (decoded schedule_of input) r s;
-  never_both = said-or_refusal;
-}
+one_schedule = grind (arith, one_refusal, one_said, said-or_refusal)
 
 pub one_litmus : {V : Type 0} (Says : List ℕ → V → Type 0) (test_in : V → LitmusTest) → ((text : List ℕ) (v : V) → Says text v → IsTestOf text (test_in v))
     → ((text : List ℕ) (v w : V) → Says text v → Says text w → v ≡ w) → IsOne (litmus_texts Says) (λ r s. r.number ≡ s.number)
@@ -85,11 +81,7 @@ module _ {V A : Type 0} (form : Format V) (Same : Refusal → Refusal → Type 0
   pub alike_after : (bytes : List ℕ) (Next : V → Result A Refusal → Type 0)
       → ((v : V) (a b : Result A Refusal) → Next v a → Next v b → Alike a b)
       → (a b : Result A Refusal) → After form (Some bytes) Next a → After form (Some bytes) Next b → Alike a b
-  alike_after bytes Next rest a b (refused r none) (refused s other) = refusals r s (is.one_reason bytes r s none other)
-  alike_after bytes Next rest a b (refused r none) (read v given says holds) = absurd (is.never_both bytes v r says none)
-  alike_after bytes Next rest a b (read v given says holds) (refused r none) = absurd (is.never_both bytes v r says none)
-  alike_after bytes Next rest a b (read v given says holds) (read w other also more) =
-      rest v a b holds (subst (λ (x : V). Next x b) (is.one_value bytes w v also.value_is says.value_is) more)
+  alike_after bytes Next rest a b first other = grind arith
 
 -- and one, where it is one after one value
 pub one_after : {V A : Type 0} (form : Format V) (is : IsOne form (λ r s. r ≡ s)) (bytes : List ℕ) (Next : V → Result A Refusal → Type 0)
@@ -99,9 +91,7 @@ one_after form is = alike_after form (λ r s. r ≡ s) is (λ a b. a ≡ b) (λ 
 
 -- as where no value is refused, and all that is made of one is the same
 pub one_made : {A : Type 0} (P : A → Type 0) → ((a b : A) → P a → P b → a ≡ b) → (a b : Result A Refusal) → IsOkAnd a P → IsOkAnd b P → a ≡ b
-one_made P one (Ok a) (Ok b) is other = ap (λ (x : _). Ok x) (one a b is other)
-one_made P one (Ok a) (Err s) is none = absurd none
-one_made P one (Err r) b none other = absurd none
+one_made P one a b is other = grind arith
 
 -- a litmus text and a schedule have answers that are alike, if they are after one test and what the schedule says
 module _ {A : Type 0} (Alike : Result A Refusal → Result A Refusal → Type 0) (refusals : (r s : Refusal) → r.number ≡ s.number → Alike (Err r) (Err s))
@@ -155,6 +145,4 @@ made_after P seen result = answered_by P P seen result (λ answer holds. holds)
 -- what reads a known input that is refused gives no value
 pub refused_no_answer : {V X : Type 0} (form : Format V) (Same : Refusal → Refusal → Type 0) (is : IsOne form Same) (input : Option (List ℕ))
     (view : X → V) (result : Result X Fault) → FindsUpToReads (Reads form input) view result → IsRefused form input → IsErr result
-refused_no_answer form Same is input view (Err fault) finds none = refl
-refused_no_answer form Same is (Some bytes) view (Ok x) finds (r, none) = absurd (is.never_both bytes (view x) r finds none)
-refused_no_answer form Same is None view (Ok x) finds none = absurd none
+refused_no_answer form Same is input view result finds none = grind arith

@@ -57,9 +57,7 @@ kept_room n xs ys fits =
 
 pub kept_more : {E : Type 0} (result : Result (Unit {0}) E) (line new bytes part : List ℕ) (room : ℕ) → length line ≤ 1048577
     → room ≡ 1048577 - length line → part ≡ take room bytes → new ≡ (if is_ok result then line ++ part else line) → OnOk result (new ≡ kept_of (line ++ bytes))
-kept_more (Ok done) line new bytes part room fits left is more =
-    more ∙ ap (λ (ys : List ℕ). line ++ ys) (is ∙ ap (λ (k : ℕ). take k bytes) left) ∙ kept_room 1048577 line bytes fits
-kept_more (Err fault) line new bytes part room fits left is more = tt
+kept_more result line new bytes part room fits left is more = grind (arith, kept_room)
 
 -- the line was taken whole, where the input is known
 pub line_whole : (known : Option (List ℕ)) (line taken : List ℕ) → IfSome known (λ bytes. taken ≡ take_through 10 bytes) → line ≡ take 1048577 taken

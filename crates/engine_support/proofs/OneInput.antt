@@ -1,5 +1,5 @@
 -- An input has its value or a refusal of one number, and so one answer.
-use Rattle.std.proofs.Common.{arith, ◌≡◌, ℕ, Bool, cond, ltb, List, length, Result, Ok, Err, refl, ap, ◌∙◌, subst}
+use Rattle.std.proofs.Common.{arith, ◌≡◌, ℕ, Bool, cond, ltb, List, length, Result, Ok, Err, refl, ap, ◌∙◌}
 use Rattle.std.specs.Str.{is_utf8}
 use Rattle.texts.proofs.FormatLaws.{settled_only}
 use Rattle.step_machine.specs.History.{History}
@@ -64,10 +64,4 @@ module _ {A : Type 0} (B M : ℕ) (IsAnswer : LitmusTest → History → A → T
     (one : (q : LitmusTest) (t : History) (a b : A) → IsAnswer q t a → IsAnswer q t b → a ≡ b) where
   pub one_of_history : (q : LitmusTest) (said : ScheduleValue) (a b : Result A Refusal)
       → AnswersRun B M IsAnswer q said a → AnswersRun B M IsAnswer q said b → AreOneAnswer a b
-  one_of_history q said (Ok a) (Ok b) is other =
-      let histories = one_run B M q.opening said (Ok is.history) (Ok other.history) is.ran other.ran in
-      let same : other.history ≡ is.history = cc in
-      one q is.history a b is.answers (subst (λ (t : History). IsAnswer q t b) same other.answers)
-  one_of_history q said (Ok a) (Err s) is differs = equal_alike _ _ (one_run B M q.opening said (Ok is.history) (Err s) is.ran differs)
-  one_of_history q said (Err r) (Ok b) differs is = equal_alike _ _ (one_run B M q.opening said (Err r) (Ok is.history) differs is.ran)
-  one_of_history q said (Err r) (Err s) differs other = equal_alike _ _ (one_run B M q.opening said (Err r) (Err s) differs other)
+  one_of_history q said a b is other = grind (arith, one, one_run)

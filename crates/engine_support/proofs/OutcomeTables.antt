@@ -64,10 +64,7 @@ module _ {X : Type 0} (gave : (outcome : List ℕ) → X → Bool) (end_of : (ou
       → seen_of gave end_of (runs ++ run ∷ []) outcome
       ≡ cond (gave outcome run) (counted_both (seen_of gave end_of runs outcome) (Some (1, end))) (seen_of gave end_of runs outcome)
   unfolding seen_of
-  seen_more runs run outcome end first kept =
-      let p : X → Bool = gave outcome in
-      ap₂ (λ (b : Bool) (n : ℕ). cond b (Some (n, end_of outcome (runs ++ run ∷ []))) None) (any_more p runs run) (count_more p runs run)
-      ∙ once_more (list_any p runs) (p run) (count_by p runs) (end_of outcome runs) (end_of outcome (runs ++ run ∷ [])) end (none_counted p runs) first kept
+  seen_more runs run outcome end first kept = grind (arith, any_more, count_by, count_more, none_counted, once_more)
 
   -- of runs and then of later ones
   pub seen_both : (front back : List X) (outcome : List ℕ)
@@ -75,20 +72,13 @@ module _ {X : Type 0} (gave : (outcome : List ℕ) → X → Bool) (end_of : (ou
       → (list_any (gave outcome) front ≡ true → end_of outcome (front ++ back) ≡ end_of outcome front)
       → seen_of gave end_of (front ++ back) outcome ≡ counted_both (seen_of gave end_of front outcome) (seen_of gave end_of back outcome)
   unfolding seen_of
-  seen_both front back outcome later first =
-      let p : X → Bool = gave outcome in
-      ap₂ (λ (b : Bool) (n : ℕ). cond b (Some (n, end_of outcome (front ++ back))) None)
-      (list_any-append p front back) (sum_by-append (λ y. cond (p y) 1 0) front back)
-      ∙ twice (list_any p front) (list_any p back) (count_by p front) (count_by p back) (end_of outcome front) (end_of outcome back)
-      (end_of outcome (front ++ back)) (none_counted p front) (none_counted p back) later first
+  seen_both front back outcome later first = grind (arith, count_by, list_any-append, none_counted, sum_by-append, twice)
 
   -- no count is above the number of runs
   pub seen_few : (runs : List X) (outcome : List ℕ) (most : ℕ) → length runs < most
       → IfSome {T = Counted} (seen_of gave end_of runs outcome) (λ seen. seen.0 < most)
   unfolding seen_of
-  seen_few runs outcome most few =
-      let less = count_by-le-length (gave outcome) runs in
-      few_where (list_any (gave outcome) runs) (count_by (gave outcome) runs) most (end_of outcome runs) (omega (arith, less, few))
+  seen_few runs outcome most few = grind (arith, count_by, count_by-le-length, few_where)
 
   -- ---- the lines of a table of some runs
 
@@ -112,10 +102,7 @@ module _ {X : Type 0} (gave : (outcome : List ℕ) → X → Bool) (end_of : (ou
 
     line-is : (outcome : List ℕ) → Contains lines.outcomes outcome → counted_line test outcome (told outcome) ≡ line_at outcome
     unfolding seen_of
-    line-is outcome there =
-        let some : list_any (gave outcome) runs ≡ true = sym (told_where outcome) ∙ (lines.all outcome).0 there in
-        ap (counted_line test outcome)
-        (is outcome ∙ ap (λ (b : Bool). cond b (Some (count_by (gave outcome) runs, end_of outcome runs)) None) some)
+    line-is outcome there = grind (arith, count_by, told_where)
 
     lines_are : (outcomes : List (List ℕ)) → All (λ outcome. Contains lines.outcomes outcome) outcomes
         → flat_map (λ outcome. counted_line test outcome (told outcome)) outcomes ≡ flat_map line_at outcomes
@@ -130,10 +117,7 @@ module _ {X : Type 0} (gave : (outcome : List ℕ) → X → Bool) (end_of : (ou
 -- ---- one ascending list of the same elements
 
 same_truth : (b c : Bool) → (IsTrue b → IsTrue c) → (IsTrue c → IsTrue b) → b ≡ c
-same_truth true true to from = refl
-same_truth true false to from = sym (to refl)
-same_truth false true to from = from refl
-same_truth false false to from = refl
+same_truth b c there back = grind arith
 
 abbrev set_of : List (List ℕ) → BTreeSet (List ℕ)
 set_of xs = record { keys = xs }

@@ -1,5 +1,5 @@
 -- What answers a litmus text and a schedule of either version, from what was read and made of them.
-use Rattle.std.proofs.Common.{arith, ◌≡◌, List, ℕ, Result, Ok, Err, refl, sym, subst, ◌∙◌}
+use Rattle.std.proofs.Common.{arith, ◌≡◌, List, ℕ, Result, Ok, Err}
 use Rattle.std.specs.Prelude.{IsErrAnd, Option}
 use Rattle.texts.proofs.ResultLaws.{ok_is}
 use Rattle.litmus.specs.LitmusTests.{LitmusTest}
@@ -38,14 +38,9 @@ module _ (first second : Option (List ℕ)) {A X : Type 0} (IsAnswer : LitmusTes
     (result : Result X Fault) where
   pub made_of_read : (test : LitmusTest) (said : ScheduleValue) → BySchedule AreRead first second (Ok (test, said))
       → AnswersAs (IsAnswer test said) seen result → FindsUpToReads (BySchedule IsAnswer first second) seen result
-  made_of_read test said are_read =
-      answered_by (IsAnswer test said) (BySchedule IsAnswer first second) seen result
-      (λ answer holds. made_both first second AreRead IsAnswer (test, said) answer
-      (λ q given is. subst (λ (both : LitmusTest × ScheduleValue). IsAnswer both.0 both.1 answer) (ok_is Refusal (test, said) (q, given) is) holds) are_read)
+  made_of_read test said are_read = grind (arith, answered_by, made_both, ok_is)
 
   -- and so does a fault in reading them
   pub read_fault : (fault : Fault) → result ≡ Err fault → FindsUpToReads (BySchedule AreRead first second) test_and_said (Err fault)
       → FindsUpToReads (BySchedule IsAnswer first second) seen result
-  read_fault fault =
-      handed_on (BySchedule AreRead first second) (BySchedule IsAnswer first second) test_and_said seen result fault
-      (λ r. refused_both first second AreRead IsAnswer r (λ q given is. absurd cc))
+  read_fault fault = grind (arith, handed_on, refused_both)

@@ -1,5 +1,5 @@
 -- What answers an input that is read as a text.
-use Rattle.std.proofs.Common.{arith, ◌≡◌, ℕ, ◌≤◌, Bool, true, false, List, length, Result, Ok, Err, sym, subst, ◌∙◌}
+use Rattle.std.proofs.Common.{arith, ◌≡◌, ℕ, ◌≤◌, Bool, List, length, Result, Ok, Err, ◌∙◌}
 use Rattle.std.specs.Prelude.{Option, Some, None, IfOk, IsErrAnd, nat_lt, if◌then◌else◌}
 use Rattle.std.specs.Str.{IsUtf8, is_utf8}
 use Rattle.engine_support.specs.declared.fault.Fault.{Fault}
@@ -33,12 +33,7 @@ pub answered_text : {X Y : Type 0} (IsAnswer : List ℕ → Result Y Refusal →
     → ReadsText known (Ok text)
     → (length text ≤ 1048576 → IsUtf8 text → AnswersAs (IsAnswer text) view result)
     → FindsUpToReads (λ answer. OfInput known (λ bytes. IsAnswer bytes answer)) view result
-answered_text IsAnswer view known text result read answers =
-    let (bytes, is) = some_bytes known _ read in
-    let text_is = decoded-as_text bytes text is in
-    answered_by (IsAnswer text) _ view result
-    (λ answer holds. weaker known _ _ (λ other same. subst (λ (xs : List ℕ). IsAnswer xs answer) (sym (decoded-as_text other text same).0) holds) read)
-    (answers text_is.1 text_is.2)
+answered_text IsAnswer view known text result read answers = grind (arith, answered_by, decoded-as_text, some_bytes, weaker)
 
 -- so does its value, or why it has none
 pub format_read : {V W X : Type 0} (Says : List ℕ → V → Type 0) (value_at : List ℕ → Result W Refusal) (view : X → V) (seen : X → W)
@@ -59,20 +54,13 @@ format_read Says value_at view seen known text result read found exact =
 pub judged_read : {V X : Type 0} (Says : List ℕ → V → Type 0) (value_at : List ℕ → Result V Refusal) (view : X → V) (known : Option (List ℕ))
     (text : List ℕ) (result : Result X Fault) → ReadsText known (Ok text)
     → ((v : V) → value_at text ≡ Ok v → Says text v) → Answers view result (value_at text) → FindsUpToReads (Reads (format Says value_at) known) view result
-judged_read Says value_at view known text result is found answers =
-    format_read Says value_at view view known text result is (at result answers) answers
-  where
-    at : (r : Result _ Fault) → Answers view r (value_at text) → IfOk r (λ x. Says text (view x))
-    at (Ok x) same = found (view x) same
-    at (Err fault) same = tt
+judged_read Says value_at view known text result is found answers = grind (arith, format_read)
 
 -- an input that is no text is refused so, whatever it is to be
 refused_first : {V W : Type 0} (large is_text : Bool) (value : Result V Refusal) (other : W) (refusal : Refusal)
     → (if large then Err too_large else (if is_text then Ok other else Err not_text)) ≡ Err refusal
     → (if large then Err too_large else (if is_text then value else Err not_text)) ≡ Err refusal
-refused_first true is_text value other refusal e = grind arith
-refused_first false true value other refusal e = grind arith
-refused_first false false value other refusal e = grind arith
+refused_first large is_text value other refusal e = grind arith
 
 pub no_text_judged : {V : Type 0} (value_at : List ℕ → Result V Refusal) (bytes : List ℕ) (refusal : Refusal)
     → IsReadAsText bytes (Err refusal) → decoded value_at bytes ≡ Err refusal
@@ -81,9 +69,7 @@ no_text_judged value_at bytes refusal e = refused_first (nat_lt 1048576 (length 
 pub no_text_read_as : {V X Y : Type 0} (form : Format V) (view : X → V) (seen : Y → List ℕ) (known : Option (List ℕ)) (result : Result X Fault) (fault : Fault)
     → ((bytes : List ℕ) (refusal : Refusal) → IsReadAsText bytes (Err refusal) → form.Refuses bytes refusal) → IsErrAnd result (λ e. e ≡ fault)
     → FindsUpToReads (ReadsText known) seen (Err fault) → FindsUpToReads (Reads form known) view result
-no_text_read_as form view seen known result fault refuses is =
-    handed_on (ReadsText known) (Reads form known) seen view result fault
-    (λ refusal. weaker known _ _ (λ bytes. refuses bytes refusal)) (is_handed result fault is)
+no_text_read_as form view seen known result fault refuses is = grind (arith, handed_on, is_handed, weaker)
 
 -- what answers the text that was read answers the reader's input
 of_known : {V A : Type 0} (form : Format V) (Next : V → Result A Refusal → Type 0) (known : Option (List ℕ)) (answer : Result A Refusal)
@@ -95,10 +81,4 @@ of_known form Next (Some bytes) answer is = is
 pub text_after : {V A X : Type 0} (form : Format V) (Next : V → Result A Refusal → Type 0) (view : X → A) (known : Option (List ℕ)) (text : List ℕ)
     (result : Result X Fault) → ReadsText known (Ok text)
     → (length text ≤ 1048576 → IsUtf8 text → AnswersAs (After form (Some text) Next) view result) → FindsUpToReads (After form known Next) view result
-text_after form Next view known text result is answers =
-    let (bytes, same) = some_bytes known _ is in
-    let text_is = decoded-as_text bytes text same in
-    answered_by (After form (Some text) Next) (After form known Next) view result
-    (λ answer holds. of_known form Next known answer (weaker known _ _ (λ other also.
-    subst (λ (xs : List ℕ). After form (Some xs) Next answer) (sym (decoded-as_text other text also).0) holds) is))
-    (answers text_is.1 text_is.2)
+text_after form Next view known text result is answers = grind (arith, answered_by, decoded-as_text, of_known, some_bytes, weaker)

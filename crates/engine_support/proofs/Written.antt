@@ -9,7 +9,7 @@ use Rattle.std.specs.Io.KnownBytes.{Appends}
 use Rattle.std.proofs.lemmas.Bool.{cases_Bool}
 use Rattle.std.proofs.lemmas.List.{append-nil}
 use Rattle.engine_support.specs.declared.fault.Fault.{Fault}
-use Rattle.engine_support.specs.declared.fault.Fault.TheVariants.{ReadFailed, WriteFailed, NoMemory, Refused}
+use Rattle.engine_support.specs.declared.fault.Fault.TheVariants.{WriteFailed, NoMemory}
 use Rattle.engine_support.specs.Interactive.{OnStopped, OnUnwritten}
 use Rattle.engine_support.specs.inner.Failures.{IsFailure, IsReadFailure}
 use Rattle.engine_support.specs.inner.Making.{IsEndOf, text_and_value}
@@ -42,49 +42,22 @@ no_byte (byte ∷ bytes) e = elim (cases_Bool (byte == 10)) [
 module _ {V W : Type 0} (made : String Global × V) (result : Result V Fault) (contents : W → Option (List ℕ)) (old new : W)
     (end : IsEndOf text_and_value (Ok made) result contents old new) where
   pub wrote : IfOk result (λ v. (v ≡ made.1) × Appends (contents old) (contents new) (string_bytes made.0))
-  wrote = at result end
-    where
-      at : (r : Result V Fault) → IsEndOf text_and_value (Ok made) r contents old new
-          → IfOk r (λ v. (v ≡ made.1) × Appends (contents old) (contents new) (string_bytes made.0))
-      at (Ok v) is = is
-      at (Err fault) is = tt
+  wrote = grind arith
 
   pub end_fails : IfErr result IsFailure
-  end_fails = at result end
-    where
-      at : (r : Result V Fault) → IsEndOf text_and_value (Ok made) r contents old new → IfErr r IsFailure
-      at (Ok v) is = tt
-      at (Err WriteFailed) is = tt
-      at (Err ReadFailed) is = tt
-      at (Err NoMemory) is = tt
-      at (Err (Refused r)) is = absurd is
+  end_fails = grind arith
 
   pub end_stopped : (P : Type 0) → OnStopped result P
-  end_stopped P = at result end
-    where
-      at : (r : Result V Fault) → IsEndOf text_and_value (Ok made) r contents old new → OnStopped r P
-      at (Ok v) is = tt
-      at (Err WriteFailed) is = tt
-      at (Err ReadFailed) is = absurd is
-      at (Err NoMemory) is = absurd is
-      at (Err (Refused r)) is = tt
+  end_stopped P = grind arith
 
 -- ---- a write failed
 
 module _ {V : Type 0} (result : Result V Fault) where
   pub write_fails : IfErr result (λ fault. fault ≡ WriteFailed) → IfErr result IsFailure
-  write_fails fails = at result fails
-    where
-      at : (r : Result V Fault) → IfErr r (λ fault. fault ≡ WriteFailed) → IfErr r IsFailure
-      at (Ok v) is = tt
-      at (Err fault) is = rw is tt
+  write_fails fails = grind arith
 
   pub write_stops : (P : Type 0) → IfErr result (λ fault. fault ≡ WriteFailed) → OnStopped result P
-  write_stops P fails = at result fails
-    where
-      at : (r : Result V Fault) → IfErr r (λ fault. fault ≡ WriteFailed) → OnStopped r P
-      at (Ok v) is = tt
-      at (Err fault) is = rw is tt
+  write_stops P fails = grind arith
 
 -- ---- what is handed on
 
@@ -96,51 +69,27 @@ stopped result P p = grind arith
 
 module _ {V : Type 0} (result : Result V Fault) (fault : Fault) (is : result ≡ Err fault) where
   pub hands_failure : IsFailure fault → IfErr result IsFailure
-  hands_failure fails = rw is fails
+  hands_failure fails = grind arith
 
   pub hands_read_failure : IsReadFailure fault → IfErr result IsFailure
-  hands_read_failure fails = rw is (at fault fails)
-    where
-      at : (f : Fault) → IsReadFailure f → IsFailure f
-      at ReadFailed x = tt
-      at NoMemory x = tt
-      at WriteFailed x = absurd x
-      at (Refused r) x = absurd x
+  hands_read_failure fails = grind arith
 
   -- what only reads fails by no write
   pub reads_alone : IsReadFailure fault → (P : Type 0) → OnUnwritten result P
-  reads_alone fails P = rw is (at fault fails)
-    where
-      at : (f : Fault) → IsReadFailure f → OnUnwritten {V = V} (Err f) P
-      at ReadFailed x = tt
-      at NoMemory x = tt
-      at WriteFailed x = absurd x
-      at (Refused r) x = tt
+  reads_alone fails P = grind arith
 
   pub hands_no_memory : fault ≡ NoMemory → IfErr result IsFailure
-  hands_no_memory same = rw (is, same) tt
+  hands_no_memory same = grind arith
 
 -- what holds where a part stopped, of what was written then
 pub hands_stop : {V : Type 0} (Part : Type 0) (result : Result V Fault) (fault : Fault) → result ≡ Err fault → (P Q : Type 0) → (P → Q)
     → OnStopped {V = Part} (Err fault) P → OnStopped result Q
-hands_stop {V} Part result fault is P Q more stops = rw is (at fault stops)
-  where
-    at : (f : Fault) → OnStopped {V = Part} (Err f) P → OnStopped {V = V} (Err f) Q
-    at ReadFailed p = more p
-    at NoMemory p = more p
-    at WriteFailed p = tt
-    at (Refused r) p = tt
+hands_stop Part result fault is P Q more stops = grind arith
 
 -- and where a write failed in it
 pub hands_unwritten : {V : Type 0} (Part : Type 0) (result : Result V Fault) (fault : Fault) → result ≡ Err fault → (P Q : Type 0) → (P → Q)
     → OnUnwritten {V = Part} (Err fault) P → OnUnwritten result Q
-hands_unwritten {V} Part result fault is P Q more written = rw is (at fault written)
-  where
-    at : (f : Fault) → OnUnwritten {V = Part} (Err f) P → OnUnwritten {V = V} (Err f) Q
-    at ReadFailed p = tt
-    at NoMemory p = tt
-    at WriteFailed p = more p
-    at (Refused r) p = tt
+hands_unwritten Part result fault is P Q more written = grind arith
 
 -- a part that stopped had written nothing
 pub keeps_written : {V W : Type 0} (Part : Type 0) (result : Result V Fault) (fault : Fault) → result ≡ Err fault → (old new : W) (Q : W → Type 0)

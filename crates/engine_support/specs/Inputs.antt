@@ -1,5 +1,5 @@
 -- Inputs that are read one after the other.
-use Rattle.std.specs.Prelude.{ℕ, ◌≡◌, List, Option, Some, None, IsSomeAnd, Result, Ok, Err}
+use Rattle.std.specs.Prelude.{ℕ, ◌≡◌, List, Option, IsSomeAnd, Result, Ok, Err}
 use Rattle.engine_support.specs.declared.fault.Refusal.{Refusal}
 use Rattle.engine_support.specs.Engines.{Accepted, OfInput, decoded}
 

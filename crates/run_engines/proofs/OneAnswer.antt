@@ -1,8 +1,6 @@
 -- What answers `run`, `replay` and `move` is one answer.
 use Rattle.std.proofs.Common.{arith, ◌≡◌, ℕ, List, Some, Result, Ok, Err, sym, ap, ◌∙◌}
-use Rattle.std.specs.List.{flat_map}
 use Rattle.step_machine.specs.History.{History}
-use Rattle.recorder.specs.Outcomes.{entry_line}
 use Rattle.recorder.specs.Records.{record_text}
 use Rattle.recorder.specs.Versions.{ScheduleValue}
 use Rattle.litmus.specs.LitmusTests.{LitmusTest}

@@ -6,7 +6,6 @@ use Rattle.step_machine.specs.declared.events.Event.{Event}
 use Rattle.step_machine.specs.declared.events.Entry.{Entry}
 use Rattle.step_machine.specs.History.{OpeningValue}
 use Rattle.step_machine.specs.Entries as entries
-use Rattle.step_machine.specs.Entries.{is_land}
 use Rattle.step_machine.specs.Legal.{IsOfHarts}
 use Rattle.step_machine.specs.Runs.{event_of}
 use Rattle.recorder.specs.Schedule.{OfHarts, hart_of}

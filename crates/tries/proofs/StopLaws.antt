@@ -1,5 +1,5 @@
 -- One more hart that is stopped: in a table, and among those of a position.
-use Rattle.std.proofs.Common.{◌≡◌, ℕ, suc, ◌+◌, ◌<◌, ◌==◌, ◌++◌, min, List, length, take, get_or, Bool, true, false, cond, refl, arith}
+use Rattle.std.proofs.Common.{◌≡◌, ℕ, suc, ◌+◌, ◌<◌, ◌==◌, ◌++◌, min, List, length, take, get_or, cond, refl, arith}
 use Rattle.std.specs.Prelude.{count_by, option_map, slice_index, slice_set}
 use Rattle.std.specs.List.{slice_get}
 use Rattle.std.proofs.lemmas.Bool.Decides.{nat_tests}

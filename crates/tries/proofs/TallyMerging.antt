@@ -10,7 +10,7 @@ use Rattle.std.proofs.lemmas.List.Elements.{All-append}
 use Rattle.std.proofs.lemmas.List.FromFn.{map-range_with_len_more, length-map-range_with_len}
 use Rattle.rand_core.specs.Stream.{Stream}
 use Rattle.step_machine.specs.declared.events.Event.{Event}
-use Rattle.recorder.specs.Drawing.{left_after, drawn, schedule_drawn}
+use Rattle.recorder.specs.Drawing.{left_after, schedule_drawn}
 use Rattle.recorder.proofs.Drawn.{left_after-sum}
 use Rattle.tries.specs.declared.trials.tally.Tally.{Tally}
 use Rattle.engine_support.specs.Counting.{Counted, counted, counted_both, seen_of}

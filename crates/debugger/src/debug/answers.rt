@@ -3,9 +3,7 @@
 ghost use Rattle.std.specs.Prelude.{◌≡◌, ◌++◌, ◌≤◌, ℕ, List, true, Some, IfOk, drop};
 ghost use Rattle.std.specs.List.{slice_get};
 ghost use Rattle.std.specs.String.{string_bytes};
-ghost use Rattle.step_machine.specs.Runs.{Run};
 ghost use Rattle.debugger.specs.declared.debugger.Source.TheVariants.{Schedule};
-ghost use Rattle.debugger.specs.DebuggerStates.{DebuggerState};
 ghost use Rattle.debugger.specs.Debugging.{DoesEvent, DoesAll, DoesCommand, DoesNext};
 
 use crate::debug::breakpoints::{set_breakpoint, stop_before};

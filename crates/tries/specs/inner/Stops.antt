@@ -1,6 +1,6 @@
 -- Which harts are stopped at a position, and how often each is counted.
 use Rattle.std.specs.Prelude.{ℕ, zero, suc, ◌≡◌, ◌+◌, ◌-◌, ◌*◌, ◌<◌, ◌≤◌, ◌==◌, if◌then◌else◌, Bool, min, List, [], ◌∷◌, ◌++◌, length, count_by, slice_index}
-use Rattle.std.specs.Prelude.{Option, None, Some, option_map}
+use Rattle.std.specs.Prelude.{Option, Some, option_map}
 use Rattle.std.specs.List.{slice_get}
 use Rattle.hart.specs.Steps.{stop_number}
 use Rattle.hart.specs.declared.status.Status.{Status}

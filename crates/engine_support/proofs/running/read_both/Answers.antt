@@ -1,6 +1,6 @@
-use Rattle.std.proofs.Common.{Ok, refl}
+use Rattle.std.proofs.Common.{refl}
 use Rattle.litmus.specs.LitmusTests.{LitmusTest}
-use Rattle.recorder.specs.Versions.{ScheduleValue, said_of}
+use Rattle.recorder.specs.Versions.{said_of}
 use Rattle.engine_support.specs.Inputs.After.{read}
 use Rattle.engine_support.specs.Schedules.{schedules}
 use Rattle.engine_support.specs.Tests.{tests}

@@ -1,9 +1,8 @@
 -- A session begins with a snapshot of its opening.
-use Rattle.std.proofs.Common.{◌≡◌, ◌<◌, ◌*◌, ℕ, zero, suc, List, [], ◌∷◌, length, take, get_or, refl, sym, subst, arith}
-use Rattle.step_machine.specs.History.{OpeningValue, History, at_opening}
+use Rattle.std.proofs.Common.{◌<◌, ◌*◌, ℕ, zero, suc, [], ◌∷◌, take, get_or, refl, arith}
+use Rattle.step_machine.specs.History.{History}
 use Rattle.step_machine.specs.Runs.{Run}
 use Rattle.step_machine.specs.Snapshots.{SnapshotView, IsTakenAt}
-use Rattle.step_machine.specs.declared.events.Event.{Event}
 use Rattle.debugger.specs.declared.session.TheConstants.{SNAPSHOT_EVENTS}
 use Rattle.debugger.specs.inner.SnapshotsHeld.{IsTakenAfter, HasSnapshots}
 use Rattle.debugger.proofs.session.Session.open.Goals as goal
