@@ -1,11 +1,11 @@
 -- What the sender owes, and so the laws of the ring.
-use Rattle.std.proofs.Common.{ℕ, ◌≡◌, refl, ◌∙◌, ap, arith, lit≤}
+use Rattle.std.proofs.Common.{◌≡◌, refl, ◌∙◌, ap, arith, lit≤}
 use Rattle.std.proofs.Math.Nat.{zero-mod}
 use Rattle.std.specs.Prelude.{slice_index}
 use Rattle.hart.specs.State.{HartState}
 use Rattle.poll_close.proofs.Ring.{Decreases, rank_of, next_by, Block, Standing, IsBlock, BlockLaws, opens_with, stands_at, AllLaws, all_laws, falls}
 use Rattle.poll_close.proofs.Ring.{AllMayLoad}
-use Rattle.lamport_ring.specs.Invariant.Counters.{Sent, Counters, CounterInvariant, Words}
+use Rattle.lamport_ring.specs.Invariant.Counters.{Sent}
 use Rattle.lamport_ring.specs.Invariant.Programs.{outline_of}
 use Rattle.lamport_ring.proofs.Laws.{Reads, SenderLaws, block_laws, nothing}
 use Rattle.lamport_ring.proofs.Falling.{progress, loads_tail}

@@ -1,5 +1,5 @@
 -- Why each row of the sender's outline is right: from its assertion, the act there leads to the next row's.
-use Rattle.std.proofs.Common.{ℕ, suc, ◌+◌, ◌*◌, ◌≡◌, ◌==◌, true, false, refl, sym, ◌∙◌, ap, arith}
+use Rattle.std.proofs.Common.{ℕ, suc, ◌+◌, ◌≡◌, ◌==◌, false, refl, sym, ◌∙◌, ap, arith}
 use Rattle.poll_close.proofs.Ring.{lines_of, Block, SenderRegisters, Reasons, IsBlock, base_plus, word_of, slot_at, Sender, Right, ◌&◌, Rows, rows}
 use Rattle.poll_close.proofs.Outlines as outline
 use Rattle.lamport_ring.specs.Invariant.Counters.{Counters, CounterInvariant, Words}

@@ -1,6 +1,6 @@
 -- What one entry changes of all that is read off a history: an act by its hart's need, a landing by
 -- the store that lands. All rings go by these two records and by nothing else of the machine.
-use Rattle.std.proofs.Common.{ℕ, ◌<◌, ◌≡◌, ◌≢◌, ◌==◌, Bool, true, false, List, [], ◌∷◌, ◌++◌, length, Some}
+use Rattle.std.proofs.Common.{ℕ, ◌≡◌, ◌≢◌, ◌==◌, Bool, true, false, List, [], ◌∷◌, ◌++◌, Some}
 use Rattle.std.proofs.Common.{if◌then◌else◌, refl, sym, subst, arith, eq-eqb, append-nil}
 use Rattle.std.specs.Prelude.{T}
 use Rattle.std.proofs.lemmas.Bool.Decides.{nat_tests}

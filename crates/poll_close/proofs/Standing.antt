@@ -1,7 +1,7 @@
 -- A channel stands at its opening, and goes on standing over every event; and what is known then of a
 -- sender's hart.
 use Rattle.std.proofs.Common.{◌≡◌, ℕ, ◌+◌, ◌<◌, Result, Ok, Err, List, [], ◌∷◌, length, take, map, refl, sym, ◌∙◌, ap}
-use Rattle.std.proofs.Common.{subst, arith, suc, ◌-◌, ◌%◌, ◌≤◌, Option, Some}
+use Rattle.std.proofs.Common.{subst, arith, suc, ◌-◌, ◌%◌, ◌≤◌, Some}
 use Rattle.std.specs.Prelude.{IfOk, IfErr, OnOk, OnErr}
 use Rattle.hart.specs.declared.need.Report.{Report}
 use Rattle.step_machine.specs.declared.events.Event.{Event}
