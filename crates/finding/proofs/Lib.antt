@@ -1,6 +1,11 @@
 -- Lemmas.
+pub mod ChangeLaws
 pub mod LevelLaws
+pub mod PartLaws
+pub mod PartRows
+pub mod PartSteps
+pub mod PartTables
+pub mod PartWords
 pub mod RowLaws
 pub mod Shortest
-pub mod Ways
 pub mod Witnesses

@@ -1,5 +1,4 @@
 -- What serves the proofs alone, where a private contract names it.
-pub mod Arriving
 pub mod Levels
-pub mod Rows
+pub mod Parts
 pub mod Surveys

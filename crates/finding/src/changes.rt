@@ -1,5 +1,8 @@
 //! The words of memory as changes: the index and the word of each that differs from the opening's.
 
+ghost use Rattle.std.specs.Prelude.{◌≡◌, OnOk};
+ghost use Rattle.finding.specs.inner.Parts.{span_of, words_said};
+
 use std::alloc::AllocError;
 
 /// Writes the changes that make the words of `first` these, in the place of what `changes` holds.
@@ -19,7 +22,9 @@ pub(crate) fn changes_into(
 }
 
 /// How many words there are up to the last of those that changed.
-fn length_of(changes: &[u32]) -> usize {
+fn length_of(changes: &[u32]) -> usize
+    ensures { result ≡ span_of changes.now }
+{
     match changes {
         [.., index, _] => *index as usize + 1,
         _ => 0,
@@ -31,13 +36,15 @@ pub(crate) fn words_into(
     first: &[u32],
     changes: &[u32],
     words: &mut Vec<u32>,
-) -> Result<(), AllocError> {
+) -> Result<(), AllocError>
+    ensures { OnOk result (words.new.items ≡ words_said first.now changes.now) }
+{
     words.clear();
     words.extend_from_slice(&first[..first.len().min(length_of(changes))])?;
     for at in 0..changes.len() / 2 {
         let index = changes[2 * at] as usize;
-        if let Some(place) = words.get_mut(index) {
-            *place = changes[2 * at + 1];
+        if index < words.len() {
+            words[index] = changes[2 * at + 1];
         }
     }
     Ok(())

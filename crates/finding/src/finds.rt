@@ -11,8 +11,7 @@ ghost use Rattle.finding.specs.Find.{EndsAsWanted, IsFindAnswer, IsFound, IsWant
 ghost use Rattle.litmus.specs.declared.litmus_test.TheConstants.{MAX_LOCATIONS};
 
 use crate::progress::SearchProgress;
-use crate::searching::{Searched, search};
-use crate::surveying::survey;
+use crate::surveying::{Searched, survey};
 use engine_support::fault::Fault;
 use engine_support::litmus_text::read_test;
 use engine_support::output::end_with;
@@ -73,7 +72,7 @@ fn is_shown_by<const B: usize, const M: usize>(
     }
 }
 
-/// The schedule of what a search hands over, if that shows what the test asks about.
+/// The schedule of what a search hands over, if that shows what the test asks about, and nothing if there is none.
 fn answer<const B: usize, const M: usize, P: SearchProgress>(
     alloc: Global,
     test: &Test,
@@ -87,7 +86,7 @@ fn answer<const B: usize, const M: usize, P: SearchProgress>(
     requires some_states { 1 ≤ states }
     ensures { IfOk result (λ answered. IsFound B M states test.now (string_bytes answered.0) answered.1) }
 {
-    let searched = search::<B, M, P>(alloc, test, states, progress);
+    let searched = survey::<B, M, P>(alloc, test, states, progress);
     progress.end();
     let Searched {
         states,
@@ -102,33 +101,6 @@ fn answer<const B: usize, const M: usize, P: SearchProgress>(
         }
     }
     Ok((String::new(alloc), found_none(states, is_cut)))
-}
-
-/// What answers a test: nothing where a survey of all states says so, and else what a search hands over.
-fn answer_or_none<const B: usize, const M: usize, P: SearchProgress>(
-    alloc: Global,
-    test: &Test,
-    states: u32,
-    progress: &mut P,
-) -> Result<(String, Found), AllocError>
-    requires some_capacity { 1 ≤ B }
-    requires capacity { B ≤ 64 }
-    requires words { MAX_LOCATIONS ≤ M }
-    requires size { M ≤ 65536 }
-    requires some_states { 1 ≤ states }
-    ensures { IfOk result (λ answered. IsFound B M states test.now (string_bytes answered.0) answered.1) }
-{
-    match survey::<B, M, P>(alloc, test, states, progress) {
-        Ok(None) => answer::<B, M, P>(alloc, test, states, progress),
-        Ok(Some(found)) => {
-            progress.end();
-            Ok((String::new(alloc), found))
-        }
-        Err(error) => {
-            progress.end();
-            Err(error)
-        }
-    }
 }
 
 /// What a search of this many states came to that found nothing.
@@ -157,7 +129,7 @@ fn made<const B: usize, const M: usize, R: Read, P: SearchProgress>(
     ensures { FindsUpToReads (IsFindAnswer B M states (R.remaining file.old)) text_and_value result }
 {
     let test = read_test(alloc, file)?;
-    let answered = answer_or_none::<B, M, P>(alloc, &test, states, progress)?;
+    let answered = answer::<B, M, P>(alloc, &test, states, progress)?;
     Ok(answered)
 }
 

@@ -1,25 +1,28 @@
-//! A schedule that shows what a test asks about, found by a search over the machine's states. A survey by the numbers of
-//! their parts comes first: if it comes to nothing, nothing is searched.
+//! A schedule that shows what a test asks about, found by a survey of the machine's states by the numbers of their parts.
 //!
 //! The contract: where [`find_engine`] says that it found one, what it wrote is the canonical schedule of a
 //! run that is finished and in whose last state the test's condition is as wanted (`IsFindAnswer` of
 //! `specs/Find.antt`). Each of its events is an entry of the run, and no schedule with fewer events shows such an outcome.
-//! The machine runs what the search hands over before anything is written, so of the search only that is owed which no run
-//! shows: that it passes over no shorter way. That there is no way where none was found, no clause says. It has no
-//! tests: the cases of the program run it.
+//! Both are checked before anything is written: the machine runs the events, and `fewest` goes over the states that the
+//! survey met. So of the survey nothing is owed but how many states it saw. That there is no way where none was found, no
+//! clause says. It has no tests: the cases of the program run it.
 
 #![tactic(auto)]
 
-mod arrivals;
+mod back;
+mod book;
 mod changes;
+mod fewest;
 mod finds;
+mod met;
 mod moves;
 mod progress;
 mod reports;
-mod searching;
 mod steps;
 mod surveying;
+mod tables;
 mod walk;
+mod ways;
 
 pub use finds::{Found, find_engine};
 pub use progress::SearchProgress;

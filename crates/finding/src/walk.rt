@@ -3,6 +3,7 @@
 ghost use Rattle.std.specs.Prelude.{◌≡◌, ◌≤◌, ◌+◌, length, IfOk, IfSome};
 
 use crate::finds::ends_as_wanted;
+use crate::met::Met;
 use crate::moves::{Move, Moves};
 use crate::progress::SearchProgress;
 use crate::reports::Reports;
@@ -72,6 +73,14 @@ impl<const N: usize> Walk<N> {
             counts,
             row: Vec::new(alloc),
         }))
+    }
+
+    /// The states that were met.
+    pub fn into_met(self) -> Met<N>
+        requires { N ≤ 64 }
+    {
+        let Walk { keys, layout, .. } = self;
+        Met::new(keys, layout)
     }
 
     /// How many states were met.

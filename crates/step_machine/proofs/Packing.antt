@@ -94,16 +94,16 @@ zero_again : (xs : List ℕ) → slice_index xs 0 ≡ 0 → slice_set xs 0 0 ≡
 zero_again xs is = ap (set xs 0) (sym is) ∙ set-get_or xs 0 0
 
 -- the hart stands there, and the words after its own are left
-record IsBack (w : HartView) (rest : List ℕ) (taken : HartView × List ℕ) : Type 0 where
-  state : taken.0.state ≡ w.state
-  left : taken.1 ≡ rest
+pub record IsBack (w : HartView) (rest : List ℕ) (taken : HartView × List ℕ) : Type 0 where
+  pub state : taken.0.state ≡ w.state
+  pub left : taken.1 ≡ rest
 
 -- the hart's code and its memory's size are those with which it opened
 pub record HasOwnCode (v : HartView) : Type 0 where
   pub code : v.state.code ≡ v.first.code
   pub words : v.state.words ≡ v.first.words
 
-own_code : (v : HartView) → IsOfItsOpening v → HasOwnCode v
+pub own_code : (v : HartView) → IsOfItsOpening v → HasOwnCode v
 own_code v own = record { code = own.code; words = own.words }
 
 -- it is so before words say where it stands, where it is so after
@@ -116,7 +116,7 @@ own_codes (v ∷ vs) words all =
     All-cons HasOwnCode v vs (record { code = own.code; words = own.words })
     (own_codes vs (unpacked_hart v words).1 (All-tail IsOfItsOpening one others all))
 
-hart_back : (v w : HartView) (rest : List ℕ) → v.first ≡ w.first → HasOwnCode v → IsSoundHart w → IsBack w rest (unpacked_hart v (packed_hart w ++ rest))
+pub hart_back : (v w : HartView) (rest : List ℕ) → v.first ≡ w.first → HasOwnCode v → IsSoundHart w → IsBack w rest (unpacked_hart v (packed_hart w ++ rest))
 hart_back v w rest opens of_v of_w =
     let changes = changed w.first.registers w.state.registers 32 in
     let same : unpacked_changes (length changes) v.first.registers (flat_map pair_words changes ++ rest) ≡ (w.state.registers, rest) =
@@ -160,7 +160,7 @@ stored_last B M stores w room has =
     ∙ ap (λ b. if true && b && nat_lt (w.addr / 4) M then stores ++ w ∷ [] else stores) second
     ∙ ap (λ b. if true && true && b then stores ++ w ∷ [] else stores) third
 
-stores-back : (B M : ℕ) (stores before : List Write) (rest : List ℕ) → length before + length stores ≤ B → InMemory M stores
+pub stores-back : (B M : ℕ) (stores before : List Write) (rest : List ℕ) → length before + length stores ≤ B → InMemory M stores
     → unpacked_stores B M (length stores) before (flat_map store_words stores ++ rest) ≡ (before ++ stores, rest)
 stores-back B M [] before rest room has = ap (λ (ps : List Write). (ps, rest)) (sym (append-nil before))
 stores-back B M (w ∷ stores) before rest room has =
@@ -186,7 +186,7 @@ buffers_back B M (a ∷ old) (b ∷ bs) rest count room has =
     ∙ ap (λ (p : List (List Write) × List ℕ). (b ∷ p.0, p.1)) there
 buffers_back B M x y rest count room has = cc
 
-words-back : (M : ℕ) (first words : List ℕ) → length first ≡ M → length words ≡ M → with_words M first (written_since first words) ≡ words
+pub words-back : (M : ℕ) (first words : List ℕ) → length first ≡ M → length words ≡ M → with_words M first (written_since first words) ≡ words
 words-back M first words size same =
     let few : length (written_since first words) ≤ M = omega (arith, written_few first words) in
     ap (λ xs. xs ++ drop (length xs) first) (take_all M (written_since first words) few) ∙ written_back first words (size ∙ sym same)

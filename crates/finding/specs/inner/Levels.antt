@@ -1,6 +1,5 @@
--- How far a search has come that goes on from each node in the order in which it met them, over any graph: `next` leads
--- from a node by a step.
-use Rattle.std.specs.Prelude.{ℕ, zero, suc, ◌≡◌, ◌<◌, ◌≤◌, List, length, Some, All}
+-- Nodes of a graph, level by level, in the order in which a search met them: `next` leads from a node by a step.
+use Rattle.std.specs.Prelude.{ℕ, zero, suc, ◌≡◌, ◌<◌, ◌≤◌, List, Some}
 use Rattle.std.specs.List.{slice_get}
 use Rattle.step_machine.specs.Positions.{Position, next_position}
 use Rattle.litmus.specs.LitmusTests.{LitmusTest}
@@ -22,17 +21,21 @@ pub record IsAmong {Node : Type 0} (count : ℕ) (nodes : List Node) (node : Nod
   pub before : place < count
   pub there : slice_get nodes place ≡ Some node
 
--- each step from the node leads to one of these
-abbrev pub LeadsInto : {Node Step : Type 0} → (next : Node → Step → Node) → (nodes : List Node) → Node → Type 0
-LeadsInto {Step = Step} next nodes node = (step : Step) → IsAmong (length nodes) nodes (next node step)
+-- each step from the node leads to one of the first `count` of these
+abbrev pub LeadsInto : {Node Step : Type 0} → (next : Node → Step → Node) → (count : ℕ) → (nodes : List Node) → Node → Type 0
+LeadsInto {Step = Step} next count nodes node = (step : Step) → IsAmong count nodes (next node step)
 
--- A search met these nodes, none of which is wanted. It has gone on by each step from the first `done` of them, and at most
--- `depth` steps lead to none but the first `level`.
+-- a search may go on from the node: it isn't wanted, and each step leads to one of the first `count` of these
+pub record GoesOn {Node Step : Type 0} (next : Node → Step → Node) (Wanted : Node → Type 0) (count : ℕ) (nodes : List Node) (node : Node) : Type 0 where
+  pub leads : LeadsInto next count nodes node
+  pub unwanted : Wanted node → ⊥
+
+-- At most `depth` steps lead to none but the first `level` of these nodes. None of the first `done` is wanted, and a step from one
+-- of these leads to none but the first `level`.
 pub record IsSearched {Node Step : Type 0} (next : Node → Step → Node) (Wanted : Node → Type 0) (first : Node) (nodes : List Node)
     (done level depth : ℕ) : Type 0 where
   pub near : (count : ℕ) (node : Node) → count ≤ depth → IsLedToBy next first count node → IsAmong level nodes node
-  pub gone_on : (number : ℕ) (node : Node) → number < done → slice_get nodes number ≡ Some node → LeadsInto next nodes node
-  pub none : All (λ node. Wanted node → ⊥) nodes
+  pub gone_on : (number : ℕ) (node : Node) → number < done → slice_get nodes number ≡ Some node → GoesOn next Wanted level nodes node
 
 -- ---- the positions of a machine, for what a test asks about
 

@@ -7,8 +7,8 @@ invariant-loop g l = record {
   harts : length l.machine.harts ≡ length l.fn.machine.harts;
   some : 1 ≤ length l.states;
   few : length l.states ≤ l.limit;
-  deep : l.depth ≤ l.from;
+  deep : length l.ends.items ≤ l.from;
   level : l.from ≤ l.level_end;
-  below : l.depth < l.level_end;
-  most : l.depth ≤ MAX_EVENTS;
+  below : length l.ends.items < l.level_end;
+  most : length l.ends.items < MAX_EVENTS;
 }
