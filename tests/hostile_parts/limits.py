@@ -138,6 +138,16 @@ def in_little_memory():
     name = "n" * 250_000
     text = f"RISCV X\n{{2:x5=1}}\nP0|P1|P2;\n{rows}exists ({name}=0 /\\ 0:x7=0 /\\ 1:x7=0)\n"
     yield ["try", "text", "--seed", "1", "--runs", "100", "--length", "400"], text.encode(), b"", 24
+    # some thousand states whose stores reach the last words of memory, with an outcome that is found late and one that isn't there
+    for asked in ("0:x8=2 /\\ 1:x8=2 /\\ 2:x8=2", "0:x8=3"):
+        yield ["find", "text"], stores_to_last_words(asked), b"", 16
+
+
+def stores_to_last_words(asked):
+    """Three harts that store two values to a word each, of the last three of memory, and then load the next one's twice."""
+    opening = " ".join(f"{hart}:x5=1; {hart}:x9=2; {hart}:x6={16372 + 4 * hart}; {hart}:x7={16372 + 4 * ((hart + 1) % 3)};" for hart in range(3))
+    rows = "".join("|".join([cell] * 3) + ";\n" for cell in ("sw x5,0(x6)", "sw x9,0(x6)", "lw x8,0(x7)", "lw x8,0(x7)"))
+    return f"RISCV X\n{{{opening}}}\nP0|P1|P2;\n{rows}exists ({asked})\n".encode()
 
 
 def channels(short):
