@@ -49,6 +49,10 @@ def runs(count, prefix, elsewhere, alone):
                (0, "00000013\n", ""))
     status, said, _ = call(prefix / "bin/ztso-explain", "ztso: refused 24 at line 4", folder=elsewhere)
     count.same("explains", (status, said.split("\n")[0]), (0, "24 BadInstr"))
+    for line, wanted in (("hart 0 called with a2 = 12, not the bytes of the slots", "The code breaks rule 6 of docs/functions.md."),
+                         ("1 refused 38 at event 1 line 3: load 1 4 1, the run has load 1 4 0", "38 Differs")):
+        status, said, _ = call(prefix / "bin/ztso-explain", line, folder=elsewhere)
+        count.same(f"explains `{line}`", (status, said.split("\n")[0]), (0, wanted))
     (prefix / "lib/ztso/ztso").rename(elsewhere / "ztso")
     status, said, faults = call(prefix / "bin/ztso", *words)
     count.same("without its program", (status, said, faults.startswith("ztso: ") and faults.count("\n")), (70, "", 1))
