@@ -9,6 +9,8 @@ from bring_parts import ROOT, Refused, c_source, c_tests, columns, compilers, te
 
 # the mappings, each of which includes this one at its end
 MAPPINGS, BASE = ROOT / "examples/mappings", "mapping.h"
+# what mapping.h defines
+GUARD = "MAPPING_H"
 # the folder of queue.h, and the functions that it declares
 QUEUES = ROOT / "examples/bare-metal"
 FUNCTIONS = QUEUES / "functions.S"
@@ -65,7 +67,26 @@ def made(file, way):
             " ".join([*compiler.flags, *way.flags])]
     # a mapping of one's own finds what it includes
     folders = [Path(file).resolve().parent, *[MAPPINGS] * bool(way.mapping), QUEUES]
-    return c_tests.litmus_text(source, compiler, flags, folders, FUNCTIONS, way.fences, note, told)
+    missing = missing_rows(compiler, way.mapping, folders) if way.mapping else []
+    try:
+        return c_tests.litmus_text(source, compiler, flags, folders, FUNCTIONS, way.fences, note, told)
+    except Refused as refused:
+        if missing:
+            raise Refused(f"{refused}, and {way.mapping} has no row {', '.join(missing)}", refused.before) from None
+        raise
+
+
+def missing_rows(compiler, name, folders):
+    """The rows of ztso.h that a mapping doesn't define. It is refused if it doesn't include mapping.h: the compiler's own
+    operations would be taken in place of its rows."""
+    try:
+        defined = compiler.macros(mapping_of(name), folders)
+    except Refused:
+        return []  # the compiler says it again, of the C file
+    if "__STDC__" in defined and GUARD not in defined:
+        raise Refused(f'{name} doesn\'t end with #include "{BASE}", so none of its rows is used')
+    rows = re.findall(r"^#define (\w+)", text_of(MAPPINGS / "ztso.h"), re.MULTILINE)
+    return [row for row in rows if row not in defined]
 
 
 def noted(source, lines):

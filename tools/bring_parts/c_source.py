@@ -169,7 +169,7 @@ def functions_of(plain):
                 raise Refused(f"there are two functions P{open_at}")
             found[open_at] = function_at(plain, shape)
     if not found:
-        raise Refused("there is no function P0(..) {..}, nor any other hart's")
+        raise Refused("there is no function P0(..) {..}: the harts' functions are P0, P1 and on")
     if sorted(found) != list(range(len(found))):
         names = ", ".join(f"P{hart}" for hart in sorted(found))
         raise Refused(f"the functions must be P0, P1 and on, none left out: there are {names}")

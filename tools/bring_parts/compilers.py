@@ -1,6 +1,7 @@
 """The compilers and binutils: which command is there, and what it prints."""
 
 import os
+import re
 import resource
 import shlex
 import shutil
@@ -20,6 +21,7 @@ BINUTIL = "riscv64-unknown-elf-objdump"
 PACKAGES = {"riscv64-unknown-elf-gcc": "gcc-riscv64-unknown-elf", "riscv64-linux-gnu-gcc": "gcc-riscv64-linux-gnu",
             "clang": "clang", BINUTIL: "binutils-riscv64-unknown-elf"}
 SECONDS, FILE_BYTES, LINES = 60, 16 << 20, 12
+NO_HEADER = re.compile(r"fatal error: .*(No such file or directory|file not found)")
 
 
 class Compiler:
@@ -41,7 +43,19 @@ class Compiler:
         """Compiles a C file to a module. What a compiler leaves otherwise, as where it crashes, it leaves beside that."""
         include = [word for folder in (HERE, *folders) for word in ("-I", folder)]
         words = [*self.words, *self.flags, *flags, *include, "-c", "-o", module, "-x", "c", source]
-        output(words, {"TMPDIR": str(Path(module).parent)})
+        try:
+            output(words, {"TMPDIR": str(Path(module).parent)})
+        except Refused as refused:
+            if NO_HEADER.search("".join(refused.before[:1])):
+                raise Refused(f"{refused}: it looks for headers beside the C file, and there is no C library",
+                              refused.before) from None
+            raise
+
+    def macros(self, header, folders):
+        """The names of the macros that a header leaves defined."""
+        include = [word for folder in folders for word in ("-I", folder)]
+        printed = output([*self.words, *self.flags, *include, "-E", "-dM", "-x", "c", header])
+        return set(re.findall(r"^#define (\w+)", printed, re.MULTILINE))
 
     @staticmethod
     def assemble(source, module):
@@ -75,7 +89,7 @@ def output(words, variables=()):
         raise Refused(f"{words[0]} takes more than {SECONDS} seconds") from None
     if done.returncode:
         lines = done.stderr.strip().splitlines() or [f"it ended with {done.returncode}, and said nothing"]
-        begin = next((at for at, line in enumerate(lines) if "error" in line), 0)
+        begin = next((at for at, line in enumerate(lines) if "error" in line.lower()), 0)
         lines = [each.replace("\t", " ") for each in lines[begin:]]
         raise Refused(f"{words[0]} fails", [*lines[:LINES], *["[..]"] * (len(lines) > LINES)])
     return done.stdout
