@@ -63,6 +63,6 @@ def unended(run, opening):
     for hart, code in enumerate(opening.codes):
         step = last.get(hart)
         if step is None and code:
-            yield "cut", f"hart {hart} has no line `retire` and no line `trap`, and {len(code)} words of code"
+            yield "cut", f"hart {hart} has {len(code)} words of code and no line; of RVFI or Spike, is --code right?"
         elif isinstance(step, Retired) and step.insn & 0x7F not in JUMPS and step.insn != ECALL and step.pc + 4 < 4 * len(code):
             yield "cut", f"line {step.line}: hart {hart}'s last instruction is at pc {step.pc:x}, and its code goes on"
