@@ -57,6 +57,10 @@ class Compiled:
             except Refused as refused:
                 self.refused[name] = ": ".join([str(refused), *refused.before[:1]])
 
+    def is_same(self):
+        """Whether each mapping makes the same code, so that nothing is compared. A text's comment names the mapping."""
+        return len(self.texts) > 1 and len({text.partition("*)")[2] for text in self.texts.values()}) == 1
+
     def lefts(self):
         """The condition's left sides."""
         text = next(iter(self.texts.values()))
@@ -131,7 +135,7 @@ def page(program, compiled, found):
     names = list(dict.fromkeys(name for each in compiled for name in (*each.found, *each.refused)))
     parts = ["<!doctype html><html lang=en><meta charset=utf-8><meta name=viewport content='width=device-width'>",
              f"<title>Mappings compared</title><style>{STYLE}</style><h1>Mappings compared</h1>",
-             f"<p>{html.escape(summary(compiled, found))}</p>",
+             *(f"<p>{html.escape(note)}</p>" for note in (summary(compiled, found), *notes(compiled))),
              "<p>Outcomes come from a search of all states of a machine of FIFO store buffers of 4 stores. Of an outcome that "
              "isn't shown nothing is claimed.</p>", "<h2>Compilers</h2>",
              pre("\n".join(f"{name}: {compilers.Compiler(name).version()}" for name in
@@ -148,6 +152,14 @@ def page(program, compiled, found):
 
 def mapping_text(name):
     return text_of(c_command.mapping_of(name))
+
+
+def notes(compiled):
+    """What is said of files in which no row of a mapping differs."""
+    for each in compiled:
+        if each.is_same():
+            yield (f"{each.path.name} by {each.compiler}: each mapping makes the same code. A mapping takes the functions of "
+                   "<stdatomic.h>, not operators such as `x = 1` of an atomic object")
 
 
 def summary(compiled, found):
