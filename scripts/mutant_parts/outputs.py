@@ -16,6 +16,8 @@ VERDICT = re.compile(r"logic=|rattle: no verdict")
 CALLEE = re.compile(r"it calls|it passes|a call of")
 # an error that a name is gone, which shows nothing of the contract
 NAMES = re.compile(r"has no field|is not in scope|has no `|was not admitted")
+# what an error makes of the declarations after it that cite the one with the error
+AFTER = re.compile(r"\d+ declarations? that depends? on ")
 # a text that can't be read, where an edit that only makes a statement false reads well
 UNREAD = re.compile(r"is not in scope|has no field|is no name|operand is missing|expected the end|cannot continue")
 # an error of the compiler, before the prover
@@ -146,6 +148,8 @@ def unread(line, texts):
     if not place or " error: " not in place["words"] or not (place["file"] in texts or place["file"].startswith(("src/", "specs/"))):
         return False
     found = re.match(r" error: (?P<of>`[^`]*`: )?(?P<words>.*)", place["words"])
+    if found and AFTER.match(found["words"]):
+        return False
     return bool(found) and (not found["of"] or bool(UNREAD.search(re.sub(r"`[^`]*`", "", found["words"]))))
 
 

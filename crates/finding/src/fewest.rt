@@ -93,7 +93,7 @@ fn is_unwanted<const B: usize, const M: usize>(
         match book.steps(tables, hart, number_at(row, hart as usize), memory)? {
             Some(steps) if steps.act.is_none() && steps.landing.is_none() => {}
             Some(_) => return Ok(true),
-            None => return Ok(false),
+            None => return is_unwanted_there(test, tables, book, row),
         }
     }
     is_unwanted_there(test, tables, book, row)

@@ -94,11 +94,12 @@ fn answer<const B: usize, const M: usize, P: SearchProgress>(
         way,
     } = searched?;
     if let Some(way) = way {
-        // a search that is right hands over nothing else than what shows it
         if is_shown_by::<B, M>(alloc, test, &way)? {
             let text = write_schedule(alloc, &way)?;
             return Ok((text, Found::Shown));
         }
+        // a search that is right hands over nothing else than what shows it
+        return Err(AllocError);
     }
     Ok((String::new(alloc), found_none(states, is_cut)))
 }

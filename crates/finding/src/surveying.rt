@@ -167,8 +167,11 @@ fn walk<const B: usize, const M: usize, const N: usize, P: SearchProgress>(
         Walked::ToOne => {
             let seen = states.len();
             let met = states.into_met();
-            let way = way_of::<B, M, N>(alloc, test, stepper, &met, &ends)?;
-            Ok(Some(searched_of(seen, limit, way)))
+            let Some(way) = way_of::<B, M, N>(alloc, test, stepper, &met, &ends)? else {
+                // not reached by a survey that is right: there is something, so "nothing found" would be wrong
+                return Err(AllocError);
+            };
+            Ok(Some(searched_of(seen, limit, Some(way))))
         }
         Walked::NoRoom => Ok(None),
     }
