@@ -13,7 +13,8 @@ use Rattle.lamport_ring.proofs.SenderSteps.{none_read}
 use Rattle.lamport_cached.specs.Listing.{lamport_cached}
 use Rattle.lamport_cached.specs.LamportCached.{lamport_cached_blocks, lamport_cached_means, lamport_cached_ranking}
 use Rattle.lamport_cached.specs.Invariant.Sender.{program}
-use Rattle.lamport_cached.proofs.Sender.{sender, reasons}
+use Rattle.lamport_cached.proofs.Sender.{sender}
+use Rattle.lamport_cached.proofs.SenderRows.{reasons}
 
 stands : (k : Block) → IsBlock k → Standing (outline_of program) k nothing.sender (opens_with program.code k)
 stands k is = record {

@@ -12,7 +12,8 @@ use Rattle.lamport_ring.specs.Invariant.Counters.{Sent}
 use Rattle.lamport_ring.specs.Invariant.Sender.{lamport_program}
 use Rattle.lamport_ring.proofs.Laws.{Reads, SenderLaws, block_laws, nothing}
 use Rattle.lamport_ring.proofs.Falling.{progress, loads_tail}
-use Rattle.lamport_ring.proofs.Sender.{lamport_sender, reasons}
+use Rattle.lamport_ring.proofs.Sender.{lamport_sender}
+use Rattle.lamport_ring.proofs.SenderRows.{reasons}
 
 stands : (k : Block) → IsBlock k → Standing (outline_of lamport_program) k nothing.sender (opens_with lamport_program.code k)
 stands k is = record {
