@@ -38,7 +38,8 @@ legal lamport false =
     tt & refl & refl & tt & tt & tt & tt & omega arith & omega arith & tt & tt & omega arith & omega arith & tt & refl & refl & tt & tt & refl & tt
     & tt & omega arith & tt & tt & omega arith & tt
 legal lamport true =
-    tt & refl & refl & tt & tt & tt & tt & omega arith & omega arith & tt & tt & omega arith & omega arith & tt & refl & refl & tt & tt & refl & tt
+    tt & refl & refl & tt & tt & tt & refl & tt & omega arith & tt & tt & omega arith & omega arith & tt & tt &
+    omega arith & omega arith & omega arith & tt & refl & refl & tt & tt & refl & tt
     & tt & omega arith & tt & tt & omega arith & tt
 legal fastforward c =
     tt & refl & tt & refl & tt & tt & tt & omega arith & omega arith & tt & tt & omega arith & omega arith & tt & refl & tt & refl & tt & tt & tt
@@ -50,7 +51,8 @@ sender_path lamport false =
     can refl refl & can refl refl & can refl refl & can refl refl & can refl refl & can refl refl & can refl refl & can refl refl & can refl refl
     & can refl refl & can refl refl & tt
 sender_path lamport true =
-    can refl refl & can refl refl & can refl refl & can refl refl & can refl refl & can refl refl & can refl refl & can refl refl & can refl refl
+    can refl refl & can refl refl & can refl refl & can refl refl & can refl refl & can refl refl & can refl refl &
+    can refl refl & can refl refl & can refl refl & can refl refl & can refl refl & can refl refl
     & can refl refl & can refl refl & tt
 sender_path fastforward c =
     can refl refl & can refl refl & can refl refl & can refl refl & can refl refl & can refl refl & can refl refl & can refl refl & can refl refl
@@ -111,12 +113,28 @@ received lamport true = refl
 received fastforward c = refl
 
 clear : (k : Kind) (c : Bool) (j : ℕ) → j < 2 → memory_word (opening k c) [] (192 + 4 * ((0 + j) % 2)) ≡ 0
-clear k c zero below = refl
-clear k c (suc zero) below = refl
+clear lamport false zero below = refl
+clear lamport false (suc zero) below = refl
+clear lamport true zero below = refl
+clear lamport true (suc zero) below = refl
+clear fastforward c zero below = refl
+clear fastforward c (suc zero) below = refl
 clear k c (suc (suc j)) below = absurd (omega (arith, below))
 
 copies : (k : Kind) (c : Bool) (a : ℕ) → copy_in k c 64 ≡ Some a → (j : ℕ) × (j < 2) × (memory_word (opening k c) [] a ≡ 4 * ((0 + j) % 2))
-copies k c a some = (0, omega arith, ap (memory_word (opening k c) []) (copied_in k c 64 a some).0)
+copies lamport true a some = (1, omega arith, ap (memory_word (opening lamport true) []) (copied_in lamport true 64 a some).0)
+copies lamport false a some = (0, omega arith, ap (memory_word (opening lamport false) []) (copied_in lamport false 64 a some).0)
+copies fastforward c a some = (0, omega arith, ap (memory_word (opening fastforward c) []) (copied_in fastforward c 64 a some).0)
+
+head_is : (k : Kind) (c : Bool) → memory_word (opening k c) [] 64 ≡ 0
+head_is lamport false = refl
+head_is lamport true = refl
+head_is fastforward c = refl
+
+tail_is : (k : Kind) (c : Bool) → memory_word (opening k c) [] 128 ≡ 0
+tail_is lamport false = refl
+tail_is lamport true = refl
+tail_is fastforward c = refl
 
 whole : (k : Kind) (c : Bool) (p : Party) → 0x00000013 ∷ words_of (listing_of k c p) ≡ (0x00000013 ∷ []) ++ (words_of (listing_of k c p) ++ [])
 whole k c p = ap (λ ws. 0x00000013 ∷ ws) (sym (append-nil (words_of (listing_of k c p))))
@@ -144,7 +162,7 @@ uses k c = record {
     block = record { aligned = refl; some_slots = omega arith; inside = omega arith; small = omega arith };
     parties = λ e. omega (arith, e);
     run = run k c;
-    rest = record { head = refl; tail = refl; pending = λ h. refl; slots = λ kind. clear k c; copy = copies k c };
+    rest = record { head = head_is k c; tail = tail_is k c; pending = λ h. refl; slots = λ kind. clear k c; copy = copies k c };
     sends = has k c the_sender;
     receives = has k c the_receiver;
   };

@@ -1,6 +1,6 @@
 -- Two harts that use a queue of two slots at address 64 once, of either kind, and of Lamport's with or without a copy of the tail: hart 0
 -- sends 99, hart 1 receives it. Each has one instruction that does nothing, and then its function.
-use Rattle.std.specs.Prelude.{ℕ, Bool, if◌then◌else◌, List, [], ◌∷◌, ◌++◌}
+use Rattle.std.specs.Prelude.{ℕ, Bool, true, false, List, [], ◌∷◌, ◌++◌}
 use Rattle.hart.specs.State.{HartState}
 use Rattle.step_machine.specs.declared.events.Entry.{Entry}
 use Rattle.step_machine.specs.declared.events.Entry.TheVariants as entry
@@ -33,23 +33,39 @@ sender_hart k caches = hart_with (listing_of k caches the_sender) 99
 abbrev pub receiver_hart : Kind → (caches : Bool) → HartOpeningValue
 receiver_hart k caches = hart_with (listing_of k caches the_receiver) 0
 
+-- with what memory opens: the copy of the tail is the offset of the second slot, by which the queue looks full, so the sender looks at
+-- the tail itself
+abbrev pub words_with : Kind → (caches : Bool) → List ℕ
+words_with lamport true = 0 ∷ 0 ∷ 0 ∷ 0 ∷ 0 ∷ 0 ∷ 0 ∷ 0 ∷ 0 ∷ 0 ∷ 0 ∷ 0 ∷ 0 ∷ 0 ∷ 0 ∷ 0 ∷ 0 ∷ 4 ∷ []
+words_with lamport false = []
+words_with fastforward caches = []
+
+-- its stores land: of the copy, the word and the head
+abbrev pub landings : Kind → (caches : Bool) → List Entry
+landings lamport true = entry.Land 0 ∷ entry.Land 0 ∷ entry.Land 0 ∷ []
+landings lamport false = entry.Land 0 ∷ entry.Land 0 ∷ []
+landings fastforward caches = entry.Land 0 ∷ entry.Land 0 ∷ []
+
 abbrev pub opening : Kind → (caches : Bool) → OpeningValue
-opening k caches = record { harts = sender_hart k caches ∷ receiver_hart k caches ∷ []; words = [] }
+opening k caches = record { harts = sender_hart k caches ∷ receiver_hart k caches ∷ []; words = words_with k caches }
 
 -- hart 0 enters its function, and calls it
 abbrev pub before_send : List Entry
 before_send = entry.Inner 0 ∷ []
 
 abbrev pub send : Kind → (caches : Bool) → List Entry
-send lamport caches = entry.Load 0 64 4 0 ∷ entry.Load 0 (if caches then 68 else 128) 4 0 ∷ entry.Inner 0
+send lamport false = entry.Load 0 64 4 0 ∷ entry.Load 0 128 4 0 ∷ entry.Inner 0
     ∷ entry.Inner 0 ∷ entry.Inner 0 ∷ entry.Inner 0 ∷ entry.Store 0 192 4 99
+    ∷ entry.Store 0 64 4 4 ∷ entry.Inner 0 ∷ entry.Inner 0 ∷ []
+send lamport true = entry.Load 0 64 4 0 ∷ entry.Load 0 68 4 4 ∷ entry.Inner 0 ∷ entry.Inner 0 ∷ entry.Inner 0
+    ∷ entry.Load 0 128 4 0 ∷ entry.Inner 0 ∷ entry.Store 0 68 4 0 ∷ entry.Inner 0 ∷ entry.Inner 0 ∷ entry.Store 0 192 4 99
     ∷ entry.Store 0 64 4 4 ∷ entry.Inner 0 ∷ entry.Inner 0 ∷ []
 send fastforward caches = entry.Load 0 64 4 0 ∷ entry.Inner 0 ∷ entry.Load 0 192 4 0 ∷ entry.Inner 0 ∷ entry.Inner 0 ∷ entry.Inner 0 ∷ entry.Store 0 192 4 99
     ∷ entry.Store 0 64 4 4 ∷ entry.Inner 0 ∷ entry.Inner 0 ∷ []
 
--- both stores land, and hart 1 enters its function and calls it
+-- they land, and hart 1 enters its function and calls it
 abbrev pub before_receive : Kind → (caches : Bool) → List Entry
-before_receive k caches = before_send ++ (send k caches ++ entry.Land 0 ∷ entry.Land 0 ∷ entry.Inner 1 ∷ [])
+before_receive k caches = before_send ++ (send k caches ++ (landings k caches ++ entry.Inner 1 ∷ []))
 
 abbrev pub receive : Kind → List Entry
 receive lamport = entry.Load 1 128 4 0 ∷ entry.Load 1 64 4 4 ∷ entry.Inner 1 ∷ entry.Inner 1 ∷ entry.Load 1 192 4 99 ∷ entry.Inner 1 ∷ entry.Inner 1
