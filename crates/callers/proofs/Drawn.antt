@@ -67,17 +67,7 @@ kept_both s first middle end before after i above below = elim (cases_lt i middl
   | inr late ↦ after i late below
 ]
 
--- what was found first stays, whatever comes after it
-pub found_stays : (s : CallSource) (first end more : ℕ) (whole : Option Owing) → is_some whole ≡ true → end ≤ more → IsFoundFrom s first end whole
-    → IsFoundFrom s first more whole
-found_stays s first end more None some order found = absurd (cc)
-found_stays s first end more (Some owing) some order found = record {
-  within = omega (arith, found.within);
-  before = found.before;
-  owes = found.owes;
-}
-
--- and where nothing was, what is found after it is the first
+-- where nothing was found, what is found after it is the first
 pub found_later : (s : CallSource) (first middle end : ℕ) (whole later : Option Owing) → is_some whole ≡ false → IsFoundFrom s first middle whole
     → IsFoundFrom s middle end later → IsFoundFrom s first end later
 found_later s first middle end (Some owing) later none before after = absurd (cc)

@@ -179,9 +179,6 @@ land_noted B M l t u h out notes happens = record { outcome = out; happens = hap
 
 -- ---- a run of events
 
-pub none_noted : (M : ℕ) (o : OpeningValue) (q : SpscQueue) → AreCallNotes M o q [] (record { found = None; sending = false; receiving = false })
-none_noted M o q = record { found = refl; sending = refl; receiving = refl }
-
 -- one event of a list more
 pub run_more : (B M : ℕ) (o : OpeningValue) (events : List Event) (i : ℕ) (none : Event) (l : Located) (t u : History) (notes new : Notes) → i < length events
     → Run B M o (take i events) t → IsEventNoted B M l (get_or events i none) t notes u new → Run B M o (take (i + 1) events) u

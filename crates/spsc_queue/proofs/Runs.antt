@@ -158,10 +158,6 @@ pub keeps-front : (r : RingBuffer) (s : ProtocolState) (es fs : List Entry) → 
 keeps-front r s [] fs keeps = tt
 keeps-front r s (e ∷ es) fs keeps = (keeps.0, keeps-front r (protocol_next r s e) es fs keeps.1)
 
-pub keeps-back : (r : RingBuffer) (s : ProtocolState) (es fs : List Entry) → KeepsProtocol r s (es ++ fs) → KeepsProtocol r (protocol_after r s es) fs
-keeps-back r s [] fs keeps = keeps
-keeps-back r s (e ∷ es) fs keeps = keeps-back r (protocol_next r s e) es fs keeps.1
-
 -- the words of F, where the next of them is known
 pub word_ahead : (F sent more : List ℕ) (v n : ℕ) → length sent ≡ n → F ≡ (sent ++ v ∷ []) ++ more → v ≡ slice_index F n
 word_ahead F sent more v n size is =
