@@ -16,12 +16,12 @@ use Rattle.texts.proofs.ResultLaws.{ok_is, bind_ok}
 use Rattle.rv_decode.specs.Fits.{IsEven}
 use Rattle.rv_decode.specs.declared.instruction.Reg.{Reg}
 use Rattle.assembler.specs.declared.faults.AsmFault.{AsmFault}
-use Rattle.assembler.specs.Names.{is_name, begins_name}
-use Rattle.assembler.specs.Operands.{register_in, Target, bytes, label, is_reached, in_reach, IsReached, target_in}
-use Rattle.assembler.specs.Operands.{closed, opened, base_in, or_zero, offset_in, address_in}
+use Rattle.assembler.specs.Names.{is_label_name, begins_label_name}
+use Rattle.assembler.specs.Operands.{register_in, Target, bytes, label, is_reached, in_reach, IsInReach, target_in}
+use Rattle.assembler.specs.Operands.{closed, in_parentheses, base_in, or_zero, offset_in, address_in}
 use Rattle.texts.specs.Numbers.{IsMagnitude}
 use Rattle.texts.specs.Numbers.IsMagnitude.{decimal, hex}
-use Rattle.assembler.specs.Spelled.{IsNumber, IsRegister, IsOffset, IsAddress, IsTarget}
+use Rattle.assembler.specs.Spelled.{IsNumber, IsRegister, IsOffset, IsAddressOperand, IsTarget}
 use Rattle.assembler.specs.Spelled.IsNumber.{plain, negative}
 use Rattle.assembler.proofs.Rows.{all_below, below_all}
 use Rattle.texts.proofs.CuttingLaws.{before-stop, after-stop, cut_byte}
@@ -32,33 +32,33 @@ use Rattle.assembler.proofs.Leaves.{number_found, number_only, number_word, not_
 
 -- ---- names
 
-pub name_word : (t : List ℕ) → is_name t ≡ true → list_all is_word_byte t ≡ true
+pub name_word : (t : List ℕ) → is_label_name t ≡ true → list_all is_word_byte t ≡ true
 name_word t e = grind (arith, all_weaker, is_word_byte, and_parts)
 
 begins_test : ℕ → Bool
-begins_test c = not (ltb (digit_value c) 10) || not (begins_name c)
+begins_test c = not (ltb (digit_value c) 10) || not (begins_label_name c)
 
 all_begins_test : all_below 123 begins_test ≡ true
 unfolding begins_test
 all_begins_test = refl
 
-digit_begins_none : (c : ℕ) → digit_value c < 10 → begins_name c ≡ false
+digit_begins_none : (c : ℕ) → digit_value c < 10 → begins_label_name c ≡ false
 unfolding begins_test
 digit_begins_none c small = grind (arith, ltb, below_all, begins_test, all_begins_test, digit_low, not-true, lt-ltb)
 
-digits_no_name : (ds : List ℕ) → AllDigits 10 ds → is_name ds ≡ false
+digits_no_name : (ds : List ℕ) → AllDigits 10 ds → is_label_name ds ≡ false
 digits_no_name ds h = grind (arith, digit_begins_none)
 
-magnitude_no_name : (t : List ℕ) (n : ℕ) → IsMagnitude t n → is_name t ≡ false
+magnitude_no_name : (t : List ℕ) (n : ℕ) → IsMagnitude t n → is_label_name t ≡ false
 magnitude_no_name t n (decimal digits m says) = digits_no_name digits says.0.1
 magnitude_no_name t n (hex digits m says) = refl
 
-number_no_name : (t : List ℕ) (z : ℤ) → IsNumber t z → is_name t ≡ false
+number_no_name : (t : List ℕ) (z : ℤ) → IsNumber t z → is_label_name t ≡ false
 number_no_name t z h2 = grind (arith, magnitude_no_name)
 
 -- ---- targets
 
-label_is : (t : List ℕ) (to : Target) (bound : ℤ) → is_name t ≡ true → label t ≡ to → IsTarget bound t to
+label_is : (t : List ℕ) (to : Target) (bound : ℤ) → is_label_name t ≡ true → label t ≡ to → IsTarget bound t to
 label_is t to bound name is = subst (λ (x : Target). IsTarget bound t x) is (refl, name)
 
 -- a reach within words of 32 bits
@@ -69,20 +69,20 @@ pub record IsReach (bound : ℤ) : Type 0 where
 small_reached : (bound z : ℤ) → IsReach bound → neg_ℤ bound ≤ℤ z → z <ℤ bound → unsigned_abs z < 2 ^ 32
 small_reached bound z reach low high = grind (arith, ints)
 
-pub reached_true : (bound z : ℤ) → is_reached bound z ≡ true → IsReached bound (bytes z)
+pub reached_true : (bound z : ℤ) → is_reached bound z ≡ true → IsInReach bound (bytes z)
 reached_true bound z passes = grind (arith, and_parts, not-true, ints, eqb-true)
 
 record Reached (bound : ℤ) (o : Option ℤ) (to : Target) : Type 0 where
   number : ℤ
   said : o ≡ Some number
-  near : IsReached bound (bytes number)
+  near : IsInReach bound (bytes number)
   is : bytes number ≡ to
 
 reached : (bound : ℤ) (o : Option ℤ) (to : Target) → in_reach bound o ≡ Ok to → Reached bound o to
 reached bound o to e = grind (arith, cases_Bool, reached_true, ok_is)
 
 target_found : (bound : ℤ) → IsReach bound → (t : List ℕ) (to : Target) → target_in bound t ≡ Ok to → IsTarget bound t to
-target_found bound reach t to e = elim (cases_Bool (is_name t)) [
+target_found bound reach t to e = elim (cases_Bool (is_label_name t)) [
   | inl name ↦ label_is t to bound name (ok_is AsmFault (label t) to (rw name at e))
   | inr other ↦ (
       let r = reached bound (integer_of t) to (rw other at e) in
@@ -126,7 +126,7 @@ opened_found t r e = go (after (is_byte 40) t) refl e
     close inner is (Some []) last f = record { inner = inner; opens = is; closes = last; named = f }
     close inner is (Some (x ∷ xs)) more f = absurd (let g = rw (ne_eqb (length (x ∷ xs)) 0 (λ z. omega arith)) at f in cc)
 
-    go : (o : Option (List ℕ)) → after (is_byte 40) t ≡ o → opened o ≡ Ok r → Opened t r
+    go : (o : Option (List ℕ)) → after (is_byte 40) t ≡ o → in_parentheses o ≡ Ok r → Opened t r
     go None none f = absurd cc
     go (Some inner) is f = close inner is (after (is_byte 41) inner) refl f
 
@@ -143,13 +143,13 @@ offset_found low high within t z e = elim (cases_Bool (eqb (length (trimmed t)) 
   | inr some ↦ inr (trimmed t, padded_stripped is_blank t, from_found low high within (trimmed t) z (rw some at e))
 ]
 
-address_found : (low high : ℤ) → IsWithin low high → (t : List ℕ) (at : Reg × ℤ) → address_in low high t ≡ Ok at → IsAddress low high t at
+address_found : (low high : ℤ) → IsWithin low high → (t : List ℕ) (at : Reg × ℤ) → address_in low high t ≡ Ok at → IsAddressOperand low high t at
 address_found low high within t at e =
     let base = bind_ok (base_in t) (λ r. offset_in low high t >>= λ n. Ok (r, n)) at e in
     let offset = bind_ok (offset_in low high t) (λ n. Ok (base.0, n)) at base.2 in
     let open_ = opened_found t base.0 base.1 in
     let inside = before (is_byte 41) open_.inner in
-    subst (λ (a : Reg × ℤ). IsAddress low high t a) (ok_is AsmFault (base.0, offset.0) at offset.2) (record {
+    subst (λ (a : Reg × ℤ). IsAddressOperand low high t a) (ok_is AsmFault (base.0, offset.0) at offset.2) (record {
       before = before (is_byte 40) t;
       inside = inside;
       name = trimmed inside;
@@ -237,12 +237,12 @@ address_only_at low high within a b name r z offset pad is =
     (offset_only low high within a z offset) in
     rw (base, number) refl
 
-address_only : (low high : ℤ) → IsWithin low high → (t : List ℕ) (at : Reg × ℤ) → IsAddress low high t at → address_in low high (trimmed t) ≡ Ok at
+address_only : (low high : ℤ) → IsWithin low high → (t : List ℕ) (at : Reg × ℤ) → IsAddressOperand low high t at → address_in low high (trimmed t) ≡ Ok at
 address_only low high within t at is =
     subst (λ (s : List ℕ). address_in low high s ≡ Ok at) (sym (ap trimmed is.whole ∙ trimmed-address is.before is.inside))
     (address_only_at low high within is.before is.inside is.name at.0 at.1 is.offset is.padded is.named)
 
-address_bytes : (low high : ℤ) (t : List ℕ) (at : Reg × ℤ) → IsAddress low high t at → list_all is_operand_byte t ≡ true
+address_bytes : (low high : ℤ) (t : List ℕ) (at : Reg × ℤ) → IsAddressOperand low high t at → list_all is_operand_byte t ≡ true
 address_bytes low high t at is =
     let front = all_weaker is_spaced_byte is_operand_byte spaced_operand is.before (offset_spaced low high is.before at.1 is.offset) in
     let inner = all_weaker is_spaced_byte is_operand_byte spaced_operand is.inside
@@ -251,5 +251,5 @@ address_bytes low high t at is =
     (both_all is_operand_byte is.before (40 ∷ (is.inside ++ 41 ∷ [])) front
     (both_all is_operand_byte is.inside (41 ∷ []) inner refl))
 
-pub reads_address : (low high : ℤ) → IsWithin low high → Reads (address_in low high) (IsAddress low high)
+pub reads_address : (low high : ℤ) → IsWithin low high → Reads (address_in low high) (IsAddressOperand low high)
 reads_address low high within = grind (arith, address_found low high within, address_only low high within, address_bytes low high)

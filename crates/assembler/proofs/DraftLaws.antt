@@ -5,14 +5,14 @@ use Rattle.std.specs.Prelude.{IfSome}
 use Rattle.std.specs.Option.{is_some}
 use Rattle.std.proofs.lemmas.Bool.{cases_Bool, lt-ltb, le-ltb, cond-true, cond-false}
 use Rattle.assembler.specs.declared.kept.KeptLine.{KeptLine}
-use Rattle.assembler.specs.Kept.{line_of, IsKept, place_in}
+use Rattle.assembler.specs.Kept.{kept_line, AreKeptLines, place_in}
 use Rattle.std.proofs.lemmas.Slice.Eq.{bytes_eq-Decides}
 use Rattle.assembler.specs.declared.faults.AsmFault.{AsmFault}
 use Rattle.assembler.specs.declared.faults.AsmFault.TheVariants.{LabelTwice, TooLong}
 use Rattle.assembler.specs.Statements.{Made}
 use Rattle.assembler.specs.Lines.{label_of, statement_text, made_in}
-use Rattle.assembler.specs.Drafts.{Line, size_of, words_of, is_label, place_from, place_of, is_twice, line_below}
-use Rattle.assembler.specs.Drafts.{drafted, placed, all_placed, Fitting, AllFit, over, finished}
+use Rattle.assembler.specs.Drafts.{Line, size_of, word_count, is_label, place_from, label_place, is_twice, line_below}
+use Rattle.assembler.specs.Drafts.{drafted, placed_statement, all_placed, Fitting, AllFit, line_over, all_instructions}
 use Rattle.assembler.proofs.LabelLaws.{fresh_apart, once-push}
 use Rattle.std.specs.Str.{bytes_eq}
 use Rattle.std.specs.HashMap.{HashMap, UpdatesBy}
@@ -45,24 +45,24 @@ or_else None other = other
 or_else (Some place) other = Some place
 
 place_from-push : (name : List ℕ) (at : ℕ) (all : List Line) (line : Line) → place_from name at (all ++ line ∷ [])
-    ≡ or_else (place_from name at all) (cond (is_label name line.label) (Some (at + words_of all)) None)
+    ≡ or_else (place_from name at all) (cond (is_label name line.label) (Some (at + word_count all)) None)
 place_from-push name at [] line = let same : at + 0 ≡ at = omega arith in rw same refl
 place_from-push name at (first ∷ rest) line = grind (arith, cases_Bool, place_from-push name (at + size_of first.made) rest line)
 
-place_from-le : (name : List ℕ) (at : ℕ) (all : List Line) → IfSome (place_from name at all) (λ place. place ≤ at + words_of all)
+place_from-le : (name : List ℕ) (at : ℕ) (all : List Line) → IfSome (place_from name at all) (λ place. place ≤ at + word_count all)
 place_from-le name at [] = tt
 place_from-le name at (first ∷ rest) = grind (arith, cases_Bool, place_from-le name (at + size_of first.made) rest)
 
 -- no label's place is after the last word
-pub place_within : (all : List Line) (name : List ℕ) (most : ℕ) → words_of all ≤ most → (r : Option ℕ)
-    → r ≡ place_of all name → IfSome r (λ place. place ≤ most)
-unfolding place_of
+pub place_within : (all : List Line) (name : List ℕ) (most : ℕ) → word_count all ≤ most → (r : Option ℕ)
+    → r ≡ label_place all name → IfSome r (λ place. place ≤ most)
+unfolding label_place
 place_within all name most few None e = tt
 place_within all name most few (Some place) e = grind (arith, place_from-le name 0 all)
 
 -- ---- what a draft knows
 
-words_of-push : (all : List Line) (line : Line) → words_of (all ++ line ∷ []) ≡ words_of all + size_of line.made
+words_of-push : (all : List Line) (line : Line) → word_count (all ++ line ∷ []) ≡ word_count all + size_of line.made
 words_of-push [] line = omega arith
 words_of-push (first ∷ rest) line = rw (words_of-push rest line) (omega arith)
 
@@ -74,45 +74,47 @@ none_of_fresh : (r : Option ℕ) → is_some r ≡ false → r ≡ None
 none_of_fresh r e = grind arith
 
 -- a fresh label's name has no place yet
-fresh_place : (all : List Line) (name : List ℕ) (label : Option (List ℕ)) → is_twice all label ≡ false → is_label name label ≡ true → place_of all name ≡ None
+fresh_place : (all : List Line) (name : List ℕ) (label : Option (List ℕ)) → is_twice all label ≡ false
+    → is_label name label ≡ true → label_place all name ≡ None
 fresh_place all name label fresh here = grind (arith, bytes_eq-Decides, none_of_fresh)
 
 or_none : (r : Option ℕ) → or_else r None ≡ r
 or_none r = grind arith
 
 found_last : (all : List Line) (line : Line) (name : List ℕ) → is_label name line.label ≡ true
-    → place_of all name ≡ None → place_of (all ++ line ∷ []) name ≡ Some (words_of all)
-unfolding place_of
+    → label_place all name ≡ None → label_place (all ++ line ∷ []) name ≡ Some (word_count all)
+unfolding label_place
 found_last all line name here none = place_from-push name 0 all line ∙ rw (here, none) (ap Some (omega arith))
 
-found_above : (all : List Line) (line : Line) (name : List ℕ) → is_label name line.label ≡ false → place_of (all ++ line ∷ []) name ≡ place_of all name
-unfolding place_of
+found_above : (all : List Line) (line : Line) (name : List ℕ) → is_label name line.label ≡ false → label_place (all ++ line ∷ []) name ≡ label_place all name
+unfolding label_place
 found_above all line name other = place_from-push name 0 all line ∙ rw other (or_none (place_from name 0 all))
 
 place_of-push : (all : List Line) (line : Line) (name : List ℕ) → is_twice all line.label ≡ false
-    → cond (is_label name line.label) (Some (words_of all)) (place_of all name) ≡ place_of (all ++ line ∷ []) name
+    → cond (is_label name line.label) (Some (word_count all)) (label_place all name) ≡ label_place (all ++ line ∷ []) name
 place_of-push all line name fresh = elim (cases_Bool (is_label name line.label)) [
   | inl here ↦ rw here (sym (found_last all line name here (fresh_place all name line.label fresh here)))
   | inr other ↦ rw other (sym (found_above all line name other))
 ]
 
 pub kept_more : (found after : List ℕ → Option ℕ) (words : ℕ) (all : List Line) (line : Line)
-    → IsKept found words all
+    → AreKeptLines found words all
     → ((name : List ℕ) → after name ≡ cond (is_label name line.label) (Some words) (found name))
-    → is_twice all line.label ≡ false → Fitting line.made → IsKept after (words + size_of line.made) (all ++ line ∷ [])
+    → is_twice all line.label ≡ false → Fitting line.made → AreKeptLines after (words + size_of line.made) (all ++ line ∷ [])
 kept_more found after words all line kept defined fresh fits = grind (arith, place_of-push, words_of-push, AllFit-push, once-push, fresh_apart)
 
 size_le : (made : Option Made) → size_of made ≤ 2
 size_le made = grind arith
 
 -- a line makes two words at most
-pub words_le : (all : List Line) → words_of all ≤ 2 * length all
+pub words_le : (all : List Line) → word_count all ≤ 2 * length all
 words_le [] = omega arith
 words_le (first ∷ rest) = let here = size_le first.made in let more = words_le rest in omega arith
 
 -- ---- the same places, the same words
 
-placed-same : (f g : List ℕ → Option ℕ) → ((name : List ℕ) → f name ≡ g name) → (at : ℕ) (made : Option Made) → placed f at made ≡ placed g at made
+placed-same : (f g : List ℕ → Option ℕ) → ((name : List ℕ) → f name ≡ g name) → (at : ℕ) (made : Option Made)
+    → placed_statement f at made ≡ placed_statement g at made
 placed-same f g same at made = grind arith
 
 pub all_placed-same : (f g : List ℕ → Option ℕ) → ((name : List ℕ) → f name ≡ g name)
@@ -123,16 +125,16 @@ all_placed-same f g same at line (first ∷ rest) =
 
 -- ---- the end of a draft
 
-pub finished-long : (all : List Line) → 4096 < words_of all → finished all ≡ Err (record { fault = TooLong; line = over 0 1 all })
-unfolding finished
-finished-long all long = rw (lt-ltb 4096 (words_of all) long) refl
+pub finished-long : (all : List Line) → 4096 < word_count all → all_instructions all ≡ Err (record { fault = TooLong; line = line_over 0 1 all })
+unfolding all_instructions
+finished-long all long = rw (lt-ltb 4096 (word_count all) long) refl
 
-pub finished-short : (found : List ℕ → Option ℕ) (all : List Line) → words_of all ≤ 4096
-    → ((name : List ℕ) → found name ≡ place_of all name) → all_placed found 0 1 all ≡ finished all
-unfolding finished
-finished-short found all few same = rw (le-ltb 4096 (words_of all) few) (all_placed-same found (place_of all) same 0 1 all)
+pub finished-short : (found : List ℕ → Option ℕ) (all : List Line) → word_count all ≤ 4096
+    → ((name : List ℕ) → found name ≡ label_place all name) → all_placed found 0 1 all ≡ all_instructions all
+unfolding all_instructions
+finished-short found all few same = rw (le-ltb 4096 (word_count all) few) (all_placed-same found (label_place all) same 0 1 all)
 
-pub lines-push : (items : List KeptLine) (line : KeptLine) → map line_of (items ++ line ∷ []) ≡ map line_of items ++ line_of line ∷ []
+pub lines-push : (items : List KeptLine) (line : KeptLine) → map kept_line (items ++ line ∷ []) ≡ map kept_line items ++ kept_line line ∷ []
 lines-push [] line = refl
 lines-push (first ∷ rest) line = rw (lines-push rest line) refl
 

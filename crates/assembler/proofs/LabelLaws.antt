@@ -5,7 +5,7 @@ use Rattle.std.specs.Option.{is_some}
 use Rattle.std.specs.List.{AllByRecursion}
 use Rattle.std.proofs.lemmas.Bool.{cases_Bool}
 use Rattle.std.proofs.lemmas.Slice.Eq.{bytes_eq-Decides}
-use Rattle.assembler.specs.Drafts.{Line, size_of, is_label, place_from, place_of, is_twice}
+use Rattle.assembler.specs.Drafts.{Line, size_of, is_label, place_from, label_place, is_twice}
 use Rattle.assembler.specs.Program.{AreApart, EachOnce}
 
 pub label_is : (name : List ℕ) (label : Option (List ℕ)) → is_label name label ≡ true → label ≡ Some name
@@ -35,7 +35,7 @@ apart_from name at (line ∷ above) e = elim (cases_Bool (is_label name line.lab
 ]
 
 pub fresh_apart : (above : List Line) (label : Option (List ℕ)) → is_twice above label ≡ false → Apart above label
-unfolding place_of
+unfolding label_place
 fresh_apart above label e = grind (arith, apart_none, apart_from)
 
 apart_place : (name : List ℕ) (at : ℕ) (above : List Line) → Apart above (Some name) → place_from name at above ≡ None
@@ -46,7 +46,7 @@ apart_place name at (line ∷ above) h = elim (cases_Bool (is_label name line.la
 ]
 
 pub apart_fresh : (above : List Line) (label : Option (List ℕ)) → Apart above label → is_twice above label ≡ false
-unfolding place_of
+unfolding label_place
 apart_fresh above label h = grind (arith, apart_place)
 
 pub apart-append : (above : List Line) (line : Line) (label : Option (List ℕ)) → Apart above label

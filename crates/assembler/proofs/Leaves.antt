@@ -19,7 +19,7 @@ use Rattle.rv_decode.specs.declared.instruction.Reg.{Reg}
 use Rattle.assembler.specs.declared.faults.AsmFault.{AsmFault}
 use Rattle.rv_decode.specs.Registers.{register_names, register_named}
 use Rattle.assembler.specs.Sets.{set_names, set_named}
-use Rattle.assembler.specs.Names.{goes_on_name}
+use Rattle.assembler.specs.Names.{goes_on_label_name}
 use Rattle.assembler.specs.Operands.{register_in, known_register, in_range, number_in, natural_in, set_in}
 use Rattle.assembler.specs.Spelled.{IsNumber, IsNumberFrom, IsNumberUpTo, IsRegister, IsSet}
 use Rattle.assembler.specs.Spelled.IsNumber.{plain, negative}
@@ -29,7 +29,7 @@ use Rattle.assembler.proofs.Rows.{all_below, below_all, found_in, are_apart, row
 
 -- a byte of a register, a number, a name or a set
 abbrev pub is_word_byte : ℕ → Bool
-is_word_byte c = goes_on_name c || (c == 45)
+is_word_byte c = goes_on_label_name c || (c == 45)
 
 -- a byte of an operand
 abbrev pub is_operand_byte : ℕ → Bool

@@ -5,7 +5,7 @@ use Rattle.std.proofs.lemmas.Bool.{cases_Bool}
 use Rattle.texts.specs.Cutting.{before, after, is_byte, without_front, trimmed, AreBlanks, NonePass}
 use Rattle.texts.proofs.ResultLaws.{ok_is}
 use Rattle.assembler.specs.declared.faults.AsmFault.{AsmFault}
-use Rattle.assembler.specs.Names.{is_name}
+use Rattle.assembler.specs.Names.{is_label_name}
 use Rattle.assembler.specs.Statements.{Made}
 use Rattle.assembler.specs.Lines.{code_of, label_and_rest, parts_of, label_of, statement_text, made_in}
 use Rattle.assembler.specs.Drafts.{Line}
@@ -31,7 +31,7 @@ code_found text made e = go (after (is_byte 58) text) refl e
         → made_in (trimmed (label_and_rest text (without_front (before (is_byte 58) text)) o).1) ≡ Ok made
         → IsUncommented text (line_with (label_and_rest text (without_front (before (is_byte 58) text)) o).0 made)
     go None none f = bare text made (body_found text made f)
-    go (Some rest) cut f = elim (cases_Bool (is_name (without_front (before (is_byte 58) text)))) [
+    go (Some rest) cut f = elim (cases_Bool (is_label_name (without_front (before (is_byte 58) text)))) [
       | inl name ↦ (
           let split = leading_split is_blank (before (is_byte 58) text) in
           let front = without_front (before (is_byte 58) text) in
@@ -52,10 +52,10 @@ record Parts (text : List ℕ) (line : Line) : Type 0 where
 no_byte : (byte : ℕ) → is_code_byte byte ≡ false → (text : List ℕ) → list_all is_code_byte text ≡ true → NonePass (is_byte byte) text
 no_byte byte fails text h = none_of_all is_code_byte (is_byte byte) (not_this is_code_byte byte fails) text h
 
-no_byte_name : (byte : ℕ) → is_word_byte byte ≡ false → (name : List ℕ) → is_name name ≡ true → NonePass (is_byte byte) name
+no_byte_name : (byte : ℕ) → is_word_byte byte ≡ false → (name : List ℕ) → is_label_name name ≡ true → NonePass (is_byte byte) name
 no_byte_name byte fails name is = none_of_all is_word_byte (is_byte byte) (not_this is_word_byte byte fails) name (name_word name is)
 
-labelled_parts : (blanks name text : List ℕ) (made : Option Made) → AreBlanks blanks → is_name name ≡ true
+labelled_parts : (blanks name text : List ℕ) (made : Option Made) → AreBlanks blanks → is_label_name name ≡ true
     → IsBody text made → Parts ((blanks ++ name) ++ 58 ∷ text) (line_with (Some name) made)
 labelled_parts blanks name text made are is body =
     let none : NonePass (is_byte 58) (blanks ++ name) = none-append (is_byte 58) blanks name

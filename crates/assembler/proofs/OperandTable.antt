@@ -12,8 +12,8 @@ use Rattle.assembler.specs.declared.form.Form.{Form}
 use Rattle.assembler.specs.declared.form.Form.TheVariants.{Jalr, Fence, FenceTso, Ecall, Ebreak}
 use Rattle.rv_decode.specs.Registers.{register_named}
 use Rattle.assembler.specs.Sets.{set_named}
-use Rattle.assembler.specs.Operands.{Kind, register, upper, amount, short, word, address, pointer, near, far, set, Value, value_in}
-use Rattle.assembler.specs.Statements.{Made, one, Maker, row, reads, statement_of}
+use Rattle.assembler.specs.Operands.{OperandKind, register, upper, amount, short, word, address, pointer, near, far, set, OperandValue, value_in}
+use Rattle.assembler.specs.Statements.{Made, one, Maker, operand_row, read_operands, statement_of}
 use Rattle.assembler.specs.Lines.{is_pair}
 use Rattle.assembler.specs.Spelled.{IsSpelled}
 use Rattle.assembler.specs.Grammar.{AreSpelled, Makes}
@@ -37,7 +37,7 @@ near_reach = record { low = omega (arith, ints); high = omega (arith, ints) }
 far_reach : IsReach (pos 1048576)
 far_reach = record { low = omega (arith, ints); high = omega (arith, ints) }
 
-pub reads_kind : (kind : Kind) → Reads (value_in kind) (IsSpelled kind)
+pub reads_kind : (kind : OperandKind) → Reads (value_in kind) (IsSpelled kind)
 reads_kind register = reads_register
 reads_kind upper = reads_natural 1048575 (omega arith)
 reads_kind amount = reads_natural 31 (omega arith)
@@ -49,7 +49,7 @@ reads_kind near = reads_target (pos 4096) near_reach
 reads_kind far = reads_target (pos 1048576) far_reach
 reads_kind set = reads_set
 
-none_in_empty : (kind : Kind) (x : Value kind) → value_in kind [] ≡ Ok x → ⊥
+none_in_empty : (kind : OperandKind) (x : OperandValue kind) → value_in kind [] ≡ Ok x → ⊥
 unfolding register_named set_named magnitude_of integer_of capped_value
 none_in_empty register x e = cc
 none_in_empty kind x e = cc
@@ -59,77 +59,78 @@ none_in_empty kind x e = cc
 abbrev pub OperandBytes : List (List ℕ) → Type 0
 OperandBytes operands = AllByRecursion (λ operand. list_all is_operand_byte operand ≡ true) operands
 
-kinds_found : (kinds : List Kind) (make : Maker kinds) (list : List (List ℕ)) (made : Made) → reads kinds make list ≡ Ok made → AreSpelled kinds make list made
+kinds_found : (kinds : List OperandKind) (make : Maker kinds) (list : List (List ℕ)) (made : Made)
+    → read_operands kinds make list ≡ Ok made → AreSpelled kinds make list made
 kinds_found [] make [] made e = (refl, sym (ok_is AsmFault make made e))
 kinds_found (kind ∷ kinds) make (a ∷ rest) made e =
-    let x = bind_ok (value_in kind a) (λ v. reads kinds (make v) rest) made e in
+    let x = bind_ok (value_in kind a) (λ v. read_operands kinds (make v) rest) made e in
     (a, rest, x.0, refl, (reads_kind kind).found a x.0 x.1, kinds_found kinds (make x.0) rest made x.2)
 kinds_found x make y made e = absurd cc
 
-kinds_only : (kinds : List Kind) (make : Maker kinds) (list : List (List ℕ)) (made : Made)
-    → AreSpelled kinds make list made → reads kinds make (map trimmed list) ≡ Ok made
-kinds_only [] make list made is = subst (λ (os : List (List ℕ)). reads [] make (map trimmed os) ≡ Ok made) (sym is.0) (ap Ok (sym is.1))
+kinds_only : (kinds : List OperandKind) (make : Maker kinds) (list : List (List ℕ)) (made : Made)
+    → AreSpelled kinds make list made → read_operands kinds make (map trimmed list) ≡ Ok made
+kinds_only [] make list made is = subst (λ (os : List (List ℕ)). read_operands [] make (map trimmed os) ≡ Ok made) (sym is.0) (ap Ok (sym is.1))
 kinds_only (kind ∷ kinds) make list made is = grind (arith, reads_kind, kinds_only kinds (make is.2) is.1 made is.5)
 
-kinds_bytes : (kinds : List Kind) (make : Maker kinds) (list : List (List ℕ)) (made : Made) → AreSpelled kinds make list made → OperandBytes list
+kinds_bytes : (kinds : List OperandKind) (make : Maker kinds) (list : List (List ℕ)) (made : Made) → AreSpelled kinds make list made → OperandBytes list
 kinds_bytes [] make list made is = subst OperandBytes (sym is.0) tt
 kinds_bytes (kind ∷ kinds) make list made is =
     subst OperandBytes (sym is.3) ((reads_kind kind).bytes is.0 is.2 is.4, kinds_bytes kinds (make is.2) is.1 made is.5)
 
-kinds_some : (kinds : List Kind) (make : Maker kinds) (made : Made) → reads kinds make ([] ∷ []) ≡ Ok made → ⊥
+kinds_some : (kinds : List OperandKind) (make : Maker kinds) (made : Made) → read_operands kinds make ([] ∷ []) ≡ Ok made → ⊥
 kinds_some [] make made e = cc
-kinds_some (kind ∷ kinds) make made e = let x = bind_ok (value_in kind []) (λ v. reads kinds (make v) []) made e in none_in_empty kind x.0 x.1
+kinds_some (kind ∷ kinds) make made e = let x = bind_ok (value_in kind []) (λ v. read_operands kinds (make v) []) made e in none_in_empty kind x.0 x.1
 
 -- ---- operands of a mnemonic
 
 -- what is made of a list of operands is what the table says
 pub found_makes : (form : Form) (list : List (List ℕ)) (made : Made) → statement_of form list ≡ Ok made → Makes form list made
-found_makes form list made e = kinds_found (row form (length list)).kinds (row form (length list)).make list made e
+found_makes form list made e = kinds_found (operand_row form (length list)).kinds (operand_row form (length list)).make list made e
 
 -- and what the table says is made of the operands, whatever blanks are round them
 pub only_makes : (form : Form) (list : List (List ℕ)) (made : Made) → Makes form list made → statement_of form (map trimmed list) ≡ Ok made
 only_makes form list made is = grind (arith, length-map, kinds_only)
 
 pub makes_bytes : (form : Form) (list : List (List ℕ)) (made : Made) → Makes form list made → OperandBytes list
-makes_bytes form list made is = kinds_bytes (row form (length list)).kinds (row form (length list)).make list made is
+makes_bytes form list made is = kinds_bytes (operand_row form (length list)).kinds (operand_row form (length list)).make list made is
 
 -- an empty text is no operand
 pub makes_of_empty : (form : Form) (made : Made) → statement_of form ([] ∷ []) ≡ Ok made → ⊥
-makes_of_empty form made e = kinds_some (row form 1).kinds (row form 1).make made e
+makes_of_empty form made e = kinds_some (operand_row form 1).kinds (operand_row form 1).make made e
 
 -- ---- rows of the table
 
-pub fence_tso_alone : (list : List (List ℕ)) → statement_of FenceTso list ≡ reads [] (one instr.FenceTso) list
-unfolding row
+pub fence_tso_alone : (list : List (List ℕ)) → statement_of FenceTso list ≡ read_operands [] (one instr.FenceTso) list
+unfolding operand_row
 fence_tso_alone list = refl
 
-pub ecall_alone : (list : List (List ℕ)) → statement_of Ecall list ≡ reads [] (one instr.Ecall) list
-unfolding row
+pub ecall_alone : (list : List (List ℕ)) → statement_of Ecall list ≡ read_operands [] (one instr.Ecall) list
+unfolding operand_row
 ecall_alone list = refl
 
-pub ebreak_alone : (list : List (List ℕ)) → statement_of Ebreak list ≡ reads [] (one instr.Ebreak) list
-unfolding row
+pub ebreak_alone : (list : List (List ℕ)) → statement_of Ebreak list ≡ read_operands [] (one instr.Ebreak) list
+unfolding operand_row
 ebreak_alone list = refl
 
 pub fence_alone : (list : List (List ℕ)) → list ≡ [] → statement_of Fence list ≡ Ok (one (instr.Fence 15 15))
-unfolding row
+unfolding operand_row
 fence_alone list e = subst (λ (l : List (List ℕ)). statement_of Fence l ≡ Ok (one (instr.Fence 15 15))) (sym e) refl
 
 pub fence_sets : (list : List (List ℕ)) (a : List ℕ) (others : List (List ℕ)) → list ≡ a ∷ others
-    → statement_of Fence list ≡ reads (set ∷ set ∷ []) (λ pred succ. one (instr.Fence pred succ)) list
-unfolding row
+    → statement_of Fence list ≡ read_operands (set ∷ set ∷ []) (λ pred succ. one (instr.Fence pred succ)) list
+unfolding operand_row
 fence_sets list a others e = subst
-    (λ (l : List (List ℕ)). statement_of Fence l ≡ reads (set ∷ set ∷ []) (λ pred succ. one (instr.Fence pred succ)) l)
+    (λ (l : List (List ℕ)). statement_of Fence l ≡ read_operands (set ∷ set ∷ []) (λ pred succ. one (instr.Fence pred succ)) l)
     (sym e) refl
 
 pub jalr_pair : (list : List (List ℕ)) → is_pair list ≡ true
-    → statement_of Jalr list ≡ reads (register ∷ address ∷ []) (λ rd at. one (instr.Jalr rd at.0 at.1)) list
-unfolding row
+    → statement_of Jalr list ≡ read_operands (register ∷ address ∷ []) (λ rd at. one (instr.Jalr rd at.0 at.1)) list
+unfolding operand_row
 jalr_pair (a ∷ b ∷ []) e = refl
 jalr_pair x e = absurd cc
 
 pub jalr_other : (list : List (List ℕ)) → is_pair list ≡ false
-    → statement_of Jalr list ≡ reads (register ∷ register ∷ short ∷ []) (λ rd rs1 n. one (instr.Jalr rd rs1 n)) list
-unfolding row
+    → statement_of Jalr list ≡ read_operands (register ∷ register ∷ short ∷ []) (λ rd rs1 n. one (instr.Jalr rd rs1 n)) list
+unfolding operand_row
 jalr_other (a ∷ b ∷ []) e = absurd cc
 jalr_other x e = refl

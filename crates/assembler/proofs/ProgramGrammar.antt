@@ -18,11 +18,11 @@ use Rattle.assembler.specs.declared.faults.AsmFault.{AsmFault}
 use Rattle.assembler.specs.Faults.{Refusal}
 use Rattle.rv_decode.specs.Meaning.{meaning}
 use Rattle.rv_decode.proofs.Meanings.{meaning_iff}
-use Rattle.assembler.specs.Operands.{bytes, is_reached, IsReached}
+use Rattle.assembler.specs.Operands.{bytes, is_reached, IsInReach}
 use Rattle.assembler.specs.Statements.{Made, one, two, jump, branch}
 use Rattle.assembler.specs.Lines.{label_of, statement_text, made_in}
-use Rattle.assembler.specs.Drafts.{Line, size_of, words_of, is_label, place_from, place_of, is_twice, at_line, drafted}
-use Rattle.assembler.specs.Drafts.{all_drafted, in_bytes, distance, placed, onto, all_placed, finished, assembled}
+use Rattle.assembler.specs.Drafts.{Line, size_of, word_count, is_label, place_from, label_place, is_twice, refused_at_line, drafted}
+use Rattle.assembler.specs.Drafts.{all_drafted, in_bytes, distance, placed_statement, onto, all_placed, all_instructions, assembled}
 use Rattle.assembler.specs.Grammar.{IsLine}
 use Rattle.assembler.specs.Program.{AreLines, AreApart, EachOnce, IsFresh, Defines, IsPlaced, ArePlaced, AreInstrs, IsProgram, AreWordsOf}
 use Rattle.assembler.specs.Program.IsPlaced.{nothing, single, double, jumping, branching}
@@ -122,7 +122,7 @@ record DefinesFrom (at : ℕ) (all : List Line) (name : List ℕ) (place : ℕ) 
   below : List Line
   whole : all ≡ above ++ line ∷ below
   defined : line.label ≡ Some name
-  counted : place ≡ at + words_of above
+  counted : place ≡ at + word_count above
 
 abbrev place_some : ℕ → Option ℕ
 place_some place = Some place
@@ -156,8 +156,8 @@ defines_from name at (line ∷ all) place e = elim (cases_Bool (is_label name li
       })
 ]
 
-place_found : (all : List Line) (name : List ℕ) (place : ℕ) → place_of all name ≡ Some place → Defines all name place
-unfolding place_of
+place_found : (all : List Line) (name : List ℕ) (place : ℕ) → label_place all name ≡ Some place → Defines all name place
+unfolding label_place
 place_found all name place e = grind (arith, defines_from name 0 all place e)
 
 apart_in : (first : Line) (above : List Line) (line : Line) (below : List Line)
@@ -166,17 +166,17 @@ apart_in first [] line below h = h.0
 apart_in first (next ∷ above) line below h = apart_in first above line below h.1
 
 place_at : (name : List ℕ) (at : ℕ) (above : List Line) (line : Line) (below : List Line) → line.label ≡ Some name
-    → EachOnce (above ++ line ∷ below) → place_from name at (above ++ line ∷ below) ≡ Some (at + words_of above)
+    → EachOnce (above ++ line ∷ below) → place_from name at (above ++ line ∷ below) ≡ Some (at + word_count above)
 place_at name at [] line below defined once = let same : at ≡ at + 0 = omega arith in rw (is_the_label name line.label defined) (ap Some same)
 place_at name at (first ∷ above) line below defined once = elim (cases_Bool (is_label name first.label)) [
   | inl here ↦ absurd (apart_in first above line below once.0 name (label_is name first.label here) defined)
   | inr other ↦ (
-      let sum : at + size_of first.made + words_of above ≡ at + (size_of first.made + words_of above) = omega arith in
+      let sum : at + size_of first.made + word_count above ≡ at + (size_of first.made + word_count above) = omega arith in
       rw (other, ← sum) (place_at name (at + size_of first.made) above line below defined once.1))
 ]
 
-place_only : (all : List Line) (name : List ℕ) (place : ℕ) → EachOnce all → Defines all name place → place_of all name ≡ Some place
-unfolding place_of
+place_only : (all : List Line) (name : List ℕ) (place : ℕ) → EachOnce all → Defines all name place → label_place all name ≡ Some place
+unfolding label_place
 place_only all name place once is = grind (arith, place_at)
 
 -- ---- instructions
@@ -187,13 +187,13 @@ some_instr i = Some i
 record Reaches (all : List Line) (bound : ℤ) (at : ℕ) (name : List ℕ) (n : ℤ) : Type 0 where
   place : ℕ
   defined : Defines all name place
-  near : IsReached bound (bytes (in_bytes at place))
+  near : IsInReach bound (bytes (in_bytes at place))
   is : in_bytes at place ≡ n
 
-distance-found : (all : List Line) (bound : ℤ) (at : ℕ) (name : List ℕ) (n : ℤ) → distance bound at (place_of all name) ≡ Ok n → Reaches all bound at name n
-distance-found all bound at name n e = go (place_of all name) refl e
+distance-found : (all : List Line) (bound : ℤ) (at : ℕ) (name : List ℕ) (n : ℤ) → distance bound at (label_place all name) ≡ Ok n → Reaches all bound at name n
+distance-found all bound at name n e = go (label_place all name) refl e
   where
-    go : (o : Option ℕ) → place_of all name ≡ o → distance bound at o ≡ Ok n → Reaches all bound at name n
+    go : (o : Option ℕ) → label_place all name ≡ o → distance bound at o ≡ Ok n → Reaches all bound at name n
     go None none f = absurd cc
     go (Some place) is f = elim (cases_Bool (is_reached bound (in_bytes at place))) [
       | inl near ↦ record {
@@ -206,8 +206,8 @@ distance-found all bound at name n e = go (place_of all name) refl e
     ]
 
 distance-only : (all : List Line) (bound : ℤ) (at : ℕ) (name : List ℕ) (place : ℕ) → EachOnce all
-    → Defines all name place → IsReached bound (bytes (in_bytes at place))
-    → distance bound at (place_of all name) ≡ Ok (in_bytes at place)
+    → Defines all name place → IsInReach bound (bytes (in_bytes at place))
+    → distance bound at (label_place all name) ≡ Ok (in_bytes at place)
 distance-only all bound at name place once defined near =
     rw (place_only all name place once defined, is_reached-only bound (in_bytes at place) near.0 near.1 near.2) refl
 
@@ -217,12 +217,12 @@ record Placing (all : List Line) (at : ℕ) (made : Option Made) (front : List (
   same : map some_instr instrs ≡ front
 
 placed-found : (all : List Line) (at : ℕ) (made : Option Made) (front : List (Option Instr))
-    → placed (place_of all) at made ≡ Ok front → Placing all at made front
+    → placed_statement (label_place all) at made ≡ Ok front → Placing all at made front
 placed-found all at None front e = record { instrs = []; is = nothing; same = ok_is AsmFault [] front e }
 placed-found all at (Some (one i)) front e = record { instrs = i ∷ []; is = single i; same = ok_is AsmFault (Some i ∷ []) front e }
 placed-found all at (Some (two i j)) front e = record { instrs = i ∷ j ∷ []; is = double i j; same = ok_is AsmFault (Some i ∷ Some j ∷ []) front e }
 placed-found all at (Some (jump rd name)) front e =
-    let n = bind_ok (distance (pos 1048576) at (place_of all name)) (λ n. Ok (Some (instr.Jal rd n) ∷ [])) front e in
+    let n = bind_ok (distance (pos 1048576) at (label_place all name)) (λ n. Ok (Some (instr.Jal rd n) ∷ [])) front e in
     let r = distance-found all (pos 1048576) at name n.0 n.1 in
     record {
       instrs = instr.Jal rd (in_bytes at r.place) ∷ [];
@@ -230,7 +230,7 @@ placed-found all at (Some (jump rd name)) front e =
       same = ap (λ m. Some (instr.Jal rd m) ∷ []) r.is ∙ ok_is AsmFault (Some (instr.Jal rd n.0) ∷ []) front n.2;
     }
 placed-found all at (Some (branch op rs1 rs2 name)) front e =
-    let n = bind_ok (distance (pos 4096) at (place_of all name)) (λ n. Ok (Some (instr.Branch op rs1 rs2 n) ∷ [])) front e in
+    let n = bind_ok (distance (pos 4096) at (label_place all name)) (λ n. Ok (Some (instr.Branch op rs1 rs2 n) ∷ [])) front e in
     let r = distance-found all (pos 4096) at name n.0 n.1 in
     record {
       instrs = instr.Branch op rs1 rs2 (in_bytes at r.place) ∷ [];
@@ -240,7 +240,7 @@ placed-found all at (Some (branch op rs1 rs2 name)) front e =
     }
 
 placed-only : (all : List Line) (at : ℕ) (made : Option Made) (instrs : List Instr) → EachOnce all
-    → IsPlaced all at made instrs → placed (place_of all) at made ≡ Ok (map some_instr instrs)
+    → IsPlaced all at made instrs → placed_statement (label_place all) at made ≡ Ok (map some_instr instrs)
 placed-only all at made instrs once h5 = grind (arith, distance-only)
 
 record AllPlacing (all : List Line) (at : ℕ) (below : List Line) (answers : List (Option Instr)) : Type 0 where
@@ -248,17 +248,17 @@ record AllPlacing (all : List Line) (at : ℕ) (below : List Line) (answers : Li
   are : ArePlaced all at below instrs
   same : map some_instr instrs ≡ answers
 
-at_line-ok : {A : Type 0} (line : ℕ) (r : Result A AsmFault) (x : A) → at_line line r ≡ Ok x → r ≡ Ok x
+at_line-ok : {A : Type 0} (line : ℕ) (r : Result A AsmFault) (x : A) → refused_at_line line r ≡ Ok x → r ≡ Ok x
 at_line-ok line r x e = grind (arith, ok_is)
 
 all_placed-found : (all : List Line) (at line : ℕ) (below : List Line) (answers : List (Option Instr))
-    → all_placed (place_of all) at line below ≡ Ok answers → AllPlacing all at below answers
+    → all_placed (label_place all) at line below ≡ Ok answers → AllPlacing all at below answers
 all_placed-found all at line [] answers e = record { instrs = []; are = refl; same = ok_is Refusal [] answers e }
 all_placed-found all at line (first ∷ below) answers e =
-    let step = bind_ok (at_line line (placed (place_of all) at first.made))
-    (λ front. onto front (all_placed (place_of all) (at + size_of first.made) (line + 1) below)) answers e in
-    let front = placed-found all at first.made step.0 (at_line-ok line (placed (place_of all) at first.made) step.0 step.1) in
-    let more = bind_ok (all_placed (place_of all) (at + size_of first.made) (line + 1) below) (λ more. Ok (step.0 ++ more)) answers step.2 in
+    let step = bind_ok (refused_at_line line (placed_statement (label_place all) at first.made))
+    (λ front. onto front (all_placed (label_place all) (at + size_of first.made) (line + 1) below)) answers e in
+    let front = placed-found all at first.made step.0 (at_line-ok line (placed_statement (label_place all) at first.made) step.0 step.1) in
+    let more = bind_ok (all_placed (label_place all) (at + size_of first.made) (line + 1) below) (λ more. Ok (step.0 ++ more)) answers step.2 in
     let rest = all_placed-found all (at + size_of first.made) (line + 1) below more.0 more.1 in
     record {
       instrs = front.instrs ++ rest.instrs;
@@ -267,7 +267,7 @@ all_placed-found all at line (first ∷ below) answers e =
     }
 
 all_placed-only : (all : List Line) (at line : ℕ) (below : List Line) (instrs : List Instr) → EachOnce all
-    → ArePlaced all at below instrs → all_placed (place_of all) at line below ≡ Ok (map some_instr instrs)
+    → ArePlaced all at below instrs → all_placed (label_place all) at line below ≡ Ok (map some_instr instrs)
 all_placed-only all at line [] instrs once are = ap (λ is. Ok (map some_instr is)) (sym are)
 all_placed-only all at line (first ∷ below) instrs once are =
     rw (placed-only all at first.made are.0 once are.3, all_placed-only all (at + size_of first.made) (line + 1) below are.1 once are.4)
@@ -277,22 +277,22 @@ all_placed-only all at line (first ∷ below) instrs once are =
 
 pub record Finishing (all : List Line) (answers : List (Option Instr)) : Type 0 where
   pub instrs : List Instr
-  pub few : words_of all ≤ 4096
+  pub few : word_count all ≤ 4096
   pub placed : ArePlaced all 0 all instrs
   pub same : answers ≡ map some_instr instrs
 
-pub finished-found : (all : List Line) (answers : List (Option Instr)) → finished all ≡ Ok answers → Finishing all answers
-unfolding finished
-finished-found all answers e = elim (cases_Bool (ltb 4096 (words_of all))) [
+pub finished-found : (all : List Line) (answers : List (Option Instr)) → all_instructions all ≡ Ok answers → Finishing all answers
+unfolding all_instructions
+finished-found all answers e = elim (cases_Bool (ltb 4096 (word_count all))) [
   | inl long ↦ absurd (let f = rw long at e in cc)
   | inr few ↦ (
       let answer = all_placed-found all 0 1 all answers (rw few at e) in
-      record { instrs = answer.instrs; few = ltb-false 4096 (words_of all) few; placed = answer.are; same = sym answer.same })
+      record { instrs = answer.instrs; few = ltb-false 4096 (word_count all) few; placed = answer.are; same = sym answer.same })
 ]
 
-pub finished_only : (all : List Line) (instrs : List Instr) → AreInstrs all instrs → finished all ≡ Ok (map some_instr instrs)
-unfolding finished
-finished_only all instrs are = rw (le-ltb 4096 (words_of all) are.few) (all_placed-only all 0 1 all instrs are.once are.placed)
+pub finished_only : (all : List Line) (instrs : List Instr) → AreInstrs all instrs → all_instructions all ≡ Ok (map some_instr instrs)
+unfolding all_instructions
+finished_only all instrs are = rw (le-ltb 4096 (word_count all) are.few) (all_placed-only all 0 1 all instrs are.once are.placed)
 
 pub record Assembling (text : List ℕ) (answers : List (Option Instr)) : Type 0 where
   pub instrs : List Instr
@@ -302,7 +302,7 @@ pub record Assembling (text : List ℕ) (answers : List (Option Instr)) : Type 0
 pub program_found : (text : List ℕ) (answers : List (Option Instr)) → assembled text ≡ Ok answers → Assembling text answers
 unfolding assembled
 program_found text answers e =
-    let step = bind_ok (all_drafted [] (lines text)) finished answers e in
+    let step = bind_ok (all_drafted [] (lines text)) all_instructions answers e in
     let written = all_found [] (lines text) step.0 step.1 in
     let same : written.below ≡ step.0 = sym written.whole in
     let answer = finished-found step.0 answers step.2 in
@@ -386,7 +386,7 @@ only_line refusal_of above new text result e more is fresh =
     (drafted-only above text more is fresh) e
 
 pub found_instrs : {E : Type 0} (refusal_of : E → Option Refusal) (all : List Line) (result : Result Words E)
-    → EachOnce all → GivesUpToMemory refusal_of meanings result (finished all)
+    → EachOnce all → GivesUpToMemory refusal_of meanings result (all_instructions all)
     → IfOk result (λ words. (instrs : List Instr) × AreInstrs all instrs × AreWordsOf words.items instrs)
 found_instrs refusal_of all (Ok words) once e =
     let answer = finished-found all (meanings words) e in
@@ -394,7 +394,7 @@ found_instrs refusal_of all (Ok words) once e =
 found_instrs refusal_of all (Err error) once e = tt
 
 pub only_instrs : {E : Type 0} (refusal_of : E → Option Refusal) (all : List Line) (instrs : List Instr)
-    (result : Result Words E) → GivesUpToMemory refusal_of meanings result (finished all) → AreInstrs all instrs
+    (result : Result Words E) → GivesUpToMemory refusal_of meanings result (all_instructions all) → AreInstrs all instrs
     → GivesUpToMemory refusal_of meanings result (Ok (map some_instr instrs))
 only_instrs refusal_of all instrs result e are =
     subst (λ (answer : Result (List (Option Instr)) Refusal). GivesUpToMemory refusal_of meanings result answer)

@@ -12,7 +12,7 @@ use Rattle.rv_decode.specs.Fits.{IsSigned}
 use Rattle.rv_decode.specs.declared.instruction.Reg.{Reg}
 use Rattle.rv_decode.specs.Registers.{register_names}
 use Rattle.assembler.specs.Sets.{set_names}
-use Rattle.assembler.specs.Spelled.{IsNumber, IsNumberFrom, IsNumberUpTo, IsRegister, IsSet, IsAddress}
+use Rattle.assembler.specs.Spelled.{IsNumber, IsNumberFrom, IsNumberUpTo, IsRegister, IsSet, IsAddressOperand}
 use Rattle.texts.specs.Numbers.IsMagnitude.{decimal as in_decimal}
 use Rattle.assembler.specs.Spelled.IsNumber.{plain, negative}
 use Rattle.assembler.specs.Writing.{register_text, address_text, set_text}
@@ -73,7 +73,7 @@ signed_some z fits = grind (arith, decimal_nonempty, ints)
 -- ---- addresses
 
 -- `n(rs1)`
-pub address_spelled : (z : ℤ) (r : Reg) → IsSigned 11 z → IsSigned 31 z → IsAddress (negsuc 2047) (pos 2047) (address_text z r) (r, z)
+pub address_spelled : (z : ℤ) (r : Reg) → IsSigned 11 z → IsSigned 31 z → IsAddressOperand (negsuc 2047) (pos 2047) (address_text z r) (r, z)
 address_spelled z r short fits = record {
   before = signed_decimal z;
   inside = register_text r;
@@ -85,7 +85,7 @@ address_spelled z r short fits = record {
 }
 
 -- `(rs1)`
-pub pointer_spelled : (r : Reg) → IsAddress (pos 0) (pos 0) (40 ∷ (register_text r ++ 41 ∷ [])) (r, pos 0)
+pub pointer_spelled : (r : Reg) → IsAddressOperand (pos 0) (pos 0) (40 ∷ (register_text r ++ 41 ∷ [])) (r, pos 0)
 pointer_spelled r = record {
   before = [];
   inside = register_text r;

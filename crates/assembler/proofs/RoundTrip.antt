@@ -15,11 +15,11 @@ use Rattle.assembler.specs.declared.form.Form.{Form}
 use Rattle.assembler.specs.declared.form.Form.TheVariants as form
 use Rattle.texts.specs.Cutting.{is_byte, trimmed, NonePass}
 use Rattle.assembler.specs.Mnemonics.{form_named}
-use Rattle.assembler.specs.Operands.{bytes, Kind, register, upper, amount, short, address, pointer, near, far, set, Value, value_in}
-use Rattle.assembler.specs.Statements.{one, row, statement_of}
+use Rattle.assembler.specs.Operands.{bytes, OperandKind, register, upper, amount, short, address, pointer, near, far, set, OperandValue, value_in}
+use Rattle.assembler.specs.Statements.{one, operand_row, statement_of}
 use Rattle.assembler.specs.Spelled.{IsSpelled}
 use Rattle.assembler.specs.Lines.{label_of, statement_text, made_in, made_for, between_commas, some_text}
-use Rattle.assembler.specs.Drafts.{assembled, drafted, line_below, finished}
+use Rattle.assembler.specs.Drafts.{assembled, drafted, line_below, all_instructions}
 use Rattle.assembler.specs.Writing.{register_text, address_text, set_text, branch_name, load_name, store_name}
 use Rattle.assembler.specs.Writing.{immediate_name, shift_name, register_name, amo_name, order_name, with_two}
 use Rattle.assembler.specs.Writing.{with_three, text_of}
@@ -100,7 +100,7 @@ made_text name ops h k =
 assembled-one : (text : List ℕ) (i : Instr) → 0 < length text → NonePass (is_byte 10) text
     → NonePass (is_byte 35) text → NonePass (is_byte 58) text → trimmed text ≡ text → made_in text ≡ Ok (Some (one i))
     → assembled text ≡ Ok (Some i ∷ [])
-unfolding assembled drafted line_below label_of statement_text finished
+unfolding assembled drafted line_below label_of statement_text all_instructions
 assembled-one text i some feeds hashes colons same made = grind (arith, before-none, after-none, one_line)
 
 assembled-text : (name ops : List ℕ) (i : Instr) → PartsNoLine name → PartsNoLine ops
@@ -230,7 +230,7 @@ alone_read name f i named e =
 
 -- ---- operands, read again
 
-read : (kind : Kind) (text : List ℕ) (x : Value kind) → PartsNoLine text → IsSpelled kind text x → value_in kind text ≡ Ok x
+read : (kind : OperandKind) (text : List ℕ) (x : OperandValue kind) → PartsNoLine text → IsSpelled kind text x → value_in kind text ≡ Ok x
 read kind text x h is = subst (λ (t : List ℕ). value_in kind t ≡ Ok x) (stripped-none is_blank text h.blanks) ((reads_kind kind).only text x is)
 
 register_read : (r : Reg) → value_in register (register_text r) ≡ Ok r
@@ -247,7 +247,7 @@ address-read z r fits = read address (address_text z r) (r, z) (address_word z r
 
 -- the text of an instruction that has a word is assembled to it
 pub read_again : (i : Instr) → Fits i → assembled (text_of i) ≡ Ok (Some i ∷ [])
-unfolding text_of row form_named
+unfolding text_of operand_row form_named
 read_again (instr.Lui rd n) fits =
     made_two (codes "lui") form.Lui (register_text rd) (decimal n) (instr.Lui rd n) (refl, refl) (register_word rd)
     (decimal_word n (omega arith)) (register_operand rd) (decimal_operand n (omega arith))

@@ -29,9 +29,9 @@ size_of None = 0
 size_of (Some (two i j)) = 2
 size_of other = 1
 
-abbrev pub words_of : List Line → ℕ
-words_of [] = 0
-words_of (line ∷ rest) = size_of line.made + words_of rest
+abbrev pub word_count : List Line → ℕ
+word_count [] = 0
+word_count (line ∷ rest) = size_of line.made + word_count rest
 
 abbrev pub is_label : List ℕ → Option (List ℕ) → Bool
 is_label name None = false
@@ -42,12 +42,12 @@ place_from name at [] = None
 place_from name at (line ∷ rest) = if is_label name line.label then Some at else place_from name (at + size_of line.made) rest
 
 -- a label stands for the number of words before the line that defines it
-unfoldable pub place_of : List Line → List ℕ → Option ℕ
-place_of all name = place_from name 0 all
+unfoldable pub label_place : List Line → List ℕ → Option ℕ
+label_place all name = place_from name 0 all
 
 abbrev pub is_twice : List Line → Option (List ℕ) → Bool
 is_twice above None = false
-is_twice above (Some name) = is_some (place_of above name)
+is_twice above (Some name) = is_some (label_place above name)
 
 abbrev pub with_label : Option (List ℕ) → Result (Option Made) AsmFault → Result Line AsmFault
 with_label label answer = do
@@ -59,14 +59,14 @@ unfoldable pub line_below : List Line → List ℕ → Result Line AsmFault
 line_below above text = if is_twice above (label_of text) then Err LabelTwice else with_label (label_of text) (made_in (statement_text text))
 
 -- a fault comes with its line
-abbrev pub at_line : {A : Type 0} → ℕ → Result A AsmFault → Result A Refusal
-at_line line (Ok x) = Ok x
-at_line line (Err fault) = Err (record { fault = fault; line = line })
+abbrev pub refused_at_line : {A : Type 0} → ℕ → Result A AsmFault → Result A Refusal
+refused_at_line line (Ok x) = Ok x
+refused_at_line line (Err fault) = Err (record { fault = fault; line = line })
 
 -- the lines above with one more
 unfoldable pub drafted : List Line → List ℕ → Result (List Line) Refusal
 drafted above text = do
-  line ← at_line (length above + 1) (line_below above text)
+  line ← refused_at_line (length above + 1) (line_below above text)
   Ok (above ++ line ∷ [])
 
 abbrev pub all_drafted : List Line → List (List ℕ) → Result (List Line) Refusal
@@ -86,14 +86,14 @@ distance bound at None = Err NoSuchLabel
 distance bound at (Some place) = if is_reached bound (in_bytes at place) then Ok (in_bytes at place) else Err OutOfRange
 
 -- the instructions of a statement at a place, where found gives the labels' places
-abbrev pub placed : (List ℕ → Option ℕ) → ℕ → Option Made → Result (List (Option Instr)) AsmFault
-placed found at None = Ok []
-placed found at (Some (one i)) = Ok (Some i ∷ [])
-placed found at (Some (two i j)) = Ok (Some i ∷ Some j ∷ [])
-placed found at (Some (jump rd name)) = do
+abbrev pub placed_statement : (List ℕ → Option ℕ) → ℕ → Option Made → Result (List (Option Instr)) AsmFault
+placed_statement found at None = Ok []
+placed_statement found at (Some (one i)) = Ok (Some i ∷ [])
+placed_statement found at (Some (two i j)) = Ok (Some i ∷ Some j ∷ [])
+placed_statement found at (Some (jump rd name)) = do
   n ← distance (pos 1048576) at (found name)
   Ok (Some (instr.Jal rd n) ∷ [])
-placed found at (Some (branch op rs1 rs2 name)) = do
+placed_statement found at (Some (branch op rs1 rs2 name)) = do
   n ← distance (pos 4096) at (found name)
   Ok (Some (instr.Branch op rs1 rs2 n) ∷ [])
 
@@ -106,23 +106,24 @@ onto front answer = do
 abbrev pub all_placed : (List ℕ → Option ℕ) → (at line : ℕ) → List Line → Result (List (Option Instr)) Refusal
 all_placed found at line [] = Ok []
 all_placed found at line (first ∷ rest) = do
-  front ← at_line line (placed found at first.made)
+  front ← refused_at_line line (placed_statement found at first.made)
   onto front (all_placed found (at + size_of first.made) (line + 1) rest)
 
 -- the first line whose words go past the limit
-abbrev pub over : (at line : ℕ) → List Line → ℕ
-over at line [] = line
-over at line (first ∷ rest) = if nat_lt MAX_CODE (at + size_of first.made) then line else over (at + size_of first.made) (line + 1) rest
+abbrev pub line_over : (at line : ℕ) → List Line → ℕ
+line_over at line [] = line
+line_over at line (first ∷ rest) = if nat_lt MAX_CODE (at + size_of first.made) then line else line_over (at + size_of first.made) (line + 1) rest
 
 -- the instructions of all lines
-unfoldable pub finished : List Line → Result (List (Option Instr)) Refusal
-finished all = if nat_lt MAX_CODE (words_of all) then Err (record { fault = TooLong; line = over 0 1 all }) else all_placed (place_of all) 0 1 all
+unfoldable pub all_instructions : List Line → Result (List (Option Instr)) Refusal
+all_instructions all = if nat_lt MAX_CODE (word_count all)
+    then Err (record { fault = TooLong; line = line_over 0 1 all }) else all_placed (label_place all) 0 1 all
 
 -- the instructions of a text, or its first fault
 unfoldable pub assembled : List ℕ → Result (List (Option Instr)) Refusal
 assembled text = do
   all ← all_drafted [] (lines text)
-  finished all
+  all_instructions all
 
 -- ---- what a draft knows of its lines
 

@@ -5,23 +5,23 @@ use Rattle.std.specs.List.{Contains}
 use Rattle.texts.specs.Pieces.{is_blank}
 use Rattle.assembler.specs.declared.form.Form.{Form}
 use Rattle.assembler.specs.Mnemonics.{mnemonics}
-use Rattle.assembler.specs.Names.{is_name}
-use Rattle.assembler.specs.Operands.{Kind, Value}
-use Rattle.assembler.specs.Statements.{Made, Maker, row}
+use Rattle.assembler.specs.Names.{is_label_name}
+use Rattle.assembler.specs.Operands.{OperandKind, OperandValue}
+use Rattle.assembler.specs.Statements.{Made, Maker, operand_row}
 use Rattle.assembler.specs.Drafts.{Line}
 use Rattle.texts.specs.Cutting.{AreBlanks, IsPadded}
 use Rattle.assembler.specs.Spelled.{AreListed, IsSpelled}
 
 -- ---- operands, each spelled as its place asks, and what is made of them
 
-abbrev pub AreSpelled : (kinds : List Kind) → Maker kinds → List (List ℕ) → Made → Type 0
+abbrev pub AreSpelled : (kinds : List OperandKind) → Maker kinds → List (List ℕ) → Made → Type 0
 AreSpelled [] result operands made = (operands ≡ []) × (made ≡ result)
-AreSpelled (kind ∷ kinds) make operands made = (operand : List ℕ) × (others : List (List ℕ)) × (x : Value kind)
+AreSpelled (kind ∷ kinds) make operands made = (operand : List ℕ) × (others : List (List ℕ)) × (x : OperandValue kind)
     × (operands ≡ operand ∷ others) × IsSpelled kind operand x × AreSpelled kinds (make x) others made
 
 -- what each mnemonic makes of its operands
 abbrev pub Makes : Form → List (List ℕ) → Made → Type 0
-Makes form operands made = AreSpelled (row form (length operands)).kinds (row form (length operands)).make operands made
+Makes form operands made = AreSpelled (operand_row form (length operands)).kinds (operand_row form (length operands)).make operands made
 
 -- A statement: a mnemonic alone, or one with a blank and its operands.
 pub data IsStatement : List ℕ → Made → Type 0 where
@@ -40,7 +40,7 @@ pub data IsBody : List ℕ → Option Made → Type 0 where
 -- a body, or a label with its colon (58) and then a body
 pub data IsUncommented : List ℕ → Line → Type 0 where
   bare : (text : List ℕ) (made : Option Made) → IsBody text made → IsUncommented text (record { label = None; made = made })
-  labelled : (blanks name text : List ℕ) (made : Option Made) → AreBlanks blanks → is_name name ≡ true
+  labelled : (blanks name text : List ℕ) (made : Option Made) → AreBlanks blanks → is_label_name name ≡ true
       → IsBody text made → IsUncommented (blanks ++ (name ++ 58 ∷ text)) (record { label = Some name; made = made })
 
 -- code, and no comment or one from `#` (35) to the line's end

@@ -8,7 +8,7 @@ use Rattle.assembler.specs.declared.kept.Kept.{Kept}
 use Rattle.assembler.specs.declared.kept.Kept.TheVariants as kept
 use Rattle.assembler.specs.declared.kept.KeptLine.{KeptLine}
 use Rattle.assembler.specs.Statements.{Made, one, two, jump, branch}
-use Rattle.assembler.specs.Drafts.{Line, words_of, place_of, AllFit}
+use Rattle.assembler.specs.Drafts.{Line, word_count, label_place, AllFit}
 use Rattle.assembler.specs.Program.{EachOnce}
 
 abbrev pub kept_made : Kept → Made
@@ -25,16 +25,16 @@ abbrev pub statement_of_kept : Option Kept → Option Made
 statement_of_kept None = None
 statement_of_kept (Some statement) = Some (kept_made statement)
 
-abbrev pub line_of : KeptLine → Line
-line_of line = record { label = name_of line.label; made = statement_of_kept line.statement }
+abbrev pub kept_line : KeptLine → Line
+kept_line line = record { label = name_of line.label; made = statement_of_kept line.statement }
 
 -- the place that the map has for the name
 abbrev pub place_in : {S : Type 0} → HashMap (Vec ℕ Global) ℕ S → List ℕ → Option ℕ
 place_in places name = get_by (λ key. bytes_eq name key.items) places
 
 -- the map and the number of words are those of the lines
-pub record IsKept (found : List ℕ → Option ℕ) (words : ℕ) (all : List Line) : Type 0 where
-  pub places : (name : List ℕ) → found name ≡ place_of all name
-  pub size : words ≡ words_of all
+pub record AreKeptLines (found : List ℕ → Option ℕ) (words : ℕ) (all : List Line) : Type 0 where
+  pub places : (name : List ℕ) → found name ≡ label_place all name
+  pub size : words ≡ word_count all
   pub fits : AllFit all
   pub once : EachOnce all

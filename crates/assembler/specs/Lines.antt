@@ -10,7 +10,7 @@ use Rattle.assembler.specs.declared.form.Form.{Form}
 use Rattle.assembler.specs.declared.statement.Operands.{Operands}
 use Rattle.assembler.specs.declared.statement.Statement.{Statement}
 use Rattle.texts.specs.Cutting.{before, after, is_byte, without_front, trimmed}
-use Rattle.assembler.specs.Names.{is_name}
+use Rattle.assembler.specs.Names.{is_label_name}
 use Rattle.assembler.specs.Mnemonics.{form_named}
 use Rattle.assembler.specs.Statements.{Made, statement_of, made_of}
 
@@ -20,7 +20,7 @@ code_of line = before (is_byte 35) line
 
 abbrev pub label_and_rest : (code front : List ℕ) → Option (List ℕ) → Option (List ℕ) × List ℕ
 label_and_rest code front None = (None, code)
-label_and_rest code front (Some rest) = if is_name front then (Some front, rest) else (None, code)
+label_and_rest code front (Some rest) = if is_label_name front then (Some front, rest) else (None, code)
 
 -- A label and what is left, where a name stands before the first `:` with no more than blanks in front.
 -- Where none does, all is left.

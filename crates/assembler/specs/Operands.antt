@@ -13,7 +13,7 @@ use Rattle.assembler.specs.declared.operands.JumpTarget.{JumpTarget}
 use Rattle.assembler.specs.declared.operands.JumpTarget.TheVariants.{Bytes, Label}
 use Rattle.rv_decode.specs.Registers.{register_named}
 use Rattle.assembler.specs.Sets.{set_named}
-use Rattle.assembler.specs.Names.{is_name}
+use Rattle.assembler.specs.Names.{is_label_name}
 
 -- ---- registers
 
@@ -46,12 +46,12 @@ abbrev pub closed : List ℕ → Option (List ℕ) → Result Reg AsmFault
 closed name None = Err BadOperand
 closed name (Some rest) = if length rest == 0 then register_in (trimmed name) else Err BadOperand
 
-abbrev pub opened : Option (List ℕ) → Result Reg AsmFault
-opened None = Err BadOperand
-opened (Some inner) = closed (before (is_byte 41) inner) (after (is_byte 41) inner)
+abbrev pub in_parentheses : Option (List ℕ) → Result Reg AsmFault
+in_parentheses None = Err BadOperand
+in_parentheses (Some inner) = closed (before (is_byte 41) inner) (after (is_byte 41) inner)
 
 abbrev pub base_in : List ℕ → Result Reg AsmFault
-base_in text = opened (after (is_byte 40) text)
+base_in text = in_parentheses (after (is_byte 40) text)
 
 -- a number that is left out is 0
 abbrev pub or_zero : ℤ → ℤ → List ℕ → Result ℤ AsmFault
@@ -85,12 +85,12 @@ in_reach bound None = Err BadOperand
 in_reach bound (Some n) = if is_reached bound n then Ok (bytes n) else Err OutOfRange
 
 -- a number of bytes is even and within the bound
-abbrev pub IsReached : ℤ → Target → Type 0
-IsReached bound (bytes n) = (neg_ℤ bound ≤ℤ n) × (n <ℤ bound) × IsEven n
-IsReached bound (label name) = Unit {0}
+abbrev pub IsInReach : ℤ → Target → Type 0
+IsInReach bound (bytes n) = (neg_ℤ bound ≤ℤ n) × (n <ℤ bound) × IsEven n
+IsInReach bound (label name) = Unit {0}
 
 abbrev pub target_in : ℤ → List ℕ → Result Target AsmFault
-target_in bound text = if is_name text then Ok (label text) else in_reach bound (integer_of text)
+target_in bound text = if is_label_name text then Ok (label text) else in_reach bound (integer_of text)
 
 -- ---- the sets of a fence
 
@@ -106,30 +106,30 @@ set_in text = known_set (set_named text)
 -- An operand in the manual's assembly syntax: a register, the 20 bits of `lui`, what a word is shifted
 -- by, a number of 12 bits and its sign, a word in a register, `n(rs1)`, `(rs1)`, where a branch and
 -- where a jump goes, and a fence's set.
-pub data Kind : Type 0 where
-  register : Kind
-  upper : Kind
-  amount : Kind
-  short : Kind
-  word : Kind
-  address : Kind
-  pointer : Kind
-  near : Kind
-  far : Kind
-  set : Kind
+pub data OperandKind : Type 0 where
+  register : OperandKind
+  upper : OperandKind
+  amount : OperandKind
+  short : OperandKind
+  word : OperandKind
+  address : OperandKind
+  pointer : OperandKind
+  near : OperandKind
+  far : OperandKind
+  set : OperandKind
 
 -- what it stands for
-abbrev pub Value : Kind → Type 0
-Value register = Reg
-Value short = ℤ
-Value word = ℤ
-Value address = Reg × ℤ
-Value pointer = Reg × ℤ
-Value near = Target
-Value far = Target
-Value other = ℕ
+abbrev pub OperandValue : OperandKind → Type 0
+OperandValue register = Reg
+OperandValue short = ℤ
+OperandValue word = ℤ
+OperandValue address = Reg × ℤ
+OperandValue pointer = Reg × ℤ
+OperandValue near = Target
+OperandValue far = Target
+OperandValue other = ℕ
 
-abbrev pub value_in : (kind : Kind) → List ℕ → Result (Value kind) AsmFault
+abbrev pub value_in : (kind : OperandKind) → List ℕ → Result (OperandValue kind) AsmFault
 value_in register text = register_in text
 value_in upper text = natural_in 1048575 text
 value_in amount text = natural_in 31 text

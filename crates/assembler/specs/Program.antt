@@ -8,10 +8,10 @@ use Rattle.rv_decode.specs.declared.instruction.Instr.{Instr}
 use Rattle.rv_decode.specs.declared.instruction.Instr.TheVariants as instr
 use Rattle.rv_decode.specs.Means.{Means}
 use Rattle.rv_decode.specs.declared.instruction.TheConstants.{MAX_CODE}
-use Rattle.assembler.specs.Operands.{IsReached, bytes}
+use Rattle.assembler.specs.Operands.{IsInReach, bytes}
 use Rattle.assembler.specs.Statements.{Made, one, two, jump, branch}
 use Rattle.assembler.specs.Grammar.{IsLine}
-use Rattle.assembler.specs.Drafts.{Line, size_of, words_of, in_bytes, AllPlain}
+use Rattle.assembler.specs.Drafts.{Line, size_of, word_count, in_bytes, AllPlain}
 
 -- each text is its line
 abbrev pub AreLines : List (List ℕ) → List Line → Type 0
@@ -38,7 +38,7 @@ pub record Defines (all : List Line) (name : List ℕ) (place : ℕ) : Type 0 wh
   pub below : List Line
   pub whole : all ≡ above ++ line ∷ below
   pub defined : line.label ≡ Some name
-  pub counted : place ≡ words_of above
+  pub counted : place ≡ word_count above
 
 -- The instructions of a statement with `at` words before it. To a label it is 4 bytes for each
 -- word between, forward or back, and the instruction has to reach it.
@@ -47,10 +47,10 @@ pub data IsPlaced (all : List Line) (at : ℕ) : Option Made → List Instr → 
   single : (i : Instr) → IsPlaced all at (Some (one i)) (i ∷ [])
   double : (i j : Instr) → IsPlaced all at (Some (two i j)) (i ∷ j ∷ [])
   jumping : (rd : Reg) (name : List ℕ) (place : ℕ) → Defines all name place
-      → IsReached (pos 1048576) (bytes (in_bytes at place))
+      → IsInReach (pos 1048576) (bytes (in_bytes at place))
       → IsPlaced all at (Some (jump rd name)) (instr.Jal rd (in_bytes at place) ∷ [])
   branching : (op : BranchOp) (rs1 rs2 : Reg) (name : List ℕ) (place : ℕ) → Defines all name place
-      → IsReached (pos 4096) (bytes (in_bytes at place))
+      → IsInReach (pos 4096) (bytes (in_bytes at place))
       → IsPlaced all at (Some (branch op rs1 rs2 name)) (instr.Branch op rs1 rs2 (in_bytes at place) ∷ [])
 
 -- the instructions of lines, the first of which has `at` words before it
@@ -62,7 +62,7 @@ ArePlaced all at (line ∷ below) instrs = (front : List Instr) × (rest : List 
 -- The instructions of all lines, where no label is defined twice and no more than 4,096 words are made.
 pub record AreInstrs (all : List Line) (instrs : List Instr) : Type 0 where
   pub once : EachOnce all
-  pub few : words_of all ≤ MAX_CODE
+  pub few : word_count all ≤ MAX_CODE
   pub placed : ArePlaced all 0 all instrs
 
 -- The text is a program of these instructions.

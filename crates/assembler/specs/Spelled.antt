@@ -6,8 +6,8 @@ use Rattle.rv_decode.specs.Fits.{IsEven}
 use Rattle.rv_decode.specs.declared.instruction.Reg.{Reg}
 use Rattle.rv_decode.specs.Registers.{register_names}
 use Rattle.assembler.specs.Sets.{set_names}
-use Rattle.assembler.specs.Names.{is_name}
-use Rattle.assembler.specs.Operands.{Target, bytes, label, Kind, register, upper, amount, short, word, address, pointer, near, far, set, Value}
+use Rattle.assembler.specs.Names.{is_label_name}
+use Rattle.assembler.specs.Operands.{Target, bytes, label, OperandKind, register, upper, amount, short, word, address, pointer, near, far, set, OperandValue}
 -- blanks, and a core with blanks round it, are words of texts
 pub use Rattle.texts.specs.Cutting.{AreBlanks, IsPadded}
 
@@ -45,7 +45,7 @@ abbrev pub IsOffset : (low high : ℤ) → List ℕ → ℤ → Type 0
 IsOffset low high text n = (AreBlanks text × (n ≡ pos 0)) ⊎ ((number : List ℕ) × IsPadded number text × IsNumberFrom low high number n)
 
 -- the parentheses are 40 and 41
-pub record IsAddress (low high : ℤ) (text : List ℕ) (at : Reg × ℤ) : Type 0 where
+pub record IsAddressOperand (low high : ℤ) (text : List ℕ) (at : Reg × ℤ) : Type 0 where
   pub before : List ℕ
   pub inside : List ℕ
   pub name : List ℕ
@@ -57,19 +57,19 @@ pub record IsAddress (low high : ℤ) (text : List ℕ) (at : Reg × ℤ) : Type
 -- ---- where a jump or a branch goes: a label, or an even number of bytes within its reach
 
 abbrev pub IsTarget : (bound : ℤ) → List ℕ → Target → Type 0
-IsTarget bound text (label name) = (text ≡ name) × (is_name name ≡ true)
+IsTarget bound text (label name) = (text ≡ name) × (is_label_name name ≡ true)
 IsTarget bound text (bytes n) = IsNumber text n × (neg_ℤ bound ≤ℤ n) × (n <ℤ bound) × IsEven n
 
 -- ---- an operand of each kind
 
-abbrev pub IsSpelled : (kind : Kind) → List ℕ → Value kind → Type 0
+abbrev pub IsSpelled : (kind : OperandKind) → List ℕ → OperandValue kind → Type 0
 IsSpelled register text x = IsRegister text x
 IsSpelled upper text x = IsNumberUpTo 1048575 text x
 IsSpelled amount text x = IsNumberUpTo 31 text x
 IsSpelled short text x = IsNumberFrom (negsuc 2047) (pos 2047) text x
 IsSpelled word text x = IsNumberFrom (negsuc 2147483647) (pos 4294967295) text x
-IsSpelled address text x = IsAddress (negsuc 2047) (pos 2047) text x
-IsSpelled pointer text x = IsAddress (pos 0) (pos 0) text x
+IsSpelled address text x = IsAddressOperand (negsuc 2047) (pos 2047) text x
+IsSpelled pointer text x = IsAddressOperand (pos 0) (pos 0) text x
 IsSpelled near text x = IsTarget (pos 4096) text x
 IsSpelled far text x = IsTarget (pos 1048576) text x
 IsSpelled set text x = IsSet text x

@@ -21,7 +21,8 @@ use Rattle.assembler.specs.declared.form.Form.TheVariants.{Invert, Negate, IsZer
 use Rattle.assembler.specs.declared.form.Form.TheVariants.{LoadImmediate}
 use Rattle.assembler.specs.declared.statement.Statement.{Statement}
 use Rattle.assembler.specs.declared.statement.Statement.TheVariants as statement
-use Rattle.assembler.specs.Operands.{Target, bytes, label, Kind, register, upper, amount, short, word, address, pointer, near, far, set, Value, value_in}
+use Rattle.assembler.specs.Operands.{Target, bytes, label, OperandKind, register, upper, amount, short}
+use Rattle.assembler.specs.Operands.{word, address, pointer, near, far, set, OperandValue, value_in}
 
 -- What a statement makes: an instruction or two, or a jump or a branch to a label.
 pub data Made : Type 0 where
@@ -64,85 +65,85 @@ loaded rd v =
 
 -- ---- the table of operands
 
-abbrev pub Maker : List Kind → Type 0
+abbrev pub Maker : List OperandKind → Type 0
 Maker [] = Made
-Maker (kind ∷ kinds) = Value kind → Maker kinds
+Maker (kind ∷ kinds) = OperandValue kind → Maker kinds
 
 -- A row of the table: operands from the left, and what is made of them.
-pub record Row : Type 0 where
-  pub kinds : List Kind
+pub record OperandRow : Type 0 where
+  pub kinds : List OperandKind
   pub make : Maker kinds
 
-abbrev takes : (kinds : List Kind) → Maker kinds → Row
+abbrev takes : (kinds : List OperandKind) → Maker kinds → OperandRow
 takes kinds make = record { kinds = kinds; make = make }
 
 -- The operands that each mnemonic takes and what it makes of them, in the order of the manual's assembly
 -- syntax. Two mnemonics have two rows, which go by how many operands are given. T is a label or a number
 -- of bytes, and `negsuc n` is the negative number below -n.
-unfoldable pub row : Form → (given : ℕ) → Row
+unfoldable pub operand_row : Form → (given : ℕ) → OperandRow
 -- lui rd,n
-row Lui given = takes (register ∷ upper ∷ []) (λ rd n. one (instr.Lui rd n))
+operand_row Lui given = takes (register ∷ upper ∷ []) (λ rd n. one (instr.Lui rd n))
 -- auipc rd,n
-row Auipc given = takes (register ∷ upper ∷ []) (λ rd n. one (instr.Auipc rd n))
+operand_row Auipc given = takes (register ∷ upper ∷ []) (λ rd n. one (instr.Auipc rd n))
 -- jal rd,T
-row Jal given = takes (register ∷ far ∷ []) (λ rd to. jump_to rd to)
+operand_row Jal given = takes (register ∷ far ∷ []) (λ rd to. jump_to rd to)
 -- jalr rd,n(rs1), or jalr rd,rs1,n
-row Jalr (suc (suc zero)) = takes (register ∷ address ∷ []) (λ rd at. one (instr.Jalr rd at.0 at.1))
-row Jalr given = takes (register ∷ register ∷ short ∷ []) (λ rd rs1 n. one (instr.Jalr rd rs1 n))
+operand_row Jalr (suc (suc zero)) = takes (register ∷ address ∷ []) (λ rd at. one (instr.Jalr rd at.0 at.1))
+operand_row Jalr given = takes (register ∷ register ∷ short ∷ []) (λ rd rs1 n. one (instr.Jalr rd rs1 n))
 -- beq rs1,rs2,T and its like
-row (Branch op) given = takes (register ∷ register ∷ near ∷ []) (λ rs1 rs2 to. branch_to op rs1 rs2 to)
+operand_row (Branch op) given = takes (register ∷ register ∷ near ∷ []) (λ rs1 rs2 to. branch_to op rs1 rs2 to)
 -- lw rd,n(rs1)
-row (Load op) given = takes (register ∷ address ∷ []) (λ rd at. one (instr.Load op rd at.0 at.1))
+operand_row (Load op) given = takes (register ∷ address ∷ []) (λ rd at. one (instr.Load op rd at.0 at.1))
 -- sw rs2,n(rs1)
-row (Store op) given = takes (register ∷ address ∷ []) (λ rs2 at. one (instr.Store op at.0 rs2 at.1))
+operand_row (Store op) given = takes (register ∷ address ∷ []) (λ rs2 at. one (instr.Store op at.0 rs2 at.1))
 -- addi rd,rs1,n
-row (Immediate op) given = takes (register ∷ register ∷ short ∷ []) (λ rd rs1 n. one (instr.Immediate op rd rs1 n))
+operand_row (Immediate op) given = takes (register ∷ register ∷ short ∷ []) (λ rd rs1 n. one (instr.Immediate op rd rs1 n))
 -- slli rd,rs1,n
-row (Shift op) given = takes (register ∷ register ∷ amount ∷ []) (λ rd rs1 n. one (instr.Shift op rd rs1 n))
+operand_row (Shift op) given = takes (register ∷ register ∷ amount ∷ []) (λ rd rs1 n. one (instr.Shift op rd rs1 n))
 -- add rd,rs1,rs2
-row (Register op) given = takes (register ∷ register ∷ register ∷ []) (λ rd rs1 rs2. one (instr.Register op rd rs1 rs2))
+operand_row (Register op) given = takes (register ∷ register ∷ register ∷ []) (λ rd rs1 rs2. one (instr.Register op rd rs1 rs2))
 -- fence, which is fence iorw,iorw, or fence p,s
-row Fence zero = takes [] (one (instr.Fence 15 15))
-row Fence given = takes (set ∷ set ∷ []) (λ pred succ. one (instr.Fence pred succ))
+operand_row Fence zero = takes [] (one (instr.Fence 15 15))
+operand_row Fence given = takes (set ∷ set ∷ []) (λ pred succ. one (instr.Fence pred succ))
 -- fence.tso, ecall, ebreak
-row FenceTso given = takes [] (one instr.FenceTso)
-row Ecall given = takes [] (one instr.Ecall)
-row Ebreak given = takes [] (one instr.Ebreak)
+operand_row FenceTso given = takes [] (one instr.FenceTso)
+operand_row Ecall given = takes [] (one instr.Ecall)
+operand_row Ebreak given = takes [] (one instr.Ebreak)
 -- amoadd.w rd,rs2,(rs1)
-row (Amo op aq rl) given = takes (register ∷ register ∷ pointer ∷ []) (λ rd rs2 at. one (instr.Amo op rd at.0 rs2 aq rl))
+operand_row (Amo op aq rl) given = takes (register ∷ register ∷ pointer ∷ []) (λ rd rs2 at. one (instr.Amo op rd at.0 rs2 aq rl))
 -- nop: addi x0,x0,0
-row Nop given = takes [] (one (instr.Immediate immediate_op.Add (reg_of 0) (reg_of 0) (pos 0)))
+operand_row Nop given = takes [] (one (instr.Immediate immediate_op.Add (reg_of 0) (reg_of 0) (pos 0)))
 -- mv rd,rs: addi rd,rs,0
-row Move given = takes (register ∷ register ∷ []) (λ rd rs. one (instr.Immediate immediate_op.Add rd rs (pos 0)))
+operand_row Move given = takes (register ∷ register ∷ []) (λ rd rs. one (instr.Immediate immediate_op.Add rd rs (pos 0)))
 -- not rd,rs: xori rd,rs,-1
-row Invert given = takes (register ∷ register ∷ []) (λ rd rs. one (instr.Immediate immediate_op.Xor rd rs (negsuc 0)))
+operand_row Invert given = takes (register ∷ register ∷ []) (λ rd rs. one (instr.Immediate immediate_op.Xor rd rs (negsuc 0)))
 -- neg rd,rs: sub rd,x0,rs
-row Negate given = takes (register ∷ register ∷ []) (λ rd rs. one (instr.Register register_op.Sub rd (reg_of 0) rs))
+operand_row Negate given = takes (register ∷ register ∷ []) (λ rd rs. one (instr.Register register_op.Sub rd (reg_of 0) rs))
 -- seqz rd,rs: sltiu rd,rs,1
-row IsZero given = takes (register ∷ register ∷ []) (λ rd rs. one (instr.Immediate immediate_op.SetLessUnsigned rd rs (pos 1)))
+operand_row IsZero given = takes (register ∷ register ∷ []) (λ rd rs. one (instr.Immediate immediate_op.SetLessUnsigned rd rs (pos 1)))
 -- snez rd,rs: sltu rd,x0,rs
-row IsNotZero given = takes (register ∷ register ∷ []) (λ rd rs. one (instr.Register register_op.SetLessUnsigned rd (reg_of 0) rs))
+operand_row IsNotZero given = takes (register ∷ register ∷ []) (λ rd rs. one (instr.Register register_op.SetLessUnsigned rd (reg_of 0) rs))
 -- beqz rs,T and bnez rs,T: beq and bne with x0
-row (BranchZero op) given = takes (register ∷ near ∷ []) (λ rs to. branch_to op rs (reg_of 0) to)
+operand_row (BranchZero op) given = takes (register ∷ near ∷ []) (λ rs to. branch_to op rs (reg_of 0) to)
 -- j T: jal x0,T
-row Jump given = takes (far ∷ []) (λ to. jump_to (reg_of 0) to)
+operand_row Jump given = takes (far ∷ []) (λ to. jump_to (reg_of 0) to)
 -- ret: jalr x0,0(x1)
-row Return given = takes [] (one (instr.Jalr (reg_of 0) (reg_of 1) (pos 0)))
+operand_row Return given = takes [] (one (instr.Jalr (reg_of 0) (reg_of 1) (pos 0)))
 -- li rd,n: addi, lui or both, see `Loading`
-row LoadImmediate given = takes (register ∷ word ∷ []) (λ rd n. loaded rd (wrapped n))
+operand_row LoadImmediate given = takes (register ∷ word ∷ []) (λ rd n. loaded rd (wrapped n))
 
 -- The first fault from the left, or what is made. A missing operand is a bad one, and so is one too many.
-abbrev pub reads : (kinds : List Kind) → Maker kinds → List (List ℕ) → Result Made AsmFault
-reads [] made [] = Ok made
-reads [] made (operand ∷ others) = Err BadOperand
-reads (kind ∷ kinds) make [] = Err BadOperand
-reads (kind ∷ kinds) make (operand ∷ others) = do
+abbrev pub read_operands : (kinds : List OperandKind) → Maker kinds → List (List ℕ) → Result Made AsmFault
+read_operands [] made [] = Ok made
+read_operands [] made (operand ∷ others) = Err BadOperand
+read_operands (kind ∷ kinds) make [] = Err BadOperand
+read_operands (kind ∷ kinds) make (operand ∷ others) = do
   x ← value_in kind operand
-  reads kinds (make x) others
+  read_operands kinds (make x) others
 
 -- what a mnemonic makes of its operands
 abbrev pub statement_of : Form → List (List ℕ) → Result Made AsmFault
-statement_of form operands = reads (row form (length operands)).kinds (row form (length operands)).make operands
+statement_of form operands = read_operands (operand_row form (length operands)).kinds (operand_row form (length operands)).make operands
 
 -- ---- what the code's values stand for
 

@@ -9,10 +9,10 @@ ghost use Rattle.rv_decode.specs.declared.instruction.Instr.{Instr};
 ghost use Rattle.rv_decode.specs.declared.instruction.TheConstants.{MAX_CODE};
 ghost use Rattle.assembler.specs.Grammar.{IsLine};
 ghost use Rattle.assembler.specs.Program.{IsFresh, AreInstrs, AreWordsOf};
-ghost use Rattle.assembler.specs.Drafts.{Line as TextLine, Fitting, is_twice, words_of, drafted, over, finished, AllPlain};
+ghost use Rattle.assembler.specs.Drafts.{Line as TextLine, Fitting, is_twice, word_count, drafted, line_over, all_instructions, AllPlain};
 ghost use Rattle.assembler.specs.Lines.{made_by};
 ghost use Rattle.std.specs.Option.{option_copied};
-ghost use Rattle.assembler.specs.Kept.{place_in as found, line_of, IsKept};
+ghost use Rattle.assembler.specs.Kept.{place_in as found, kept_line, AreKeptLines};
 
 use crate::faults::{AsmError, AsmFault};
 use crate::kept::{KeptLine, keep_name, keep_statement, size};
@@ -42,14 +42,14 @@ pub struct Draft {
 impl Model for Draft {
     ghost Value = { List TextLine };
 
-    ghost view = { λ draft. map line_of draft.lines.items };
+    ghost view = { λ draft. map kept_line draft.lines.items };
 
-    ghost invariant = { λ draft. IsKept (found draft.places) draft.words (map line_of draft.lines.items) };
+    ghost invariant = { λ draft. AreKeptLines (found draft.places) draft.words (map kept_line draft.lines.items) };
 }
 
 impl Draft {
     /// A draft of no line, which takes its memory from the allocator.
-    #[tactic(auto, unfolding(crate::specs::Drafts::place_of))]
+    #[tactic(auto, unfolding(crate::specs::Drafts::label_place))]
     pub fn new(alloc: Global) -> Draft
         ensures { result ≡ [] }
     {
@@ -62,7 +62,7 @@ impl Draft {
 
     /// How many words the statements so far make.
     pub fn words(&self) -> usize
-        ensures { result ≡ words_of self.now }
+        ensures { result ≡ word_count self.now }
     {
         self.words
     }
@@ -120,7 +120,7 @@ impl Draft {
         self.lines.len()
     }
 
-    #[tactic(auto, unfolding(crate::specs::Drafts::place_of))]
+    #[tactic(auto, unfolding(crate::specs::Drafts::label_place))]
     fn defines(&self, label: Option<&[u8]>) -> bool
         ensures { result ≡ is_twice self.now (option_copied label.entry) }
     {
@@ -162,8 +162,8 @@ impl Draft {
         ensures found { IfOk result (λ words. (instrs : List Instr) × AreInstrs self instrs × AreWordsOf words.items instrs) }
         ensures only { (instrs : List Instr) → AreInstrs self instrs
             → GivesUpToMemory refusal_of (λ words. map meaning words.items) result (Ok (map (λ i. Some i) instrs)) }
-        ensures exact { GivesUpToMemory refusal_of (λ words. map meaning words.items) result (finished self) }
-        ensures too_long { MAX_CODE < words_of self → result ≡ Err (Refused (record { fault = TooLong; line = over 0 1 self })) }
+        ensures exact { GivesUpToMemory refusal_of (λ words. map meaning words.items) result (all_instructions self) }
+        ensures too_long { MAX_CODE < word_count self → result ≡ Err (Refused (record { fault = TooLong; line = line_over 0 1 self })) }
         ensures plain { IfOk result (λ words. AllPlain words.items) }
     {
         let _lines = &self.lines;
@@ -171,8 +171,8 @@ impl Draft {
     }
 
     fn all_words(self) -> Result<Vec<u32>, AsmError>
-        ensures exact { GivesUpToMemory refusal_of (λ words. map meaning words.items) result (finished self) }
-        ensures too_long { MAX_CODE < words_of self → result ≡ Err (Refused (record { fault = TooLong; line = over 0 1 self })) }
+        ensures exact { GivesUpToMemory refusal_of (λ words. map meaning words.items) result (all_instructions self) }
+        ensures too_long { MAX_CODE < word_count self → result ≡ Err (Refused (record { fault = TooLong; line = line_over 0 1 self })) }
         ensures plain { IfOk result (λ words. AllPlain words.items) }
     {
         if self.words > MAX_CODE {

@@ -5,7 +5,7 @@ ghost use Rattle.std.specs.Option.{option_copied};
 ghost use Rattle.assembler.specs.Statements.{made_of};
 ghost use Rattle.assembler.specs.Lines.{made_by};
 ghost use Rattle.assembler.specs.Drafts.{size_of};
-ghost use Rattle.assembler.specs.Kept.{kept_made, name_of, statement_of_kept, line_of};
+ghost use Rattle.assembler.specs.Kept.{kept_made, name_of, statement_of_kept, kept_line};
 
 use crate::statement::Statement;
 use rv_decode::{BranchOp, Instr, Reg};

@@ -4,7 +4,7 @@ ghost use Rattle.std.specs.Prelude.{◌≡◌, ◌<◌, ◌^◌, ◌<ℤ◌, ◌
 ghost use Rattle.std.specs.Option.{option_copied};
 ghost use Rattle.rv_decode.specs.Fits.{IsSigned};
 ghost use Rattle.assembler.specs.Operands.{register_in, in_range, number_in, natural_in, base_in, offset_in};
-ghost use Rattle.assembler.specs.Operands.{address_in, address_of, target_of, in_reach, target_in, or_zero, IsReached};
+ghost use Rattle.assembler.specs.Operands.{address_in, address_of, target_of, in_reach, target_in, or_zero, IsInReach};
 ghost use Rattle.assembler.specs.Operands.{is_reached, bytes, Tells, set_in};
 
 use crate::faults::AsmFault;
@@ -141,7 +141,7 @@ pub fn is_reached(number: i64, bound: i64) -> bool
     requires low { pos 0 ≤ℤ bound }
     requires high { bound <ℤ pos (2 ^ 31) }
     ensures value { result ≡ is_reached bound number }
-    ensures reached { IsTrue result → IsReached bound (bytes number) }
+    ensures reached { IsTrue result → IsInReach bound (bytes number) }
 {
     number.unsigned_abs() % 2 == 0 && number >= -bound && number < bound
 }
@@ -150,7 +150,7 @@ fn in_reach<'a>(number: Option<i64>, bound: i64) -> Result<JumpTarget<'a>, AsmFa
     requires low { pos 0 ≤ℤ bound }
     requires high { bound <ℤ pos (2 ^ 31) }
     ensures place { Tells target_of result (in_reach bound number) }
-    ensures reached { IfOk result (λ place. IsReached bound (target_of place)) }
+    ensures reached { IfOk result (λ place. IsInReach bound (target_of place)) }
 {
     match number {
         None => Err(AsmFault::BadOperand),
@@ -164,7 +164,7 @@ pub fn target(operand: &[u8], bound: i64) -> Result<JumpTarget<'_>, AsmFault>
     requires low { pos 0 ≤ℤ bound }
     requires high { bound <ℤ pos (2 ^ 31) }
     ensures place { Tells target_of result (target_in bound operand.now) }
-    ensures reached { IfOk result (λ place. IsReached bound (target_of place)) }
+    ensures reached { IfOk result (λ place. IsInReach bound (target_of place)) }
 {
     if is_name(operand) {
         return Ok(JumpTarget::Label(operand));

@@ -3,12 +3,13 @@
 ghost use Rattle.std.specs.Prelude.{◌≡◌, ◌≤◌, ◌<◌, ℕ, pos, ◌<ℤ◌, ◌≤ℤ◌, ◌^◌, List, map, IfSome, IfOk, OnOk, vec_len, ◌+◌, Some};
 ghost use Rattle.rv_decode.specs.Meaning.{meaning};
 ghost use Rattle.texts.specs.Results.{GivesUpToMemory, refusal_of};
-ghost use Rattle.assembler.specs.Drafts.{in_bytes, distance, placed, onto, at_line, all_placed, over, words_of, size_of, AllFit, IsPlain, AllPlain};
+ghost use Rattle.assembler.specs.Drafts.{in_bytes, distance, placed_statement, onto, refused_at_line, all_placed};
+ghost use Rattle.assembler.specs.Drafts.{line_over, word_count, size_of, AllFit, IsPlain, AllPlain};
 ghost use Rattle.rv_decode.specs.Fits.{Fits};
 ghost use Rattle.rv_decode.specs.declared.instruction.TheConstants.{MAX_CODE};
 ghost use Rattle.assembler.specs.Statements.{MadeFits};
-ghost use Rattle.assembler.specs.Operands.{IsReached, bytes};
-ghost use Rattle.assembler.specs.Kept.{place_in as found, kept_made, line_of};
+ghost use Rattle.assembler.specs.Operands.{IsInReach, bytes};
+ghost use Rattle.assembler.specs.Kept.{place_in as found, kept_made, kept_line};
 
 use crate::faults::{AsmError, AsmFault};
 use crate::kept::{Kept, KeptLine, size};
@@ -20,7 +21,7 @@ use std::alloc::Global;
 
 /// The first line whose words go past the limit.
 pub fn first_over(lines: &[KeptLine]) -> usize
-    ensures { result ≡ over 0 1 (map line_of lines.now) }
+    ensures { result ≡ line_over 0 1 (map kept_line lines.now) }
 {
     let mut words = 0;
     for (index, line) in lines.iter().enumerate() {
@@ -48,7 +49,7 @@ fn distance_to(places: &Places, label: &[u8], word: usize, bound: i64) -> Result
     requires low { pos 0 ≤ℤ bound }
     requires high { bound <ℤ pos (2 ^ 31) }
     ensures value { result ≡ distance bound word (found places.now label.now) }
-    ensures reached { IfOk result (λ n. IsReached bound (bytes n)) }
+    ensures reached { IfOk result (λ n. IsInReach bound (bytes n)) }
 {
     let Some(place) = place_in(places, label) else {
         return Err(AsmFault::NoSuchLabel);
@@ -83,7 +84,7 @@ fn push_words(
     requires fits { MadeFits (kept_made statement.now) }
     ensures exact { GivesUpToMemory refusal_of (λ _. map meaning words.new.items) result
         (onto (map meaning words.old.items)
-        (at_line line (placed (found places.now) (vec_len words.old) (Some (kept_made statement.now))))) }
+        (refused_at_line line (placed_statement (found places.now) (vec_len words.old) (Some (kept_made statement.now))))) }
     ensures plain { OnOk result (AllPlain words.old.items → AllPlain words.new.items) }
     ensures len { OnOk result (vec_len words.new ≡ vec_len words.old + size_of (Some (kept_made statement.now))) }
 {
@@ -119,9 +120,9 @@ fn push_words(
 /// The words of all lines.
 pub fn place_all(alloc: Global, places: &Places, lines: &[KeptLine]) -> Result<Vec<u32>, AsmError>
     requires near { (name : List ℕ) → IfSome (found places.now name) (λ place. place ≤ MAX_CODE) }
-    requires few { words_of (map line_of lines.now) ≤ MAX_CODE }
-    requires fits { AllFit (map line_of lines.now) }
-    ensures exact { GivesUpToMemory refusal_of (λ words. map meaning words.items) result (all_placed (found places.now) 0 1 (map line_of lines.now)) }
+    requires few { word_count (map kept_line lines.now) ≤ MAX_CODE }
+    requires fits { AllFit (map kept_line lines.now) }
+    ensures exact { GivesUpToMemory refusal_of (λ words. map meaning words.items) result (all_placed (found places.now) 0 1 (map kept_line lines.now)) }
     ensures plain { IfOk result (λ words. AllPlain words.items) }
 {
     let mut words = Vec::new(alloc);

@@ -3,11 +3,11 @@
 
 ghost use Rattle.std.specs.Prelude.{◌≡◌, pos, [], ◌∷◌, IfOk};
 ghost use Rattle.rv_decode.specs.declared.instruction.Instr.TheVariants as instr;
-ghost use Rattle.assembler.specs.Operands.{register, short, address, Tells, target_of, IsReached};
+ghost use Rattle.assembler.specs.Operands.{register, short, address, Tells, target_of, IsInReach};
 ghost use Rattle.rv_decode.specs.Fits.{Fits};
 ghost use Rattle.assembler.specs.declared.form.Form.TheVariants as form;
 ghost use Rattle.assembler.specs.Lines.{left};
-ghost use Rattle.assembler.specs.Statements.{one, statement_of, reads, made_of, MadeFits, jump_to, branch_to};
+ghost use Rattle.assembler.specs.Statements.{one, statement_of, read_operands, made_of, MadeFits, jump_to, branch_to};
 
 use crate::faults::AsmFault;
 use crate::form::Form;
@@ -21,7 +21,7 @@ use rv_decode::registers::reg;
 use rv_decode::{AmoOp, BranchOp, ImmediateOp, Instr, LoadOp, Reg, RegisterOp, ShiftOp, StoreOp};
 
 fn jump_to(rd: Reg, place: JumpTarget<'_>) -> Statement<'_>
-    requires { IsReached (pos 1048576) (target_of place) }
+    requires { IsInReach (pos 1048576) (target_of place) }
     ensures made { made_of result ≡ jump_to rd (target_of place.entry) }
     ensures fits { MadeFits (made_of result) }
 {
@@ -32,7 +32,7 @@ fn jump_to(rd: Reg, place: JumpTarget<'_>) -> Statement<'_>
 }
 
 fn branch_to(op: BranchOp, rs1: Reg, rs2: Reg, place: JumpTarget<'_>) -> Statement<'_>
-    requires { IsReached (pos 4096) (target_of place) }
+    requires { IsInReach (pos 4096) (target_of place) }
     ensures made { made_of result ≡ branch_to op rs1 rs2 (target_of place.entry) }
     ensures fits { MadeFits (made_of result) }
 {
@@ -52,7 +52,7 @@ fn branch_to(op: BranchOp, rs1: Reg, rs2: Reg, place: JumpTarget<'_>) -> Stateme
     }
 }
 
-#[tactic(auto, unfolding(crate::specs::Statements::row))]
+#[tactic(auto, unfolding(crate::specs::Statements::operand_row))]
 fn lui<'a>(mut operands: Operands<'a>) -> Result<Statement<'a>, AsmFault>
     ensures made { Tells made_of result (statement_of form.Lui (left operands.entry)) }
     ensures fits { IfOk result (λ statement. MadeFits (made_of statement)) }
@@ -63,7 +63,7 @@ fn lui<'a>(mut operands: Operands<'a>) -> Result<Statement<'a>, AsmFault>
     Ok(Statement::One(Instr::Lui { rd, upper }))
 }
 
-#[tactic(auto, unfolding(crate::specs::Statements::row))]
+#[tactic(auto, unfolding(crate::specs::Statements::operand_row))]
 fn auipc<'a>(mut operands: Operands<'a>) -> Result<Statement<'a>, AsmFault>
     ensures made { Tells made_of result (statement_of form.Auipc (left operands.entry)) }
     ensures fits { IfOk result (λ statement. MadeFits (made_of statement)) }
@@ -74,7 +74,7 @@ fn auipc<'a>(mut operands: Operands<'a>) -> Result<Statement<'a>, AsmFault>
     Ok(Statement::One(Instr::Auipc { rd, upper }))
 }
 
-#[tactic(auto, unfolding(crate::specs::Statements::row))]
+#[tactic(auto, unfolding(crate::specs::Statements::operand_row))]
 fn jal<'a>(mut operands: Operands<'a>) -> Result<Statement<'a>, AsmFault>
     ensures made { Tells made_of result (statement_of form.Jal (left operands.entry)) }
     ensures fits { IfOk result (λ statement. MadeFits (made_of statement)) }
@@ -86,7 +86,7 @@ fn jal<'a>(mut operands: Operands<'a>) -> Result<Statement<'a>, AsmFault>
 }
 
 fn jalr_to_address<'a>(mut operands: Operands<'a>) -> Result<Statement<'a>, AsmFault>
-    ensures made { Tells made_of result (reads (register ∷ address ∷ []) (λ rd at. one (instr.Jalr rd at.0 at.1)) (left operands.entry)) }
+    ensures made { Tells made_of result (read_operands (register ∷ address ∷ []) (λ rd at. one (instr.Jalr rd at.0 at.1)) (left operands.entry)) }
     ensures fits { IfOk result (λ statement. MadeFits (made_of statement)) }
 {
     let rd = register(operands.next()?)?;
@@ -100,7 +100,7 @@ fn jalr_to_address<'a>(mut operands: Operands<'a>) -> Result<Statement<'a>, AsmF
 }
 
 fn jalr_to_register<'a>(mut operands: Operands<'a>) -> Result<Statement<'a>, AsmFault>
-    ensures made { Tells made_of result (reads (register ∷ register ∷ short ∷ []) (λ rd rs1 n. one (instr.Jalr rd rs1 n)) (left operands.entry)) }
+    ensures made { Tells made_of result (read_operands (register ∷ register ∷ short ∷ []) (λ rd rs1 n. one (instr.Jalr rd rs1 n)) (left operands.entry)) }
     ensures fits { IfOk result (λ statement. MadeFits (made_of statement)) }
 {
     let rd = register(operands.next()?)?;
@@ -122,7 +122,7 @@ fn jalr<'a>(operands: Operands<'a>) -> Result<Statement<'a>, AsmFault>
     }
 }
 
-#[tactic(auto, unfolding(crate::specs::Statements::row))]
+#[tactic(auto, unfolding(crate::specs::Statements::operand_row))]
 fn branch<'a>(op: BranchOp, mut operands: Operands<'a>) -> Result<Statement<'a>, AsmFault>
     ensures made { Tells made_of result (statement_of (form.Branch op) (left operands.entry)) }
     ensures fits { IfOk result (λ statement. MadeFits (made_of statement)) }
@@ -134,7 +134,7 @@ fn branch<'a>(op: BranchOp, mut operands: Operands<'a>) -> Result<Statement<'a>,
     Ok(branch_to(op, rs1, rs2, to))
 }
 
-#[tactic(auto, unfolding(crate::specs::Statements::row))]
+#[tactic(auto, unfolding(crate::specs::Statements::operand_row))]
 fn load<'a>(op: LoadOp, mut operands: Operands<'a>) -> Result<Statement<'a>, AsmFault>
     ensures made { Tells made_of result (statement_of (form.Load op) (left operands.entry)) }
     ensures fits { IfOk result (λ statement. MadeFits (made_of statement)) }
@@ -150,7 +150,7 @@ fn load<'a>(op: LoadOp, mut operands: Operands<'a>) -> Result<Statement<'a>, Asm
     }))
 }
 
-#[tactic(auto, unfolding(crate::specs::Statements::row))]
+#[tactic(auto, unfolding(crate::specs::Statements::operand_row))]
 fn store<'a>(op: StoreOp, mut operands: Operands<'a>) -> Result<Statement<'a>, AsmFault>
     ensures made { Tells made_of result (statement_of (form.Store op) (left operands.entry)) }
     ensures fits { IfOk result (λ statement. MadeFits (made_of statement)) }
@@ -166,7 +166,7 @@ fn store<'a>(op: StoreOp, mut operands: Operands<'a>) -> Result<Statement<'a>, A
     }))
 }
 
-#[tactic(auto, unfolding(crate::specs::Statements::row))]
+#[tactic(auto, unfolding(crate::specs::Statements::operand_row))]
 fn immediate<'a>(op: ImmediateOp, mut operands: Operands<'a>) -> Result<Statement<'a>, AsmFault>
     ensures made { Tells made_of result (statement_of (form.Immediate op) (left operands.entry)) }
     ensures fits { IfOk result (λ statement. MadeFits (made_of statement)) }
@@ -183,7 +183,7 @@ fn immediate<'a>(op: ImmediateOp, mut operands: Operands<'a>) -> Result<Statemen
     }))
 }
 
-#[tactic(auto, unfolding(crate::specs::Statements::row))]
+#[tactic(auto, unfolding(crate::specs::Statements::operand_row))]
 fn shift<'a>(op: ShiftOp, mut operands: Operands<'a>) -> Result<Statement<'a>, AsmFault>
     ensures made { Tells made_of result (statement_of (form.Shift op) (left operands.entry)) }
     ensures fits { IfOk result (λ statement. MadeFits (made_of statement)) }
@@ -200,7 +200,7 @@ fn shift<'a>(op: ShiftOp, mut operands: Operands<'a>) -> Result<Statement<'a>, A
     }))
 }
 
-#[tactic(auto, unfolding(crate::specs::Statements::row))]
+#[tactic(auto, unfolding(crate::specs::Statements::operand_row))]
 fn of_registers<'a>(op: RegisterOp, mut operands: Operands<'a>) -> Result<Statement<'a>, AsmFault>
     ensures made { Tells made_of result (statement_of (form.Register op) (left operands.entry)) }
     ensures fits { IfOk result (λ statement. MadeFits (made_of statement)) }
@@ -226,7 +226,7 @@ fn fence<'a>(mut operands: Operands<'a>) -> Result<Statement<'a>, AsmFault>
     Ok(Statement::One(Instr::Fence { pred, succ }))
 }
 
-#[tactic(auto, unfolding(crate::specs::Statements::row))]
+#[tactic(auto, unfolding(crate::specs::Statements::operand_row))]
 fn amo<'a>(
     op: AmoOp,
     aq: bool,
@@ -250,7 +250,7 @@ fn amo<'a>(
     }))
 }
 
-#[tactic(auto, unfolding(crate::specs::Statements::row))]
+#[tactic(auto, unfolding(crate::specs::Statements::operand_row))]
 fn branch_zero<'a>(op: BranchOp, mut operands: Operands<'a>) -> Result<Statement<'a>, AsmFault>
     ensures made { Tells made_of result (statement_of (form.BranchZero op) (left operands.entry)) }
     ensures fits { IfOk result (λ statement. MadeFits (made_of statement)) }
@@ -261,7 +261,7 @@ fn branch_zero<'a>(op: BranchOp, mut operands: Operands<'a>) -> Result<Statement
     Ok(branch_to(op, rs1, reg(0), to))
 }
 
-#[tactic(auto, unfolding(crate::specs::Statements::row))]
+#[tactic(auto, unfolding(crate::specs::Statements::operand_row))]
 fn jump<'a>(mut operands: Operands<'a>) -> Result<Statement<'a>, AsmFault>
     ensures made { Tells made_of result (statement_of form.Jump (left operands.entry)) }
     ensures fits { IfOk result (λ statement. MadeFits (made_of statement)) }
@@ -274,14 +274,14 @@ fn jump<'a>(mut operands: Operands<'a>) -> Result<Statement<'a>, AsmFault>
 /// An instruction without operands.
 fn alone<'a>(instr: Instr, operands: Operands<'a>) -> Result<Statement<'a>, AsmFault>
     requires { Fits instr }
-    ensures made { Tells made_of result (reads [] (one instr) (left operands.entry)) }
+    ensures made { Tells made_of result (read_operands [] (one instr) (left operands.entry)) }
     ensures fits { IfOk result (λ statement. MadeFits (made_of statement)) }
 {
     operands.end()?;
     Ok(Statement::One(instr))
 }
 
-#[tactic(auto, unfolding(crate::specs::Statements::row))]
+#[tactic(auto, unfolding(crate::specs::Statements::operand_row))]
 fn load_immediate<'a>(mut operands: Operands<'a>) -> Result<Statement<'a>, AsmFault>
     ensures made { Tells made_of result (statement_of form.LoadImmediate (left operands.entry)) }
     ensures fits { IfOk result (λ statement. MadeFits (made_of statement)) }
@@ -297,7 +297,7 @@ fn load_immediate<'a>(mut operands: Operands<'a>) -> Result<Statement<'a>, AsmFa
     Ok(loaded(rd, wrapped))
 }
 
-#[tactic(auto, unfolding(crate::specs::Statements::row))]
+#[tactic(auto, unfolding(crate::specs::Statements::operand_row))]
 fn moved<'a>(mut operands: Operands<'a>) -> Result<Statement<'a>, AsmFault>
     ensures made { Tells made_of result (statement_of form.Move (left operands.entry)) }
     ensures fits { IfOk result (λ statement. MadeFits (made_of statement)) }
@@ -313,7 +313,7 @@ fn moved<'a>(mut operands: Operands<'a>) -> Result<Statement<'a>, AsmFault>
     }))
 }
 
-#[tactic(auto, unfolding(crate::specs::Statements::row))]
+#[tactic(auto, unfolding(crate::specs::Statements::operand_row))]
 fn inverted<'a>(mut operands: Operands<'a>) -> Result<Statement<'a>, AsmFault>
     ensures made { Tells made_of result (statement_of form.Invert (left operands.entry)) }
     ensures fits { IfOk result (λ statement. MadeFits (made_of statement)) }
@@ -329,7 +329,7 @@ fn inverted<'a>(mut operands: Operands<'a>) -> Result<Statement<'a>, AsmFault>
     }))
 }
 
-#[tactic(auto, unfolding(crate::specs::Statements::row))]
+#[tactic(auto, unfolding(crate::specs::Statements::operand_row))]
 fn negated<'a>(mut operands: Operands<'a>) -> Result<Statement<'a>, AsmFault>
     ensures made { Tells made_of result (statement_of form.Negate (left operands.entry)) }
     ensures fits { IfOk result (λ statement. MadeFits (made_of statement)) }
@@ -345,7 +345,7 @@ fn negated<'a>(mut operands: Operands<'a>) -> Result<Statement<'a>, AsmFault>
     }))
 }
 
-#[tactic(auto, unfolding(crate::specs::Statements::row))]
+#[tactic(auto, unfolding(crate::specs::Statements::operand_row))]
 fn is_zero<'a>(mut operands: Operands<'a>) -> Result<Statement<'a>, AsmFault>
     ensures made { Tells made_of result (statement_of form.IsZero (left operands.entry)) }
     ensures fits { IfOk result (λ statement. MadeFits (made_of statement)) }
@@ -361,7 +361,7 @@ fn is_zero<'a>(mut operands: Operands<'a>) -> Result<Statement<'a>, AsmFault>
     }))
 }
 
-#[tactic(auto, unfolding(crate::specs::Statements::row))]
+#[tactic(auto, unfolding(crate::specs::Statements::operand_row))]
 fn is_not_zero<'a>(mut operands: Operands<'a>) -> Result<Statement<'a>, AsmFault>
     ensures made { Tells made_of result (statement_of form.IsNotZero (left operands.entry)) }
     ensures fits { IfOk result (λ statement. MadeFits (made_of statement)) }
@@ -412,7 +412,7 @@ pub fn statement<'a>(kind: Form, operands: Operands<'a>) -> Result<Statement<'a>
     }
 }
 
-#[tactic(auto, unfolding(crate::specs::Statements::row))]
+#[tactic(auto, unfolding(crate::specs::Statements::operand_row))]
 fn nop<'a>(operands: Operands<'a>) -> Result<Statement<'a>, AsmFault>
     ensures made { Tells made_of result (statement_of form.Nop (left operands.entry)) }
     ensures fits { IfOk result (λ statement. MadeFits (made_of statement)) }
@@ -428,7 +428,7 @@ fn nop<'a>(operands: Operands<'a>) -> Result<Statement<'a>, AsmFault>
     )
 }
 
-#[tactic(auto, unfolding(crate::specs::Statements::row))]
+#[tactic(auto, unfolding(crate::specs::Statements::operand_row))]
 fn returned<'a>(operands: Operands<'a>) -> Result<Statement<'a>, AsmFault>
     ensures made { Tells made_of result (statement_of form.Return (left operands.entry)) }
     ensures fits { IfOk result (λ statement. MadeFits (made_of statement)) }

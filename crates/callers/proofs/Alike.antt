@@ -9,13 +9,13 @@ use Rattle.step_machine.specs.declared.events.Event.{Event}
 use Rattle.step_machine.specs.History.{OpeningValue, History, at_opening}
 use Rattle.step_machine.specs.Entries.{memory_word}
 use Rattle.step_machine.proofs.Running.{run-one}
-use Rattle.spsc_queue.specs.Listings.{Listed}
-use Rattle.spsc_queue.specs.RingBuffers.{offset, slot}
+use Rattle.rv_decode.specs.Listings.{Listed}
+use Rattle.spsc_queue.specs.RingBuffers.{slot_offset, slot_address}
 use Rattle.spsc_queue.specs.Calls.{buffer, HasFunction}
 use Rattle.callers.specs.Queues.{spsc_of, sends_by, receives_by, HasFirstCopy, IsLocated}
 use Rattle.callers.specs.Debts.{IsOpeningDebt, first_debt}
-use Rattle.callers.specs.Runs.{call_source, call_schedule, KeepsOwed, Owes}
-use Rattle.callers.specs.Answers.{IsCallersTold}
+use Rattle.callers.specs.Runs.{call_source, call_schedule, KeepsObligations, HasDebt}
+use Rattle.callers.specs.Answers.{IsCallersOutput}
 use Rattle.callers.specs.declared.debts.Debt.{Debt}
 use Rattle.callers.specs.declared.debts.Debt.TheVariants as debt
 use Rattle.callers.specs.declared.queue.QueueKind.{QueueKind}
@@ -42,34 +42,34 @@ place_of start S j within below = elim (cases_lt j start) [
 ]
 
 module _ (M : ℕ) (o : OpeningValue) (l : Located) (located : IsLocated M o l.queue l) where
-  at_start : offset (buffer (spsc_of l)) 0 ≡ 4 * l.start
+  at_start : slot_offset (buffer (spsc_of l)) 0 ≡ 4 * l.start
   at_start = ap (λ (n : ℕ). 4 * n) (ap (λ (n : ℕ). n % l.queue.slots) (add-zero l.start) ∙ mod-eq_of_lt located.start)
 
   excluded : (d : Debt) → IsOpeningDebt M o l.queue d → ⊥
-  excluded debt.NoBlock owes = owes (at_any M l.queue l.start 0 located.block)
-  excluded (debt.OneParty h) owes = located.parties (sym owes.0 ∙ owes.1)
-  excluded (debt.NoSend k h) owes = owes.2 l.send_line
-      (subst (λ (x : ℕ). HasFunction o x l.send_line (sends_by k)) (sym owes.1)
-      (subst (λ (x : QueueKind). HasFunction o l.queue.sender l.send_line (sends_by x)) (sym owes.0) located.sends.here))
-  excluded (debt.NoReceive k h) owes = owes.2 l.receive_line
-      (subst (λ (x : ℕ). HasFunction o x l.receive_line (receives_by k)) (sym owes.1)
-      (subst (λ (x : QueueKind). HasFunction o l.queue.receiver l.receive_line (receives_by x)) (sym owes.0) located.receives.here))
-  excluded (debt.NoOffset a w) owes =
-      let is : w ≡ 4 * l.start = sym owes.1 ∙ ap (memory_word o []) owes.0 ∙ located.rest.head ∙ at_start in
-      owes.2 (omega (arith, is), omega (arith, is, located.start))
-  excluded (debt.NotEmpty u v) owes = owes.2 (sym owes.0 ∙ located.rest.head ∙ sym located.rest.tail ∙ owes.1)
-  excluded (debt.NotFree a w) owes =
-      let place = place_of l.start l.queue.slots owes.1.0 located.start owes.1.1 in
-      let is : a ≡ slot (buffer (spsc_of l)) place.0 = owes.1.2 ∙ ap (λ (n : ℕ). l.queue.base + 128 + 4 * n) (sym place.2) in
-      owes.3 (sym owes.2 ∙ ap (memory_word o []) is ∙ located.rest.slots owes.0 place.0 place.1)
-  excluded (debt.Wrote h pc a) owes = owes
-  excluded (debt.PassedBytes h bytes) owes = owes
-  excluded (debt.PassedWord h) owes = owes
-  excluded (debt.PassedReturn h back) owes = owes
+  excluded debt.NoBlock has_debt = has_debt (at_any M l.queue l.start 0 located.block)
+  excluded (debt.OneParty h) has_debt = located.parties (sym has_debt.0 ∙ has_debt.1)
+  excluded (debt.NoSend k h) has_debt = has_debt.2 l.send_line
+      (subst (λ (x : ℕ). HasFunction o x l.send_line (sends_by k)) (sym has_debt.1)
+      (subst (λ (x : QueueKind). HasFunction o l.queue.sender l.send_line (sends_by x)) (sym has_debt.0) located.sends.here))
+  excluded (debt.NoReceive k h) has_debt = has_debt.2 l.receive_line
+      (subst (λ (x : ℕ). HasFunction o x l.receive_line (receives_by k)) (sym has_debt.1)
+      (subst (λ (x : QueueKind). HasFunction o l.queue.receiver l.receive_line (receives_by x)) (sym has_debt.0) located.receives.here))
+  excluded (debt.NoOffset a w) has_debt =
+      let is : w ≡ 4 * l.start = sym has_debt.1 ∙ ap (memory_word o []) has_debt.0 ∙ located.rest.head ∙ at_start in
+      has_debt.2 (omega (arith, is), omega (arith, is, located.start))
+  excluded (debt.NotEmpty u v) has_debt = has_debt.2 (sym has_debt.0 ∙ located.rest.head ∙ sym located.rest.tail ∙ has_debt.1)
+  excluded (debt.NotFree a w) has_debt =
+      let place = place_of l.start l.queue.slots has_debt.1.0 located.start has_debt.1.1 in
+      let is : a ≡ slot_address (buffer (spsc_of l)) place.0 = has_debt.1.2 ∙ ap (λ (n : ℕ). l.queue.base + 128 + 4 * n) (sym place.2) in
+      has_debt.3 (sym has_debt.2 ∙ ap (memory_word o []) is ∙ located.rest.slots has_debt.0 place.0 place.1)
+  excluded (debt.Wrote h pc a) has_debt = has_debt
+  excluded (debt.PassedBytes h bytes) has_debt = has_debt
+  excluded (debt.PassedWord h) has_debt = has_debt
+  excluded (debt.PassedReturn h back) has_debt = has_debt
 
-pub owes_nothing_there : (M : ℕ) (o : OpeningValue) (q : Queue) (l : Located) (d : Debt) → IsLocated M o q l → IsOpeningDebt M o q d → ⊥
-owes_nothing_there M o q l d located owes = excluded M o l (subst (λ (x : Queue). IsLocated M o x l) (sym located.queue_is) located) d
-    (subst (λ (x : Queue). IsOpeningDebt M o x d) (sym located.queue_is) owes)
+pub no_opening_debt : (M : ℕ) (o : OpeningValue) (q : Queue) (l : Located) (d : Debt) → IsLocated M o q l → IsOpeningDebt M o q d → ⊥
+no_opening_debt M o q l d located has_debt = excluded M o l (subst (λ (x : Queue). IsLocated M o x l) (sym located.queue_is) located) d
+    (subst (λ (x : Queue). IsOpeningDebt M o x d) (sym located.queue_is) has_debt)
 
 -- ---- it is used in one way
 
@@ -113,28 +113,32 @@ module _ (M : ℕ) (o : OpeningValue) (l m : Located) (one : IsLocated M o l.que
 -- ---- two answers
 
 -- a run that keeps all that is owed has no debt
-kept_or_owing : (B M : ℕ) (o : OpeningValue) (l : Located) (d : Debt) (events : List Event) → KeepsOwed B M o l events → Owes B M o l events d → ⊥
-kept_or_owing B M o l d events keeps owes =
-    let same : keeps.history ≡ owes.history = run-one B M (at_opening o) events keeps.history owes.history keeps.run owes.run in
+kept_or_owing : (B M : ℕ) (o : OpeningValue) (l : Located) (d : Debt) (events : List Event) → KeepsObligations B M o l events → HasDebt B M o l events d → ⊥
+kept_or_owing B M o l d events keeps has_debt =
+    let same : keeps.history ≡ has_debt.history = run-one B M (at_opening o) events keeps.history has_debt.history keeps.run has_debt.run in
     let none = none_owed B M o (spsc_of l) keeps.history.entries keeps.uses in
-    let some = ap (λ (t : History). first_debt M o (spsc_of l) t.entries) same ∙ owes.first in
+    let some = ap (λ (t : History). first_debt M o (spsc_of l) t.entries) same ∙ has_debt.first in
     absurd (cc)
 
 module _ (B M : ℕ) (o : OpeningValue) (q : Queue) (stream : Stream) (runs size : ℕ) (text other : List ℕ) where
-  never_both : IsCallersTold B M o q stream runs size (text, true) → IsCallersTold B M o q stream runs size (other, false) → ⊥
-  never_both kept (inl there) = owes_nothing_there M o q kept.located there.debt kept.usable there.owes
+  never_both : IsCallersOutput B M o q stream runs size (text, true) → IsCallersOutput B M o q stream runs size (other, false) → ⊥
+  never_both kept (inl there) = no_opening_debt M o q kept.located there.debt kept.usable there.has_debt
   never_both kept (inr owing) =
       let l = kept.located in
       let m = owing.located in
       let one = subst (λ (x : Queue). IsLocated M o x l) (sym kept.usable.queue_is) kept.usable in
       let two = subst (λ (x : Queue). IsLocated M o x m) (sym kept.usable.queue_is) owing.usable in
       let same : l ≡ m = one_way M o l m one two in
-      let told = owing.told_of in
-      kept_or_owing B M o l told.debt (call_schedule (call_source B M o l stream size) told.number) (kept.told_of.kept told.number told.within)
-      (subst (λ (x : Located). Owes B M o x (call_schedule (call_source B M o l stream size) told.number) told.debt) (sym same) told.first.owes)
+      let shown = owing.output_of in
+      kept_or_owing B M o l shown.debt
+      (call_schedule (call_source B M o l stream size) shown.number)
+      (kept.output_of.kept shown.number shown.within)
+      (subst (λ (x : Located).
+      HasDebt B M o x (call_schedule (call_source B M o l stream size) shown.number) shown.debt)
+      (sym same) shown.first.has_debt)
 
 pub status_alike : (B M : ℕ) (o : OpeningValue) (q : Queue) (stream : Stream) (runs size : ℕ) (text other : List ℕ) (a b : Bool)
-    → IsCallersTold B M o q stream runs size (text, a) → IsCallersTold B M o q stream runs size (other, b) → a ≡ b
+    → IsCallersOutput B M o q stream runs size (text, a) → IsCallersOutput B M o q stream runs size (other, b) → a ≡ b
 status_alike B M o q stream runs size text other true true one two = refl
 status_alike B M o q stream runs size text other false false one two = refl
 status_alike B M o q stream runs size text other true false one two = absurd (never_both B M o q stream runs size text other one two)

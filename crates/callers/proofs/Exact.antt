@@ -10,14 +10,14 @@ use Rattle.step_machine.specs.declared.events.Entry.{Entry}
 use Rattle.step_machine.specs.Access.{Access, nothing, load, store, exchange, fence, land, access_of}
 use Rattle.step_machine.specs.History.{OpeningValue, history_of}
 use Rattle.step_machine.specs.Entries.{hart_of, is_land}
-use Rattle.step_machine.specs.Paths.{value_of, state_of}
+use Rattle.step_machine.specs.Paths.{number_read, state_of}
 use Rattle.step_machine.proofs.Follows.{advance_by, state_of-mine}
 use Rattle.spsc_queue.specs.RingBuffers.{Kind, lamport, fastforward, RingBuffer}
 use Rattle.spsc_queue.specs.Protocol.{WritesNothingTo}
-use Rattle.spsc_queue.specs.Listings.{Listed}
+use Rattle.rv_decode.specs.Listings.{Listed}
 use Rattle.spsc_queue.specs.Calls.{Block, SpscQueue, Party, the_sender, the_receiver, party_hart, party_line, buffer}
 use Rattle.spsc_queue.specs.Calls.{enters, is_in_call, is_sender_in_call, is_receiver_in_call}
-use Rattle.spsc_queue.specs.Calls.{MayPass, HasArguments, HasFunction, PartyOwes, CallerObligation, UsesAsSpscQueue}
+use Rattle.spsc_queue.specs.Calls.{MayPass, HasArguments, HasFunction, PartyObligation, CallerObligation, UsesAsSpscQueue}
 use Rattle.spsc_queue.specs.Obligations.{may_pass, has_arguments}
 use Rattle.spsc_queue.proofs.OwnEntries.{state_here, is_here}
 use Rattle.callers.specs.Debts.{is_in_its_call, written_at, arguments_debt, entering_debt, party_debt, pc_in}
@@ -68,14 +68,14 @@ module _ (M : ℕ) (o : OpeningValue) (q : SpscQueue) (done : List Entry) (e : E
   after = state_of M (history_of o (done ++ e ∷ [])) h
 
   -- a party that is in no call
-  party_free : (p : Party) → h ≡ party_hart q p → (s : HartState) → is_land e ≡ false → PartyOwes M o q p [] done e
+  party_free : (p : Party) → h ≡ party_hart q p → (s : HartState) → is_land e ≡ false → PartyObligation M o q p [] done e
       → state_of M (history_of o done) h ≡ Some s → is_in_call M o (party_hart q p) (party_line q p) q.block [] done ≡ false
       → WritesNothingTo (buffer q) (access_of e) × (entering_debt p h (party_line q p) q.block after ≡ None)
-  party_free p mine s act owes at idle =
-      let both = owes mine act s (subst (λ (g : ℕ). state_of M (history_of o done) g ≡ Some s) mine at) idle in
-      let next : after ≡ Some (advanced s (value_of e)) = state_of-mine M (history_of o done) h e refl act ∙ ap (option_map (advance_by e)) at in (
+  party_free p mine s act has_debt at idle =
+      let both = has_debt mine act s (subst (λ (g : ℕ). state_of M (history_of o done) g ≡ Some s) mine at) idle in
+      let next : after ≡ Some (advanced s (number_read e)) = state_of-mine M (history_of o done) h e refl act ∙ ap (option_map (advance_by e)) at in (
         both.0,
-        ap (λ z. entering_debt p h (party_line q p) q.block z) next ∙ entering_free p h (party_line q p) q.block (advanced s (value_of e)) both.1,
+        ap (λ z. entering_debt p h (party_line q p) q.block z) next ∙ entering_free p h (party_line q p) q.block (advanced s (number_read e)) both.1,
       )
 
   module _ (act : is_land e ≡ false) (idle : is_in_its_call M o q done h ≡ false) where
@@ -113,9 +113,9 @@ module _ (M : ℕ) (o : OpeningValue) (q : SpscQueue) (done : List Entry) (e : E
           ∙ ap (λ b. if b then entering_debt the_receiver h q.receive_line q.block after else None) (ne_eqb h q.receiver no_receiver),
     )
 
-    idle_owes : WritesNothingTo (buffer q) (access_of e) × (party_debt q h after ≡ None)
+    idle_without_debt : WritesNothingTo (buffer q) (access_of e) × (party_debt q h after ≡ None)
         → idle_debt q e (state_of M (history_of o done) h) after ≡ None
-    idle_owes free =
+    idle_without_debt free =
         ap (λ x. option_or (option_map (debt.Wrote h (pc_in (state_of M (history_of o done) h))) x) (party_debt q h after))
         (nothing_written (buffer q) (access_of e) free.0) ∙ free.1
 
@@ -141,7 +141,7 @@ module _ (M : ℕ) (o : OpeningValue) (q : SpscQueue) (done : List Entry) (e : E
           → (if l || c then None else idle_debt q e (state_of M (history_of o done) h) after) ≡ None
       by true lands c is = refl
       by false act true calls = refl
-      by false act false idle = idle_owes act idle (free act idle)
+      by false act false idle = idle_without_debt act idle (free act idle)
 
 -- a hart that opens with a function has a state
 standing : (M : ℕ) (o : OpeningValue) (p n : ℕ) (listing : List Listed) (done : List Entry) → HasFunction o p n listing

@@ -16,13 +16,14 @@ use Rattle.step_machine.specs.declared.events.Outcome.{Outcome}
 use Rattle.step_machine.specs.declared.events.Outcome.TheVariants as outcome
 use Rattle.step_machine.specs.History.{HartOpeningValue, OpeningValue, History, history_of, with_entry, at_opening}
 use Rattle.step_machine.specs.Entries.{hart_of, is_land, own}
-use Rattle.step_machine.specs.Paths.{value_of, state_of, Path}
+use Rattle.step_machine.specs.Paths.{number_read, state_of, Path}
 use Rattle.step_machine.specs.Runs.{Happens, Run}
 use Rattle.step_machine.proofs.Follows.{state_after, advance_by, state_of-mine, Path-hart}
+use Rattle.step_machine.proofs.Placing.{land_other}
 use Rattle.step_machine.proofs.Running.{RunFrom-more}
 use Rattle.spsc_queue.specs.Calls.{Block, SpscQueue, is_in_call_after, is_in_call_with, is_in_call, is_sender_in_call, is_receiver_in_call}
 use Rattle.spsc_queue.proofs.Completed.{is_in_call-last, same_call, own_call}
-use Rattle.spsc_queue.proofs.OwnEntries.{own_is, own_land}
+use Rattle.spsc_queue.proofs.OwnEntries.{own_is}
 use Rattle.callers.specs.Queues.{spsc_of}
 use Rattle.callers.specs.Debts.{is_in_its_call, idle_debt, debt_of, debt_after, first_debt, pc_in}
 use Rattle.callers.specs.inner.Noting.{IsCallState, AreCallNotes, noted_call, found_by, notes_by, IsEventNoted}
@@ -63,28 +64,28 @@ call_more M o p n k es e = is_in_call-last M o p n k false [] es e
 module _ (M : ℕ) (o : OpeningValue) (es : List Entry) (e : Entry) (act : is_land e ≡ false) (s : HartState)
     (before : state_of M (history_of o es) (hart_of e) ≡ Some s) where
   party_noted : (p n : ℕ) (k : Block) (b : Bool) → b ≡ is_in_call M o p n k [] es
-      → (if hart_of e == p then is_in_call_after n k b s (advanced s (value_of e)) else b) ≡ is_in_call M o p n k [] (es ++ e ∷ [])
+      → (if hart_of e == p then is_in_call_after n k b s (advanced s (number_read e)) else b) ≡ is_in_call M o p n k [] (es ++ e ∷ [])
   party_noted p n k b is = by (hart_of e == p) refl
       ∙ ap (λ c. is_in_call_with M o p n k c es e) is ∙ sym (call_more M o p n k es e)
     where
       by : (c : Bool) → (hart_of e == p) ≡ c
-          → (if c then is_in_call_after n k b s (advanced s (value_of e)) else b) ≡ is_in_call_with M o p n k b es e
+          → (if c then is_in_call_after n k b s (advanced s (number_read e)) else b) ≡ is_in_call_with M o p n k b es e
       by true same = let mine = eqb-true (hart_of e) p same in
           own_call M o p n k b es e s (own_is p e mine act) (subst (λ (g : ℕ). state_of M (history_of o es) g ≡ Some s) mine before)
       by false other = same_call M o p n k b es e (ap (λ c. c && not (is_land e)) other)
 
   found_noted : (q : SpscQueue) (notes : Notes) → AreCallNotes M o q es notes
-      → state_of M (history_of o (es ++ e ∷ [])) (hart_of e) ≡ Some (advanced s (value_of e))
-      → found_by q notes e s (advanced s (value_of e)) ≡ first_debt M o q (es ++ e ∷ [])
+      → state_of M (history_of o (es ++ e ∷ [])) (hart_of e) ≡ Some (advanced s (number_read e))
+      → found_by q notes e s (advanced s (number_read e)) ≡ first_debt M o q (es ++ e ∷ [])
   found_noted q notes are after =
-      ap (λ f. option_or f (if noted_call q notes (hart_of e) then None else idle_debt q e (Some s) (Some (advanced s (value_of e))))) are.found
+      ap (λ f. option_or f (if noted_call q notes (hart_of e) then None else idle_debt q e (Some s) (Some (advanced s (number_read e))))) are.found
       ∙ ap (option_or (first_debt M o q es)) (sym debt_is) ∙ sym (first_more M o q es e)
     where
       call_is : is_in_its_call M o q es (hart_of e) ≡ noted_call q notes (hart_of e)
       call_is = ap (λ b. if hart_of e == q.sender then b else (if hart_of e == q.receiver then is_receiver_in_call M o q [] es else false)) (sym are.sending)
           ∙ ap (λ b. if hart_of e == q.sender then notes.sending else (if hart_of e == q.receiver then b else false)) (sym are.receiving)
 
-      debt_is : debt_of M o q es e ≡ (if noted_call q notes (hart_of e) then None else idle_debt q e (Some s) (Some (advanced s (value_of e))))
+      debt_is : debt_of M o q es e ≡ (if noted_call q notes (hart_of e) then None else idle_debt q e (Some s) (Some (advanced s (number_read e))))
       debt_is = ap (λ b. if b || is_in_its_call M o q es (hart_of e) then None
           else idle_debt q e (state_of M (history_of o es) (hart_of e)) (state_of M (history_of o (es ++ e ∷ [])) (hart_of e))) act
           ∙ ap (λ b. if b then None else idle_debt q e (state_of M (history_of o es) (hart_of e))
@@ -93,8 +94,8 @@ module _ (M : ℕ) (o : OpeningValue) (es : List Entry) (e : Entry) (act : is_la
           ∙ ap (λ x. if noted_call q notes (hart_of e) then None else idle_debt q e (Some s) x) after
 
   entry_noted : (q : SpscQueue) (notes : Notes) → AreCallNotes M o q es notes
-      → state_of M (history_of o (es ++ e ∷ [])) (hart_of e) ≡ Some (advanced s (value_of e))
-      → AreCallNotes M o q (es ++ e ∷ []) (notes_by q notes e s (advanced s (value_of e)))
+      → state_of M (history_of o (es ++ e ∷ [])) (hart_of e) ≡ Some (advanced s (number_read e))
+      → AreCallNotes M o q (es ++ e ∷ []) (notes_by q notes e s (advanced s (number_read e)))
   entry_noted q notes are after = record {
     found = found_noted q notes are after;
     sending = party_noted q.sender q.send_line q.block notes.sending are.sending;
@@ -136,28 +137,28 @@ act_noted B M l t u h pc e notes new z seen happens place stands is_seen noted =
     before : state_of M t (hart_of e) ≡ Some s
     before = here.is
 
-    after : state_of M (with_entry t e) (hart_of e) ≡ Some (advanced s (value_of e))
+    after : state_of M (with_entry t e) (hart_of e) ≡ Some (advanced s (number_read e))
     after = state_of-mine M t (hart_of e) e refl happens.for_event.1 ∙ ap (option_map (advance_by e)) before
 
-    z_is : z ≡ advanced s (value_of e)
-    z_is = let both : Some z ≡ Some (advanced s (value_of e)) = sym stands ∙ ap (λ (v : History). state_of M v h) happens.after
+    z_is : z ≡ advanced s (number_read e)
+    z_is = let both : Some z ≡ Some (advanced s (number_read e)) = sym stands ∙ ap (λ (v : History). state_of M v h) happens.after
         ∙ ap (state_of M (with_entry t e)) (sym mine) ∙ after in cc
 
     pc_is : s.pc ≡ pc
     pc_is = sym (place ∙ ap (λ g. pc_in (state_of M t g)) (sym mine) ∙ ap pc_in before)
 
-    is_new : new ≡ notes_by (spsc_of l) notes e s (advanced s (value_of e))
-    is_new = noted s (advanced s (value_of e)) pc_is (subst (λ (y : HartState). IsCallState y seen) z_is is_seen)
+    is_new : new ≡ notes_by (spsc_of l) notes e s (advanced s (number_read e))
+    is_new = noted s (advanced s (number_read e)) pc_is (subst (λ (y : HartState). IsCallState y seen) z_is is_seen)
 
 -- a landing, which is no entry of a party's own
 land_keeps : (M : ℕ) (o : OpeningValue) (q : SpscQueue) (es : List Entry) (h : ℕ) (notes : Notes) → AreCallNotes M o q es notes
     → AreCallNotes M o q (es ++ entry.Land h ∷ []) notes
 land_keeps M o q es h notes are = record {
   found = are.found ∙ sym (or-none (first_debt M o q es)) ∙ sym (first_more M o q es (entry.Land h));
-  sending = are.sending ∙ same_call M o q.sender q.send_line q.block (is_sender_in_call M o q [] es) es (entry.Land h) (own_land q.sender (entry.Land h) refl)
+  sending = are.sending ∙ same_call M o q.sender q.send_line q.block (is_sender_in_call M o q [] es) es (entry.Land h) (land_other q.sender (entry.Land h) refl)
       ∙ sym (call_more M o q.sender q.send_line q.block es (entry.Land h));
   receiving = are.receiving
-      ∙ same_call M o q.receiver q.receive_line q.block (is_receiver_in_call M o q [] es) es (entry.Land h) (own_land q.receiver (entry.Land h) refl)
+      ∙ same_call M o q.receiver q.receive_line q.block (is_receiver_in_call M o q [] es) es (entry.Land h) (land_other q.receiver (entry.Land h) refl)
       ∙ sym (call_more M o q.receiver q.receive_line q.block es (entry.Land h));
 }
 

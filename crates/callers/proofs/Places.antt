@@ -10,7 +10,7 @@ use Rattle.std.proofs.lemmas.Slice.Eq.{starts_is}
 use Rattle.std.specs.Prelude.{All}
 use Rattle.std.proofs.Math.Seq.{drop-append_seam, take-length}
 use Rattle.step_machine.specs.History.{HartOpeningValue, OpeningValue, IsShort}
-use Rattle.spsc_queue.specs.Listings.{Listed, words_of}
+use Rattle.rv_decode.specs.Listings.{Listed, words_of}
 use Rattle.spsc_queue.specs.Calls.{HasFunction}
 use Rattle.callers.specs.Queues.{HasFirstCopy, HasNoCopy}
 use Rattle.callers.specs.inner.Locating.{StandsAt}

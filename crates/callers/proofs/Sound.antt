@@ -12,13 +12,13 @@ use Rattle.step_machine.specs.declared.events.Entry.{Entry}
 use Rattle.step_machine.specs.Access.{Access, nothing, load, store, exchange, fence, land, access_of}
 use Rattle.step_machine.specs.History.{OpeningValue, history_of}
 use Rattle.step_machine.specs.Entries.{hart_of, is_land}
-use Rattle.step_machine.specs.Paths.{value_of, state_of}
+use Rattle.step_machine.specs.Paths.{number_read, state_of}
 use Rattle.step_machine.specs.Legal.{WellFormed}
 use Rattle.step_machine.proofs.Follows.{advance_by, state_of-mine}
 use Rattle.spsc_queue.specs.RingBuffers.{RingBuffer, overlaps}
 use Rattle.spsc_queue.specs.Protocol.{WritesNothingTo}
 use Rattle.spsc_queue.specs.Calls.{Block, SpscQueue, Party, the_sender, the_receiver, buffer, enters, is_sender_in_call, is_receiver_in_call}
-use Rattle.spsc_queue.specs.Calls.{HasArguments, PartyOwes, CallerObligation, UsesAsSpscQueue}
+use Rattle.spsc_queue.specs.Calls.{HasArguments, PartyObligation, CallerObligation, UsesAsSpscQueue}
 use Rattle.spsc_queue.proofs.Obligations.{arguments_are}
 use Rattle.spsc_queue.proofs.OwnEntries.{land_is}
 use Rattle.callers.specs.Queues.{spsc_of, IsLocated}
@@ -91,16 +91,16 @@ module _ (M : ℕ) (o : OpeningValue) (q : SpscQueue) (done : List Entry) (e : E
       )
 
   next_is : (s : HartState) → is_land e ≡ false → state_of M (history_of o done) (hart_of e) ≡ Some s
-      → state_of M (history_of o (done ++ e ∷ [])) (hart_of e) ≡ Some (advanced s (value_of e))
+      → state_of M (history_of o (done ++ e ∷ [])) (hart_of e) ≡ Some (advanced s (number_read e))
   next_is s act at = state_of-mine M (history_of o done) (hart_of e) e refl act ∙ ap (option_map (advance_by e)) at
 
-  sender_owes : PartyOwes M o q the_sender [] done e
-  sender_owes mine act s at idle =
+  sender_obligation : PartyObligation M o q the_sender [] done e
+  sender_obligation mine act s at idle =
       let call : is_in_its_call M o q done (hart_of e) ≡ false =
       ap (λ b. if b then is_sender_in_call M o q [] done else (if hart_of e == q.receiver then is_receiver_in_call M o q [] done else false))
       (eq-eqb (hart_of e) q.sender mine) ∙ idle in
       let one = parts act call in
-      let entering : entering_debt the_sender (hart_of e) q.send_line q.block (Some (advanced s (value_of e))) ≡ None =
+      let entering : entering_debt the_sender (hart_of e) q.send_line q.block (Some (advanced s (number_read e))) ≡ None =
       sym (ap (λ z. entering_debt the_sender (hart_of e) q.send_line q.block z)
       (next_is s act (subst (λ (h : ℕ). state_of M (history_of o done) h ≡ Some s) (sym mine) at)))
       ∙ sym (ap (λ b. if b then entering_debt the_sender (hart_of e) q.send_line q.block (state_of M (history_of o (done ++ e ∷ [])) (hart_of e))
@@ -108,16 +108,16 @@ module _ (M : ℕ) (o : OpeningValue) (q : SpscQueue) (done : List Entry) (e : E
       (state_of M (history_of o (done ++ e ∷ []))
       (hart_of e)) else None))
       (eq-eqb (hart_of e) q.sender mine)) ∙ one.1 in
-      (one.0, enters_right the_sender (hart_of e) q.send_line q.block (advanced s (value_of e)) entering)
+      (one.0, enters_right the_sender (hart_of e) q.send_line q.block (advanced s (number_read e)) entering)
 
-  receiver_owes : q.sender ≢ q.receiver → PartyOwes M o q the_receiver [] done e
-  receiver_owes apart mine act s at idle =
+  receiver_obligation : q.sender ≢ q.receiver → PartyObligation M o q the_receiver [] done e
+  receiver_obligation apart mine act s at idle =
       let no_sender : (hart_of e == q.sender) ≡ false = ne_eqb (hart_of e) q.sender (λ same. apart (sym same ∙ mine)) in
       let call : is_in_its_call M o q done (hart_of e) ≡ false =
       ap (λ b. if b then is_sender_in_call M o q [] done else (if hart_of e == q.receiver then is_receiver_in_call M o q [] done else false)) no_sender
       ∙ ap (λ b. if b then is_receiver_in_call M o q [] done else false) (eq-eqb (hart_of e) q.receiver mine) ∙ idle in
       let one = parts act call in
-      let entering : entering_debt the_receiver (hart_of e) q.receive_line q.block (Some (advanced s (value_of e))) ≡ None =
+      let entering : entering_debt the_receiver (hart_of e) q.receive_line q.block (Some (advanced s (number_read e))) ≡ None =
       sym (ap (λ z. entering_debt the_receiver (hart_of e) q.receive_line q.block z)
       (next_is s act (subst (λ (h : ℕ). state_of M (history_of o done) h ≡ Some s) (sym mine) at)))
       ∙ sym (ap (λ b. if b then entering_debt the_sender (hart_of e) q.send_line q.block (state_of M (history_of o (done ++ e ∷ [])) (hart_of e))
@@ -127,7 +127,7 @@ module _ (M : ℕ) (o : OpeningValue) (q : SpscQueue) (done : List Entry) (e : E
       no_sender
       ∙ ap (λ b. if b then entering_debt the_receiver (hart_of e) q.receive_line q.block (state_of M (history_of o (done ++ e ∷ [])) (hart_of e)) else None)
       (eq-eqb (hart_of e) q.receiver mine)) ∙ one.1 in
-      (one.0, enters_right the_receiver (hart_of e) q.receive_line q.block (advanced s (value_of e)) entering)
+      (one.0, enters_right the_receiver (hart_of e) q.receive_line q.block (advanced s (number_read e)) entering)
 
   others_owe : hart_of e ≢ q.sender → hart_of e ≢ q.receiver → WritesNothingTo (buffer q) (access_of e)
   others_owe not_sender not_receiver = by (is_land e) refl
@@ -141,8 +141,8 @@ module _ (M : ℕ) (o : OpeningValue) (q : SpscQueue) (done : List Entry) (e : E
       by false act = (parts act idle).0
       by true lands = subst (WritesNothingTo (buffer q)) (sym (land_is (access_of e) lands)) tt
 
-  owes_nothing : q.sender ≢ q.receiver → CallerObligation M o q [] done e
-  owes_nothing apart = record { sender = sender_owes; receiver = receiver_owes apart; others = others_owe }
+  keeps_obligations : q.sender ≢ q.receiver → CallerObligation M o q [] done e
+  keeps_obligations apart = record { sender = sender_obligation; receiver = receiver_obligation apart; others = others_owe }
 
 -- ---- and so does each entry of a run without one
 
@@ -166,6 +166,6 @@ keeps_all B M o l es located run free = record {
     sends = located.sends.here;
     receives = located.receives.here;
   };
-  owed = λ done e more is. owes_nothing M o (spsc_of l) done e
+  owed = λ done e more is. keeps_obligations M o (spsc_of l) done e
       (one_free M o (spsc_of l) [] done e more (ap (first_debt M o (spsc_of l)) (sym is) ∙ free)) located.parties;
 }

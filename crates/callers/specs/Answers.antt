@@ -11,7 +11,7 @@ use Rattle.engine_support.specs.Inputs.{After}
 use Rattle.engine_support.specs.Tests.{tests}
 use Rattle.callers.specs.Queues.{IsLocated}
 use Rattle.callers.specs.Debts.{IsOpeningDebt}
-use Rattle.callers.specs.Runs.{CallSource, call_source, call_schedule, AreKept, IsFirstOwing, IsMadeShort}
+use Rattle.callers.specs.Runs.{CallSource, call_source, call_schedule, AreKept, IsFirstWithDebt, IsMadeShort}
 use Rattle.callers.specs.declared.debts.Debt.{Debt}
 use Rattle.callers.specs.declared.debts.Debt.TheVariants as debt
 use Rattle.callers.specs.declared.queue.QueueKind.{QueueKind}
@@ -46,7 +46,7 @@ abbrev pub kept_text : (runs : ℕ) → List ℕ
 kept_text runs = codes "kept " ++ decimal runs ++ codes " runs" ++ 10 ∷ []
 
 -- all runs keep what callers owe
-pub record IsToldKept (s : CallSource) (runs : ℕ) (text : List ℕ) : Type 0 where
+pub record IsKeptOutput (s : CallSource) (runs : ℕ) (text : List ℕ) : Type 0 where
   pub kept : AreKept s runs
   pub text_is : text ≡ kept_text runs
 
@@ -57,39 +57,39 @@ pub record IsShortText (B M : ℕ) (o : OpeningValue) (l : Located) (debt : Debt
   pub text_is : text ≡ canon part ++ debt_line debt
 
 -- the first run that owes something, made short, and what it owes first
-pub record IsToldOwing (s : CallSource) (runs : ℕ) (text : List ℕ) : Type 0 where
+pub record IsDebtOutput (s : CallSource) (runs : ℕ) (text : List ℕ) : Type 0 where
   pub number : ℕ
   pub within : number < runs
   pub debt : Debt
-  pub first : IsFirstOwing s number debt
+  pub first : IsFirstWithDebt s number debt
   pub shown : IsShortText s.B s.M s.opening s.located debt (call_schedule s number) text
 
 -- something is owed at the opening already, which a schedule of no events shows
-pub record IsToldAtOnce (M : ℕ) (o : OpeningValue) (queue : Queue) (text : List ℕ) : Type 0 where
+pub record IsOpeningDebtOutput (M : ℕ) (o : OpeningValue) (queue : Queue) (text : List ℕ) : Type 0 where
   pub debt : Debt
-  pub owes : IsOpeningDebt M o queue debt
+  pub has_debt : IsOpeningDebt M o queue debt
   pub text_is : text ≡ canon [] ++ debt_line debt
 
 -- the text for this number of runs, and whether all keep what callers owe
-abbrev pub IsCallersToldOf : CallSource → (runs : ℕ) → List ℕ × Bool → Type 0
-IsCallersToldOf s runs (text, true) = IsToldKept s runs text
-IsCallersToldOf s runs (text, false) = IsToldOwing s runs text
+abbrev pub IsOutputOfRuns : CallSource → (runs : ℕ) → List ℕ × Bool → Type 0
+IsOutputOfRuns s runs (text, true) = IsKeptOutput s runs text
+IsOutputOfRuns s runs (text, false) = IsDebtOutput s runs text
 
 -- the same of a queue whose functions were found
-pub record IsToldLocated (B M : ℕ) (o : OpeningValue) (queue : Queue) (stream : Stream) (runs size : ℕ) (told : List ℕ × Bool) : Type 0 where
+pub record IsLocatedOutput (B M : ℕ) (o : OpeningValue) (queue : Queue) (stream : Stream) (runs size : ℕ) (answer : List ℕ × Bool) : Type 0 where
   pub located : Located
   pub usable : IsLocated M o queue located
-  pub told_of : IsCallersToldOf (call_source B M o located stream size) runs told
+  pub output_of : IsOutputOfRuns (call_source B M o located stream size) runs answer
 
 -- the text for this many drawn runs from this opening, and whether all keep what callers owe: what is owed at the opening
 -- already, or what the runs show
-abbrev pub IsCallersTold : (B M : ℕ) → OpeningValue → Queue → Stream → (runs size : ℕ) → List ℕ × Bool → Type 0
-IsCallersTold B M o queue stream runs size (text, true) = IsToldLocated B M o queue stream runs size (text, true)
-IsCallersTold B M o queue stream runs size (text, false) = IsToldAtOnce M o queue text ⊎ IsToldLocated B M o queue stream runs size (text, false)
+abbrev pub IsCallersOutput : (B M : ℕ) → OpeningValue → Queue → Stream → (runs size : ℕ) → List ℕ × Bool → Type 0
+IsCallersOutput B M o queue stream runs size (text, true) = IsLocatedOutput B M o queue stream runs size (text, true)
+IsCallersOutput B M o queue stream runs size (text, false) = IsOpeningDebtOutput M o queue text ⊎ IsLocatedOutput B M o queue stream runs size (text, false)
 
 -- what answers a test; none is refused
 abbrev pub IsCallersGiven : (B M : ℕ) → Queue → Stream → (runs size : ℕ) → LitmusTest → Result (List ℕ × Bool) Refusal → Type 0
-IsCallersGiven B M queue stream runs size test (Ok answer) = IsCallersTold B M test.opening queue stream runs size answer
+IsCallersGiven B M queue stream runs size test (Ok answer) = IsCallersOutput B M test.opening queue stream runs size answer
 IsCallersGiven B M queue stream runs size test (Err refusal) = ⊥
 
 -- what answers a litmus text

@@ -3,7 +3,7 @@
 use Rattle.std.specs.Prelude.{ℕ, ◌≡◌, ◌≢◌, ◌<◌, false, List, []}
 use Rattle.step_machine.specs.History.{OpeningValue}
 use Rattle.spsc_queue.specs.RingBuffers.{Kind, lamport, fastforward, IsEmptyAndQuiescent}
-use Rattle.spsc_queue.specs.Listings.{Listed}
+use Rattle.rv_decode.specs.Listings.{Listed}
 use Rattle.spsc_queue.specs.Calls.{Block, SpscQueue, the_sender, the_receiver, listing_of, IsBlock, buffer, HasFunction}
 use Rattle.callers.specs.declared.queue.QueueKind.{QueueKind}
 use Rattle.callers.specs.declared.queue.QueueKind.TheVariants as kind

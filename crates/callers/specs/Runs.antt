@@ -30,28 +30,28 @@ abbrev pub call_schedule : CallSource → (number : ℕ) → List Event
 call_schedule s number = schedule_drawn (length s.opening.harts) s.size s.stream number
 
 -- a run of these events whose callers keep what they owe, so that the queue's theorem holds of it
-pub record KeepsOwed (B M : ℕ) (o : OpeningValue) (l : Located) (events : List Event) : Type 0 where
+pub record KeepsObligations (B M : ℕ) (o : OpeningValue) (l : Located) (events : List Event) : Type 0 where
   pub history : History
   pub run : Run B M o events history
   pub uses : UsesAsSpscQueue B M o (spsc_of l) [] history.entries
 
 -- the runs before this number keep all
 abbrev pub AreKept : CallSource → (number : ℕ) → Type 0
-AreKept s number = (i : ℕ) → i < number → KeepsOwed s.B s.M s.opening s.located (call_schedule s i)
+AreKept s number = (i : ℕ) → i < number → KeepsObligations s.B s.M s.opening s.located (call_schedule s i)
 
 -- the first debt of a run of these events is this one
-pub record Owes (B M : ℕ) (o : OpeningValue) (l : Located) (events : List Event) (debt : Debt) : Type 0 where
+pub record HasDebt (B M : ℕ) (o : OpeningValue) (l : Located) (events : List Event) (debt : Debt) : Type 0 where
   pub history : History
   pub run : Run B M o events history
   pub first : first_debt M o (spsc_of l) history.entries ≡ Some debt
 
 -- the run of this number is the first one that owes something, and this is its first debt
-pub record IsFirstOwing (s : CallSource) (number : ℕ) (debt : Debt) : Type 0 where
+pub record IsFirstWithDebt (s : CallSource) (number : ℕ) (debt : Debt) : Type 0 where
   pub before : AreKept s number
-  pub owes : Owes s.B s.M s.opening s.located (call_schedule s number) debt
+  pub has_debt : HasDebt s.B s.M s.opening s.located (call_schedule s number) debt
 
 -- the answer is a part of the given events that owes the same first; without any one event it doesn't
 pub record IsMadeShort (B M : ℕ) (o : OpeningValue) (l : Located) (debt : Debt) (given answer : List Event) : Type 0 where
   pub part : IsPartOf answer given
-  pub owes : Owes B M o l answer debt
-  pub minimal : (i : ℕ) → i < length answer → Owes B M o l (without i 1 answer) debt → ⊥
+  pub has_debt : HasDebt B M o l answer debt
+  pub minimal : (i : ℕ) → i < length answer → HasDebt B M o l (without i 1 answer) debt → ⊥

@@ -9,7 +9,7 @@ ghost use Rattle.engine_support.specs.inner.Making.{FindsUpToReads, text_and_val
 ghost use Rattle.callers.specs.Answers.{IsCallersAnswer, IsCallersGiven};
 
 use crate::queue::Queue;
-use crate::telling::told;
+use crate::run_output::check_callers;
 use engine_support::fault::Fault;
 use engine_support::litmus_text::read_test;
 use engine_support::output::end_with;
@@ -38,7 +38,7 @@ fn answer<const B: usize, const M: usize, G: Jump + Sync + Drop, T: Threads + Sy
         (IsCallersGiven B M queue (left_after (runs.skip * runs.length) (G.Rng.stream generator.now)) runs.number runs.length test.now)
         text_and_value result }
 {
-    Ok(told::<B, M, G, T, P>(rt, alloc, test, queue, generator, runs, progress)?)
+    Ok(check_callers::<B, M, G, T, P>(rt, alloc, test, queue, generator, runs, progress)?)
 }
 
 /// What is to be written for the input that the reader gives.
@@ -70,7 +70,7 @@ fn made<
     answer::<B, M, G, T, P>(rt, alloc, &test, queue, generator, runs, progress)
 }
 
-/// Reads a litmus text to its end, and writes what [`told`] answers of its test. It answers whether every run keeps what
+/// Reads a litmus text to its end, and writes what [`check_callers`] answers of its test. It answers whether every run keeps what
 /// callers owe.
 ///
 /// The input is refused as `run` refuses it, and then nothing was written.

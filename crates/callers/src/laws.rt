@@ -8,7 +8,7 @@ ghost use Rattle.step_machine.specs.Legal.{WellFormed};
 ghost use Rattle.spsc_queue.specs.Calls.{UsesAsSpscQueue};
 ghost use Rattle.callers.specs.Queues.{spsc_of, IsLocated};
 ghost use Rattle.callers.specs.Debts.{IsOpeningDebt, first_debt};
-ghost use Rattle.callers.specs.Answers.{IsCallersTold};
+ghost use Rattle.callers.specs.Answers.{IsCallersOutput};
 ghost use Rattle.callers.specs.declared.debts.Debt.{Debt};
 ghost use Rattle.callers.specs.declared.queue.Queue.{Queue};
 ghost use Rattle.callers.specs.declared.queue.Located.{Located};
@@ -29,5 +29,5 @@ pub fn laws_of_debts()
 #[tactic(auto, using(crate::proofs::Alike::status_alike))]
 pub fn callers_alike()
     ensures { (B M : ℕ) (o : OpeningValue) (q : Queue) (stream : Stream) (runs size : ℕ) (text other : List ℕ) (a b : Bool)
-        → IsCallersTold B M o q stream runs size (text, a) → IsCallersTold B M o q stream runs size (other, b) → a ≡ b }
+        → IsCallersOutput B M o q stream runs size (text, a) → IsCallersOutput B M o q stream runs size (other, b) → a ≡ b }
 {}

@@ -1,26 +1,26 @@
 //! Runs of code that calls the functions of a queue of one sender and one receiver (`spsc_queue`), by drawn schedules,
 //! and what its callers owe.
 //!
-//! The contract: [`told`] states what it answers of the runs that the generator's words draw (`specs/Answers.antt`): that
+//! The contract: [`check_callers`] states what it answers of the runs that the generator's words draw (`specs/Answers.antt`): that
 //! the queue's theorem holds of each, or the first debt (`specs/Debts.antt`) with a short schedule of a run that has it.
 //! This crate judges nothing that callers receive, and claims nothing of other runs.
 
 #![tactic(auto)]
 
+mod answer_texts;
 pub mod debts;
 pub mod engine;
 pub mod judging;
 pub mod laws;
 mod locating;
+mod parallel;
 pub mod queue;
+pub mod run_output;
 pub mod runs;
 mod shortening;
-mod spreading;
-pub mod telling;
-mod wording;
 
 pub use debts::Debt;
 pub use engine::callers_engine;
 pub use laws::{callers_alike, laws_of_debts};
 pub use queue::{Queue, QueueKind};
-pub use telling::told;
+pub use run_output::check_callers;

@@ -4,7 +4,7 @@ ghost use Rattle.std.specs.Prelude.{◌≡◌, ◌+◌, ◌*◌, ◌≤◌, ◌<
 ghost use Rattle.step_machine.specs.History.{at_opening, IsShort};
 ghost use Rattle.step_machine.specs.Entries.{memory_word};
 ghost use Rattle.spsc_queue.specs.RingBuffers.{fastforward};
-ghost use Rattle.spsc_queue.specs.Listings.{words_of, Listed};
+ghost use Rattle.rv_decode.specs.Listings.{words_of, Listed};
 ghost use Rattle.spsc_queue.specs.Calls.{IsBlock};
 ghost use Rattle.callers.specs.Queues.{kind_of, block_at, sends_by, receives_by, HasNoCopy, HasFirstCopy, IsLocated};
 ghost use Rattle.callers.specs.Debts.{IsOpeningDebt};
@@ -93,7 +93,7 @@ fn start_of<const B: usize, const M: usize>(
     ensures within { IfOk result (λ start. start < queue.slots) }
     ensures head { IfOk result (λ start. memory_word machine.now.history.opening [] queue.base ≡ 4 * start) }
     ensures tail { IfOk result (λ start. memory_word machine.now.history.opening [] (queue.base + 64) ≡ 4 * start) }
-    ensures owes { IfErr result (λ debt. IsOpeningDebt M machine.now.history.opening queue debt) }
+    ensures has_debt { IfErr result (λ debt. IsOpeningDebt M machine.now.history.opening queue debt) }
 {
     let head = machine.word(queue.base);
     if head % 4 != 0 || u64::from(head) >= 4 * u64::from(queue.slots) {
@@ -119,7 +119,7 @@ fn are_free<const B: usize, const M: usize>(
     requires block { IsBlock M (block_at queue 0) }
     requires kind { kind_of queue.kind ≡ fastforward }
     ensures free { OnOk result ((j : ℕ) → j < queue.slots → memory_word machine.now.history.opening [] (queue.base + 128 + 4 * j) ≡ 0) }
-    ensures owes { IfErr result (λ debt. IsOpeningDebt M machine.now.history.opening queue debt) }
+    ensures has_debt { IfErr result (λ debt. IsOpeningDebt M machine.now.history.opening queue debt) }
 {
     for slot in 0..queue.slots {
         let address = queue.base + 128 + 4 * slot;
@@ -140,7 +140,7 @@ fn are_as_owed<const B: usize, const M: usize>(
     requires block { IsBlock M (block_at queue 0) }
     ensures free { OnOk result (kind_of queue.kind ≡ fastforward
         → (j : ℕ) → j < queue.slots → memory_word machine.now.history.opening [] (queue.base + 128 + 4 * j) ≡ 0) }
-    ensures owes { IfErr result (λ debt. IsOpeningDebt M machine.now.history.opening queue debt) }
+    ensures has_debt { IfErr result (λ debt. IsOpeningDebt M machine.now.history.opening queue debt) }
 {
     match queue.kind {
         QueueKind::Lamport => Ok(()),
@@ -157,7 +157,7 @@ pub(crate) fn locate<const B: usize, const M: usize>(
     requires opens { machine.now.history ≡ at_opening machine.now.history.opening }
     requires size { M ≤ 65536 }
     ensures located { IfOk result (λ located. IsLocated M machine.now.history.opening queue located) }
-    ensures owes { IfErr result (λ debt. IsOpeningDebt M machine.now.history.opening queue debt) }
+    ensures has_debt { IfErr result (λ debt. IsOpeningDebt M machine.now.history.opening queue debt) }
 {
     let Queue {
         kind,

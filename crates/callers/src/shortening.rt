@@ -1,7 +1,7 @@
 //! A run that owes something made short: what `shrink` asks of the parts of its events.
 
 ghost use Rattle.std.specs.Prelude.{◌≡◌, IfOk};
-ghost use Rattle.callers.specs.Runs.{Owes, IsMadeShort};
+ghost use Rattle.callers.specs.Runs.{HasDebt, IsMadeShort};
 
 use crate::debts::Debt;
 use crate::judging::judge;
@@ -14,18 +14,18 @@ use step_machine::{Event, Machine};
 
 /// The question whether the run of a list of events owes this first. Only clauses read `test`.
 #[derive(Drop)]
-struct StillOwes<'a, const B: usize, const M: usize> {
+struct StillHasDebt<'a, const B: usize, const M: usize> {
     test: &'a Test,
     located: Located,
     debt: Debt,
 }
 
-impl<'a, const B: usize, const M: usize> Question for StillOwes<'a, B, M> {
+impl<'a, const B: usize, const M: usize> Question for StillHasDebt<'a, B, M> {
     type Bench = Machine<B, M>;
 
     ghost stands = { λ it machine. machine.history.opening ≡ it.test.now.opening };
 
-    ghost holds = { λ it events. Owes B M it.test.now.opening it.located events it.debt };
+    ghost holds = { λ it events. HasDebt B M it.test.now.opening it.located events it.debt };
 
     fn holds_of(
         &self,
@@ -51,15 +51,15 @@ pub(crate) fn shorten<const B: usize, const M: usize>(
     events: &[Event],
 ) -> Result<Vec<Event>, AllocError>
     requires opens { machine.old.history.opening ≡ test.now.opening }
-    requires owes { Owes B M test.now.opening located events.now debt }
+    requires has_debt { HasDebt B M test.now.opening located events.now debt }
     ensures { IfOk result (λ part. IsMadeShort B M test.now.opening located debt events.now part.items) }
 {
     let mut left = Vec::from_slice(alloc, events)?;
-    let owes = StillOwes::<B, M> {
+    let has_debt = StillHasDebt::<B, M> {
         test,
         located,
         debt,
     };
-    leave_out(alloc, &owes, machine, &mut left)?;
+    leave_out(alloc, &has_debt, machine, &mut left)?;
     Ok(left)
 }

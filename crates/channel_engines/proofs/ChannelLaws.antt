@@ -5,7 +5,7 @@ use Rattle.hart.specs.declared.need.Report.{Report}
 use Rattle.step_machine.specs.History.{OpeningValue, History}
 use Rattle.step_machine.specs.Runs.{Run}
 use Rattle.step_machine.specs.Entries.{reported}
-use Rattle.recorder.specs.Versions.{ScheduleValue, events_said}
+use Rattle.recorder.specs.Versions.{ScheduleValue, events_of_schedule}
 use Rattle.poll_close.specs.Layout.{Layout}
 use Rattle.poll_close.specs.Laws.{AcceptedAt, Ring, opening_over}
 use Rattle.poll_close.specs.Places.{layout_of}
@@ -22,7 +22,7 @@ use Rattle.engine_support.specs.Runs.{Runs}
 use Rattle.engine_support.proofs.RunLaws.{runs_events}
 use Rattle.engine_support.proofs.ScheduleLaws.{stopped_by}
 use Rattle.channel_engines.specs.Channels.{fault_from, IsUnfilled, IsReported, IsUnreported, Reported}
-use Rattle.channel_engines.specs.OwnChannels.{IsOwnReported}
+use Rattle.channel_engines.specs.UserChannels.{IsUserReported}
 
 -- ---- what a schedule and lists give
 
@@ -35,11 +35,11 @@ module _ (ring : Ring) (B M : ℕ) (place : BlockPlace) (lists : List (List ℕ)
   refusal_as other refuses = inr (_, refl, tt)
 
   -- where there is no channel, whatever must hold of an answer that may be such a refusal
-  pub no_channel : {X Y : Type 0} (IsAnswer : Result Y Refusal → Type 0) (view : X → Y) (said : ScheduleValue)
-      → ((refusal : Refusal) → IsUnreported ring B M (layout_of place []) said lists refusal → IsAnswer (Err refusal))
+  pub no_channel : {X Y : Type 0} (IsAnswer : Result Y Refusal → Type 0) (view : X → Y) (parsed : ScheduleValue)
+      → ((refusal : Refusal) → IsUnreported ring B M (layout_of place []) parsed lists refusal → IsAnswer (Err refusal))
       → (because : RefusedAt) (fault : Fault) → fault ≡ fault_from because → RefusesAt ring M lists (layout_of place []) because
       → AnswersAs IsAnswer view (Err fault)
-  no_channel {X = X} IsAnswer view said refuse because fault holds refuses =
+  no_channel {X = X} IsAnswer view parsed refuse because fault holds refuses =
       elim (refusal_as because refuses) [
         | inl none ↦ subst (λ (f : Fault). AnswersAs {X = X} IsAnswer view (Err f)) (sym (holds ∙ none)) tt
         | inr is ↦
@@ -49,28 +49,28 @@ module _ (ring : Ring) (B M : ℕ) (place : BlockPlace) (lists : List (List ℕ)
 
 -- ---- what runs from its opening
 
-module _ (ring : Ring) (B M : ℕ) (l : Layout) (said : ScheduleValue) (lists : List (List ℕ)) (o : OpeningValue) (is : o ≡ opening_over ring lists l)
+module _ (ring : Ring) (B M : ℕ) (l : Layout) (parsed : ScheduleValue) (lists : List (List ℕ)) (o : OpeningValue) (is : o ≡ opening_over ring lists l)
     (within : AcceptedAt ring M lists l) where
-  runs_there : (a : Result History Refusal) → Runs B M o said a → Runs B M (opening_over ring lists l) said a
-  runs_there a = subst (λ (p : OpeningValue). Runs B M p said a) is
+  runs_there : (a : Result History Refusal) → Runs B M o parsed a → Runs B M (opening_over ring lists l) parsed a
+  runs_there a = subst (λ (p : OpeningValue). Runs B M p parsed a) is
 
   -- a record that differs is refused as such
   pub differs_as : {A X Y : Type 0} (IsAnswer : Result A Refusal → Type 0) (view : X → History) (seen : Y → A) (result : Result Y Fault) (fault : Fault)
-      → ((r : Refusal) → IsUnreported ring B M l said lists r → IsAnswer (Err r)) → IsErrAnd result (λ e. e ≡ fault)
-      → AnswersAs (Runs B M o said) view (Err fault) → AnswersAs IsAnswer seen result
+      → ((r : Refusal) → IsUnreported ring B M l parsed lists r → IsAnswer (Err r)) → IsErrAnd result (λ e. e ≡ fault)
+      → AnswersAs (Runs B M o parsed) view (Err fault) → AnswersAs IsAnswer seen result
   differs_as IsAnswer view seen result fault more =
-      stopped_by (Runs B M o said) IsAnswer view seen result fault
+      stopped_by (Runs B M o parsed) IsAnswer view seen result fault
       (λ r differs. more r (inr (record { within = within; differs = runs_there (Err r) differs })))
 
   -- what is reported comes of the run
-  pub run_reported : (finish : Bool) (t : History) (reports : List Report) → Runs B M o said (Ok t)
-      → (Run B M (opening_over ring lists l) (events_said said) t → Reported finish ring B M lists l (events_said said) reports)
-      → IsReported ring B M l finish said lists reports
+  pub run_reported : (finish : Bool) (t : History) (reports : List Report) → Runs B M o parsed (Ok t)
+      → (Run B M (opening_over ring lists l) (events_of_schedule parsed) t → Reported finish ring B M lists l (events_of_schedule parsed) reports)
+      → IsReported ring B M l finish parsed lists reports
   run_reported finish t reports ran delivers =
       let here = runs_there (Ok t) ran in
-      record { within = within; ran = (t, here); delivers = delivers (runs_events B M (opening_over ring lists l) said t here) }
+      record { within = within; ran = (t, here); delivers = delivers (runs_events B M (opening_over ring lists l) parsed t here) }
 
   -- and all of it, of a user's own channel
-  pub own_reported : (t : History) (reports : List Report) → Runs B M o said (Ok t) → reports ≡ reported 0 t.entries
-      → IsOwnReported ring B M l said lists reports
-  own_reported t reports ran are = record { within = within; history = t; ran = runs_there (Ok t) ran; reports_are = are }
+  pub user_reported : (t : History) (reports : List Report) → Runs B M o parsed (Ok t) → reports ≡ reported 0 t.entries
+      → IsUserReported ring B M l parsed lists reports
+  user_reported t reports ran are = record { within = within; history = t; ran = runs_there (Ok t) ran; reports_are = are }

@@ -3,5 +3,5 @@ pub mod ProgramLaws
 pub mod OneChannel
 pub mod ChannelLaws
 pub mod RingLaws
-pub mod OneOwn
+pub mod OneUserChannel
 pub mod OneRing

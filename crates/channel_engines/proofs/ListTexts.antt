@@ -24,7 +24,7 @@ pub lists_found : (text : List ℕ) (lists : List (List ℕ)) → lists_at text 
 lists_found text lists e = settled_found (SaysLists text) (lists_at text) lists (lists_settle text) e
 
 pub lists_read : (text : List ℕ) (lists : List (List ℕ)) → SaysLists text lists → lists_at text ≡ Ok lists
-lists_read text lists said = settled_only (SaysLists text) (lists_at text) lists (lists_settle text) said
+lists_read text lists parsed = settled_only (SaysLists text) (lists_at text) lists (lists_settle text) parsed
 
 pub one_lists : (text : List ℕ) (a b : List (List ℕ)) → SaysLists text a → SaysLists text b → a ≡ b
 one_lists text a b p q = settled_one (SaysLists text) (lists_at text) a b (lists_settle text) p q

@@ -51,33 +51,33 @@ channel_or_refusal ring M l lists r is none = grind (arith, no_zero)
 
 -- ---- the answer
 
-module _ (ring : Ring) (B M : ℕ) (l : Layout) (said : ScheduleValue) (lists : List (List ℕ)) where
+module _ (ring : Ring) (B M : ℕ) (l : Layout) (parsed : ScheduleValue) (lists : List (List ℕ)) where
   abbrev IsReason : Refusal → Type 0
-  IsReason = IsUnreported ring B M l said lists
+  IsReason = IsUnreported ring B M l parsed lists
 
   -- the lists and the place are judged first, and then a record
   pub one_reason : (r s : Refusal) → IsReason r → IsReason s → r ≡ s
   one_reason r s (inl none) (inl other) = one_channel_refusal ring M l lists r s none other
   one_reason r s (inl none) (inr other) = absurd (channel_or_refusal ring M l lists r other.within none)
   one_reason r s (inr other) (inl none) = absurd (channel_or_refusal ring M l lists s other.within none)
-  one_reason r s (inr first) (inr other) = one_difference B M (opening_over ring lists l) said r s first.differs other.differs
+  one_reason r s (inr first) (inr other) = one_difference B M (opening_over ring lists l) parsed r s first.differs other.differs
 
-  pub ran_or_reason : (history : History) (r : Refusal) → AcceptedAt ring M lists l → Runs B M (opening_over ring lists l) said (Ok history) → IsReason r → ⊥
+  pub ran_or_reason : (history : History) (r : Refusal) → AcceptedAt ring M lists l → Runs B M (opening_over ring lists l) parsed (Ok history) → IsReason r → ⊥
   ran_or_reason history r within ran (inl none) = channel_or_refusal ring M l lists r within none
-  ran_or_reason history r within ran (inr other) = runs_or_differs B M (opening_over ring lists l) said history r ran other.differs
+  ran_or_reason history r within ran (inr other) = runs_or_differs B M (opening_over ring lists l) parsed history r ran other.differs
 
-  no_reason : (finish : Bool) (a : Output) (r : Refusal) → IsDelivery ring B M l finish said lists a → IsReason r → ⊥
+  no_reason : (finish : Bool) (a : Output) (r : Refusal) → IsDelivery ring B M l finish parsed lists a → IsReason r → ⊥
   no_reason finish a r is =
       ran_or_reason is.is_reported.ran.0 r is.is_reported.within is.is_reported.ran.1
 
-  one_delivery : (a b : Output) → IsDelivery ring B M l false said lists a → IsDelivery ring B M l false said lists b → a ≡ b
+  one_delivery : (a b : Output) → IsDelivery ring B M l false parsed lists a → IsDelivery ring B M l false parsed lists b → a ≡ b
   one_delivery a b is other = grind (arith, run-one, same_output)
 
-  alike_run : (finish : Bool) (a b : Result Output Refusal) → IsChannelRun ring B M l finish said lists a → IsChannelRun ring B M l finish said lists b
+  alike_run : (finish : Bool) (a b : Result Output Refusal) → IsChannelRun ring B M l finish parsed lists a → IsChannelRun ring B M l finish parsed lists b
       → AreAlike a b
   alike_run finish a b is other = grind (arith, no_reason, one_reason)
 
-  one_channel_run : (a b : Result Output Refusal) → IsChannelRun ring B M l false said lists a → IsChannelRun ring B M l false said lists b → a ≡ b
+  one_channel_run : (a b : Result Output Refusal) → IsChannelRun ring B M l false parsed lists a → IsChannelRun ring B M l false parsed lists b → a ≡ b
   one_channel_run (Ok a) (Ok b) is other = ap (λ (out : Output). Ok out) (one_delivery a b is other)
   one_channel_run (Ok a) (Err s) is none = absurd (no_reason false a s is none)
   one_channel_run (Err r) (Ok b) none is = absurd (no_reason false b r is none)
@@ -88,9 +88,9 @@ module _ (ring : Ring) (B M : ℕ) (l : Layout) (schedule input : List ℕ) wher
   IsAnswer finish = IsChannelAnswer ring B M l finish (Some schedule) (Some input)
 
   pub alike_channel : (a b : Result Output Refusal) → IsAnswer true a → IsAnswer true b → AreAlike a b
-  alike_channel = alike_after schedules (λ r s. r ≡ s) one_schedule AreAlike (λ r s e. e) schedule _ (λ said.
-      alike_after list_texts (λ r s. r ≡ s) one_list_text AreAlike (λ r s e. e) input _ (λ lists. alike_run ring B M l said lists true))
+  alike_channel = alike_after schedules (λ r s. r ≡ s) one_schedule AreAlike (λ r s e. e) schedule _ (λ parsed.
+      alike_after list_texts (λ r s. r ≡ s) one_list_text AreAlike (λ r s e. e) input _ (λ lists. alike_run ring B M l parsed lists true))
 
   pub one_channel : (a b : Result Output Refusal) → IsAnswer false a → IsAnswer false b → a ≡ b
-  one_channel = one_after schedules one_schedule schedule _ (λ said. one_after list_texts one_list_text input _
-      (λ lists. one_channel_run ring B M l said lists))
+  one_channel = one_after schedules one_schedule schedule _ (λ parsed. one_after list_texts one_list_text input _
+      (λ lists. one_channel_run ring B M l parsed lists))

@@ -20,15 +20,15 @@ use Rattle.engine_support.specs.declared.fault.Refusal.{Refusal}
 use Rattle.engine_support.specs.declared.fault.Role.TheVariants.{Sender, Receiver}
 use Rattle.engine_support.specs.Inputs.{After, Format}
 use Rattle.engine_support.proofs.InputLaws.{IsOne, alike_after}
-use Rattle.ring_trials.specs.Answers.{IsTold, IsToldClean, clean_text, sender_line, sender_lines}
-use Rattle.ring_trials.specs.Own.{ring_of, lists_of, layout_from, start_of}
-use Rattle.ring_trials.specs.Trials.{AreAllClean, AreRuns, AreTotals, IsFirstUnclean, IsRunOf, KeepsAll, closed_in, most_of, schedule_of}
-use Rattle.ring_trials.specs.declared.own.Own.{Own}
+use Rattle.ring_trials.specs.Answers.{IsTrialsOutput, IsCleanOutput, clean_text, sender_line, sender_lines}
+use Rattle.ring_trials.specs.UserChannel.{ring_of, lists_of, layout_from, start_of}
+use Rattle.ring_trials.specs.Trials.{AreAllClean, AreRuns, AreTotals, IsFirstUnclean, IsRunOf, KeepsAll, closed_in, most_of, schedule_of_run}
+use Rattle.ring_trials.specs.declared.user_channel.UserChannel.{UserChannel}
 use Rattle.ring_trials.specs.declared.runs.Total.{Total}
 use Rattle.channel_engines.specs.Lists.{list_texts}
-use Rattle.channel_engines.specs.OwnChannels.{ring_over}
+use Rattle.channel_engines.specs.UserChannels.{ring_over}
 use Rattle.channel_engines.specs.Programs.{programs}
-use Rattle.channel_engines.specs.Rings.{AreAlikeRuns, AreDrawn, Draws, IsOwn, IsRingAnswer, runs_of}
+use Rattle.channel_engines.specs.Rings.{AreAlikeRuns, AreDrawn, Draws, IsUserChannel, IsRingAnswer, source_drawn}
 use Rattle.channel_engines.proofs.ListTexts.{one_list_text}
 use Rattle.channel_engines.proofs.OneChannel.{channel_or_refusal, one_channel_refusal}
 use Rattle.channel_engines.proofs.ProgramLaws.{one_program}
@@ -65,17 +65,17 @@ from_first ts totals are k s is = grind (arith)
 
 -- ---- runs of channels with the same words
 
-module _ (d : Draws) (own also : Own) (rings : ring_of own ≡ ring_of also) (lists : lists_of own ≡ lists_of also)
-    (layouts : layout_from own ≡ layout_from also) where
-  starts : start_of own ≡ start_of also
+module _ (d : Draws) (channel also : UserChannel) (rings : ring_of channel ≡ ring_of also) (lists : lists_of channel ≡ lists_of also)
+    (layouts : layout_from channel ≡ layout_from also) where
+  starts : start_of channel ≡ start_of also
   starts = λ i. opening_over (rings i) (lists i) (layouts i)
 
-  one_run : (n : ℕ) (t u : History) → IsRunOf (runs_of d own) n t → IsRunOf (runs_of d also) n u → t ≡ u
+  one_run : (n : ℕ) (t u : History) → IsRunOf (source_drawn d channel) n t → IsRunOf (source_drawn d also) n u → t ≡ u
   one_run n t u is other =
-      run-one d.B d.M (at_opening (start_of own)) (schedule_of (runs_of d own) n) t u is
+      run-one d.B d.M (at_opening (start_of channel)) (schedule_of_run (source_drawn d channel) n) t u is
       (subst (λ (o : OpeningValue). Run d.B d.M o (schedule_drawn (length o.harts) d.size d.stream n) u) (sym starts) other)
 
-  one_list : (n : ℕ) (ts us : List History) → AreRuns (runs_of d own) n ts → AreRuns (runs_of d also) n us → length ts ≡ length us → ts ≡ us
+  one_list : (n : ℕ) (ts us : List History) → AreRuns (source_drawn d channel) n ts → AreRuns (source_drawn d also) n us → length ts ≡ length us → ts ≡ us
   one_list n [] [] is other e = refl
   one_list n [] (u ∷ us) is other e = absurd (omega (arith, e))
   one_list n (t ∷ ts) [] is other e = absurd (omega (arith, e))
@@ -83,32 +83,32 @@ module _ (d : Draws) (own also : Own) (rings : ring_of own ≡ ring_of also) (li
       ap₂ (λ (x : History) (xs : List History). x ∷ xs) (one_run n t u run other) (one_list (n + 1) ts us rest others (omega (arith, e)))
 
   -- a run among clean ones keeps what a ring must
-  kept_at : (n k : ℕ) (ts : List History) (u : History) → AreRuns (runs_of d own) n ts → All (KeepsAll own) ts → k < length ts
-      → IsRunOf (runs_of d also) (n + k) u → KeepsAll own u
+  kept_at : (n k : ℕ) (ts : List History) (u : History) → AreRuns (source_drawn d channel) n ts → All (KeepsAll channel) ts → k < length ts
+      → IsRunOf (source_drawn d also) (n + k) u → KeepsAll channel u
   kept_at n k [] u is kept less other = absurd (omega (arith, less))
   kept_at n zero (t ∷ ts) u (run, rest) kept less other =
       let here : n + 0 ≡ n = omega arith in
-      subst (KeepsAll own) (one_run n t u run (subst (λ (m : ℕ). IsRunOf (runs_of d also) m u) here other)) (All-head (KeepsAll own) t ts kept)
+      subst (KeepsAll channel) (one_run n t u run (subst (λ (m : ℕ). IsRunOf (source_drawn d also) m u) here other)) (All-head (KeepsAll channel) t ts kept)
   kept_at n (suc k) (t ∷ ts) u (run, rest) kept less other =
       let here : n + suc k ≡ n + 1 + k = omega arith in
-      kept_at (n + 1) k ts u rest (All-tail (KeepsAll own) t ts kept) (omega (arith, less))
-      (subst (λ (m : ℕ). IsRunOf (runs_of d also) m u) here other)
+      kept_at (n + 1) k ts u rest (All-tail (KeepsAll channel) t ts kept) (omega (arith, less))
+      (subst (λ (m : ℕ). IsRunOf (source_drawn d also) m u) here other)
 
   -- so the runs of one aren't all clean where those of the other aren't
-  clean_or_not : (totals : List Total) (number : ℕ) (found : Breach) → AreAllClean (runs_of d own) d.runs totals → number < d.runs
-      → IsFirstUnclean (runs_of d also) number found → ⊥
+  clean_or_not : (totals : List Total) (number : ℕ) (found : Breach) → AreAllClean (source_drawn d channel) d.runs totals → number < d.runs
+      → IsFirstUnclean (source_drawn d also) number found → ⊥
   clean_or_not totals number found clean within first =
       let here : number ≡ 0 + number = omega arith in
       let kept = kept_at 0 number clean.histories first.history clean.clean.runs clean.clean.kept (omega (arith, clean.clean.count, within))
-      (subst (λ (m : ℕ). IsRunOf (runs_of d also) m first.history) here first.run) in
-      let none : first_breach (layout_from own) (lists_of own) first.history.entries ≡ None =
-      (first_law (layout_from own) (lists_of own) first.history.entries).1 kept in
-      let same : first_breach (layout_from own) (lists_of own) first.history.entries
+      (subst (λ (m : ℕ). IsRunOf (source_drawn d also) m first.history) here first.run) in
+      let none : first_breach (layout_from channel) (lists_of channel) first.history.entries ≡ None =
+      (first_law (layout_from channel) (lists_of channel) first.history.entries).1 kept in
+      let same : first_breach (layout_from channel) (lists_of channel) first.history.entries
       ≡ first_breach (layout_from also) (lists_of also) first.history.entries =
       ap₂ (λ (l : Layout) (ls : List (List ℕ)). first_breach l ls first.history.entries) layouts lists in
       let breaks = first.breaks in absurd cc
 
-  one_clean : (a b : List ℕ) → IsToldClean (runs_of d own) d.runs a → IsToldClean (runs_of d also) d.runs b → a ≡ b
+  one_clean : (a b : List ℕ) → IsCleanOutput (source_drawn d channel) d.runs a → IsCleanOutput (source_drawn d also) d.runs b → a ≡ b
   one_clean a b is other =
       let first = is.clean in
       let second = other.clean in
@@ -125,30 +125,32 @@ module _ (d : Draws) (own also : Own) (rings : ring_of own ≡ ring_of also) (li
       ∙ sym other.text_is
 
 -- what is told of both
-told_alike : (d : Draws) (own also : Own) → ring_of own ≡ ring_of also → lists_of own ≡ lists_of also → layout_from own ≡ layout_from also
-    → (a b : List ℕ × Bool) → IsTold (runs_of d own) d.runs a → IsTold (runs_of d also) d.runs b → AreAlikeRuns (Ok a) (Ok b)
-told_alike d own also rings lists layouts (a, true) (b, true) is other = one_clean d own also rings lists layouts a b is other
-told_alike d own also rings lists layouts (a, true) (b, false) is other =
-    clean_or_not d own also rings lists layouts is.totals other.number other.found is.clean other.within other.first
-told_alike d own also rings lists layouts (a, false) (b, true) is other =
-    clean_or_not d also own (sym rings) (sym lists) (sym layouts) other.totals is.number is.found other.clean is.within is.first
-told_alike d own also rings lists layouts (a, false) (b, false) is other = tt
+outputs_alike : (d : Draws) (channel also : UserChannel) → ring_of channel ≡ ring_of also
+    → lists_of channel ≡ lists_of also → layout_from channel ≡ layout_from also
+    → (a b : List ℕ × Bool) → IsTrialsOutput (source_drawn d channel) d.runs a → IsTrialsOutput (source_drawn d also) d.runs b → AreAlikeRuns (Ok a) (Ok b)
+outputs_alike d channel also rings lists layouts (a, true) (b, true) is other = one_clean d channel also rings lists layouts a b is other
+outputs_alike d channel also rings lists layouts (a, true) (b, false) is other =
+    clean_or_not d channel also rings lists layouts is.totals other.number other.found is.clean other.within other.first
+outputs_alike d channel also rings lists layouts (a, false) (b, true) is other =
+    clean_or_not d also channel (sym rings) (sym lists) (sym layouts) other.totals is.number is.found other.clean is.within is.first
+outputs_alike d channel also rings lists layouts (a, false) (b, false) is other = tt
 
 -- ---- the answer
 
 module _ (d : Draws) (sends receives : List ℕ) (ls : List (List ℕ)) where
-  module _ (own also : Own) (is : IsOwn d.place sends receives ls own) (other : IsOwn d.place sends receives ls also) where
-    same_rings : ring_of own ≡ ring_of also
+  module _ (channel also : UserChannel) (is : IsUserChannel d.place sends receives ls channel) (other : IsUserChannel d.place sends receives ls also) where
+    same_rings : ring_of channel ≡ ring_of also
     same_rings = ap₂ ring_over (is.sends_are ∙ sym other.sends_are) (is.receives_are ∙ sym other.receives_are)
 
-    same_layouts : layout_from own ≡ layout_from also
+    same_layouts : layout_from channel ≡ layout_from also
     same_layouts = ap (λ (p : BlockPlace). layout_of p []) (is.lies ∙ sym other.lies)
 
-    same_told : (a b : List ℕ × Bool) → IsTold (runs_of d own) d.runs a → IsTold (runs_of d also) d.runs b → AreAlikeRuns (Ok a) (Ok b)
-    same_told = told_alike d own also same_rings (is.lists_are ∙ sym other.lists_are) same_layouts
+    same_output : (a b : List ℕ × Bool) → IsTrialsOutput (source_drawn d channel) d.runs a
+        → IsTrialsOutput (source_drawn d also) d.runs b → AreAlikeRuns (Ok a) (Ok b)
+    same_output = outputs_alike d channel also same_rings (is.lists_are ∙ sym other.lists_are) same_layouts
 
   one_drawn : (a b : Result (List ℕ × Bool) Refusal) → AreDrawn d sends receives ls a → AreDrawn d sends receives ls b → AreAlikeRuns a b
-  one_drawn a b is other = grind (arith, channel_or_refusal, one_channel_refusal, same_told)
+  one_drawn a b is other = grind (arith, channel_or_refusal, one_channel_refusal, same_output)
 
 pub one_ring : (d : Draws) (sender receiver input : List ℕ) (a b : Result (List ℕ × Bool) Refusal)
     → IsRingAnswer d (Some sender) (Some receiver) (Some input) a → IsRingAnswer d (Some sender) (Some receiver) (Some input) b → AreAlikeRuns a b

@@ -6,7 +6,7 @@ use Rattle.poll_close.specs.declared.faults.RefusedAt.{RefusedAt}
 use Rattle.engine_support.specs.declared.fault.Fault.{Fault}
 use Rattle.engine_support.specs.inner.Making.{FindsUpToReads}
 use Rattle.channel_engines.specs.Channels.{fault_from}
-use Rattle.channel_engines.specs.OwnChannels.{ring_over}
+use Rattle.channel_engines.specs.UserChannels.{ring_over}
 use Rattle.channel_engines.specs.Rings.{AreDrawn, Draws}
 use Rattle.channel_engines.proofs.ChannelLaws.{refusal_as}
 

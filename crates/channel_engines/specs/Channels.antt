@@ -6,7 +6,7 @@ use Rattle.hart.specs.declared.need.Report.{Report}
 use Rattle.hart.specs.declared.need.Report.TheVariants as report
 use Rattle.step_machine.specs.declared.events.Event.{Event}
 use Rattle.step_machine.specs.History.{History}
-use Rattle.recorder.specs.Versions.{ScheduleValue, events_said}
+use Rattle.recorder.specs.Versions.{ScheduleValue, events_of_schedule}
 use Rattle.poll_close.specs.Layout.{Layout}
 use Rattle.poll_close.specs.Laws.{Ring, AcceptedAt as IsWithin, opening_over}
 use Rattle.poll_close.specs.Delivery.{DeliversOver, DeliversWholeOver}
@@ -37,15 +37,16 @@ Reported true ring B M lists l events reports = DeliversWholeOver ring B M lists
 
 -- The receiver reports this in the run of what the schedule says over these lists: lists and a layout within
 -- the limits, whose reports are clean. A record's outcomes are the run's.
-pub record IsReported (ring : Ring) (B M : ℕ) (l : Layout) (finish : Bool) (said : ScheduleValue) (lists : List (List ℕ)) (reports : List Report) : Type 0 where
+pub record IsReported (ring : Ring) (B M : ℕ) (l : Layout) (finish : Bool) (parsed : ScheduleValue)
+    (lists : List (List ℕ)) (reports : List Report) : Type 0 where
   pub within : IsWithin ring M lists l
-  pub ran : (history : History) × Runs B M (opening_over ring lists l) said (Ok history)
-  pub delivers : Reported finish ring B M lists l (events_said said) reports
+  pub ran : (history : History) × Runs B M (opening_over ring lists l) parsed (Ok history)
+  pub delivers : Reported finish ring B M lists l (events_of_schedule parsed) reports
 
 -- the same, with the reports a line each
-pub record IsDelivery (ring : Ring) (B M : ℕ) (l : Layout) (finish : Bool) (said : ScheduleValue) (lists : List (List ℕ)) (answer : Output) : Type 0 where
+pub record IsDelivery (ring : Ring) (B M : ℕ) (l : Layout) (finish : Bool) (parsed : ScheduleValue) (lists : List (List ℕ)) (answer : Output) : Type 0 where
   pub reports : List Report
-  pub is_reported : IsReported ring B M l finish said lists reports
+  pub is_reported : IsReported ring B M l finish parsed lists reports
   pub text : answer.0 ≡ flat_map report_line reports
 
 -- why there is no channel, as a fault; a word that is 0 has its place
@@ -67,21 +68,21 @@ pub record HasNoChannel (ring : Ring) (M : ℕ) (l : Layout) (lists : List (List
   pub is_fault : fault_from why ≡ fault.Refused refusal
 
 -- There is a channel over these lists, and a record is refused at the first event whose outcome isn't the run's.
-pub record IsOtherRun (ring : Ring) (B M : ℕ) (l : Layout) (said : ScheduleValue) (lists : List (List ℕ)) (refusal : Refusal) : Type 0 where
+pub record IsOtherRun (ring : Ring) (B M : ℕ) (l : Layout) (parsed : ScheduleValue) (lists : List (List ℕ)) (refusal : Refusal) : Type 0 where
   pub within : IsWithin ring M lists l
-  pub differs : Runs B M (opening_over ring lists l) said (Err refusal)
+  pub differs : Runs B M (opening_over ring lists l) parsed (Err refusal)
 
 -- why nothing is reported
-abbrev pub IsUnreported : (ring : Ring) (B M : ℕ) (l : Layout) (said : ScheduleValue) (lists : List (List ℕ)) → Refusal → Type 0
-IsUnreported ring B M l said lists refusal = HasNoChannel ring M l lists refusal ⊎ IsOtherRun ring B M l said lists refusal
+abbrev pub IsUnreported : (ring : Ring) (B M : ℕ) (l : Layout) (parsed : ScheduleValue) (lists : List (List ℕ)) → Refusal → Type 0
+IsUnreported ring B M l parsed lists refusal = HasNoChannel ring M l lists refusal ⊎ IsOtherRun ring B M l parsed lists refusal
 
 -- what a schedule writes over these lists, or why nothing
 abbrev pub IsChannelRun : Ring → (B M : ℕ) → Layout → (finish : Bool) → ScheduleValue → List (List ℕ) → Result Output Refusal → Type 0
-IsChannelRun ring B M l finish said lists (Ok answer) = IsDelivery ring B M l finish said lists answer
-IsChannelRun ring B M l finish said lists (Err refusal) = IsUnreported ring B M l said lists refusal
+IsChannelRun ring B M l finish parsed lists (Ok answer) = IsDelivery ring B M l finish parsed lists answer
+IsChannelRun ring B M l finish parsed lists (Err refusal) = IsUnreported ring B M l parsed lists refusal
 
 -- What answers a schedule of either version and lists. They are judged in the order in which they are read, then the lists
 -- and the place, and then a record.
 abbrev pub IsChannelAnswer : Ring → (B M : ℕ) → Layout → (finish : Bool) → (schedule input : Option (List ℕ)) → Result Output Refusal → Type 0
 IsChannelAnswer ring B M l finish schedule input =
-    After schedules schedule (λ said. After list_texts input (IsChannelRun ring B M l finish said))
+    After schedules schedule (λ parsed. After list_texts input (IsChannelRun ring B M l finish parsed))

@@ -1,6 +1,6 @@
 pub mod Lists
 pub mod Channels
 pub mod Programs
-pub mod OwnChannels
+pub mod UserChannels
 pub mod Rings
 pub mod inner

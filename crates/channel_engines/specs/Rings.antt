@@ -9,13 +9,13 @@ use Rattle.poll_close.specs.declared.place.BlockPlace.{BlockPlace}
 use Rattle.engine_support.specs.declared.fault.Refusal.{Refusal}
 use Rattle.engine_support.specs.declared.fault.Role.TheVariants.{Sender, Receiver}
 use Rattle.engine_support.specs.Inputs.{After}
-use Rattle.ring_trials.specs.Answers.{IsTold}
-use Rattle.ring_trials.specs.Own.{lists_of}
-use Rattle.ring_trials.specs.Trials.{Source, source_of}
-use Rattle.ring_trials.specs.declared.own.Own.{Own}
+use Rattle.ring_trials.specs.Answers.{IsTrialsOutput}
+use Rattle.ring_trials.specs.UserChannel.{lists_of}
+use Rattle.ring_trials.specs.Trials.{ChannelSource, channel_source}
+use Rattle.ring_trials.specs.declared.user_channel.UserChannel.{UserChannel}
 use Rattle.channel_engines.specs.Channels.{HasNoChannel}
 use Rattle.channel_engines.specs.Lists.{list_texts}
-use Rattle.channel_engines.specs.OwnChannels.{ring_over}
+use Rattle.channel_engines.specs.UserChannels.{ring_over}
 use Rattle.channel_engines.specs.Programs.{programs}
 
 -- What is drawn: this many runs of a channel at this place, over buffers of B stores and a memory of M words, each of
@@ -39,26 +39,26 @@ draws B M place stream runs = record {
   runs = runs.number;
 }
 
-abbrev pub runs_of : Draws → Own → Source
-runs_of d own = source_of d.B d.M own d.stream d.size
+abbrev pub source_drawn : Draws → UserChannel → ChannelSource
+source_drawn d channel = channel_source d.B d.M channel d.stream d.size
 
 -- the channel of these programs and lists at this place
-pub record IsOwn (place : BlockPlace) (sends receives : List ℕ) (lists : List (List ℕ)) (own : Own) : Type 0 where
-  pub sends_are : own.sender.items ≡ sends
-  pub receives_are : own.receiver.items ≡ receives
-  pub lists_are : lists_of own ≡ lists
-  pub lies : own.place ≡ place
+pub record IsUserChannel (place : BlockPlace) (sends receives : List ℕ) (lists : List (List ℕ)) (channel : UserChannel) : Type 0 where
+  pub sends_are : channel.sender.items ≡ sends
+  pub receives_are : channel.receiver.items ≡ receives
+  pub lists_are : lists_of channel ≡ lists
+  pub lies : channel.place ≡ place
 
 -- The lists and the place are within the limits, and the answer is of the drawn runs of their channel.
-pub record AreTold (d : Draws) (sends receives : List ℕ) (lists : List (List ℕ)) (answer : List ℕ × Bool) : Type 0 where
+pub record IsDrawnOutput (d : Draws) (sends receives : List ℕ) (lists : List (List ℕ)) (answer : List ℕ × Bool) : Type 0 where
   pub within : IsWithin (ring_over sends receives) d.M lists (layout_of d.place [])
-  pub own : Own
-  pub is_own : IsOwn d.place sends receives lists own
-  pub told : IsTold (runs_of d own) d.runs answer
+  pub channel : UserChannel
+  pub is_channel : IsUserChannel d.place sends receives lists channel
+  pub output : IsTrialsOutput (source_drawn d channel) d.runs answer
 
 -- the text for the runs, and whether all are clean, or why there are none
 abbrev pub AreDrawn : Draws → (sends receives : List ℕ) → List (List ℕ) → Result (List ℕ × Bool) Refusal → Type 0
-AreDrawn d sends receives lists (Ok answer) = AreTold d sends receives lists answer
+AreDrawn d sends receives lists (Ok answer) = IsDrawnOutput d sends receives lists answer
 AreDrawn d sends receives lists (Err refusal) = HasNoChannel (ring_over sends receives) d.M (layout_of d.place []) lists refusal
 
 -- What answers two programs and lists. They are judged in the order in which they are read, then the lists and the place.

@@ -6,7 +6,7 @@ ghost use Rattle.std.specs.String.{string_bytes};
 ghost use Rattle.engine_support.specs.Engines.{Ends};
 ghost use Rattle.engine_support.specs.Faults.{AnswersAs};
 ghost use Rattle.poll_close.specs.Places.{layout_of};
-ghost use Rattle.recorder.specs.Versions.{said_of};
+ghost use Rattle.recorder.specs.Versions.{schedule_value};
 ghost use Rattle.channel_engines.specs.Channels.{report_line, fault_from, IsChannelAnswer};
 ghost use Rattle.engine_support.specs.Inputs.{IsRefused};
 ghost use Rattle.engine_support.specs.Schedules.{schedules};
@@ -69,13 +69,13 @@ fn reports_of_schedule<K: Finish<B, M>, const B: usize, const M: usize>(
     place: BlockPlace,
     finish: bool,
     lists: &[Vec<u32>],
-    said: Schedule,
+    parsed: Schedule,
 ) -> Result<Vec<Report>, Fault>
     requires some_capacity { 1 ≤ B }
     requires capacity { B ≤ 64 }
     requires some_word { 1 ≤ M }
     requires size { M ≤ 65536 }
-    ensures { AnswersAs (Reports K.RingKind.ring B M (layout_of place []) finish (said_of said) (map (λ v. v.items) lists.now)) (λ r. r.items) result }
+    ensures { AnswersAs (Reports K.RingKind.ring B M (layout_of place []) finish (schedule_value parsed) (map (λ v. v.items) lists.now)) (λ r. r.items) result }
 {
     laws_of_channels::<K>();
     let opening = match opening_at::<K>(alloc, lists, place, &[], M) {
@@ -83,10 +83,10 @@ fn reports_of_schedule<K: Finish<B, M>, const B: usize, const M: usize>(
         Err(why) => return Err(channel_fault(why)),
     };
     if finish {
-        let mut machine = machine_after::<B, M>(alloc, opening, said)?;
+        let mut machine = machine_after::<B, M>(alloc, opening, parsed)?;
         Ok(whole_reports_of::<K, B, M>(alloc, &mut machine)?)
     } else {
-        let machine = state_after::<B, M>(alloc, &opening, said)?;
+        let machine = state_after::<B, M>(alloc, &opening, parsed)?;
         Ok(reports_of::<K, B, M>(alloc, &machine)?)
     }
 }
@@ -107,9 +107,9 @@ fn made<K: Finish<B, M>, const B: usize, const M: usize, S: Read, L: Read>(
         (S.remaining schedule.old) (L.remaining input.old)) text_and_value result }
     ensures unread { IsRefused schedules (S.remaining schedule.old) → input.new ≡ input.old }
 {
-    let said = read_schedule(alloc, schedule)?;
+    let parsed = read_schedule(alloc, schedule)?;
     let lists = read_lists(alloc, input)?;
-    let reports = reports_of_schedule::<K, B, M>(alloc, place, finish, &lists, said)?;
+    let reports = reports_of_schedule::<K, B, M>(alloc, place, finish, &lists, parsed)?;
     let text = reports_text(alloc, &reports)?;
     Ok((text, ()))
 }

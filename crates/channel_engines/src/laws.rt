@@ -4,17 +4,17 @@ ghost use Rattle.std.specs.Prelude.{◌≡◌, ◌↔◌, ℕ, Bool, true, false
 ghost use Rattle.poll_close.specs.Layout.{Layout};
 ghost use Rattle.poll_close.specs.Laws.{Ring};
 ghost use Rattle.engine_support.specs.declared.fault.Refusal.{Refusal};
-ghost use Rattle.engine_support.specs.Engines.{Output, Accepted, AreAlike, decoded};
+ghost use Rattle.engine_support.specs.Engines.{Output, AcceptedInput, AreAlike, decoded};
 ghost use Rattle.channel_engines.specs.Lists.{SaysLists, lists_at};
 ghost use Rattle.channel_engines.specs.Channels.{IsChannelAnswer};
-ghost use Rattle.channel_engines.specs.OwnChannels.{IsOwnAnswer};
+ghost use Rattle.channel_engines.specs.UserChannels.{IsUserAnswer};
 ghost use Rattle.channel_engines.specs.Rings.{AreAlikeRuns, Draws, IsRingAnswer};
 
 /// A text of lists says one list of lists at most, and reading it from the top finds that; an input is
 /// not refused exactly where it is a text within the limit that says lists. It does nothing.
 pub fn laws_of_list_texts()
     ensures read { (text : List ℕ) (lists : List (List ℕ)) → (lists_at text ≡ Ok lists) ↔ SaysLists text lists }
-    ensures judged { (input : List ℕ) (lists : List (List ℕ)) → (decoded lists_at input ≡ Ok lists) ↔ Accepted SaysLists input lists }
+    ensures judged { (input : List ℕ) (lists : List (List ℕ)) → (decoded lists_at input ≡ Ok lists) ↔ AcceptedInput SaysLists input lists }
     ensures one { (text : List ℕ) (a b : List (List ℕ)) → SaysLists text a → SaysLists text b → a ≡ b }
 {}
 
@@ -27,8 +27,8 @@ pub fn one_answer()
         → IsChannelAnswer ring B M l false (Some schedule) (Some input) a → IsChannelAnswer ring B M l false (Some schedule) (Some input) b
         → a ≡ b }
     ensures own { (B M : ℕ) (l : Layout) (sender receiver schedule input : List ℕ) (a b : Result Output Refusal)
-        → IsOwnAnswer B M l (Some sender) (Some receiver) (Some schedule) (Some input) a
-        → IsOwnAnswer B M l (Some sender) (Some receiver) (Some schedule) (Some input) b → a ≡ b }
+        → IsUserAnswer B M l (Some sender) (Some receiver) (Some schedule) (Some input) a
+        → IsUserAnswer B M l (Some sender) (Some receiver) (Some schedule) (Some input) b → a ≡ b }
     ensures ring { (d : Draws) (sender receiver input : List ℕ) (a b : Result (List ℕ × Bool) Refusal)
         → IsRingAnswer d (Some sender) (Some receiver) (Some input) a → IsRingAnswer d (Some sender) (Some receiver) (Some input) b
         → AreAlikeRuns a b }

@@ -9,6 +9,6 @@
 pub mod channel;
 pub mod laws;
 mod lists;
-pub mod own_channel;
 pub mod programs;
 pub mod ring;
+pub mod user_channel;

@@ -4,7 +4,7 @@ ghost use Rattle.std.specs.Prelude.{map};
 ghost use Rattle.texts.specs.Results.{GivesUpToMemory, refusal_of};
 ghost use Rattle.engine_support.specs.Faults.{Answers};
 ghost use Rattle.engine_support.specs.LineFaults.{at_line as line_at};
-ghost use Rattle.channel_engines.specs.Lists.{list_of as list_said, list_texts, lists_at};
+ghost use Rattle.channel_engines.specs.Lists.{list_of as list_parsed, list_texts, lists_at};
 ghost use Rattle.engine_support.specs.Inputs.{Reads};
 ghost use Rattle.engine_support.specs.inner.Making.{FindsUpToReads};
 
@@ -17,7 +17,7 @@ use texts::{Separators, first_line, first_piece, word};
 /// The words of a line.
 #[tactic(auto, unfolding(crate::specs::Lists::list_at, texts::specs::Formats::each))]
 fn list_of(alloc: Global, line: &[u8]) -> Result<Vec<u32>, LineFault>
-    ensures { GivesUpToMemory refusal_of (λ list. list.items) result (list_said line.now) }
+    ensures { GivesUpToMemory refusal_of (λ list. list.items) result (list_parsed line.now) }
 {
     let mut list = Vec::new(alloc);
     let mut rest = Some(line);
@@ -34,7 +34,7 @@ fn list_of(alloc: Global, line: &[u8]) -> Result<Vec<u32>, LineFault>
 /// The words of the line of this number.
 #[tactic(auto, using(engine_support::proofs::LineFaulted::refused_at_line))]
 fn list_of_line(alloc: Global, line: &[u8], number: usize) -> Result<Vec<u32>, Fault>
-    ensures { Answers (λ list. list.items) result (line_at number (list_said line.now)) }
+    ensures { Answers (λ list. list.items) result (line_at number (list_parsed line.now)) }
 {
     match list_of(alloc, line) {
         Ok(list) => Ok(list),

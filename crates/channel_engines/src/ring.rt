@@ -16,8 +16,8 @@ use engine_support::output::end_with;
 use jumping::progress::Progress;
 use jumping::{Jump, Runs};
 use poll_close::BlockPlace;
-use ring_trials::own::Own;
-use ring_trials::telling::told;
+use ring_trials::run_output::run_trials;
+use ring_trials::user_channel::UserChannel;
 use std::alloc::Global;
 use std::io::{Read, Write};
 use std::thread::Threads;
@@ -56,13 +56,13 @@ fn made<
     let sender = read_program(alloc, Role::Sender, sender)?;
     let receiver = read_program(alloc, Role::Receiver, receiver)?;
     let lists = read_lists(alloc, lists)?;
-    let own = Own {
+    let channel = UserChannel {
         sender,
         receiver,
         lists,
         place,
     };
-    match told::<B, M, G, T, P>(rt, alloc, &own, generator, runs, progress) {
+    match run_trials::<B, M, G, T, P>(rt, alloc, &channel, generator, runs, progress) {
         Ok(answered) => Ok(answered),
         Err(why) => Err(channel_fault(why)),
     }

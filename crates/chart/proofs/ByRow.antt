@@ -11,7 +11,7 @@ use Rattle.memory.specs.declared.writes.Write.{Write}
 use Rattle.memory.specs.Writes.{covers, newest_of}
 use Rattle.step_machine.specs.declared.events.Entry.{Entry}
 use Rattle.step_machine.specs.Access.{Access, access_of}
-use Rattle.step_machine.specs.Entries.{hart_of, stored_by, written_by, store_of, stores, lands, pending, write_of, landed_after, landed}
+use Rattle.step_machine.specs.Entries.{hart_of, stored_by, written_by, own_store, own_stores, lands, pending, write_of, landed_after, landed}
 use Rattle.step_machine.proofs.Appended.{entry_there, lands-append}
 use Rattle.chart.specs.declared.sources.RowWrite.{RowWrite}
 use Rattle.chart.specs.Sources.{at_row, stores_by_row, pending_by_row, landed_by_row_after, landed_by_row, newest_from, stored_at, written_in_row}
@@ -26,7 +26,7 @@ writes-at_row : (n : ℕ) (ws : List Write) → writes (at_row n ws) ≡ ws
 writes-at_row n [] = refl
 writes-at_row n (w ∷ ws) = ap (λ (vs : List Write). w ∷ vs) (writes-at_row n ws)
 
-writes-stores : (h n : ℕ) (es : List Entry) → writes (stores_by_row h n es) ≡ stores h es
+writes-stores : (h n : ℕ) (es : List Entry) → writes (stores_by_row h n es) ≡ own_stores h es
 writes-stores h n [] = refl
 writes-stores h n (e ∷ es) = grind (arith, map-append, writes-at_row, writes-stores h (n + 1) es)
 
@@ -86,7 +86,7 @@ HasWritten whole w = written_in_row whole w.row ≡ w.write ∷ []
 stored_from : (h : ℕ) (before es : List Entry) (n : ℕ) → n ≡ length before → All (HasStored h (before ++ es)) (stores_by_row h n es)
 stored_from h before [] n here = All-nil (HasStored h (before ++ []))
 stored_from h before (e ∷ es) n here =
-    All-append (HasStored h (before ++ e ∷ es)) (at_row n (store_of h e)) (stores_by_row h (n + 1) es)
+    All-append (HasStored h (before ++ e ∷ es)) (at_row n (own_store h e)) (stores_by_row h (n + 1) es)
     (one_stored (HasStored h (before ++ e ∷ es)) n (hart_of e == h) (access_of e) (λ w is. rw (here, entry_there before e es) is))
     (subst (λ (whole : List Entry). All (HasStored h whole) (stores_by_row h (n + 1) es))
     (append_assoc before (e ∷ []) es)
@@ -111,8 +111,8 @@ landed_written es = written_from [] es 0 refl
 -- ---- one more entry, and one more write
 
 pub stores_by_row-last : (h n : ℕ) (es : List Entry) (e : Entry)
-    → stores_by_row h n (es ++ e ∷ []) ≡ stores_by_row h n es ++ at_row (n + length es) (store_of h e)
-stores_by_row-last h n [] e = let here : n + 0 ≡ n = omega arith in rw here (append-nil (at_row n (store_of h e)))
+    → stores_by_row h n (es ++ e ∷ []) ≡ stores_by_row h n es ++ at_row (n + length es) (own_store h e)
+stores_by_row-last h n [] e = let here : n + 0 ≡ n = omega arith in rw here (append-nil (at_row n (own_store h e)))
 stores_by_row-last h n (x ∷ es) e = grind (arith, append_assoc, stores_by_row-last h (n + 1) es e)
 
 landed_after-last : (before : List Entry) (n : ℕ) (es : List Entry) (e : Entry)
@@ -126,7 +126,7 @@ landed_by_row-last es e = let here : 0 + length es ≡ length es = omega arith i
 
 -- the same of the front of a list
 pub stores_next : (h i : ℕ) (es : List Entry) (d : Entry) → i < length es
-    → stores_by_row h 0 (take (i + 1) es) ≡ stores_by_row h 0 (take i es) ++ at_row i (store_of h (get_or es i d))
+    → stores_by_row h 0 (take (i + 1) es) ≡ stores_by_row h 0 (take i es) ++ at_row i (own_store h (get_or es i d))
 stores_next h i es d within = grind (arith, length-take i es, take_more es i d within, stores_by_row-last h 0 (take i es) (get_or es i d), get_or es i d)
 
 pub landed_next : (i : ℕ) (es : List Entry) (d : Entry) → i < length es

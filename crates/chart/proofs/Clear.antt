@@ -100,16 +100,16 @@ pub one_of : (a b c d : Bool) → (a ≡ true → b ≡ true → ⊥) → (a ≡
 one_of a b c d ab ac ad bc bd cd = grind arith
 
 -- a number that ends before cell 7, a text, one in memory, and strokes beside them
-pub pieces_clear : (number said kept : MarkOf) (ss : List Stroke) → number.at + length number.text ≤ 7 → 7 ≤ said.at →
-    said.at + length said.text ≤ kept.at → All (Avoids said.at (said.at + length said.text) kept.at) ss →
-    IsClear (record { marks = number ∷ said ∷ kept ∷ []; strokes = ss })
-pieces_clear number said kept ss left low right all cell = grind (
+pub pieces_clear : (number label kept : MarkOf) (ss : List Stroke) → number.at + length number.text ≤ 7 → 7 ≤ label.at →
+    label.at + length label.text ≤ kept.at → All (Avoids label.at (label.at + length label.text) kept.at) ss →
+    IsClear (record { marks = number ∷ label ∷ kept ∷ []; strokes = ss })
+pieces_clear number label kept ss left low right all cell = grind (
   arith,
   struck_at number.at (length number.text) cell,
-  struck_at said.at (length said.text) cell,
+  struck_at label.at (length label.text) cell,
   struck_at kept.at (length kept.text) cell,
-  any_avoids said.at (said.at + length said.text) kept.at cell ss all,
-  one_of (stands_in cell number) (stands_in cell said) (stands_in cell kept),
+  any_avoids label.at (label.at + length label.text) kept.at cell ss all,
+  one_of (stands_in cell number) (stands_in cell label) (stands_in cell kept),
 )
 
 -- ---- cells of lanes
@@ -164,12 +164,12 @@ strokes_avoid p column cells r l shown short placed =
     (reads_avoid p from following column r.sources l.passing low right high beside))
     (passing_avoid p from following r.sources l.passing beside)
 
-pub row_clear : (p : Places) (i column : ℕ) (said kept : List ℕ) (r : RowOf) (l : LanedOf) → i + 1 < 10 ^ 7 → rank p column < columns p →
-    length said ≤ p.text → IsPlacedIn p column l → IsClear (row_line p i column said kept r l)
-row_clear p i column said kept r l few shown short placed =
+pub row_clear : (p : Places) (i column : ℕ) (label kept : List ℕ) (r : RowOf) (l : LanedOf) → i + 1 < 10 ^ 7 → rank p column < columns p →
+    length label ≤ p.text → IsPlacedIn p column l → IsClear (row_line p i column label kept r l)
+row_clear p i column label kept r l few shown short placed =
     let digits : length (decimal (i + 1)) ≤ 7 = length-decimal-le 7 (i + 1) (omega arith) few (omega (few, arith)) in
     let room : rank p column * pitch p + pitch p ≤ columns p * pitch p = room_left (rank p column) (columns p) (pitch p) shown in
-    pieces_clear (number_mark i) (text_at (first_cell p column) Loud said) (text_at (memory_cell p) Loud kept)
-    (row_strokes p column (first_cell p column + length said) r l)
+    pieces_clear (number_mark i) (text_at (first_cell p column) Loud label) (text_at (memory_cell p) Loud kept)
+    (row_strokes p column (first_cell p column + length label) r l)
     (omega (digits, arith)) (omega arith) (omega (room, short, arith))
-    (strokes_avoid p column (length said) r l shown short placed)
+    (strokes_avoid p column (length label) r l shown short placed)

@@ -7,22 +7,22 @@ use Rattle.chart.specs.declared.places.Places.{Places}
 use Rattle.chart.specs.declared.scenes.Form.{Form}
 use Rattle.chart.specs.declared.scenes.Selection.{Selection}
 use Rattle.chart.specs.Places.{memory_cell}
-use Rattle.chart.specs.Scenes.{SceneOf, least_said, said_cells, kept_cells, least_lanes, used_after, lanes_in, places_of}
+use Rattle.chart.specs.Scenes.{SceneOf, least_label, label_cells, kept_cells, least_lanes, used_after, lanes_in, places_of}
 use Rattle.chart.specs.Lines.{heads_line}
 use Rattle.chart.specs.Layout.{AboutOf, FitsColumns, scene_of_run, layout, wide, brief, listed, brief_listed, narrowest}
 use Rattle.chart.specs.Layout.{width_of, form_or, fitting_form, limit}
 
 module _ (a b : SceneOf) (harts : a.harts ≡ b.harts) (least : a.least ≡ b.least) (fits : (form : Form) → FitsColumns a form)
     (also_fits : (form : Form) → FitsColumns b form) where
-  same_least : (form : Form) → least_said form a ≡ least_said form b
+  same_least : (form : Form) → least_label form a ≡ least_label form b
   same_least form = rw (harts, least) refl
 
   same_places : (form : Form) → places_of form a ≡ places_of form b
   same_places form =
-      let said : said_cells form a ≡ said_cells form b = (fits form).said ∙ same_least form ∙ sym (also_fits form).said in
+      let label : label_cells form a ≡ label_cells form b = (fits form).label ∙ same_least form ∙ sym (also_fits form).label in
       let lanes : used_after (least_lanes form a.least) (lanes_in form a) ≡ used_after (least_lanes form b.least) (lanes_in form b) =
       (fits form).lanes ∙ ap (least_lanes form) least ∙ sym (also_fits form).lanes in
-      rw (said, lanes, harts) refl
+      rw (label, lanes, harts) refl
 
   same_cells : (form : Form) → width_of form a ≡ width_of form b
   same_cells form =

@@ -16,7 +16,7 @@ use Rattle.chart.specs.declared.scenes.Selection.{Selection}
 use Rattle.chart.specs.Rows.{RowOf, rows_of}
 use Rattle.chart.specs.Lanes.{LanedOf, held_at_end}
 use Rattle.chart.specs.Pictures.{LineOf, strikes, IsClear}
-use Rattle.chart.specs.Scenes.{SceneOf, scene_of, said_by_row, widest_said, said_cells, shape_of, least_lanes, lanes_in, places_of, used_after}
+use Rattle.chart.specs.Scenes.{SceneOf, scene_of, row_label, widest_label, label_cells, shape_of, least_lanes, lanes_in, places_of, used_after}
 use Rattle.chart.specs.Lines.{laned_line, line_in, picture_line, is_without_line, drawn_at, first_row_lines, open_lines}
 use Rattle.chart.specs.Layout.{AboutOf, layout, limit, form_or, fitting_form, body_of}
 use Rattle.chart.proofs.Clear.{row_clear}
@@ -30,33 +30,33 @@ no_texts : (ss : List Stroke) → IsClear (record { marks = []; strokes = ss })
 no_texts ss cell = elim (list_any (λ s. strikes s cell) ss) as (λ b. 0 + (if b then 1 else 0) ≤ 1) [ true ↦ omega arith | false ↦ omega arith ]
 
 laned_clear : (form : Form) (scene : SceneOf) (p : Places) (i : ℕ) (r : RowOf) (lo : Option LanedOf) → i + 1 < 10 ^ 7 →
-    length (said_by_row form scene i) ≤ p.text → RowFits p (shape_of form) (Some r) lo → IsClear (laned_line form scene p i r lo)
+    length (row_label form scene i) ≤ p.text → RowFits p (shape_of form) (Some r) lo → IsClear (laned_line form scene p i r lo)
 laned_clear form scene p i r lo few room fits = grind (arith, no_texts, row_clear)
 
 line_clear : (form : Form) (scene : SceneOf) (p : Places) (lanes : List LanedOf) (i : ℕ) (ro : Option RowOf) → i + 1 < 10 ^ 7 →
-    length (said_by_row form scene i) ≤ p.text → RowFits p (shape_of form) ro (slice_get lanes i) → IsClear (line_in form scene p lanes i ro)
+    length (row_label form scene i) ≤ p.text → RowFits p (shape_of form) ro (slice_get lanes i) → IsClear (line_in form scene p lanes i ro)
 line_clear form scene p lanes i ro few room fits = grind (arith, no_texts, laned_clear)
 
 -- ---- all lines
 
-said_most : (form : Form) (scene : SceneOf) (i n : ℕ) → i < n → length (said_by_row form scene i) ≤ widest_said form scene n
-said_most form scene i zero below = absurd (omega (below, arith))
-said_most form scene i (suc n) below = grind (arith, cases_eq, said_most form scene i n)
+label_most : (form : Form) (scene : SceneOf) (i n : ℕ) → i < n → length (row_label form scene i) ≤ widest_label form scene n
+label_most form scene i zero below = absurd (omega (below, arith))
+label_most form scene i (suc n) below = grind (arith, cases_eq, label_most form scene i n)
 
 drawn_clear : (left_out : Bool) (line : LineOf) → IsClear line → All IsClear (if left_out then [] else line ∷ [])
 drawn_clear true line clear = All-nil IsClear
 drawn_clear false line clear = All-cons IsClear line [] clear (All-nil IsClear)
 
 lines_clear : (form : Form) (scene : SceneOf) (p : Places) (lanes : List LanedOf) (n : ℕ) → n ≤ length scene.rows → length scene.rows < 10 ^ 7 →
-    p.text ≡ said_cells form scene → ((i : ℕ) → RowFits p (shape_of form) (slice_get scene.rows i) (slice_get lanes i)) →
+    p.text ≡ label_cells form scene → ((i : ℕ) → RowFits p (shape_of form) (slice_get scene.rows i) (slice_get lanes i)) →
     All IsClear (first_row_lines form scene p lanes n)
 lines_clear form scene p lanes zero within few room fits = All-nil IsClear
 lines_clear form scene p lanes (suc n) within few room fits =
-    let said : length (said_by_row form scene n) ≤ said_cells form scene = said_most form scene n (length scene.rows) (omega (within, arith)) in
+    let label : length (row_label form scene n) ≤ label_cells form scene = label_most form scene n (length scene.rows) (omega (within, arith)) in
     All-append IsClear (first_row_lines form scene p lanes n) (drawn_at form scene p lanes n)
     (lines_clear form scene p lanes n (omega (within, arith)) few room fits)
     (drawn_clear (is_without_line scene (slice_get scene.rows n)) (picture_line form scene p lanes n)
-    (line_clear form scene p lanes n (slice_get scene.rows n) (omega (within, few, arith)) (omega (said, room, arith)) (fits n)))
+    (line_clear form scene p lanes n (slice_get scene.rows n) (omega (within, few, arith)) (omega (label, room, arith)) (fits n)))
 
 open_clear : (p : Places) (hs : List Held) → All IsClear (open_lines p hs)
 open_clear p hs = grind (arith, All-nil, All-cons, no_texts)
@@ -83,7 +83,7 @@ form_clear form selection names instructions es harts least lanes few below rows
     All-append IsClear (first_row_lines form scene p (lanes_in form scene) (length scene.rows)) (open_lines p (held_at_end (shape_of form) scene.rows))
     (lines_clear form scene p (lanes_in form scene) (length scene.rows) (omega arith) (omega (count, rows, arith)) refl
     (λ i. row_fits p (shape_of form) es free i refl
-    (columns_there es harts form.listed (said_cells form scene) (used_after free (lanes_in form scene)) form.lanes few below) (omega (lanes, arith))))
+    (columns_there es harts form.listed (label_cells form scene) (used_after free (lanes_in form scene)) form.lanes few below) (omega (lanes, arith))))
     (open_clear p (held_at_end (shape_of form) scene.rows))
 
 pub picture_clear : (selection : Selection) (about : AboutOf) (es : List Entry) → about.harts ≤ 255 → All (λ e. hart_of e < about.harts) es →
@@ -97,4 +97,4 @@ pub heads_of_picture : (selection : Selection) (about : AboutOf) (es : List Entr
 heads_of_picture selection about es few =
     let scene = scene_of selection about.names about.instructions es about.harts about.least in
     let form = fitting_form scene (limit about.harts) in
-    heads_clear about.harts form.listed (said_cells form scene) (used_after (least_lanes form about.least) (lanes_in form scene)) few
+    heads_clear about.harts form.listed (label_cells form scene) (used_after (least_lanes form about.least) (lanes_in form scene)) few

@@ -11,7 +11,7 @@ use Rattle.memory.specs.declared.writes.Write.{Write}
 use Rattle.step_machine.specs.declared.events.Entry.{Entry}
 use Rattle.step_machine.specs.declared.events.Entry.TheVariants as entry
 use Rattle.step_machine.specs.Access.{Access}
-use Rattle.step_machine.specs.Entries.{hart_of, stored_by, store_of}
+use Rattle.step_machine.specs.Entries.{hart_of, stored_by, own_store}
 use Rattle.step_machine.proofs.Appended.{entry_there}
 use Rattle.chart.specs.declared.lanes.Held.{Held}
 use Rattle.chart.specs.declared.lanes.Shape.{Shape}
@@ -79,7 +79,7 @@ found_held P row (x ∷ hs) all = grind (arith, cases_Bool, All-head, eqb-true, 
 not_stored : (x : Access) → stored_by false x ≡ []
 not_stored x = grind arith
 
-hart_stored : (h : ℕ) (e : Entry) (w : Write) → store_of h e ≡ w ∷ [] → hart_of e ≡ h
+hart_stored : (h : ℕ) (e : Entry) (w : Write) → own_store h e ≡ w ∷ [] → hart_of e ≡ h
 hart_stored h e w is = grind (arith, cases_eq, ne_eqb, not_stored)
 
 oldest_stored : (h : ℕ) (before : List Entry) (ws : List RowWrite) (row : ℕ) → All (HasStored h before) ws → row_number (slice_get ws 0) ≡ Some row →

@@ -3,11 +3,11 @@ use Rattle.std.proofs.Common.{◌≡◌, ℕ, suc, ◌+◌, ◌<◌, List, [], �
 use Rattle.std.proofs.lemmas.List.{take_more}
 use Rattle.chart.specs.declared.scenes.Form.{Form}
 use Rattle.chart.specs.Lanes.{LanedOf}
-use Rattle.chart.specs.Scenes.{SceneOf, said_by_row, kept_at, widest_said, widest_kept, lanes_at, used_after}
+use Rattle.chart.specs.Scenes.{SceneOf, row_label, kept_at, widest_label, widest_kept, lanes_at, used_after}
 
-pub said_more : (form : Form) (scene : SceneOf) (n : ℕ) →
-    widest_said form scene (n + 1) ≡ max (widest_said form scene n) (length (said_by_row form scene n))
-said_more form scene n = let more : n + 1 ≡ suc n = omega arith in rw more refl
+pub label_more : (form : Form) (scene : SceneOf) (n : ℕ) →
+    widest_label form scene (n + 1) ≡ max (widest_label form scene n) (length (row_label form scene n))
+label_more form scene n = let more : n + 1 ≡ suc n = omega arith in rw more refl
 
 pub kept_more : (form : Form) (scene : SceneOf) (n : ℕ) →
     widest_kept form scene (n + 1) ≡ max (widest_kept form scene n) (length (kept_at form scene n))

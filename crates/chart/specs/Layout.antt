@@ -13,7 +13,7 @@ use Rattle.chart.specs.Sources.{pending_by_row}
 use Rattle.chart.specs.Lanes.{held_at_end}
 use Rattle.chart.specs.Pictures.{LineOf, PictureOf, picture_text}
 use Rattle.chart.specs.Places.{memory_cell}
-use Rattle.chart.specs.Scenes.{SceneOf, is_bare, scene_of, least_said, said_cells, kept_cells, least_lanes, used_after}
+use Rattle.chart.specs.Scenes.{SceneOf, is_bare, scene_of, least_label, label_cells, kept_cells, least_lanes, used_after}
 use Rattle.chart.specs.Scenes.{lanes_in, shape_of, places_of}
 use Rattle.chart.specs.Lines.{row_lines, open_lines, heads_line}
 
@@ -159,6 +159,6 @@ chart_text selection about es = picture_text (layout selection about es)
 
 -- no row's text, none of memory's and no lane is outside what columns have whatever the run
 pub record FitsColumns (scene : SceneOf) (form : Form) : Type 0 where
-  pub said : said_cells form scene ≡ least_said form scene
+  pub label : label_cells form scene ≡ least_label form scene
   pub kept : kept_cells form scene ≡ max 6 scene.least.kept
   pub lanes : used_after (least_lanes form scene.least) (lanes_in form scene) ≡ least_lanes form scene.least

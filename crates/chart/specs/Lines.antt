@@ -22,7 +22,7 @@ use Rattle.chart.specs.Rows.{RowOf}
 use Rattle.chart.specs.Lanes.{LanedOf, hart_column}
 use Rattle.chart.specs.Pictures.{MarkOf, LineOf}
 use Rattle.chart.specs.Places.{first_cell, lane_cell, memory_cell}
-use Rattle.chart.specs.Scenes.{SceneOf, has_no_row, said_by_row, kept_at, hart_name, shape_of}
+use Rattle.chart.specs.Scenes.{SceneOf, has_no_row, row_label, kept_at, hart_name, shape_of}
 
 -- ---- strokes
 
@@ -88,17 +88,17 @@ abbrev pub number_mark : ℕ → MarkOf
 number_mark i = text_at (5 - length (decimal (i + 1))) Quiet (decimal (i + 1))
 
 -- the line of row i, in this column, with what it says there and in memory
-abbrev pub row_line : Places → (i column : ℕ) → (said kept : List ℕ) → RowOf → LanedOf → LineOf
-row_line p i column said kept r l = record {
-  marks = number_mark i ∷ text_at (first_cell p column) Loud said ∷ text_at (memory_cell p) Loud kept ∷ [];
-  strokes = row_strokes p column (first_cell p column + length said) r l;
+abbrev pub row_line : Places → (i column : ℕ) → (label kept : List ℕ) → RowOf → LanedOf → LineOf
+row_line p i column label kept r l = record {
+  marks = number_mark i ∷ text_at (first_cell p column) Loud label ∷ text_at (memory_cell p) Loud kept ∷ [];
+  strokes = row_strokes p column (first_cell p column + length label) r l;
 }
 
 abbrev pub empty_line : LineOf
 empty_line = record { marks = []; strokes = [] }
 
 abbrev pub scene_line : Form → SceneOf → Places → ℕ → RowOf → LanedOf → LineOf
-scene_line form scene p i r l = row_line p i (hart_column (shape_of form) (hart_of r.entry)) (said_by_row form scene i) (kept_at form scene i) r l
+scene_line form scene p i r l = row_line p i (hart_column (shape_of form) (hart_of r.entry)) (row_label form scene i) (kept_at form scene i) r l
 
 abbrev pub laned_line : Form → SceneOf → Places → ℕ → RowOf → Option LanedOf → LineOf
 laned_line form scene p i r None = empty_line

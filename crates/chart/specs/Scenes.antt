@@ -75,8 +75,8 @@ unfoldable pub cut_text : List ℕ → List ℕ
 cut_text text = if nat_lt LONGEST_TEXT (length text) then codes "..." else text
 
 -- `P0  sw x5,0(x6)  x := 1` or `lw x7,0(x8)  y = 0 [init]`
-abbrev pub said : Form → (instruction : List ℕ) → RowTextOf → List ℕ
-said form instruction t =
+abbrev pub label : Form → (instruction : List ℕ) → RowTextOf → List ℕ
+label form instruction t =
     cut_text (beside (codes " ") (beside (codes "  ") (beside (codes "  ") (caller form t.hart) (shown_instruction form instruction)) t.effect) t.tag)
 
 -- a landing in memory names the row of its store: `x = 1 [1]`
@@ -88,13 +88,13 @@ of_row form (Some row) = if form.stores then codes " [" ++ decimal (row + 1) ++ 
 abbrev pub row_instruction : SceneOf → ℕ → List ℕ
 row_instruction scene i = unwrap_or (slice_get scene.instructions i) []
 
-abbrev pub said_by_drawn : Form → SceneOf → ℕ → Option RowOf → List ℕ
-said_by_drawn form scene i None = []
-said_by_drawn form scene i (Some r) = if has_no_row scene.selection r.entry then []
-    else said form (row_instruction scene i) (text_of_row scene.names scene.entries r)
+abbrev pub label_of_drawn : Form → SceneOf → ℕ → Option RowOf → List ℕ
+label_of_drawn form scene i None = []
+label_of_drawn form scene i (Some r) = if has_no_row scene.selection r.entry then []
+    else label form (row_instruction scene i) (text_of_row scene.names scene.entries r)
 
-abbrev pub said_by_row : Form → SceneOf → ℕ → List ℕ
-said_by_row form scene i = said_by_drawn form scene i (slice_get scene.rows i)
+abbrev pub row_label : Form → SceneOf → ℕ → List ℕ
+row_label form scene i = label_of_drawn form scene i (slice_get scene.rows i)
 
 abbrev pub kept_in : Form → SceneOf → Option RowOf → List ℕ
 kept_in form scene None = []
@@ -111,22 +111,22 @@ caller_cells form harts = if form.listed then length (hart_name (harts - 1)) + 2
 
 -- the cells of a column's text, whatever the run: after its hart's name, and with it
 abbrev pub least_own : Form → LeastWidths → ℕ
-least_own form least = if form.instructions then least.said else least.brief
+least_own form least = if form.instructions then least.label else least.brief
 
-abbrev pub least_said : Form → SceneOf → ℕ
-least_said form scene = min 255 (caller_cells form scene.harts + least_own form scene.least)
+abbrev pub least_label : Form → SceneOf → ℕ
+least_label form scene = min 255 (caller_cells form scene.harts + least_own form scene.least)
 
 -- the most cells that one of the first n rows takes, and no less than a column has
-abbrev pub widest_said : Form → SceneOf → ℕ → ℕ
-widest_said form scene zero = least_said form scene
-widest_said form scene (suc n) = max (widest_said form scene n) (length (said_by_row form scene n))
+abbrev pub widest_label : Form → SceneOf → ℕ → ℕ
+widest_label form scene zero = least_label form scene
+widest_label form scene (suc n) = max (widest_label form scene n) (length (row_label form scene n))
 
 abbrev pub widest_kept : Form → SceneOf → ℕ → ℕ
 widest_kept form scene zero = max 6 scene.least.kept
 widest_kept form scene (suc n) = max (widest_kept form scene n) (length (kept_at form scene n))
 
-abbrev pub said_cells : Form → SceneOf → ℕ
-said_cells form scene = widest_said form scene (length scene.rows)
+abbrev pub label_cells : Form → SceneOf → ℕ
+label_cells form scene = widest_label form scene (length scene.rows)
 
 abbrev pub kept_cells : Form → SceneOf → ℕ
 kept_cells form scene = widest_kept form scene (length scene.rows)
@@ -157,6 +157,6 @@ abbrev pub places_of : Form → SceneOf → Places
 places_of form scene = record {
   listed = form.listed;
   harts = scene.harts;
-  text = said_cells form scene;
+  text = label_cells form scene;
   lanes = used_after (least_lanes form scene.least) (lanes_in form scene);
 }

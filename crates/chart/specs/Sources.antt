@@ -8,7 +8,7 @@ use Rattle.memory.specs.declared.writes.Write.{Write}
 use Rattle.memory.specs.Writes.{covers}
 use Rattle.step_machine.specs.declared.events.Entry.{Entry}
 use Rattle.step_machine.specs.History.{OpeningValue}
-use Rattle.step_machine.specs.Entries.{hart_of, is_land, store_of, lands, write_of, opening_byte}
+use Rattle.step_machine.specs.Entries.{hart_of, is_land, own_store, lands, write_of, opening_byte}
 use Rattle.chart.specs.declared.sources.RowWrite.{RowWrite}
 use Rattle.chart.specs.declared.sources.Source.{Source}
 use Rattle.chart.specs.declared.sources.Source.TheVariants.{Own, Memory, Opening}
@@ -20,7 +20,7 @@ at_row n (w ∷ ws) = record { row = n; write = w } ∷ at_row n ws
 -- what the hart stored, each with its row, where the first entry's row is n
 abbrev pub stores_by_row : (h n : ℕ) → List Entry → List RowWrite
 stores_by_row h n [] = []
-stores_by_row h n (e ∷ es) = at_row n (store_of h e) ++ stores_by_row h (n + 1) es
+stores_by_row h n (e ∷ es) = at_row n (own_store h e) ++ stores_by_row h (n + 1) es
 
 -- the hart's stores that have not landed, oldest first, each with its row
 abbrev pub pending_by_row : ℕ → List Entry → List RowWrite
@@ -62,7 +62,7 @@ landed_store before e = if is_land e then row_number (slice_get (pending_by_row 
 
 abbrev pub stored_in : ℕ → Option Entry → List Write
 stored_in h None = []
-stored_in h (Some e) = store_of h e
+stored_in h (Some e) = own_store h e
 
 abbrev pub written_in : List Entry → Option Entry → List Write
 written_in before None = []

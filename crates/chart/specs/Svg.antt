@@ -151,8 +151,8 @@ width_svg p = 32 + 8 * widest (widest p.width p.head) p.foot
 abbrev pub height_svg : PictureOf → ℕ
 height_svg p = 22 + 22 * (length p.head + length p.body + length p.foot + 3)
 
-abbrev pub said_line : List ℕ → List ℕ
-said_line text = flat_map escaped text ++ codes "\n"
+abbrev pub svg_text_line : List ℕ → List ℕ
+svg_text_line text = flat_map escaped text ++ codes "\n"
 
 -- the light colours, and the dark ones
 unfoldable pub style_svg : List ℕ
@@ -183,13 +183,13 @@ unfoldable pub title_start : List ℕ
 title_start = codes "<title>A run of "
 
 unfoldable pub title_svg : PictureOf → List ℕ
-title_svg p = title_start ++ flat_map said_line p.head ++ codes "</title>\n"
+title_svg p = title_start ++ flat_map svg_text_line p.head ++ codes "</title>\n"
 
 unfoldable pub counts_svg : (harts rows : ℕ) → List ℕ
 counts_svg harts rows = codes "harts: " ++ decimal harts ++ codes ", rows: " ++ decimal rows ++ codes "\n"
 
 unfoldable pub desc_svg : (harts rows : ℕ) → PictureOf → List ℕ
-desc_svg harts rows p = codes "<desc>" ++ counts_svg harts rows ++ flat_map said_line p.foot ++ codes "</desc>\n"
+desc_svg harts rows p = codes "<desc>" ++ counts_svg harts rows ++ flat_map svg_text_line p.foot ++ codes "</desc>\n"
 
 unfoldable pub back_start : List ℕ
 back_start = codes "<rect class='back' "

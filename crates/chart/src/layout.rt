@@ -16,7 +16,7 @@ use crate::lanes::{Held, Laned, held_at_end, lanes_of};
 use crate::pictures::{Line, Mark, Picture, Sign, Stroke, Weight};
 use crate::places::Places;
 use crate::rows::Row;
-use crate::scenes::{Form, Scene, kept_at, places_of, said_at, widest_kept};
+use crate::scenes::{Form, Scene, kept_at, label_at, places_of, widest_kept};
 use crate::strokes::{row_strokes, sign_at};
 use std::alloc::{AllocError, Global};
 
@@ -44,20 +44,20 @@ fn row_line(
     places: &Places,
     i: usize,
     column: u32,
-    said: String,
+    label: String,
     kept: String,
     row: &Row,
     laned: &Laned,
 ) -> Result<Line, AllocError>
-    requires { length (string_bytes said) ≤ LONGEST_TEXT }
-    ensures { IfOk result (λ line. line ≡ line_of_row places.now i column (string_bytes said) (string_bytes kept) row.now laned.now) }
+    requires { length (string_bytes label) ≤ LONGEST_TEXT }
+    ensures { IfOk result (λ line. line ≡ line_of_row places.now i column (string_bytes label) (string_bytes kept) row.now laned.now) }
 {
     let begins = places.begins(column);
-    let following = begins + said.len() as u32;
+    let following = begins + label.len() as u32;
     let strokes = row_strokes(alloc, places, column, following, row, laned)?;
     let mut marks = Vec::new(alloc);
     marks.push(number_mark(alloc, i)?)?;
-    marks.push(text_at(begins as usize, Weight::Loud, said))?;
+    marks.push(text_at(begins as usize, Weight::Loud, label))?;
     marks.push(text_at(places.memory_cell() as usize, Weight::Loud, kept))?;
     Ok(Line { marks, strokes })
 }
@@ -74,9 +74,9 @@ fn line_with(
     ensures { IfOk result (λ line. line ≡ scene_line form scene.now places.now i row.now laned.now) }
 {
     let column = form.shape().column_of(row.entry.hart());
-    let said = said_at(alloc, form, scene, i)?;
+    let label = label_at(alloc, form, scene, i)?;
     let kept = kept_at(alloc, form, scene, i)?;
-    row_line(alloc, places, i, column, said, kept, row, laned)
+    row_line(alloc, places, i, column, label, kept, row, laned)
 }
 
 fn empty_line(alloc: Global) -> Line

@@ -5,7 +5,7 @@
 /// hart's column and of the one that all harts share.
 #[derive(Clone, Copy, PartialEq, Eq)]
 pub struct LeastWidths {
-    pub said: u8,
+    pub label: u8,
     pub brief: u8,
     pub kept: u8,
     pub lanes: u8,

@@ -4,9 +4,9 @@ ghost use Rattle.std.specs.Prelude.{◌≡◌, ◌≤◌, ◌<◌, ◌+◌, ◌^
 ghost use Rattle.std.specs.String.{string_bytes};
 ghost use Rattle.chart.specs.declared.scenes.TheConstants.{LONGEST_TEXT};
 ghost use Rattle.chart.specs.Scenes.{is_bare, has_no_row, scene_of, beside, caller, shown_instruction, cut_text as short_text};
-ghost use Rattle.chart.specs.Scenes.{said as said_by, of_row, row_instruction as instruction_of, said_by_row as said_of_row};
+ghost use Rattle.chart.specs.Scenes.{label as label_by, of_row, row_instruction as instruction_of, row_label as label_of_row};
 ghost use Rattle.chart.specs.Scenes.{kept_at as kept_of_row, caller_cells as cells_of_caller, least_own};
-ghost use Rattle.chart.specs.Scenes.{least_said as least_of_rows, said_cells, kept_cells, least_lanes, lanes_in};
+ghost use Rattle.chart.specs.Scenes.{least_label as least_of_rows, label_cells, kept_cells, least_lanes, lanes_in};
 ghost use Rattle.chart.specs.Scenes.{lanes_to, lanes_at as lanes_of_line, used_after, shape_of, places_of as places_in};
 
 use crate::lanes::{Held, Laned, Shape};
@@ -146,8 +146,8 @@ fn shortened(alloc: Global, text: String) -> Result<String, AllocError>
 }
 
 /// What a row says in its hart's column.
-fn said(alloc: Global, form: Form, instruction: &str, text: &RowText) -> Result<String, AllocError>
-    ensures value { IfOk result (λ out. string_bytes out ≡ said_by form instruction.now text.now) }
+fn label(alloc: Global, form: Form, instruction: &str, text: &RowText) -> Result<String, AllocError>
+    ensures value { IfOk result (λ out. string_bytes out ≡ label_by form instruction.now text.now) }
     ensures short { IfOk result (λ out. length (string_bytes out) ≤ LONGEST_TEXT) }
 {
     let mut out = caller_of(alloc, form, text.hart)?;
@@ -204,13 +204,13 @@ impl Selection {
 }
 
 /// What a row says in its hart's column, if it is drawn.
-pub(crate) fn said_at(
+pub(crate) fn label_at(
     alloc: Global,
     form: Form,
     scene: &Scene,
     i: usize,
 ) -> Result<String, AllocError>
-    ensures value { IfOk result (λ out. string_bytes out ≡ said_of_row form scene.now i) }
+    ensures value { IfOk result (λ out. string_bytes out ≡ label_of_row form scene.now i) }
     ensures short { IfOk result (λ out. length (string_bytes out) ≤ LONGEST_TEXT) }
 {
     match scene.rows.get(i) {
@@ -219,7 +219,7 @@ pub(crate) fn said_at(
                 return Ok(String::new(alloc));
             }
             let text = row_text(alloc, &scene.names, &scene.entries, row)?;
-            said(alloc, form, instruction_at(scene, i), &text)
+            label(alloc, form, instruction_at(scene, i), &text)
         }
         None => Ok(String::new(alloc)),
     }
@@ -259,14 +259,14 @@ fn least_own(form: Form, least: LeastWidths) -> u8
     ensures { result ≡ least_own form least }
 {
     if form.instructions {
-        least.said
+        least.label
     } else {
         least.brief
     }
 }
 
 /// The cells of a column's text, whatever the run.
-fn least_said(alloc: Global, form: Form, scene: &Scene) -> Result<u8, AllocError>
+fn least_label(alloc: Global, form: Form, scene: &Scene) -> Result<u8, AllocError>
     ensures { IfOk result (λ cells. cells ≡ least_of_rows form scene.now) }
 {
     let caller = caller_cells(alloc, form, scene.harts)?;
@@ -274,14 +274,14 @@ fn least_said(alloc: Global, form: Form, scene: &Scene) -> Result<u8, AllocError
     Ok((caller + usize::from(own)).min(255) as u8)
 }
 
-#[tactic(auto, using(crate::proofs::SceneLaws::said_more))]
-fn widest_said(alloc: Global, form: Form, scene: &Scene) -> Result<u8, AllocError>
-    ensures { IfOk result (λ cells. cells ≡ said_cells form scene.now) }
+#[tactic(auto, using(crate::proofs::SceneLaws::label_more))]
+fn widest_label(alloc: Global, form: Form, scene: &Scene) -> Result<u8, AllocError>
+    ensures { IfOk result (λ cells. cells ≡ label_cells form scene.now) }
 {
-    let mut widest = least_said(alloc, form, scene)?;
+    let mut widest = least_label(alloc, form, scene)?;
     for i in 0..scene.rows.len() {
-        let said = said_at(alloc, form, scene, i)?;
-        widest = widest.max(said.len() as u8);
+        let label = label_at(alloc, form, scene, i)?;
+        widest = widest.max(label.len() as u8);
     }
     Ok(widest)
 }
@@ -358,7 +358,7 @@ pub(crate) fn places_of(
     requires { lanes.now ≡ lanes_in form scene.now }
     ensures { IfOk result (λ places. places ≡ places_in form scene.now) }
 {
-    let text = widest_said(alloc, form, scene)?;
+    let text = widest_label(alloc, form, scene)?;
     Ok(Places {
         listed: form.listed,
         harts: scene.harts,

@@ -2,7 +2,7 @@
 
 ghost use Rattle.std.specs.Prelude.{◌≡◌, ◌++◌, ◌∷◌, ◌≤◌, [], if◌then◌else◌, None, Some, option_to_list, IfOk, OnOk};
 ghost use Rattle.std.specs.List.{slice_get};
-ghost use Rattle.step_machine.specs.Entries.{store_of as stored_by_entry, lands as landings, write_of};
+ghost use Rattle.step_machine.specs.Entries.{own_store as stored_by_entry, lands as landings, write_of};
 ghost use Rattle.memory.specs.Writes.{covers as write_covers};
 ghost use Rattle.chart.specs.Sources.{at_row, stores_by_row as stores_of_rows, pending_by_row as pending_of_rows};
 ghost use Rattle.chart.specs.Sources.{newest as newest_of_rows, source_named};

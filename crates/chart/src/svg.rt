@@ -7,7 +7,7 @@ ghost use Rattle.chart.specs.Svg.{x_of as x_of_cell, y_of as y_of_line, baseline
 ghost use Rattle.chart.specs.Svg.{text_place, text_with, text_svg, row_id, mark_svg, path_svg};
 ghost use Rattle.chart.specs.Svg.{hart_class as class_with_hart, hart_path, level_path as level_path_of, level_svg};
 ghost use Rattle.chart.specs.Svg.{hart_level, open_svg, above_by_sign, stroke_svg, line_svg, widest as widest_of};
-ghost use Rattle.chart.specs.Svg.{width_svg, height_svg, said_line, style_svg, size_svg, root_start, root_svg};
+ghost use Rattle.chart.specs.Svg.{width_svg, height_svg, svg_text_line, style_svg, size_svg, root_start, root_svg};
 ghost use Rattle.chart.specs.Svg.{title_start, title_svg, counts_svg, desc_svg, back_start, back_svg, group_start};
 ghost use Rattle.chart.specs.Svg.{rule_svg, heads_group, body_group, foot_group, texts_svg, lines_svg, front_svg};
 ghost use Rattle.chart.specs.Svg.{inside_svg, picture_svg};
@@ -350,18 +350,18 @@ fn height_of(picture: &Picture) -> u128
     22 + 22 * (rows + picture.foot.len() as u128 + 3)
 }
 
-fn push_said(out: &mut String, text: &str) -> Result<(), AllocError>
-    ensures { OnOk result (string_bytes out.new ≡ string_bytes out.old ++ said_line text.now) }
+fn push_text_line(out: &mut String, text: &str) -> Result<(), AllocError>
+    ensures { OnOk result (string_bytes out.new ≡ string_bytes out.old ++ svg_text_line text.now) }
 {
     push_bytes(out, text.as_bytes())?;
     out.push_str("\n")
 }
 
-fn push_all_said(out: &mut String, texts: &[String]) -> Result<(), AllocError>
-    ensures { OnOk result (string_bytes out.new ≡ string_bytes out.old ++ flat_map said_line (map string_bytes texts.now)) }
+fn push_all_text_lines(out: &mut String, texts: &[String]) -> Result<(), AllocError>
+    ensures { OnOk result (string_bytes out.new ≡ string_bytes out.old ++ flat_map svg_text_line (map string_bytes texts.now)) }
 {
     for text in texts {
-        push_said(out, text)?;
+        push_text_line(out, text)?;
     }
     Ok(())
 }
@@ -438,7 +438,7 @@ fn push_title(out: &mut String, picture: &Picture) -> Result<(), AllocError>
     ensures { OnOk result (string_bytes out.new ≡ string_bytes out.old ++ title_svg picture.now) }
 {
     push_title_start(out)?;
-    push_all_said(out, &picture.head)?;
+    push_all_text_lines(out, &picture.head)?;
     out.push_str("</title>\n")
 }
 
@@ -456,7 +456,7 @@ fn push_desc(out: &mut String, harts: u32, rows: usize, picture: &Picture) -> Re
 {
     out.push_str("<desc>")?;
     push_counts(out, harts, rows)?;
-    push_all_said(out, &picture.foot)?;
+    push_all_text_lines(out, &picture.foot)?;
     out.push_str("</desc>\n")
 }
 

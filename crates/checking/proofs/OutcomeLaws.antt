@@ -2,7 +2,7 @@
 use Rattle.std.proofs.Common.{◌≡◌, List, ℕ, ◌++◌, count_by, ap, ◌∙◌}
 use Rattle.litmus.specs.LitmusTests.{LitmusTest}
 use Rattle.engine_support.specs.Outcomes.{unfinished_line}
-use Rattle.engine_support.specs.Counting.{AreLines, counted}
+use Rattle.engine_support.specs.Counting.{AreCountedLines, counted}
 use Rattle.engine_support.proofs.OutcomeTables.{are_outcomes, table_is}
 use Rattle.checking.specs.declared.tally.Tally.{Tally}
 use Rattle.checking.specs.Judgements.{Judged}
@@ -10,7 +10,7 @@ use Rattle.checking.specs.Outcomes.{first_record, finished_with, is_refused, is_
 use Rattle.checking.specs.inner.Tallies.{IsTallyOfTexts}
 
 pub tabled : (test : LitmusTest) (answers : List Judged) (tally : Tally) (lines text : List ℕ) → IsTallyOfTexts answers tally
-    → AreLines test (counted tally.outcomes) lines → text ≡ lines ++ unfinished_line tally.unfinished ++ refused_line tally.refused
+    → AreCountedLines test (counted tally.outcomes) lines → text ≡ lines ++ unfinished_line tally.unfinished ++ refused_line tally.refused
     → IsOutcomeTable test answers text
 tabled test answers tally lines text is made written = record {
   outcomes = made.outcomes;

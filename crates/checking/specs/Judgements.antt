@@ -9,7 +9,7 @@ use Rattle.step_machine.specs.declared.events.Outcome.{Outcome}
 use Rattle.recorder.specs.Records.{Step, IsRecordOf, record_at}
 use Rattle.recorder.specs.Replaying.{IsRunRecord, DiffersAt}
 use Rattle.engine_support.specs.declared.fault.Refusal.{Refusal}
-use Rattle.engine_support.specs.Engines.{Accepted, decoded}
+use Rattle.engine_support.specs.Engines.{AcceptedInput, decoded}
 use Rattle.engine_support.specs.Schedules.{refused_schedule}
 use Rattle.checking.specs.EventLines.{line_of_event}
 
@@ -66,7 +66,7 @@ pub data IsRecordJudged (B M : ℕ) (test : LitmusTest) (text : List ℕ) (steps
 -- M words.
 pub data IsTextJudged (B M : ℕ) (test : LitmusTest) (text : List ℕ) : Judged → Type 0 where
   none : (refusal : Refusal) → decoded record_of text ≡ Err refusal → IsTextJudged B M test text (no_record refusal)
-  record_is : (steps : List Step) (answer : Judged) → Accepted IsRecordOf text steps
+  record_is : (steps : List Step) (answer : Judged) → AcceptedInput IsRecordOf text steps
       → IsRecordJudged B M test text steps answer → IsTextJudged B M test text answer
 
 -- the same of each text, in order

@@ -1,7 +1,7 @@
 -- The line that is written of a text.
 use Rattle.std.specs.Prelude.{ℕ, ◌+◌, List, [], ◌∷◌, ◌++◌, codes}
 use Rattle.std.specs.Fmt.{decimal}
-use Rattle.recorder.specs.Schedule.{hart_of}
+use Rattle.recorder.specs.Schedule.{hart_of_event}
 use Rattle.recorder.specs.Outcomes.{outcome_text}
 use Rattle.engine_support.specs.declared.fault.Refusal.{Refusal}
 use Rattle.engine_support.specs.declared.fault.Position.{Position}
@@ -32,8 +32,8 @@ difference_place event line = codes " refused 38 at event " ++ decimal event ++ 
 
 -- the outcome that the record has there, and then the run's
 abbrev pub difference_text : Difference → List ℕ
-difference_text d = difference_place d.event d.line ++ outcome_text (hart_of d.step.0) d.step.1
-    ++ codes ", the run has " ++ outcome_text (hart_of d.step.0) d.found
+difference_text d = difference_place d.event d.line ++ outcome_text (hart_of_event d.step.0) d.step.1
+    ++ codes ", the run has " ++ outcome_text (hart_of_event d.step.0) d.found
 
 abbrev pub judged_text : Judged → List ℕ
 judged_text (finished values) = codes " accepted"

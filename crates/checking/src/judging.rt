@@ -5,7 +5,7 @@ ghost use Rattle.step_machine.specs.History.{OpeningValue};
 ghost use Rattle.step_machine.specs.Standing.{ForEachHistory, RepresentsRunFrom};
 ghost use Rattle.litmus.specs.declared.verdict.Verdict.TheVariants.{Unfinished};
 ghost use Rattle.recorder.specs.Records.{IsRecordOf};
-ghost use Rattle.engine_support.specs.Engines.{Accepted, decoded};
+ghost use Rattle.engine_support.specs.Engines.{AcceptedInput, decoded};
 ghost use Rattle.engine_support.specs.Faults.{Answers};
 ghost use Rattle.engine_support.specs.declared.fault.Fault.TheVariants.{NoMemory};
 ghost use Rattle.checking.specs.Judgements.{EndsAs, IsTextJudged, IsRecordJudged, record_of};
@@ -58,7 +58,7 @@ fn steps_of(alloc: Global, text: &str) -> Result<Vec<(Event, Outcome)>, Fault>
 
 /// The steps of a text, or why it is no record: it is too large, no UTF-8, or has a fault at one of its bytes.
 fn read_steps(alloc: Global, text: &[u8]) -> Result<Vec<(Event, Outcome)>, Fault>
-    ensures found { IfOk result (λ steps. Accepted IsRecordOf text.now steps.items) }
+    ensures found { IfOk result (λ steps. AcceptedInput IsRecordOf text.now steps.items) }
     ensures exact { Answers (λ steps. steps.items) result (decoded record_of text.now) }
 {
     if text.len() > INPUT_BYTES {

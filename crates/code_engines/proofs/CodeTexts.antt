@@ -30,26 +30,27 @@ zip_parted {B = B} R (x ∷ xs) ys (u ∷ all) zip =
 
 -- ---- the lines
 
-lines_said : (number : ℕ) (left : List (List ℕ)) (code : List ℕ) → code_of_lines number left ≡ Ok code → AllZip IsHexWord (flat_map tokens left) code
+lines_parsed : (number : ℕ) (left : List (List ℕ)) (code : List ℕ) → code_of_lines number left ≡ Ok code → AllZip IsHexWord (flat_map tokens left) code
 unfolding code_of_lines
-lines_said number [] code e = subst (λ (xs : List ℕ). AllZip IsHexWord [] xs) (ok_is Refusal [] code e) tt
-lines_said number (line ∷ others) code e = grind (arith, bind_ok, ok_is, zip_joined, settled_found, code_settles, at_line-ok, lines_said (number + 1) others)
+lines_parsed number [] code e = subst (λ (xs : List ℕ). AllZip IsHexWord [] xs) (ok_is Refusal [] code e) tt
+lines_parsed number (line ∷ others) code e =
+    grind (arith, bind_ok, ok_is, zip_joined, settled_found, code_settles, at_line-ok, lines_parsed (number + 1) others)
 
 lines_read : (number : ℕ) (left : List (List ℕ)) (code : List ℕ) → AllZip IsHexWord (flat_map tokens left) code → code_of_lines number left ≡ Ok code
 unfolding code_of_lines
-lines_read number [] [] said = refl
-lines_read number [] (w ∷ code) said = absurd said
-lines_read number (line ∷ others) code said = grind (arith, zip_parted, settled_only, code_settles, lines_read (number + 1) others)
+lines_read number [] [] parsed = refl
+lines_read number [] (w ∷ code) parsed = absurd parsed
+lines_read number (line ∷ others) code parsed = grind (arith, zip_parted, settled_only, code_settles, lines_read (number + 1) others)
 
 -- ---- a text
 
 pub code_found : (text code : List ℕ) → dis_at text ≡ Ok code → SaysCode text code
 unfolding dis_at
-code_found text code e = lines_said 1 (lines text) code e
+code_found text code e = lines_parsed 1 (lines text) code e
 
 pub code_read : (text code : List ℕ) → SaysCode text code → dis_at text ≡ Ok code
 unfolding dis_at
-code_read text code said = lines_read 1 (lines text) code said
+code_read text code parsed = lines_read 1 (lines text) code parsed
 
 pub one_code : (text a b : List ℕ) → SaysCode text a → SaysCode text b → a ≡ b
 one_code text a b p q = ok_is Refusal a b (sym (code_read text a p) ∙ code_read text b q)

@@ -26,12 +26,12 @@ lines_sound t number (line ∷ others) script few e =
         subst (λ (u : ScriptValue). LinesDescribe u others script) blank.1
             (lines_sound first.0 (number + 1) others script (rw blank.1 few) first.2),
       )
-      | inr said ↦ inr (
-        said.0,
-        said.1,
-        said.2,
-        subst (λ (u : ScriptValue). LinesDescribe u others script) said.3
-            (lines_sound first.0 (number + 1) others script (rw said.3 (few_stay t said.0 few said.2)) first.2),
+      | inr parsed ↦ inr (
+        parsed.0,
+        parsed.1,
+        parsed.2,
+        subst (λ (u : ScriptValue). LinesDescribe u others script) parsed.3
+            (lines_sound first.0 (number + 1) others script (rw parsed.3 (few_stay t parsed.0 few parsed.2)) first.2),
       )
     ]
 
@@ -40,8 +40,8 @@ pub lines_read : (t : ScriptValue) (number : ℕ) (left : List (List ℕ)) (scri
 unfolding after_lines
 lines_read t number [] script tell = ap (λ (u : ScriptValue). Ok u) (sym tell)
 lines_read t number (line ∷ others) script (inl blank) = rw (blank_read t line blank.0) (lines_read t (number + 1) others script blank.1)
-lines_read t number (line ∷ others) script (inr said) = rw (statement_read t line said.0 said.1 said.2)
-    (lines_read (with_statement t said.0) (number + 1) others script said.3)
+lines_read t number (line ∷ others) script (inr parsed) = rw (statement_read t line parsed.0 parsed.1 parsed.2)
+    (lines_read (with_statement t parsed.0) (number + 1) others script parsed.3)
 
 pub text_sound : (M : ℕ) (text : List ℕ) (script : ScriptValue) → script_at M text ≡ Ok script → Describes M text script
 unfolding script_at

@@ -51,13 +51,13 @@ one_word ds some all = grind (arith, ltb, split_none, none_pass, no_blank, filte
 words_written : (code : List ℕ) → AllByRecursion (λ word. word < 2 ^ 32) code → SaysCode (flat_map hex_line code) code
 words_written [] small = tt
 words_written (word ∷ code) small =
-    let said = hex_word-said word small.0 in
+    let parsed = hex_word-said word small.0 in
     rw (
       append_assoc (hex_word word) (10 ∷ []) (flat_map hex_line code),
-      lines_after (hex_word word) (flat_map hex_line code) said.1.0.1,
-      one_word (hex_word word) said.1.0.0 said.1.0.1,
+      lines_after (hex_word word) (flat_map hex_line code) parsed.1.0.1,
+      one_word (hex_word word) parsed.1.0.0 parsed.1.0.1,
     )
-    (said, words_written code small.1)
+    (parsed, words_written code small.1)
 
 pub written_says : (code : List ℕ) → All (λ word. word < 2 ^ 32) code → SaysCode (flat_map hex_line code) code
 written_says code small = words_written code (recursion_from_All (λ word. word < 2 ^ 32) code small)

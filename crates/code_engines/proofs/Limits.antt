@@ -5,7 +5,7 @@ use Rattle.std.specs.Str.Lines.{lines}
 use Rattle.std.proofs.lemmas.List.{length-replicate}
 use Rattle.std.proofs.lemmas.List.Elements.{All-from_recursion}
 use Rattle.step_machine.specs.History.{HartOpeningValue, FitsIn, IsShort}
-use Rattle.code_engines.specs.ScriptValue.{ScriptValue, no_script, opening_of, fresh, register_set, Statement, with_statement, MayCome}
+use Rattle.code_engines.specs.ScriptValue.{ScriptValue, no_script, opening_of_script, fresh, register_set, Statement, with_statement, MayCome}
 use Rattle.code_engines.specs.StepsText.{LinesDescribe, Describes}
 
 record Within (M : ℕ) (t : ScriptValue) : Type 0 where
@@ -33,9 +33,10 @@ within_stays M t s w fits = grind (arith, length-append, short_added, length-reg
 within_lines : (M : ℕ) (t : ScriptValue) (left : List (List ℕ)) (script : ScriptValue) → Within M t → LinesDescribe t left script → Within M script
 within_lines M t [] script w tell = rw tell w
 within_lines M t (line ∷ others) script w (inl blank) = within_lines M t others script w blank.1
-within_lines M t (line ∷ others) script w (inr said) = within_lines M (with_statement t said.0) others script (within_stays M t said.0 w said.2) said.3
+within_lines M t (line ∷ others) script w (inr parsed) =
+    within_lines M (with_statement t parsed.0) others script (within_stays M t parsed.0 w parsed.2) parsed.3
 
-pub script_fits : (M : ℕ) (text : List ℕ) (script : ScriptValue) → Describes M text script → FitsIn M (opening_of script)
+pub script_fits : (M : ℕ) (text : List ℕ) (script : ScriptValue) → Describes M text script → FitsIn M (opening_of_script script)
 script_fits M text script tells =
     let none : Within M (no_script M) = record { harts = omega arith; code = tt; memory = length-replicate M 0 } in
     let w = within_lines M (no_script M) (lines text) script none tells.lines_describe in

@@ -173,51 +173,51 @@ line-made t line made few e = cut_made t line made (first_cut line) refl few e
 
 hart_read : (t : ScriptValue) (line code : List ℕ) → LineSays line (hart code) → MayCome t (hart code) → after_line t line ≡ Ok (with_statement t (hart code))
 unfolding after_line
-hart_read t line code said fits =
-    let first = tokens-first line (codes "hart") said.0 said.1 in
+hart_read t line code parsed fits =
+    let first = tokens-first line (codes "hart") parsed.0 parsed.1 in
     rw (
       first.1,
       first.2,
-      settled_only _ (with_hart t.harts said.0) (t.harts ++ fresh code ∷ []) (hart_settles t.harts said.0)
-          (code, said.2, (fits, refl)),
+      settled_only _ (with_hart t.harts parsed.0) (t.harts ++ fresh code ∷ []) (hart_settles t.harts parsed.0)
+          (code, parsed.2, (fits, refl)),
     ) refl
 
 register_read : (t : ScriptValue) (line : List ℕ) (h n v : ℕ) → LineSays line (reg h n v) → MayCome t (reg h n v)
     → after_line t line ≡ Ok (with_statement t (reg h n v))
 unfolding after_line
-register_read t line h n v said fits =
-    let first = tokens-first line (codes "reg") (said.0 ∷ said.1 ∷ said.2 ∷ []) said.3 in
-    let text = said.0 ∷ said.1 ∷ said.2 ∷ [] in
+register_read t line h n v parsed fits =
+    let first = tokens-first line (codes "reg") (parsed.0 ∷ parsed.1 ∷ parsed.2 ∷ []) parsed.3 in
+    let text = parsed.0 ∷ parsed.1 ∷ parsed.2 ∷ [] in
     rw (
       first.1,
       first.2,
       settled_only _ (with_register t.harts text) (register_set t.harts h n v) (register_settles t.harts text)
-          ((h, n, v), (said.0, said.1, said.2, refl, said.4, said.5, said.6), (fits, refl)),
+          ((h, n, v), (parsed.0, parsed.1, parsed.2, refl, parsed.4, parsed.5, parsed.6), (fits, refl)),
     ) refl
 
 word_read : (t : ScriptValue) (line : List ℕ) (a v : ℕ) → LineSays line (word a v) → MayCome t (word a v) → after_line t line ≡ Ok (with_statement t (word a v))
 unfolding after_line
-word_read t line a v said fits =
-    let first = tokens-first line (codes "word") (said.0 ∷ said.1 ∷ []) said.2 in
-    let text = said.0 ∷ said.1 ∷ [] in
+word_read t line a v parsed fits =
+    let first = tokens-first line (codes "word") (parsed.0 ∷ parsed.1 ∷ []) parsed.2 in
+    let text = parsed.0 ∷ parsed.1 ∷ [] in
     rw (
       first.1,
       first.2,
       settled_only _ (with_word t.words text) (set t.words (a / 4) v) (word_settles t.words text)
-          ((a, v), (said.0, said.1, refl, said.3, said.4), (fits, refl)),
+          ((a, v), (parsed.0, parsed.1, refl, parsed.3, parsed.4), (fits, refl)),
     ) refl
 
 steps_read : (t : ScriptValue) (line : List ℕ) (events : List Event) → LineSays line (steps events)
     → MayCome t (steps events) → after_line t line ≡ Ok (with_statement t (steps events))
 unfolding after_line
-steps_read t line events said fits = rw (
-  said.1,
-  settled_only _ (with_steps t.events said.0) (t.events ++ events)
-      (steps_settle t.events said.0 (omega (arith, fits))) (events, (said.2, omega (arith, fits)), refl),
+steps_read t line events parsed fits = rw (
+  parsed.1,
+  settled_only _ (with_steps t.events parsed.0) (t.events ++ events)
+      (steps_settle t.events parsed.0 (omega (arith, fits))) (events, (parsed.2, omega (arith, fits)), refl),
 ) refl
 
 pub statement_read : (t : ScriptValue) (line : List ℕ) (s : Statement) → LineSays line s → MayCome t s → after_line t line ≡ Ok (with_statement t s)
-statement_read t line s said fits = grind (arith, hart_read, register_read, word_read, steps_read)
+statement_read t line s parsed fits = grind (arith, hart_read, register_read, word_read, steps_read)
 
 pub blank_read : (t : ScriptValue) (line : List ℕ) → tokens line ≡ [] → after_line t line ≡ Ok t
 unfolding after_line

@@ -19,4 +19,4 @@ pub with_register-done : (harts : List HartOpeningValue) (text : List (List ℕ)
     → three_numbers text ≡ Ok (h, n, v) → h < length harts → (n ≡ 0 → ⊥) → n < 32 → x ≡ get_or harts h x
     → with_register harts text ≡ Ok (set harts h (with_value x n v))
 unfolding with_register
-with_register-done harts text h n v x said lt some below e = grind (arith, leb, eqb, nat_tests, register_set-is)
+with_register-done harts text h n v x parsed lt some below e = grind (arith, leb, eqb, nat_tests, register_set-is)

@@ -44,12 +44,12 @@ line_before line rest feed return = grind (arith, eqb, split_stop, lines_of_part
 -- a line of words that says what may come
 row-leads : (t : ScriptValue) (s : Statement) (row : List Written) → AreSolid row → LineSays (row_text row) s → MayCome t s
     → Leads t (row_text row ++ 10 ∷ []) (with_statement t s)
-row-leads t s row solid said may rest end tells =
+row-leads t s row solid parsed may rest end tells =
     let line = row_text row in
     let first : lines ((line ++ 10 ∷ []) ++ rest) ≡ line ∷ lines rest =
     ap (λ (bytes : List ℕ). lines bytes) (append_assoc line (10 ∷ []) rest)
     ∙ line_before line rest (row_none 10 (omega arith) row solid) (row_none 13 (omega arith) row solid) in
-    subst (λ (read : List (List ℕ)). LinesDescribe t read end) (sym first) (inr (s, said, may, tells))
+    subst (λ (read : List (List ℕ)). LinesDescribe t read end) (sym first) (inr (s, parsed, may, tells))
 
 -- ---- a hart's code
 
@@ -61,7 +61,7 @@ digits_solid [] all = tt
 digits_solid (d ∷ ds) all = (low_no_digit d all.0, digits_solid ds all.1)
 
 hex_solid : (w : ℕ) → IsWord w → Solid (hex_word w)
-hex_solid w small = let said = hex_word-said w small in (said.1.0.0, digits_solid (hex_word w) said.1.0.1)
+hex_solid w small = let parsed = hex_word-said w small in (parsed.1.0.0, digits_solid (hex_word w) parsed.1.0.1)
 
 abbrev code_words : List ℕ → List Written
 code_words [] = []
@@ -78,9 +78,9 @@ code_solid : (code : List ℕ) → AllByRecursion IsWord code → AreSolid (code
 code_solid [] all = tt
 code_solid (w ∷ code) all = (hex_solid w all.0, code_solid code all.1)
 
-code_said : (code : List ℕ) → AllByRecursion IsWord code → AllZip IsHexWord (map word_text (code_words code)) code
-code_said [] all = tt
-code_said (w ∷ code) all = (hex_word-said w all.0, code_said code all.1)
+code_parsed : (code : List ℕ) → AllByRecursion IsWord code → AllZip IsHexWord (map word_text (code_words code)) code
+code_parsed [] all = tt
+code_parsed (w ∷ code) all = (hex_word-said w all.0, code_parsed code all.1)
 
 -- ---- harts that are added
 
@@ -99,7 +99,7 @@ code_leads : (front : List HartOpeningValue) (code words : List ℕ) → length 
 code_leads front code words room short all =
     let solid : AreSolid (code_row code) = (solid_by_test (codes "hart") refl, code_solid code all) in
     let says : LineSays (row_text (code_row code)) (hart code) =
-    (map word_text (code_words code), row-again (code_row code) solid, code_said code all) in
+    (map word_text (code_words code), row-again (code_row code) solid, code_parsed code all) in
     subst (λ (text : List ℕ). Leads (with_harts front words) (text ++ 10 ∷ []) (and_last front code (replicate 32 0) words))
     (code_text (codes "hart") code) (row-leads (with_harts front words) (hart code) (code_row code) solid says (room, short))
 

@@ -24,8 +24,8 @@ script_value s = record { harts = s.harts.items; words = s.words.items; events =
 abbrev pub no_script : ℕ → ScriptValue
 no_script M = record { harts = []; words = replicate M 0; events = [] }
 
-abbrev pub opening_of : ScriptValue → OpeningValue
-opening_of t = record { harts = t.harts; words = t.words }
+abbrev pub opening_of_script : ScriptValue → OpeningValue
+opening_of_script t = record { harts = t.harts; words = t.words }
 
 -- these events from this opening, on a machine with M words
 abbrev pub script_from : (M : ℕ) → OpeningValue → List Event → ScriptValue

@@ -3,7 +3,7 @@ use Rattle.std.specs.Prelude.{ℕ, ◌≡◌, List, IsOkAnd, Option, Result}
 use Rattle.step_machine.specs.History.{History}
 use Rattle.step_machine.specs.Runs.{Run}
 use Rattle.engine_support.specs.declared.fault.Refusal.{Refusal}
-use Rattle.code_engines.specs.ScriptValue.{ScriptValue, opening_of}
+use Rattle.code_engines.specs.ScriptValue.{ScriptValue, opening_of_script}
 use Rattle.code_engines.specs.StepsText.{Describes}
 use Rattle.code_engines.specs.StepsReading.{script_at}
 use Rattle.engine_support.specs.StateText.{shown}
@@ -14,7 +14,7 @@ use Rattle.engine_support.specs.Inputs.{After, Format, format}
 -- a memory of M words
 pub record IsStateText (B M : ℕ) (script : ScriptValue) (out : List ℕ) : Type 0 where
   pub history : History
-  pub ran : Run B M (opening_of script) script.events history
+  pub ran : Run B M (opening_of_script script) script.events history
   pub is_shown : out ≡ shown M history
 
 -- inputs that are steps texts, for a memory of M words

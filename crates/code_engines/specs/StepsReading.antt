@@ -57,21 +57,21 @@ with_hart harts text = do
 
 unfoldable pub with_register : List HartOpeningValue → List (List ℕ) → Result (List HartOpeningValue) ℕ
 with_register harts text = do
-  said ← three_numbers text
-  if nat_le (length harts) said.0 || (said.1 == 0) || nat_le 32 said.1 then Err bad_line else Ok (register_set harts said.0 said.1 said.2)
+  numbers ← three_numbers text
+  if nat_le (length harts) numbers.0 || (numbers.1 == 0) || nat_le 32 numbers.1 then Err bad_line else Ok (register_set harts numbers.0 numbers.1 numbers.2)
 
 unfoldable pub with_word : List ℕ → List (List ℕ) → Result (List ℕ) ℕ
 with_word memory text = do
-  said ← two_numbers text
-  if not (said.0 % 4 == 0) || nat_le (length memory) (said.0 / 4) then Err bad_line else Ok (slice_set memory (said.0 / 4) said.1)
+  numbers ← two_numbers text
+  if not (numbers.0 % 4 == 0) || nat_le (length memory) (numbers.0 / 4) then Err bad_line else Ok (slice_set memory (numbers.0 / 4) numbers.1)
 
 -- a fault of tokens, by its number
-abbrev pub numbered : {A : Type 0} → Result A AtByte → Result A ℕ
-numbered result = map_err (λ refused. schedule_number refused.fault) result
+abbrev pub with_fault_number : {A : Type 0} → Result A AtByte → Result A ℕ
+with_fault_number result = map_err (λ refused. schedule_number refused.fault) result
 
 unfoldable pub with_steps : List Event → List ℕ → Result (List Event) ℕ
 with_steps events text = do
-  more ← numbered (tokens_after (length events) text)
+  more ← with_fault_number (tokens_after (length events) text)
   Ok (events ++ more)
 
 -- ---- a line

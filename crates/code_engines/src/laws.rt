@@ -7,7 +7,7 @@ ghost use Rattle.recorder.specs.declared.reading.TheConstants.{MAX_EVENTS};
 ghost use Rattle.litmus.specs.LitmusTests.{LitmusTest};
 ghost use Rattle.litmus_reader.specs.Grammar.{IsTestOf};
 ghost use Rattle.engine_support.specs.declared.fault.Refusal.{Refusal};
-ghost use Rattle.engine_support.specs.Engines.{Output, Accepted, decoded};
+ghost use Rattle.engine_support.specs.Engines.{Output, AcceptedInput, decoded};
 ghost use Rattle.engine_support.specs.OpeningTexts.{steps_text};
 ghost use Rattle.code_engines.specs.ScriptValue.{ScriptValue, script_from};
 ghost use Rattle.code_engines.specs.StepsText.{Describes, IsStepsLine};
@@ -20,7 +20,7 @@ ghost use Rattle.code_engines.specs.Dis.{SaysCode, dis_at, IsDisAnswer};
 /// refused exactly where it is a text within the limit that describes one. It does nothing.
 pub fn laws_of_steps_texts()
     ensures read { (M : ℕ) (text : List ℕ) (script : ScriptValue) → (script_at M text ≡ Ok script) ↔ Describes M text script }
-    ensures judged { (M : ℕ) (input : List ℕ) (script : ScriptValue) → (decoded (script_at M) input ≡ Ok script) ↔ Accepted (Describes M) input script }
+    ensures judged { (M : ℕ) (input : List ℕ) (script : ScriptValue) → (decoded (script_at M) input ≡ Ok script) ↔ AcceptedInput (Describes M) input script }
     ensures one { (M : ℕ) (text : List ℕ) (a b : ScriptValue) → Describes M text a → Describes M text b → a ≡ b }
 {}
 
@@ -39,7 +39,7 @@ pub fn shown_steps_open_alike()
 /// assembled text's, say those words again. It does nothing.
 pub fn laws_of_code_texts()
     ensures read { (text code : List ℕ) → (dis_at text ≡ Ok code) ↔ SaysCode text code }
-    ensures judged { (input code : List ℕ) → (decoded dis_at input ≡ Ok code) ↔ Accepted SaysCode input code }
+    ensures judged { (input code : List ℕ) → (decoded dis_at input ≡ Ok code) ↔ AcceptedInput SaysCode input code }
     ensures one { (text a b : List ℕ) → SaysCode text a → SaysCode text b → a ≡ b }
     ensures again { (code : List ℕ) → All (λ word. word < 2 ^ 32) code → SaysCode (flat_map hex_line code) code }
 {}

@@ -4,7 +4,7 @@ ghost use Rattle.std.specs.Prelude.{◌≤◌, IfOk};
 ghost use Rattle.std.specs.String.{string_bytes};
 ghost use Rattle.step_machine.specs.History.{FitsIn};
 ghost use Rattle.engine_support.specs.Engines.{Ends};
-ghost use Rattle.code_engines.specs.ScriptValue.{script_value, opening_of};
+ghost use Rattle.code_engines.specs.ScriptValue.{script_value, opening_of_script};
 ghost use Rattle.engine_support.specs.Inputs.{Reads};
 ghost use Rattle.code_engines.specs.Steps.{IsStateText, IsStepsAnswer, steps_texts};
 ghost use Rattle.engine_support.specs.inner.Making.{FindsUpToReads, text_and_value};
@@ -31,7 +31,7 @@ fn script_text<const B: usize, const M: usize>(
     requires capacity { B ≤ 64 }
     requires some_word { 1 ≤ M }
     requires size { M ≤ 65536 }
-    requires fits { FitsIn M (opening_of (script_value script)) }
+    requires fits { FitsIn M (opening_of_script (script_value script)) }
     ensures { IfOk result (λ text. IsStateText B M (script_value script) (string_bytes text)) }
 {
     let Script {
@@ -48,7 +48,7 @@ fn read_steps<const M: usize, R: Read>(alloc: Global, reader: &mut R) -> Result<
     requires some_word { 1 ≤ M }
     requires size { M ≤ 65536 }
     ensures read { FindsUpToReads (Reads (steps_texts M) (R.remaining reader.old)) script_value result }
-    ensures fits { IfOk result (λ script. FitsIn M (opening_of (script_value script))) }
+    ensures fits { IfOk result (λ script. FitsIn M (opening_of_script (script_value script))) }
 {
     let input = read_text(alloc, reader)?;
     read_script::<M>(alloc, input.as_bytes())

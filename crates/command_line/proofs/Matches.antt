@@ -6,7 +6,7 @@ use Rattle.clap.specs.Words.{HasKind, Kinds, Row, Text, fault_of, is_simple, is_
 use Rattle.clap.specs.declared.error.Error.{Error}
 use Rattle.clap.specs.declared.error.kind.ErrorKind.TheVariants.{OutOfMemory}
 use Rattle.clap.proofs.OnLiterals.{clap_on_literals}
-use Rattle.command_line.specs.CommandLines.{GivesJob, job_at, job_said, job_without}
+use Rattle.command_line.specs.CommandLines.{GivesJob, job_at, job_given, job_without}
 use Rattle.command_line.specs.Descriptions.{ztso_command}
 use Rattle.command_line.specs.Jobs.{wanted_by}
 use Rattle.command_line.specs.Faults.{IsErrorFor}
@@ -33,15 +33,15 @@ failed (kind ∷ kinds) found error (inr among) (Err failure) (inr other) = inr 
 
 -- a parse that fails ends as its kind says
 pub gives_where_failed : (words : List Text) (error : Error) → HasKind (fault_of ztso_command words) error
-    → (r : Result Job CommandLineError) → IsErrAnd r (IsErrorFor (kind_of error ≡ OutOfMemory)) → GivesJob (job_said words) r
-unfolding job_said
+    → (r : Result Job CommandLineError) → IsErrAnd r (IsErrorFor (kind_of error ≡ OutOfMemory)) → GivesJob (job_given words) r
+unfolding job_given
 gives_where_failed words = failed (fault_of ztso_command words) (subcommand_of ztso_command words)
 
 -- a parse that succeeds gives what it found
 pub gives_where_found : (words : List Text) → fault_of ztso_command words ≡ []
     → (found : Option Job) → option_map wanted_by found ≡ option_and_then job_at (subcommand_of ztso_command words)
-    → (r : Result Job CommandLineError) → r ≡ ok_or found BadCommandLine → GivesJob (job_said words) r
-unfolding job_said
+    → (r : Result Job CommandLineError) → r ≡ ok_or found BadCommandLine → GivesJob (job_given words) r
+unfolding job_given
 gives_where_found words none found is_found r is_r = rw (none, ← is_found, is_r) (by_found found)
   where
     by_found : (o : Option Job) → GivesJob (option_map wanted_by o) (ok_or o BadCommandLine)

@@ -13,7 +13,7 @@ use Rattle.clap.specs.Walk.{Held, Names, Row, Rule, Step, value, Waiting, idle, 
 use Rattle.clap.specs.Walk.{answers_to, finished, nothing_held, plain_word, settled, walk_from, walked, walked_from}
 use Rattle.clap.specs.Walk.{word_met}
 use Rattle.clap.specs.Words.{Text}
-use Rattle.command_line.specs.CommandLines.{job_said, job_without}
+use Rattle.command_line.specs.CommandLines.{job_given, job_without}
 use Rattle.command_line.specs.Descriptions.{ztso_command}
 use Rattle.command_line.specs.Spellings.{IsArgument}
 use Rattle.command_line.specs.Jobs.{Wanted}
@@ -156,14 +156,14 @@ named command = find (λ s. answers_to command (label_of s)) whole.subs
 
 -- what all words say, by the faults of the walk to the command's name and where it ends, and by what the
 -- command says of the words after it
-abbrev pub said_by : Kinds → Walk → Kinds → Option (Text × List Row) → Option Wanted
-said_by faults end below found =
+abbrev pub given_by : Kinds → Walk → Kinds → Option (Text × List Row) → Option Wanted
+given_by faults end below found =
     let top = whole.top in
     job_without (or_else faults (or_else below (or_else (settle_fault top.rules top.args_override_self end.held)
     (or_else (defaults_fault (settled top.rules end.held).rows top.rules) (check_fault top (finished top.rules end.held) (is_some found)))))) found
 
-abbrev pub said : Text → List Piece → Option Wanted
-said command ps = said_by [] (at_command command (map text_in ps))
+abbrev pub job_of_pieces : Text → List Piece → Option Wanted
+job_of_pieces command ps = given_by [] (at_command command (map text_in ps))
     (option_map_or (found_fault ps) (named command) []) (option_map (found_rows ps) (named command))
 
 -- the word is a command's name, and no fault
@@ -171,22 +171,23 @@ abbrev pub IsCommand : Text → Type 0
 IsCommand command =
     (walked whole.top.rules (names_of whole) begun command ≡ at_command command []) × (turn_fault whole.top (names_of whole) begun command ≡ [])
 
-abbrev said_at : Text → List Text → Kinds → Walk → Option Wanted
-said_at name words faults end = said_by faults end (entered_fault whole end.stopped) (entered whole end.stopped)
+abbrev given_at : Text → List Text → Kinds → Walk → Option Wanted
+given_at name words faults end = given_by faults end (entered_fault whole end.stopped) (entered whole end.stopped)
 
-job_said-pieces : (name command : Text) (ps : List Piece) → IsCommand command → ArePlain ps → job_said (name ∷ command ∷ map text_in ps) ≡ said command ps
-unfolding job_said walk_fault
-job_said-pieces name command ps (met, passes) are =
+job_given-pieces : (name command : Text) (ps : List Piece) → IsCommand command → ArePlain ps
+    → job_given (name ∷ command ∷ map text_in ps) ≡ job_of_pieces command ps
+unfolding job_given walk_fault
+job_given-pieces name command ps (met, passes) are =
     let words = map text_in ps in
     let end : fold (walked whole.top.rules (names_of whole)) begun (command ∷ words) ≡ at_command command words =
     ap (λ (w : Walk). fold (walked whole.top.rules (names_of whole)) w words) met ∙ past whole.top.rules (names_of whole) command [] words in
     let faults : walk_fault whole.top (names_of whole) begun (command ∷ words) ≡ [] =
     ap₂ or_else passes (ap (λ (w : Walk). walk_fault whole.top (names_of whole) w words) met ∙ past_fault whole.top (names_of whole) command [] words) in
-    ap₂ (said_at name words) faults end
-    ∙ ap₂ (said_by [] (at_command command words)) (fault_of_found ps are (named command)) (rows_of_found ps are (named command))
+    ap₂ (given_at name words) faults end
+    ∙ ap₂ (given_by [] (at_command command words)) (fault_of_found ps are (named command)) (rows_of_found ps are (named command))
 
 -- the words after a command say a job where their pieces do
 pub by_pieces : (name command : Text) (ps : List Piece) (rest : List Text) (wanted : Wanted) → IsCommand command → ArePlain ps
-    → rest ≡ command ∷ map text_in ps → said command ps ≡ Some wanted → job_said (name ∷ rest) ≡ Some wanted
+    → rest ≡ command ∷ map text_in ps → job_of_pieces command ps ≡ Some wanted → job_given (name ∷ rest) ≡ Some wanted
 by_pieces name command ps rest wanted is_command are is says =
-    ap (λ (words : List Text). job_said (name ∷ words)) is ∙ job_said-pieces name command ps is_command are ∙ says
+    ap (λ (words : List Text). job_given (name ∷ words)) is ∙ job_given-pieces name command ps is_command are ∙ says

@@ -4,11 +4,11 @@ use Rattle.std.specs.Prelude.{Result, if◌then◌else◌, option_map}
 use Rattle.std.specs.Str.{bytes_eq}
 use Rattle.clap.specs.Words.{Text}
 use Rattle.clap.proofs.OnLiterals.{clap_on_literals}
-use Rattle.command_line.proofs.Pieces.{Piece, plain, other, text_in, ArePlain, IsCommand, said, pieces_fault, by_pieces}
-use Rattle.command_line.specs.CommandLines.{GivesJob, capacity_said, job_said, number_if_said, queue_kind_said, ring_said, ◌>>=◌}
+use Rattle.command_line.proofs.Pieces.{Piece, plain, other, text_in, ArePlain, IsCommand, job_of_pieces, pieces_fault, by_pieces}
+use Rattle.command_line.specs.CommandLines.{GivesJob, capacity_given, job_given, number_if_given, queue_kind_given, ring_given, ◌>>=◌}
 use Rattle.command_line.specs.Numbers.{number_within}
 use Rattle.command_line.specs.Spellings.{AsksByFlag, AsksFor, AsksForKind, AsksForNumber, AsksForParties, AsksForStride, IsOnFiles, IsSpelling, IsSpellingOf}
-use Rattle.command_line.specs.Spellings.{IsArgument, is_of_memory, is_svg, kind_name, name_of, text_of}
+use Rattle.command_line.specs.Spellings.{IsArgument, is_of_memory, is_svg, kind_name, name_of, capacity_text}
 use Rattle.command_line.specs.declared.job.QueueKind.{QueueKind}
 use Rattle.command_line.specs.declared.job.QueueKind.TheVariants as kind
 use Rattle.command_line.specs.declared.job.CalledQueue.{CalledQueue}
@@ -20,7 +20,7 @@ use Rattle.command_line.specs.declared.job.Capacity.{Capacity}
 use Rattle.command_line.specs.declared.job.Capacity.TheVariants.{One, Two, Four, Sixteen}
 use Rattle.command_line.specs.declared.job.Job.{Job}
 use Rattle.command_line.specs.declared.job.CodeCommand.TheVariants.{Asm, Dis}
-use Rattle.command_line.specs.declared.job.Command.TheVariants.{Code, Machine, Find, Threads, Own, Ring as OwnRing}
+use Rattle.command_line.specs.declared.job.Command.TheVariants.{Code, Machine, Find, Threads, UserChannel, Ring as UserRing}
 use Rattle.command_line.specs.declared.job.MachineCommand.{MachineCommand}
 use Rattle.command_line.specs.declared.job.MachineCommand.TheVariants.{Steps, Run, Replay, Move, Shrink, Chart, Show, Check, Debug, Try, Callers, Channel}
 use Rattle.poll_close.specs.declared.place.BlockPlace.{BlockPlace}
@@ -49,16 +49,16 @@ tail_of equals t = other (codes "--buffer=" ++ t) ∷ []
 -- what is said of the capacity
 abbrev capacity_at : Tail → Text → Option Capacity
 capacity_at none t = Some Four
-capacity_at blank t = capacity_said t
-capacity_at equals t = capacity_said t
+capacity_at blank t = capacity_given t
+capacity_at equals t = capacity_given t
 
-text_is_argument : (capacity : Capacity) → IsArgument (text_of capacity)
+text_is_argument : (capacity : Capacity) → IsArgument (capacity_text capacity)
 text_is_argument One = λ e. omega (arith, e)
 text_is_argument Two = λ e. omega (arith, e)
 text_is_argument Four = λ e. omega (arith, e)
 text_is_argument Sixteen = λ e. omega (arith, e)
 
-text_says : (capacity : Capacity) → capacity_said (text_of capacity) ≡ Some capacity
+text_says : (capacity : Capacity) → capacity_given (capacity_text capacity) ≡ Some capacity
 text_says One = refl
 text_says Two = refl
 text_says Four = refl
@@ -75,8 +75,8 @@ capacity_spelled : (capacity : Capacity) (options : List Text) → AsksFor capac
 capacity_spelled capacity options (inl default) =
     record { tail = none; text = []; is = default.0; says = ap (λ (c : Capacity). Some c) (sym default.1); are = tt }
 capacity_spelled capacity options (inr (inl is)) =
-    record { tail = blank; text = text_of capacity; is = is; says = text_says capacity; are = (text_is_argument capacity, tt) }
-capacity_spelled capacity options (inr (inr is)) = record { tail = equals; text = text_of capacity; is = is; says = text_says capacity; are = tt }
+    record { tail = blank; text = capacity_text capacity; is = is; says = text_says capacity; are = (text_is_argument capacity, tt) }
+capacity_spelled capacity options (inr (inr is)) = record { tail = equals; text = capacity_text capacity; is = is; says = text_says capacity; are = tt }
 
 abbrev machine_of : Option Capacity → Option MachineCommand → Option Command
 machine_of found command = command >>= (λ w. found >>= (λ capacity. Some (Machine w capacity)))
@@ -98,12 +98,12 @@ on_standard_of command = command >>= (λ wanted. Some (one_input wanted Standard
 -- what stands for an option, if it is given, before other pieces
 abbrev number_pieces : (option : Text) → Option Text → List Piece → List Piece
 number_pieces option None tail = tail
-number_pieces option (Some said) tail = other option ∷ plain said ∷ tail
+number_pieces option (Some asked) tail = other option ∷ plain asked ∷ tail
 
 -- the number's text, or the usual one's
 abbrev text_or : Text → Option Text → Text
 text_or usual None = usual
-text_or usual (Some said) = said
+text_or usual (Some asked) = asked
 
 -- how an option's words are pieces, where its text, if it is given, says what is wanted
 record OptionSpelled (option : Text) (words : List Text) (Says : Option Text → Type 0) : Type 0 where
@@ -120,10 +120,10 @@ left_out option words Says silent says = record {
   is = λ options tail same. ap₂ (λ (a b : List Text). a ++ b) silent same;
 }
 
-given : (option said : Text) (words : List Text) (Says : Option Text → Type 0) → words ≡ option ∷ said ∷ [] → IsArgument said → Says (Some said)
+given : (option asked : Text) (words : List Text) (Says : Option Text → Type 0) → words ≡ option ∷ asked ∷ [] → IsArgument asked → Says (Some asked)
     → OptionSpelled option words Says
-given option said words Says words_are word says = record {
-  text = Some said;
+given option asked words Says words_are word says = record {
+  text = Some asked;
   says = says;
   are = λ tail plains. (word, plains);
   is = λ options tail same. ap₂ (λ (a b : List Text). a ++ b) words_are same;
@@ -136,8 +136,8 @@ number_spelled : (option usual : Text) (default least most number : ℕ) (words 
     → AsksForNumber option default least most number words → NumberSpelled option usual least most number words
 number_spelled option usual default least most number words usually (inl silent) =
     left_out option words _ silent.0 (usually ∙ ap (λ (n : ℕ). Some n) (sym silent.1))
-number_spelled option usual default least most number words usually (inr (said, words_are, says)) =
-    given option said words _ words_are says.0 says.1
+number_spelled option usual default least most number words usually (inr (asked, words_are, says)) =
+    given option asked words _ words_are says.0 says.1
 
 -- ---- a flag
 
@@ -157,19 +157,19 @@ flag-texts flag true words options tail asks is = ap₂ (λ (a b : List Text). a
 
 -- ---- `asm`, `dis` and `steps`
 
-of_asm : (name : Text) → job_said (name ∷ codes "asm" ∷ []) ≡ Some (one_input (Code Asm) Standard)
-unfolding clap_on_literals job_said
+of_asm : (name : Text) → job_given (name ∷ codes "asm" ∷ []) ≡ Some (one_input (Code Asm) Standard)
+unfolding clap_on_literals job_given
 of_asm name = refl
 
-of_dis : (name : Text) → job_said (name ∷ codes "dis" ∷ []) ≡ Some (one_input (Code Dis) Standard)
-unfolding clap_on_literals job_said
+of_dis : (name : Text) → job_given (name ∷ codes "dis" ∷ []) ≡ Some (one_input (Code Dis) Standard)
+unfolding clap_on_literals job_given
 of_dis name = refl
 
 steps_is_command : IsCommand (codes "steps")
 unfolding clap_on_literals
 steps_is_command = (refl, refl)
 
-steps_read : (tail : Tail) (t : Text) → said (codes "steps") (tail_of tail t) ≡ on_standard_of (machine_of (capacity_at tail t) (Some Steps))
+steps_read : (tail : Tail) (t : Text) → job_of_pieces (codes "steps") (tail_of tail t) ≡ on_standard_of (machine_of (capacity_at tail t) (Some Steps))
 unfolding clap_on_literals pieces_fault
 steps_read none t = refl
 steps_read blank t = refl
@@ -211,7 +211,7 @@ on_files_is_command shrinking = (refl, refl)
 on_files_is_command debugging = (refl, refl)
 
 on_files_read : (command : OnFiles) (file schedule : Text) (tail : Tail) (t : Text)
-    → said (command_of command) (plain file ∷ plain schedule ∷ tail_of tail t)
+    → job_of_pieces (command_of command) (plain file ∷ plain schedule ∷ tail_of tail t)
     ≡ on_files_of file schedule (machine_of (capacity_at tail t) (Some (machine_command_of command)))
 unfolding clap_on_literals pieces_fault
 on_files_read running file schedule none t = refl
@@ -235,14 +235,14 @@ on_files_says : (command : MachineCommand) (file schedule : Text) (capacity : Ca
 on_files_says command file schedule capacity found a = rw a refl
 
 of_files : (name : Text) (rest : List Text) (command : OnFiles) (capacity : Capacity) (wanted : Wanted)
-    → IsOnFiles (command_of command) (machine_command_of command) capacity wanted rest → job_said (name ∷ rest) ≡ Some wanted
-of_files name rest command capacity wanted (file, schedule, options, is, f, s, asks, wants) =
+    → IsOnFiles (command_of command) (machine_command_of command) capacity wanted rest → job_given (name ∷ rest) ≡ Some wanted
+of_files name rest command capacity wanted (file, schedule, options, is, f, s, asks, needs) =
     let to = capacity_spelled capacity options asks in
     by_pieces name (command_of command) (plain file ∷ plain schedule ∷ tail_of to.tail to.text) rest wanted (on_files_is_command command) (f, (s, to.are))
     (is ∙ ap (λ (o : List Text). command_of command ∷ file ∷ schedule ∷ o) to.is)
     (on_files_read command file schedule to.tail to.text
     ∙ on_files_says (machine_command_of command) file schedule capacity _ to.says
-    ∙ ap (λ (w : Wanted). Some w) (sym wants))
+    ∙ ap (λ (w : Wanted). Some w) (sym needs))
 
 -- ---- `chart`
 
@@ -255,7 +255,7 @@ chart_pieces file schedule drawn selection tail =
     plain file ∷ plain schedule ∷ flag_pieces (codes "--svg") (is_svg drawn) (flag_pieces (codes "--memory") (is_of_memory selection) tail)
 
 chart_read : (file schedule : Text) (drawn : Style) (selection : Selection) (tail : Tail) (t : Text)
-    → said (codes "chart") (chart_pieces file schedule drawn selection (tail_of tail t))
+    → job_of_pieces (codes "chart") (chart_pieces file schedule drawn selection (tail_of tail t))
     ≡ on_files_of file schedule (machine_of (capacity_at tail t) (Some (Chart drawn selection)))
 unfolding clap_on_literals pieces_fault
 chart_read file schedule style.Text EveryRow none t = refl
@@ -278,7 +278,7 @@ unfolding clap_on_literals
 show_is_command = (refl, refl)
 
 show_read : (file : Text) (steps : Bool) (tail : Tail) (t : Text)
-    → said (codes "show") (plain file ∷ flag_pieces (codes "--steps") steps (tail_of tail t))
+    → job_of_pieces (codes "show") (plain file ∷ flag_pieces (codes "--steps") steps (tail_of tail t))
     ≡ on_file_of file (machine_of (capacity_at tail t) (Some (Show steps)))
 unfolding clap_on_literals pieces_fault
 show_read file false none t = refl
@@ -298,7 +298,7 @@ check_is_command = (refl, refl)
 
 -- `check` reads standard input after its file, as `channel` does
 check_read : (file : Text) (tail : Tail) (t : Text)
-    → said (codes "check") (plain file ∷ tail_of tail t) ≡ on_schedule_of file (machine_of (capacity_at tail t) (Some Check))
+    → job_of_pieces (codes "check") (plain file ∷ tail_of tail t) ≡ on_schedule_of file (machine_of (capacity_at tail t) (Some Check))
 unfolding clap_on_literals pieces_fault
 check_read file none t = refl
 check_read file blank t = refl
@@ -344,7 +344,7 @@ tried_says : (file s n l k j : Text) (seed : ℕ) (runs : Runs) (capacity : Capa
 tried_says file s n l k j seed runs capacity found a b c = rw (a, b, c) refl
 
 try_read : (file s n l : Text) (skip jobs : Option Text) (tail : Tail) (t : Text)
-    → said (codes "try") (try_pieces file s n l (number_pieces (codes "--skip") skip (number_pieces (codes "--jobs") jobs (tail_of tail t))))
+    → job_of_pieces (codes "try") (try_pieces file s n l (number_pieces (codes "--skip") skip (number_pieces (codes "--jobs") jobs (tail_of tail t))))
     ≡ tried file s n l (text_or (codes "0") skip) (text_or (codes "1") jobs) (capacity_at tail t)
 unfolding clap_on_literals pieces_fault
 try_read file s n l None None none t = refl
@@ -382,7 +382,7 @@ kind_is_argument Lamport = λ e. omega (arith, e)
 kind_is_argument FastForward = λ e. omega (arith, e)
 kind_is_argument LamportCached = λ e. omega (arith, e)
 
-kind_says : (ring : Ring) → ring_said (name_of ring) ≡ Some ring
+kind_says : (ring : Ring) → ring_given (name_of ring) ≡ Some ring
 kind_says Lamport = refl
 kind_says FastForward = refl
 kind_says LamportCached = refl
@@ -391,11 +391,11 @@ abbrev placed_by : (number base : Text) (stride : Option Text) → Option BlockP
 placed_by number base stride = do
   slots ← number_within 0 4294967295 number
   start ← number_within 0 4294967295 base
-  apart ← number_if_said stride
+  apart ← number_if_given stride
   Some (record { slots = slots; base = start; stride = apart })
 
 placed_says : (number base : Text) (stride : Option Text) (place : BlockPlace) → number_within 0 4294967295 number ≡ Some place.slots
-    → number_within 0 4294967295 base ≡ Some place.base → number_if_said stride ≡ Some place.stride → placed_by number base stride ≡ Some place
+    → number_within 0 4294967295 base ≡ Some place.base → number_if_given stride ≡ Some place.stride → placed_by number base stride ≡ Some place
 placed_says number base stride place a b c = rw (a, b, c) refl
 
 kind_not_own : (ring : Ring) → bytes_eq (name_of ring) (codes "own") ≡ false
@@ -406,7 +406,7 @@ kind_not_own LamportCached = refl
 abbrev carried : (kind number schedule base : Text) (stride : Option Text) (finish : Bool) → Option Capacity → Option Wanted
 carried kind number schedule base stride finish found =
     if bytes_eq kind (codes "own") then None else on_schedule_of schedule (machine_of found (do
-      ring ← ring_said kind
+      ring ← ring_given kind
       place ← placed_by number base stride
       Some (Channel ring place finish)))
 
@@ -420,7 +420,7 @@ abbrev place_pieces : (base stride : Option Text) → List Piece → List Piece
 place_pieces base stride tail = number_pieces (codes "--base") base (number_pieces (codes "--stride") stride tail)
 
 channel_read : (kind number schedule : Text) (base stride : Option Text) (finish : Bool) (tail : Tail) (t : Text)
-    → said (codes "channel") (channel_pieces kind number schedule (place_pieces base stride (flag_pieces (codes "--finish") finish (tail_of tail t))))
+    → job_of_pieces (codes "channel") (channel_pieces kind number schedule (place_pieces base stride (flag_pieces (codes "--finish") finish (tail_of tail t))))
     ≡ carried kind number schedule (text_or (codes "0") base) stride finish (capacity_at tail t)
 unfolding clap_on_literals pieces_fault
 channel_read kind number schedule None None false none t = refl
@@ -453,12 +453,12 @@ unfolding number_within
 no_base = refl
 
 abbrev StrideSpelled : (stride : Option ℕ) (words : List Text) → Type 0
-StrideSpelled stride words = OptionSpelled (codes "--stride") words (λ text. number_if_said text ≡ Some stride)
+StrideSpelled stride words = OptionSpelled (codes "--stride") words (λ text. number_if_given text ≡ Some stride)
 
 stride_spelled : (stride : Option ℕ) (words : List Text) → AsksForStride stride words → StrideSpelled stride words
 stride_spelled None words silent = left_out (codes "--stride") words _ silent refl
-stride_spelled (Some stride) words (said, words_are, says) =
-    given (codes "--stride") said words _ words_are says.0 (ap (λ (found : Option ℕ). option_map (λ (n : ℕ). Some n) found) says.1)
+stride_spelled (Some stride) words (asked, words_are, says) =
+    given (codes "--stride") asked words _ words_are says.0 (ap (λ (found : Option ℕ). option_map (λ (n : ℕ). Some n) found) says.1)
 
 -- ---- `find`
 
@@ -477,7 +477,7 @@ searched_says : (file : Text) (states : ℕ) (capacity : Capacity) (count : Opti
 searched_says file states capacity count found a b = rw (a, b) refl
 
 find_read : (file : Text) (states : Option Text) (tail : Tail) (t : Text)
-    → said (codes "find") (plain file ∷ number_pieces (codes "--states") states (tail_of tail t))
+    → job_of_pieces (codes "find") (plain file ∷ number_pieces (codes "--states") states (tail_of tail t))
     ≡ searched file (number_within 1 16777216 (text_or (codes "1000000") states)) (capacity_at tail t)
 unfolding clap_on_literals pieces_fault
 find_read file None none t = refl
@@ -508,7 +508,7 @@ threaded_says : (file : Text) (turns : ℕ) (capacity : Capacity) (count : Optio
 threaded_says file turns capacity count found a b = rw (a, b) refl
 
 threads_read : (file : Text) (turns : Option Text) (tail : Tail) (t : Text)
-    → said (codes "threads") (plain file ∷ number_pieces (codes "--turns") turns (tail_of tail t))
+    → job_of_pieces (codes "threads") (plain file ∷ number_pieces (codes "--turns") turns (tail_of tail t))
     ≡ threaded file (number_within 0 10000000 (text_or (codes "100000") turns)) (capacity_at tail t)
 unfolding clap_on_literals pieces_fault
 threads_read file None none t = refl
@@ -532,16 +532,16 @@ abbrev own_run : (sender receiver number schedule base : Text) (stride : Option 
 own_run sender receiver number schedule base stride found = (do
   place ← placed_by number base stride
   capacity ← found
-  Some (Own place capacity)) >>= (λ command. Some (four_inputs command (File sender) (File receiver) (File schedule) Standard))
+  Some (UserChannel place capacity)) >>= (λ command. Some (four_inputs command (File sender) (File receiver) (File schedule) Standard))
 
 own_says : (sender receiver number schedule base : Text) (stride : Option Text) (place : BlockPlace) (capacity : Capacity) (found : Option Capacity)
     → placed_by number base stride ≡ Some place → found ≡ Some capacity
     → own_run sender receiver number schedule base stride found
-    ≡ Some (four_inputs (Own place capacity) (File sender) (File receiver) (File schedule) Standard)
+    ≡ Some (four_inputs (UserChannel place capacity) (File sender) (File receiver) (File schedule) Standard)
 own_says sender receiver number schedule base stride place capacity found a b = rw (a, b) refl
 
 own_read : (sender receiver number schedule : Text) (base stride : Option Text) (tail : Tail) (t : Text)
-    → said (codes "channel") (own_pieces sender receiver number schedule (place_pieces base stride (tail_of tail t)))
+    → job_of_pieces (codes "channel") (own_pieces sender receiver number schedule (place_pieces base stride (tail_of tail t)))
     ≡ own_run sender receiver number schedule (text_or (codes "0") base) stride (capacity_at tail t)
 unfolding clap_on_literals pieces_fault
 own_read sender receiver number schedule None None none t = refl
@@ -580,18 +580,18 @@ ringed sender receiver number s n l k j base stride found = on_programs_of sende
   runs ← drawn_by k n l j
   place ← placed_by number base stride
   capacity ← found
-  Some (OwnRing seed runs place capacity))
+  Some (UserRing seed runs place capacity))
 
 ringed_says : (sender receiver number s n l k j base : Text) (stride : Option Text) (seed : ℕ) (runs : Runs) (place : BlockPlace)
     (capacity : Capacity) (found : Option Capacity)
     → number_within 0 18446744073709551615 s ≡ Some seed → drawn_by k n l j ≡ Some runs → placed_by number base stride ≡ Some place
     → found ≡ Some capacity
     → ringed sender receiver number s n l k j base stride found
-    ≡ Some (three_inputs (OwnRing seed runs place capacity) (File sender) (File receiver) Standard)
+    ≡ Some (three_inputs (UserRing seed runs place capacity) (File sender) (File receiver) Standard)
 ringed_says sender receiver number s n l k j base stride seed runs place capacity found a b c d = rw (a, b, c, d) refl
 
 ring_read : (sender receiver number s n l : Text) (skip jobs base stride : Option Text) (tail : Tail) (t : Text)
-    → said (codes "ring") (ring_pieces sender receiver number s n l (drawing_pieces skip jobs (place_pieces base stride (tail_of tail t))))
+    → job_of_pieces (codes "ring") (ring_pieces sender receiver number s n l (drawing_pieces skip jobs (place_pieces base stride (tail_of tail t))))
     ≡ ringed sender receiver number s n l (text_or (codes "0") skip) (text_or (codes "1") jobs) (text_or (codes "0") base) stride (capacity_at tail t)
 unfolding clap_on_literals pieces_fault
 ring_read sender receiver number s n l None None None None none t = refl
@@ -698,12 +698,12 @@ name_is_argument : (of_kind : QueueKind) → IsArgument (kind_name of_kind)
 name_is_argument kind.Lamport = λ e. omega (arith, e)
 name_is_argument kind.FastForward = λ e. omega (arith, e)
 
-name_says : (of_kind : QueueKind) → queue_kind_said (kind_name of_kind) ≡ Some of_kind
+name_says : (of_kind : QueueKind) → queue_kind_given (kind_name of_kind) ≡ Some of_kind
 name_says kind.Lamport = refl
 name_says kind.FastForward = refl
 
 abbrev KindSpelled : QueueKind → List Text → Type 0
-KindSpelled of_kind words = OptionSpelled (codes "--kind") words (λ text. queue_kind_said (text_or (codes "lamport") text) ≡ Some of_kind)
+KindSpelled of_kind words = OptionSpelled (codes "--kind") words (λ text. queue_kind_given (text_or (codes "lamport") text) ≡ Some of_kind)
 
 kind_spelled : (of_kind : QueueKind) (words : List Text) → AsksForKind of_kind words → KindSpelled of_kind words
 kind_spelled of_kind words (inl silent) =
@@ -713,14 +713,14 @@ kind_spelled of_kind words (inr words_are) =
 
 abbrev queue_by : (q base number sender receiver : Text) → Option CalledQueue
 queue_by q base number sender receiver = do
-  of_kind ← queue_kind_said q
+  of_kind ← queue_kind_given q
   from ← number_within 0 4294967295 base
   slots ← number_within 0 4294967295 number
   sends ← number_within 0 63 sender
   receives ← number_within 0 63 receiver
   Some (record { kind = of_kind; base = from; slots = slots; sender = sends; receiver = receives })
 
-queue_says : (q base number sender receiver : Text) (queue : CalledQueue) → queue_kind_said q ≡ Some queue.kind
+queue_says : (q base number sender receiver : Text) (queue : CalledQueue) → queue_kind_given q ≡ Some queue.kind
     → number_within 0 4294967295 base ≡ Some queue.base → number_within 0 4294967295 number ≡ Some queue.slots
     → number_within 0 63 sender ≡ Some queue.sender → number_within 0 63 receiver ≡ Some queue.receiver
     → queue_by q base number sender receiver ≡ Some queue
@@ -748,7 +748,7 @@ asking_pieces base q parties skip jobs tail =
     number_pieces (codes "--base") base (number_pieces (codes "--kind") q (parties_pieces parties (drawing_pieces skip jobs tail)))
 
 callers_read : (file number s n l : Text) (base q : Option Text) (parties : Option (Text × Text)) (skip jobs : Option Text) (tail : Tail) (t : Text)
-    → said (codes "callers") (callers_pieces file number s n l (asking_pieces base q parties skip jobs (tail_of tail t)))
+    → job_of_pieces (codes "callers") (callers_pieces file number s n l (asking_pieces base q parties skip jobs (tail_of tail t)))
     ≡ called file s n l (text_or (codes "0") skip) (text_or (codes "1") jobs)
     (queue_by (text_or (codes "lamport") q) (text_or (codes "0") base) number (sender_or parties) (receiver_or parties)) (capacity_at tail t)
 unfolding clap_on_literals pieces_fault
@@ -851,20 +851,20 @@ callers_read file number s n l (Some b) (Some q) (Some (h, g)) (Some k) (Some j)
 
 -- ---- each command
 
-spelled_of : (name : Text) (rest : List Text) (command : Command) (wanted : Wanted) → IsSpellingOf command wanted rest → job_said (name ∷ rest) ≡ Some wanted
-spelled_of name rest (Code Asm) wanted (is, wants) =
-    ap (λ (words : List Text). job_said (name ∷ words)) is ∙ of_asm name ∙ ap (λ (w : Wanted). Some w) (sym wants)
-spelled_of name rest (Code Dis) wanted (is, wants) =
-    ap (λ (words : List Text). job_said (name ∷ words)) is ∙ of_dis name ∙ ap (λ (w : Wanted). Some w) (sym wants)
-spelled_of name rest (Machine Steps capacity) wanted (options, is, asks, wants) =
+spelled_of : (name : Text) (rest : List Text) (command : Command) (wanted : Wanted) → IsSpellingOf command wanted rest → job_given (name ∷ rest) ≡ Some wanted
+spelled_of name rest (Code Asm) wanted (is, needs) =
+    ap (λ (words : List Text). job_given (name ∷ words)) is ∙ of_asm name ∙ ap (λ (w : Wanted). Some w) (sym needs)
+spelled_of name rest (Code Dis) wanted (is, needs) =
+    ap (λ (words : List Text). job_given (name ∷ words)) is ∙ of_dis name ∙ ap (λ (w : Wanted). Some w) (sym needs)
+spelled_of name rest (Machine Steps capacity) wanted (options, is, asks, needs) =
     let to = capacity_spelled capacity options asks in
     by_pieces name (codes "steps") (tail_of to.tail to.text) rest wanted steps_is_command to.are (is ∙ ap (λ (o : List Text). codes "steps" ∷ o) to.is)
-    (steps_read to.tail to.text ∙ steps_says capacity _ to.says ∙ ap (λ (w : Wanted). Some w) (sym wants))
+    (steps_read to.tail to.text ∙ steps_says capacity _ to.says ∙ ap (λ (w : Wanted). Some w) (sym needs))
 spelled_of name rest (Machine Run capacity) wanted spelling = of_files name rest running capacity wanted spelling
 spelled_of name rest (Machine Replay capacity) wanted spelling = of_files name rest replaying capacity wanted spelling
 spelled_of name rest (Machine Move capacity) wanted spelling = of_files name rest moving capacity wanted spelling
 spelled_of name rest (Machine Shrink capacity) wanted spelling = of_files name rest shrinking capacity wanted spelling
-spelled_of name rest (Machine (Chart drawn selection) capacity) wanted (file, schedule, first, second, options, is, f, s, draws, chooses, asks, wants) =
+spelled_of name rest (Machine (Chart drawn selection) capacity) wanted (file, schedule, first, second, options, is, f, s, draws, chooses, asks, needs) =
     let to = capacity_spelled capacity options asks in
     let end = tail_of to.tail to.text in
     let following = flag_pieces (codes "--memory") (is_of_memory selection) end in
@@ -874,22 +874,22 @@ spelled_of name rest (Machine (Chart drawn selection) capacity) wanted (file, sc
     (flag-texts (codes "--svg") (is_svg drawn) first (second ++ options) following draws
     (flag-texts (codes "--memory") (is_of_memory selection) second options end chooses to.is)))
     (chart_read file schedule drawn selection to.tail to.text
-    ∙ on_files_says (Chart drawn selection) file schedule capacity _ to.says ∙ ap (λ (w : Wanted). Some w) (sym wants))
-spelled_of name rest (Machine (Show steps) capacity) wanted (file, first, options, is, f, tells, asks, wants) =
+    ∙ on_files_says (Chart drawn selection) file schedule capacity _ to.says ∙ ap (λ (w : Wanted). Some w) (sym needs))
+spelled_of name rest (Machine (Show steps) capacity) wanted (file, first, options, is, f, tells, asks, needs) =
     let to = capacity_spelled capacity options asks in
     let end = tail_of to.tail to.text in
     by_pieces name (codes "show") (plain file ∷ flag_pieces (codes "--steps") steps end) rest wanted show_is_command
     (f, flag-plain (codes "--steps") steps end to.are)
     (is ∙ ap (λ (o : List Text). codes "show" ∷ file ∷ o) (flag-texts (codes "--steps") steps first options end tells to.is))
-    (show_read file steps to.tail to.text ∙ show_says steps file capacity _ to.says ∙ ap (λ (w : Wanted). Some w) (sym wants))
-spelled_of name rest (Machine Check capacity) wanted (file, options, is, f, asks, wants) =
+    (show_read file steps to.tail to.text ∙ show_says steps file capacity _ to.says ∙ ap (λ (w : Wanted). Some w) (sym needs))
+spelled_of name rest (Machine Check capacity) wanted (file, options, is, f, asks, needs) =
     let to = capacity_spelled capacity options asks in
     by_pieces name (codes "check") (plain file ∷ tail_of to.tail to.text) rest wanted check_is_command (f, to.are)
     (is ∙ ap (λ (o : List Text). codes "check" ∷ file ∷ o) to.is)
-    (check_read file to.tail to.text ∙ check_says file capacity _ to.says ∙ ap (λ (w : Wanted). Some w) (sym wants))
+    (check_read file to.tail to.text ∙ check_says file capacity _ to.says ∙ ap (λ (w : Wanted). Some w) (sym needs))
 spelled_of name rest (Machine Debug capacity) wanted spelling = of_files name rest debugging capacity wanted spelling
 spelled_of name rest (Machine (Try seed runs) capacity) wanted
-    (file, s, n, l, first, second, options, is, f, seed_is, runs_are, events_are, skips, jobs_are, asks, wants) =
+    (file, s, n, l, first, second, options, is, f, seed_is, runs_are, events_are, skips, jobs_are, asks, needs) =
     let to = capacity_spelled capacity options asks in
     let jobs = number_spelled (codes "--jobs") (codes "1") 1 1 64 runs.jobs second one_job jobs_are in
     let skip = number_spelled (codes "--skip") (codes "0") 0 0 18446744073709551615 runs.skip first no_skip skips in
@@ -901,7 +901,7 @@ spelled_of name rest (Machine (Try seed runs) capacity) wanted
     (skip.is (second ++ options) with_jobs (jobs.is options end to.is)))
     (try_read file s n l skip.text jobs.text to.tail to.text
     ∙ tried_says file s n l _ _ seed runs capacity _ seed_is.1 (drawn_says _ n l _ runs skip.says runs_are.1 events_are.1 jobs.says) to.says
-    ∙ ap (λ (w : Wanted). Some w) (sym wants))
+    ∙ ap (λ (w : Wanted). Some w) (sym needs))
 spelled_of name rest (Machine (Callers seed runs queue) capacity) wanted (
   file,
   number,
@@ -926,7 +926,7 @@ spelled_of name rest (Machine (Callers seed runs queue) capacity) wanted (
   skips,
   jobs_are,
   asks,
-  wants,
+  needs,
 ) =
     let to = capacity_spelled capacity options asks in
     let jobs = number_spelled (codes "--jobs") (codes "1") 1 1 64 runs.jobs fifth one_job jobs_are in
@@ -964,9 +964,9 @@ spelled_of name rest (Machine (Callers seed runs queue) capacity) wanted (
     (drawn_says (text_or (codes "0") skip.text) n l (text_or (codes "1") jobs.text) runs skip.says runs_are.1 events_are.1 jobs.says)
     (queue_says (text_or (codes "lamport") q.text) (text_or (codes "0") base.text) number (sender_or parties.texts) (receiver_or parties.texts) queue
     q.says base.says slots_are.1 parties.sends parties.receives) to.says
-    ∙ ap (λ (w : Wanted). Some w) (sym wants))
+    ∙ ap (λ (w : Wanted). Some w) (sym needs))
 spelled_of name rest (Machine (Channel ring place finish) capacity) wanted
-    (number, schedule, first, second, third, options, is, slots_are, s, base_is, stride_is, finishes, asks, wants) =
+    (number, schedule, first, second, third, options, is, slots_are, s, base_is, stride_is, finishes, asks, needs) =
     let to = capacity_spelled capacity options asks in
     let end = tail_of to.tail to.text in
     let base = number_spelled (codes "--base") (codes "0") 0 0 4294967295 place.base first no_base base_is in
@@ -981,23 +981,23 @@ spelled_of name rest (Machine (Channel ring place finish) capacity) wanted
     (flag-texts (codes "--finish") finish third options end finishes to.is))))
     (channel_read (name_of ring) number schedule base.text stride.text finish to.tail to.text
     ∙ carried_says ring place number schedule _ _ finish capacity _ (placed_says number _ _ place slots_are.1 base.says stride.says) to.says
-    ∙ ap (λ (w : Wanted). Some w) (sym wants))
-spelled_of name rest (Find states capacity) wanted (file, first, options, is, f, states_are, asks, wants) =
+    ∙ ap (λ (w : Wanted). Some w) (sym needs))
+spelled_of name rest (Find states capacity) wanted (file, first, options, is, f, states_are, asks, needs) =
     let to = capacity_spelled capacity options asks in
     let number = number_spelled (codes "--states") (codes "1000000") 1000000 1 16777216 states first most_states states_are in
     let end = tail_of to.tail to.text in
     by_pieces name (codes "find") (plain file ∷ number_pieces (codes "--states") number.text end) rest wanted find_is_command (f, number.are end to.are)
     (is ∙ ap (λ (o : List Text). codes "find" ∷ file ∷ o) (number.is options end to.is))
-    (find_read file number.text to.tail to.text ∙ searched_says file states capacity _ _ number.says to.says ∙ ap (λ (w : Wanted). Some w) (sym wants))
-spelled_of name rest (Threads turns capacity) wanted (file, first, options, is, f, turns_are, asks, wants) =
+    (find_read file number.text to.tail to.text ∙ searched_says file states capacity _ _ number.says to.says ∙ ap (λ (w : Wanted). Some w) (sym needs))
+spelled_of name rest (Threads turns capacity) wanted (file, first, options, is, f, turns_are, asks, needs) =
     let to = capacity_spelled capacity options asks in
     let number = number_spelled (codes "--turns") (codes "100000") 100000 0 10000000 turns first most_turns turns_are in
     let end = tail_of to.tail to.text in
     by_pieces name (codes "threads") (plain file ∷ number_pieces (codes "--turns") number.text end) rest wanted threads_is_command (f, number.are end to.are)
     (is ∙ ap (λ (o : List Text). codes "threads" ∷ file ∷ o) (number.is options end to.is))
-    (threads_read file number.text to.tail to.text ∙ threaded_says file turns capacity _ _ number.says to.says ∙ ap (λ (w : Wanted). Some w) (sym wants))
-spelled_of name rest (Own place capacity) wanted
-    (sender, receiver, number, schedule, first, second, options, is, slots_are, s, from, to_it, base_is, stride_is, asks, wants) =
+    (threads_read file number.text to.tail to.text ∙ threaded_says file turns capacity _ _ number.says to.says ∙ ap (λ (w : Wanted). Some w) (sym needs))
+spelled_of name rest (UserChannel place capacity) wanted
+    (sender, receiver, number, schedule, first, second, options, is, slots_are, s, from, to_it, base_is, stride_is, asks, needs) =
     let to = capacity_spelled capacity options asks in
     let base = number_spelled (codes "--base") (codes "0") 0 0 4294967295 place.base first no_base base_is in
     let stride = stride_spelled place.stride second stride_is in
@@ -1009,8 +1009,8 @@ spelled_of name rest (Own place capacity) wanted
     (base.is (second ++ options) with_stride (stride.is options end to.is)))
     (own_read sender receiver number schedule base.text stride.text to.tail to.text
     ∙ own_says sender receiver number schedule _ _ place capacity _ (placed_says number _ _ place slots_are.1 base.says stride.says) to.says
-    ∙ ap (λ (w : Wanted). Some w) (sym wants))
-spelled_of name rest (OwnRing seed runs place capacity) wanted (
+    ∙ ap (λ (w : Wanted). Some w) (sym needs))
+spelled_of name rest (UserRing seed runs place capacity) wanted (
   sender,
   receiver,
   number,
@@ -1034,7 +1034,7 @@ spelled_of name rest (OwnRing seed runs place capacity) wanted (
   base_is,
   stride_is,
   asks,
-  wants,
+  needs,
 ) =
     let to = capacity_spelled capacity options asks in
     let stride = stride_spelled place.stride fourth stride_is in
@@ -1071,14 +1071,14 @@ spelled_of name rest (OwnRing seed runs place capacity) wanted (
     (ring_read sender receiver number s n l skip.text jobs.text base.text stride.text to.tail to.text
     ∙ ringed_says sender receiver number s n l _ _ _ _ seed runs place capacity _ seed_is.1
     (drawn_says _ n l _ runs skip.says runs_are.1 events_are.1 jobs.says)
-    (placed_says number _ _ place slots_are.1 base.says stride.says) to.says ∙ ap (λ (w : Wanted). Some w) (sym wants))
+    (placed_says number _ _ place slots_are.1 base.says stride.says) to.says ∙ ap (λ (w : Wanted). Some w) (sym needs))
 
-pub job_said-spelling : (name : Text) (rest : List Text) (wanted : Wanted) → IsSpelling wanted rest
-    → job_said (name ∷ rest) ≡ Some wanted
-job_said-spelling name rest wanted spelling = spelled_of name rest wanted.command wanted spelling
+pub job_given-spelling : (name : Text) (rest : List Text) (wanted : Wanted) → IsSpelling wanted rest
+    → job_given (name ∷ rest) ≡ Some wanted
+job_given-spelling name rest wanted spelling = spelled_of name rest wanted.command wanted spelling
 
 -- so that job is given
-pub gives_spelled : (words : List Text) (r : Result Job CommandLineError) → GivesJob (job_said words) r
+pub gives_spelled : (words : List Text) (r : Result Job CommandLineError) → GivesJob (job_given words) r
     → (name : Text) (rest : List Text) (wanted : Wanted) → words ≡ name ∷ rest → IsSpelling wanted rest → GivesJob (Some wanted) r
 gives_spelled words r gives name rest wanted split spelling =
-    rw (← job_said-spelling name rest wanted spelling, ← split) gives
+    rw (← job_given-spelling name rest wanted spelling, ← split) gives

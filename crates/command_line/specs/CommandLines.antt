@@ -16,7 +16,7 @@ use Rattle.command_line.specs.declared.job.QueueKind.TheVariants as kind
 use Rattle.command_line.specs.declared.job.CalledQueue.{CalledQueue}
 use Rattle.command_line.specs.declared.job.CodeCommand.TheVariants.{Asm, Dis}
 use Rattle.command_line.specs.declared.job.Command.{Command}
-use Rattle.command_line.specs.declared.job.Command.TheVariants.{Code, Machine, Find, Threads, Own, Ring as OwnRing}
+use Rattle.command_line.specs.declared.job.Command.TheVariants.{Code, Machine, Find, Threads, UserChannel, Ring as UserRing}
 use Rattle.jumping.specs.declared.Runs.{Runs}
 use Rattle.poll_close.specs.declared.place.BlockPlace.{BlockPlace}
 use Rattle.command_line.specs.declared.job.MachineCommand.{MachineCommand}
@@ -34,8 +34,8 @@ infixl 10 ◌>>=◌
 abbrev pub ◌>>=◌ : {A B : Type 0} → Option A → (A → Option B) → Option B
 found >>= f = option_and_then f found
 
-abbrev pub capacity_said : Text → Option Capacity
-capacity_said text =
+abbrev pub capacity_given : Text → Option Capacity
+capacity_given text =
     if bytes_eq text (codes "1") then Some One
     else (if bytes_eq text (codes "2") then Some Two
     else (if bytes_eq text (codes "4") then Some Four
@@ -65,15 +65,15 @@ try_in options = do
   runs ← runs_in options
   Some (Try seed runs)
 
-abbrev pub queue_kind_said : Text → Option QueueKind
-queue_kind_said text =
+abbrev pub queue_kind_given : Text → Option QueueKind
+queue_kind_given text =
     if bytes_eq text (codes "lamport") then Some kind.Lamport else (if bytes_eq text (codes "fastforward") then Some kind.FastForward else None)
 
 -- the queue whose functions code calls
 abbrev pub queue_in : List Row → Option CalledQueue
 queue_in options = do
   kind_text ← first_of (codes "kind") options
-  of_kind ← queue_kind_said kind_text
+  of_kind ← queue_kind_given kind_text
   base_text ← first_of (codes "base") options
   base ← number_within 0 4294967295 base_text
   slots_text ← first_of (codes "slots") options
@@ -92,38 +92,38 @@ callers_in options = do
   queue ← queue_in options
   Some (Callers seed runs queue)
 
-abbrev pub ring_said : Text → Option Ring
-ring_said text =
+abbrev pub ring_given : Text → Option Ring
+ring_given text =
     if bytes_eq text (codes "lamport") then Some Lamport
     else (if bytes_eq text (codes "fastforward") then Some FastForward else (if bytes_eq text (codes "cached") then Some LamportCached else None))
 
 -- whether a flag with this value is given
-abbrev pub flag_said : Text → Bool
-flag_said text = bytes_eq text (codes "true")
+abbrev pub flag_given : Text → Bool
+flag_given text = bytes_eq text (codes "true")
 
 -- a number of 32 bits, if one is said; none where that is no such number
-abbrev pub number_if_said : Option Text → Option (Option ℕ)
-number_if_said None = Some None
-number_if_said (Some text) = option_map (λ (number : ℕ). Some number) (number_within 0 4294967295 text)
+abbrev pub number_if_given : Option Text → Option (Option ℕ)
+number_if_given None = Some None
+number_if_given (Some text) = option_map (λ (number : ℕ). Some number) (number_within 0 4294967295 text)
 
 -- how `chart` draws, by its flag
-abbrev pub style_said : Text → Style
-style_said text = if flag_said text then Svg else style.Text
+abbrev pub style_given : Text → Style
+style_given text = if flag_given text then Svg else style.Text
 
 -- which rows it draws, by its flag
-abbrev pub selection_said : Text → Selection
-selection_said text = if flag_said text then MemoryRows else EveryRow
+abbrev pub selection_given : Text → Selection
+selection_given text = if flag_given text then MemoryRows else EveryRow
 
 abbrev pub chart_in : List Row → Option MachineCommand
 chart_in options = do
   svg ← first_of (codes "svg") options
   memory ← first_of (codes "memory") options
-  Some (Chart (style_said svg) (selection_said memory))
+  Some (Chart (style_given svg) (selection_given memory))
 
 abbrev pub show_in : List Row → Option MachineCommand
 show_in options = do
   steps ← first_of (codes "steps") options
-  Some (Show (flag_said steps))
+  Some (Show (flag_given steps))
 
 -- where a channel's blocks lie
 abbrev pub place_in : List Row → Option BlockPlace
@@ -132,21 +132,21 @@ place_in options = do
   slots ← number_within 0 4294967295 slots_text
   base_text ← first_of (codes "base") options
   base ← number_within 0 4294967295 base_text
-  stride ← number_if_said (first_of (codes "stride") options)
+  stride ← number_if_given (first_of (codes "stride") options)
   Some (record { slots = slots; base = base; stride = stride })
 
 -- the ring of `channel`, from its words, its place, and whether it is to be finished
 abbrev pub channel_in : List Row → Option MachineCommand
 channel_in options = do
   kind ← first_of (codes "kind") options
-  ring ← ring_said kind
+  ring ← ring_given kind
   place ← place_in options
   finish ← first_of (codes "finish") options
-  Some (Channel ring place (flag_said finish))
+  Some (Channel ring place (flag_given finish))
 
 -- the capacity that the options ask for
 abbrev pub capacity_in : List Row → Option Capacity
-capacity_in options = first_of (codes "buffer") options >>= capacity_said
+capacity_in options = first_of (codes "buffer") options >>= capacity_given
 
 -- this command on a machine of this capacity
 abbrev pub machine_in : List Row → Option MachineCommand → Option Command
@@ -178,16 +178,16 @@ ring_in options = do
   runs ← runs_in options
   place ← place_in options
   capacity ← capacity_in options
-  Some (OwnRing seed runs place capacity)
+  Some (UserRing seed runs place capacity)
 
 -- the channel of a user's programs, from its words and its place; it isn't finished by a plan
 abbrev pub own_in : List Row → Option Command
 own_in options = do
   place ← place_in options
   finish ← first_of (codes "finish") options
-  if flag_said finish then None else (do
+  if flag_given finish then None else (do
     capacity ← capacity_in options
-    Some (Own place capacity))
+    Some (UserChannel place capacity))
 
 -- the file that a word names
 abbrev pub file_in : (id : Text) → List Row → Option Input
@@ -232,7 +232,7 @@ on_programs_and_standard options found = do
 -- what is found, where this option is left out
 abbrev pub where_left_out : {A : Type 0} → Option Text → Option A → Option A
 where_left_out None found = found
-where_left_out (Some said) found = None
+where_left_out (Some asked) found = None
 
 -- `channel own`, on the files `sender`, `receiver` and `schedule`, and then on standard input
 abbrev pub on_own_channel : List Row → Option Wanted
@@ -287,10 +287,10 @@ job_without [] found = option_and_then job_at found
 job_without (kind ∷ kinds) found = None
 
 -- what the words ask for, the first of which is the program's name
-unfoldable pub job_said : List Text → Option Wanted
-job_said words = job_without (fault_of ztso_command words) (subcommand_of ztso_command words)
+unfoldable pub job_given : List Text → Option Wanted
+job_given words = job_without (fault_of ztso_command words) (subcommand_of ztso_command words)
 
 -- the job that is said, unless there was no memory, and a bad command line where none is said
 abbrev pub GivesJob : Option Wanted → Result Job CommandLineError → Type 0
-GivesJob said (Ok job) = said ≡ Some (wanted_by job)
-GivesJob said (Err error) = (error ≡ NoMemory) ⊎ ((error ≡ BadCommandLine) × (said ≡ None))
+GivesJob asked (Ok job) = asked ≡ Some (wanted_by job)
+GivesJob asked (Err error) = (error ≡ NoMemory) ⊎ ((error ≡ BadCommandLine) × (asked ≡ None))

@@ -25,8 +25,8 @@ option_or name value = record (new_rule name) {
 }
 
 -- `--name VALUE`, which may be left out
-abbrev pub option_said : Text → Rule
-option_said name = record (new_rule name) {
+abbrev pub option_given : Text → Rule
+option_given name = record (new_rule name) {
   long = Some name;
   action = Some Set;
 }
@@ -130,8 +130,8 @@ find_command = with_rules (new_app (codes "find")) find_rules
 -- `channel KIND RING SCHEDULE [--base A] [--stride T] [--finish] [--sender SENDER] [--receiver RECEIVER] [--buffer B]`
 abbrev pub channel_rules : List Rule
 channel_rules = word_wanted (codes "kind") ∷ word_wanted (codes "ring") ∷ word_wanted (codes "schedule")
-    ∷ option_or (codes "base") (codes "0") ∷ option_said (codes "stride") ∷ flag (codes "finish")
-    ∷ option_said (codes "sender") ∷ option_said (codes "receiver") ∷ buffer_option ∷ []
+    ∷ option_or (codes "base") (codes "0") ∷ option_given (codes "stride") ∷ flag (codes "finish")
+    ∷ option_given (codes "sender") ∷ option_given (codes "receiver") ∷ buffer_option ∷ []
 
 abbrev pub channel_command : App
 channel_command = with_rules (new_app (codes "channel")) channel_rules
@@ -147,7 +147,7 @@ threads_command = with_rules (new_app (codes "threads")) threads_rules
 abbrev pub ring_rules : List Rule
 ring_rules = word_wanted (codes "sender") ∷ word_wanted (codes "receiver") ∷ word_wanted (codes "ring") ∷ option_wanted (codes "seed")
     ∷ option_wanted (codes "runs") ∷ option_wanted (codes "length") ∷ option_or (codes "skip") (codes "0") ∷ option_or (codes "jobs") (codes "1")
-    ∷ option_or (codes "base") (codes "0") ∷ option_said (codes "stride") ∷ buffer_option ∷ []
+    ∷ option_or (codes "base") (codes "0") ∷ option_given (codes "stride") ∷ buffer_option ∷ []
 
 abbrev pub ring_command : App
 ring_command = with_rules (new_app (codes "ring")) ring_rules

@@ -9,7 +9,7 @@ use Rattle.command_line.specs.declared.job.QueueKind.{QueueKind}
 use Rattle.command_line.specs.declared.job.QueueKind.TheVariants as kind
 use Rattle.command_line.specs.declared.job.Command.{Command}
 use Rattle.command_line.specs.declared.job.CodeCommand.TheVariants.{Asm, Dis}
-use Rattle.command_line.specs.declared.job.Command.TheVariants.{Code, Machine, Find, Threads, Own, Ring as OwnRing}
+use Rattle.command_line.specs.declared.job.Command.TheVariants.{Code, Machine, Find, Threads, UserChannel, Ring as UserRing}
 use Rattle.command_line.specs.declared.job.MachineCommand.{MachineCommand}
 use Rattle.chart.specs.declared.scenes.Selection.{Selection}
 use Rattle.chart.specs.declared.scenes.Selection.TheVariants.{EveryRow, MemoryRows}
@@ -23,11 +23,11 @@ use Rattle.command_line.specs.Jobs.Input.{Standard, File}
 use Rattle.command_line.specs.Numbers.{number_within}
 
 -- the text by which a capacity is asked for
-abbrev pub text_of : Capacity → Text
-text_of One = codes "1"
-text_of Two = codes "2"
-text_of Four = codes "4"
-text_of Sixteen = codes "16"
+abbrev pub capacity_text : Capacity → Text
+capacity_text One = codes "1"
+capacity_text Two = codes "2"
+capacity_text Four = codes "4"
+capacity_text Sixteen = codes "16"
 
 -- a word that can't be an option: it doesn't begin with a hyphen
 abbrev pub IsArgument : Text → Type 0
@@ -38,8 +38,8 @@ IsArgument (c ∷ word) = c ≢ 45
 abbrev pub AsksFor : Capacity → List Text → Type 0
 AsksFor capacity words =
     ((words ≡ []) × (capacity ≡ Four))
-    ⊎ ((words ≡ codes "--buffer" ∷ text_of capacity ∷ [])
-    ⊎ (words ≡ (codes "--buffer=" ++ text_of capacity) ∷ []))
+    ⊎ ((words ≡ codes "--buffer" ∷ capacity_text capacity ∷ [])
+    ⊎ (words ≡ (codes "--buffer=" ++ capacity_text capacity) ∷ []))
 
 -- the text by which a kind of ring is asked for
 abbrev pub name_of : Ring → Text
@@ -60,7 +60,7 @@ SaysNumber least most number word = IsArgument word × (number_within least most
 abbrev pub AsksForNumber : (option : Text) → (usual least most number : ℕ) → List Text → Type 0
 AsksForNumber option usual least most number words =
     ((words ≡ []) × (number ≡ usual))
-    ⊎ ((said : Text) × (words ≡ option ∷ said ∷ []) × SaysNumber least most number said)
+    ⊎ ((asked : Text) × (words ≡ option ∷ asked ∷ []) × SaysNumber least most number asked)
 
 -- the runs that are passed over, none where nothing is said
 abbrev pub AsksToSkip : ℕ → List Text → Type 0
@@ -85,7 +85,7 @@ AsksForBase base words = AsksForNumber (codes "--base") 0 0 4294967295 base word
 -- nothing, or a stride of a channel's blocks
 abbrev pub AsksForStride : Option ℕ → List Text → Type 0
 AsksForStride None words = words ≡ []
-AsksForStride (Some stride) words = (said : Text) × (words ≡ codes "--stride" ∷ said ∷ []) × SaysNumber 0 4294967295 stride said
+AsksForStride (Some stride) words = (asked : Text) × (words ≡ codes "--stride" ∷ asked ∷ []) × SaysNumber 0 4294967295 stride asked
 
 -- nothing, which asks for Lamport's queue, or a kind of queue
 abbrev pub AsksForKind : QueueKind → List Text → Type 0
@@ -158,18 +158,18 @@ IsSpellingOf (Machine (Try seed runs) capacity) wanted words =
     × AsksToSkip runs.skip first × AsksForJobs runs.jobs second × AsksFor capacity options
     × (wanted ≡ one_input (Machine (Try seed runs) capacity) (File file))
 IsSpellingOf (Machine (Callers seed runs queue) capacity) wanted words =
-    (file said s n l : Text) × (first second third fourth fifth options : List Text)
-    × (words ≡ codes "callers" ∷ file ∷ codes "--slots" ∷ said ∷ codes "--seed" ∷ s ∷ codes "--runs" ∷ n ∷ codes "--length" ∷ l
+    (file asked s n l : Text) × (first second third fourth fifth options : List Text)
+    × (words ≡ codes "callers" ∷ file ∷ codes "--slots" ∷ asked ∷ codes "--seed" ∷ s ∷ codes "--runs" ∷ n ∷ codes "--length" ∷ l
     ∷ (first ++ (second ++ (third ++ (fourth ++ (fifth ++ options))))))
-    × IsArgument file × SaysNumber 0 4294967295 queue.slots said × SaysNumber 0 18446744073709551615 seed s
+    × IsArgument file × SaysNumber 0 4294967295 queue.slots asked × SaysNumber 0 18446744073709551615 seed s
     × SaysNumber 1 100000 runs.number n × SaysNumber 0 MAX_EVENTS runs.length l
     × AsksForBase queue.base first × AsksForKind queue.kind second × AsksForParties queue.sender queue.receiver third
     × AsksToSkip runs.skip fourth × AsksForJobs runs.jobs fifth × AsksFor capacity options
     × (wanted ≡ one_input (Machine (Callers seed runs queue) capacity) (File file))
 IsSpellingOf (Machine (Channel ring place finish) capacity) wanted words =
-    (said schedule : Text) × (first second third options : List Text)
-    × (words ≡ codes "channel" ∷ name_of ring ∷ said ∷ schedule ∷ (first ++ (second ++ (third ++ options))))
-    × SaysNumber 0 4294967295 place.slots said × IsArgument schedule
+    (asked schedule : Text) × (first second third options : List Text)
+    × (words ≡ codes "channel" ∷ name_of ring ∷ asked ∷ schedule ∷ (first ++ (second ++ (third ++ options))))
+    × SaysNumber 0 4294967295 place.slots asked × IsArgument schedule
     × AsksForBase place.base first × AsksForStride place.stride second × AsksToFinish finish third × AsksFor capacity options
     × (wanted ≡ two_inputs (Machine (Channel ring place finish) capacity) (File schedule) Standard)
 IsSpellingOf (Find states capacity) wanted words =
@@ -180,22 +180,22 @@ IsSpellingOf (Threads turns capacity) wanted words =
     (file : Text) × (first options : List Text) × (words ≡ codes "threads" ∷ file ∷ (first ++ options))
     × IsArgument file × AsksForTurns turns first × AsksFor capacity options
     × (wanted ≡ one_input (Threads turns capacity) (File file))
-IsSpellingOf (Own place capacity) wanted words =
-    (sender receiver said schedule : Text) × (first second options : List Text)
-    × (words ≡ codes "channel" ∷ codes "own" ∷ said ∷ schedule ∷ codes "--sender" ∷ sender ∷ codes "--receiver" ∷ receiver
+IsSpellingOf (UserChannel place capacity) wanted words =
+    (sender receiver asked schedule : Text) × (first second options : List Text)
+    × (words ≡ codes "channel" ∷ codes "own" ∷ asked ∷ schedule ∷ codes "--sender" ∷ sender ∷ codes "--receiver" ∷ receiver
     ∷ (first ++ (second ++ options)))
-    × SaysNumber 0 4294967295 place.slots said × IsArgument schedule × IsArgument sender × IsArgument receiver
+    × SaysNumber 0 4294967295 place.slots asked × IsArgument schedule × IsArgument sender × IsArgument receiver
     × AsksForBase place.base first × AsksForStride place.stride second × AsksFor capacity options
-    × (wanted ≡ four_inputs (Own place capacity) (File sender) (File receiver) (File schedule) Standard)
-IsSpellingOf (OwnRing seed runs place capacity) wanted words =
-    (sender receiver said s n l : Text) × (first second third fourth options : List Text)
-    × (words ≡ codes "ring" ∷ sender ∷ receiver ∷ said ∷ codes "--seed" ∷ s ∷ codes "--runs" ∷ n ∷ codes "--length" ∷ l
+    × (wanted ≡ four_inputs (UserChannel place capacity) (File sender) (File receiver) (File schedule) Standard)
+IsSpellingOf (UserRing seed runs place capacity) wanted words =
+    (sender receiver asked s n l : Text) × (first second third fourth options : List Text)
+    × (words ≡ codes "ring" ∷ sender ∷ receiver ∷ asked ∷ codes "--seed" ∷ s ∷ codes "--runs" ∷ n ∷ codes "--length" ∷ l
     ∷ (first ++ (second ++ (third ++ (fourth ++ options)))))
-    × IsArgument sender × IsArgument receiver × SaysNumber 0 4294967295 place.slots said × SaysNumber 0 18446744073709551615 seed s
+    × IsArgument sender × IsArgument receiver × SaysNumber 0 4294967295 place.slots asked × SaysNumber 0 18446744073709551615 seed s
     × SaysNumber 1 100000 runs.number n × SaysNumber 0 MAX_EVENTS runs.length l
     × AsksToSkip runs.skip first × AsksForJobs runs.jobs second × AsksForBase place.base third × AsksForStride place.stride fourth
     × AsksFor capacity options
-    × (wanted ≡ three_inputs (OwnRing seed runs place capacity) (File sender) (File receiver) Standard)
+    × (wanted ≡ three_inputs (UserRing seed runs place capacity) (File sender) (File receiver) Standard)
 
 abbrev pub IsSpelling : Wanted → List Text → Type 0
 IsSpelling wanted words = IsSpellingOf wanted.command wanted words

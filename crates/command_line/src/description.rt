@@ -4,7 +4,7 @@ ghost use Rattle.std.specs.Prelude.{◌≡◌, List, IfOk};
 ghost use Rattle.std.specs.List.{AllZip};
 ghost use Rattle.clap.specs.Words.{App, Rule, new_app, with_subcommand};
 ghost use Rattle.command_line.specs.Descriptions.{HasRule, IsDescribed, buffer_option, callers_command, channel_command, chart_command};
-ghost use Rattle.command_line.specs.Descriptions.{check_command, find_command, flag, option_or, option_said, option_wanted};
+ghost use Rattle.command_line.specs.Descriptions.{check_command, find_command, flag, option_or, option_given, option_wanted};
 ghost use Rattle.command_line.specs.Descriptions.{ring_command, schedule_command, show_command, steps_command, threads_command};
 ghost use Rattle.command_line.specs.Descriptions.{try_command, with_rules, word_wanted, ztso_command};
 
@@ -22,8 +22,8 @@ fn option_or<'a>(alloc: Global, name: &'a str, value: &'a str) -> Arg<'a>
 }
 
 /// `--name` with a value, which may be left out.
-fn option_said<'a>(alloc: Global, name: &'a str) -> Arg<'a>
-    ensures { HasRule result (option_said name.entry.now) }
+fn option_given<'a>(alloc: Global, name: &'a str) -> Arg<'a>
+    ensures { HasRule result (option_given name.entry.now) }
 {
     Arg::new(alloc, name).long(name).action(ArgAction::Set)
 }
@@ -137,10 +137,10 @@ fn channel_command<'a>(alloc: Global) -> Result<Command<'a>, AllocError>
         word_wanted(alloc, "ring"),
         word_wanted(alloc, "schedule"),
         option_or(alloc, "base", "0"),
-        option_said(alloc, "stride"),
+        option_given(alloc, "stride"),
         flag(alloc, "finish"),
-        option_said(alloc, "sender"),
-        option_said(alloc, "receiver"),
+        option_given(alloc, "sender"),
+        option_given(alloc, "receiver"),
         buffer_option(alloc),
     ]?;
     command_with(alloc, "channel", args)
@@ -170,7 +170,7 @@ fn ring_command<'a>(alloc: Global) -> Result<Command<'a>, AllocError>
         option_or(alloc, "skip", "0"),
         option_or(alloc, "jobs", "1"),
         option_or(alloc, "base", "0"),
-        option_said(alloc, "stride"),
+        option_given(alloc, "stride"),
         buffer_option(alloc),
     ]?;
     command_with(alloc, "ring", args)

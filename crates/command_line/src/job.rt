@@ -127,7 +127,7 @@ pub enum Command {
     },
     /// To run a channel over two programs at this place by a schedule, and to tell what its receiver reports. The harts
     /// have buffers of this capacity.
-    Own {
+    UserChannel {
         place: BlockPlace,
         capacity: Capacity,
     },

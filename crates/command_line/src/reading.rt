@@ -2,12 +2,12 @@
 
 ghost use Rattle.std.specs.Prelude.{◌≡◌, ◌∷◌, ℕ, List, IfOk, map, option_and_then, option_map};
 ghost use Rattle.clap.specs.Words.{FailsBy, fault_of, first_of, found_of, rows_of, subcommand_of, subcommand_rows_of};
-ghost use Rattle.command_line.specs.CommandLines.{GivesJob, capacity_said, job_at, channel_in, chart_in, find_in, flag_said};
-ghost use Rattle.command_line.specs.CommandLines.{callers_in, queue_in, queue_kind_said};
-ghost use Rattle.command_line.specs.CommandLines.{show_in, style_said, selection_said, job_said, number_if_said};
+ghost use Rattle.command_line.specs.CommandLines.{GivesJob, capacity_given, job_at, channel_in, chart_in, find_in, flag_given};
+ghost use Rattle.command_line.specs.CommandLines.{callers_in, queue_in, queue_kind_given};
+ghost use Rattle.command_line.specs.CommandLines.{show_in, style_given, selection_given, job_given, number_if_given};
 ghost use Rattle.command_line.specs.CommandLines.{machine_in, own_in, on_file, on_file_and_schedule, on_channel};
 ghost use Rattle.command_line.specs.CommandLines.{on_file_and_standard, on_own_channel, on_programs_and_standard};
-ghost use Rattle.command_line.specs.CommandLines.{on_schedule_and_standard, on_standard, place_in, ring_in, ring_said, runs_in};
+ghost use Rattle.command_line.specs.CommandLines.{on_schedule_and_standard, on_standard, place_in, ring_in, ring_given, runs_in};
 ghost use Rattle.command_line.specs.CommandLines.{scheduled_in, seed_in, threads_in, try_in};
 ghost use Rattle.command_line.specs.Descriptions.{ztso_command};
 ghost use Rattle.command_line.specs.Spellings.{IsSpelling};
@@ -47,7 +47,7 @@ const MOST_TURNS: u32 = 10_000_000;
 /// Any other words are a bad command line, and so is a request for help; as clap has it, a last `--`
 /// is taken. The other failure is want of memory.
 pub fn job_of<'a, S: AsStr>(alloc: Global, words: &'a [S]) -> Result<Job<'a>, CommandLineError>
-    ensures said { GivesJob (job_said (map S.text words.entry.now)) result }
+    ensures asked { GivesJob (job_given (map S.text words.entry.now)) result }
 
     // Each way of writing a job is taken, whatever name the program is called by.
     ensures spelled { (name : List ℕ) (rest : List (List ℕ)) (wanted : Wanted)
@@ -344,7 +344,7 @@ fn chart_in(options: &ArgMatches<'_>) -> Option<MachineCommand>
 
 /// Which rows are drawn.
 fn selection_of(text: &str) -> Selection
-    ensures { result ≡ selection_said text.now }
+    ensures { result ≡ selection_given text.now }
 {
     if flag_of(text) {
         Selection::MemoryRows
@@ -354,7 +354,7 @@ fn selection_of(text: &str) -> Selection
 }
 
 fn style_of(text: &str) -> Style
-    ensures { result ≡ style_said text.now }
+    ensures { result ≡ style_given text.now }
 {
     if flag_of(text) {
         Style::Svg
@@ -377,7 +377,7 @@ fn place_in(options: &ArgMatches<'_>) -> Option<BlockPlace>
 {
     let slots = count_of(word_in(options, "ring")?, 0, u32::MAX)?;
     let base = count_of(word_in(options, "base")?, 0, u32::MAX)?;
-    let stride = number_if_said(word_in(options, "stride"))?;
+    let stride = number_if_given(word_in(options, "stride"))?;
     Some(BlockPlace {
         slots,
         base,
@@ -409,28 +409,28 @@ fn own_in(options: &ArgMatches<'_>) -> Option<Command>
         return None;
     }
     let capacity = capacity_of(word_in(options, "buffer")?)?;
-    Some(Command::Own { place, capacity })
+    Some(Command::UserChannel { place, capacity })
 }
 
 /// The number of 32 bits, if one is said; none where that is no such number.
-fn number_if_said(text: Option<&str>) -> Option<Option<u32>>
-    ensures { result ≡ number_if_said (option_map (λ said. said.now) text.entry) }
+fn number_if_given(text: Option<&str>) -> Option<Option<u32>>
+    ensures { result ≡ number_if_given (option_map (λ asked. asked.now) text.entry) }
 {
     match text {
-        Some(said) => Some(Some(count_of(said, 0, u32::MAX)?)),
+        Some(asked) => Some(Some(count_of(asked, 0, u32::MAX)?)),
         None => Some(None),
     }
 }
 
 /// Whether a flag with this value is given.
 fn flag_of(text: &str) -> bool
-    ensures { result ≡ flag_said text.now }
+    ensures { result ≡ flag_given text.now }
 {
     text == "true"
 }
 
 fn ring_of(text: &str) -> Option<Ring>
-    ensures { result ≡ ring_said text.now }
+    ensures { result ≡ ring_given text.now }
 {
     match text {
         "lamport" => Some(Ring::Lamport),
@@ -441,7 +441,7 @@ fn ring_of(text: &str) -> Option<Ring>
 }
 
 fn queue_kind_of(text: &str) -> Option<QueueKind>
-    ensures { result ≡ queue_kind_said text.now }
+    ensures { result ≡ queue_kind_given text.now }
 {
     match text {
         "lamport" => Some(QueueKind::Lamport),
@@ -458,7 +458,7 @@ fn word_in<'a>(options: &ArgMatches<'a>, id: &str) -> Option<&'a str>
 }
 
 fn capacity_of(text: &str) -> Option<Capacity>
-    ensures { result ≡ capacity_said text.now }
+    ensures { result ≡ capacity_given text.now }
 {
     match text {
         "1" => Some(Capacity::One),

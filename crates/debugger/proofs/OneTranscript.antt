@@ -8,7 +8,7 @@ use Rattle.step_machine.specs.declared.events.Outcome.{Outcome}
 use Rattle.step_machine.proofs.Running.{happens-one, run-one}
 use Rattle.std.specs.Str.Lines.{lines}
 use Rattle.litmus.specs.LitmusTests.{LitmusTest}
-use Rattle.recorder.specs.Versions.{events_said}
+use Rattle.recorder.specs.Versions.{events_of_schedule}
 use Rattle.debugger.specs.declared.debug.command.Command.{Command}
 use Rattle.debugger.specs.declared.debug.command.Command.TheVariants as command
 use Rattle.debugger.specs.declared.debugger.Source.{Source}
@@ -128,5 +128,5 @@ module _ (B M : ℕ) where
   pub one_debug : (input file schedule : List ℕ) (a b : Result Output Refusal)
       → IsDebugAnswer B M (Some input) (Some file) (Some schedule) a → IsDebugAnswer B M (Some input) (Some file) (Some schedule) b → AreOneAnswer a b
   one_debug input = alike_by_schedule AreOneAnswer (λ r s e. e) (AnswersEvents (IsTranscript B M (Some input)))
-      (λ q said a b is other. equal_alike a b
-      (one_made (IsTranscript B M (Some input) q (events_said said)) (one_transcript_of input q (events_said said)) a b is other))
+      (λ q parsed a b is other. equal_alike a b
+      (one_made (IsTranscript B M (Some input) q (events_of_schedule parsed)) (one_transcript_of input q (events_of_schedule parsed)) a b is other))

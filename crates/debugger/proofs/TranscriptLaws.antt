@@ -11,7 +11,7 @@ use Rattle.std.specs.Io.KnownBytes.{Appends}
 use Rattle.std.proofs.lemmas.List.{append-nil, append_assoc}
 use Rattle.litmus.specs.LitmusTests.{LitmusTest}
 use Rattle.step_machine.specs.declared.events.Event.{Event}
-use Rattle.recorder.specs.Versions.{events_said}
+use Rattle.recorder.specs.Versions.{events_of_schedule}
 use Rattle.debugger.specs.DebuggerStates.{DebuggerState, debugger_at_opening}
 use Rattle.debugger.specs.Commands.{command_of}
 use Rattle.debugger.specs.declared.debug.command.Command.{Command}
@@ -188,7 +188,7 @@ module _ (B M : ℕ) (first second input : Option (List ℕ)) {W : Type 0} (cont
       → ((test : LitmusTest) (events : List Event) → debugger ≡ debugger_at_opening test.opening events → P test events answer)
       → Opens debugger → ByEvents P first second (Ok answer)
   opened P debugger answer holds =
-      made_both first second (AnswersEvents IsAtStart) (AnswersEvents P) debugger (Ok answer) (λ test given. holds test (events_said given))
+      made_both first second (AnswersEvents IsAtStart) (AnswersEvents P) debugger (Ok answer) (λ test given. holds test (events_of_schedule given))
 
   -- a transcript that is over ends the command
   pub transcribed : (result : Result (Unit {0}) Fault) (debugger : DebuggerState) (old new : W) → Opens debugger

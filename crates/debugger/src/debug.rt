@@ -2,7 +2,7 @@
 
 ghost use Rattle.std.specs.Prelude.{◌≡◌, ◌≤◌, ◌⊎◌, ℕ, List, [], Ok, OnOk};
 ghost use Rattle.std.specs.Io.KnownBytes.{Appends};
-ghost use Rattle.recorder.specs.Versions.{said_of};
+ghost use Rattle.recorder.specs.Versions.{schedule_value};
 ghost use Rattle.engine_support.specs.Inputs.{IsRefused};
 ghost use Rattle.engine_support.specs.Tests.{tests};
 ghost use Rattle.engine_support.specs.Faults.{AnswersAs};
@@ -38,7 +38,7 @@ fn debugger_along<const B: usize, const M: usize>(
     requires capacity { B ≤ 64 }
     requires words { MAX_LOCATIONS ≤ M }
     requires size { M ≤ 65536 }
-    ensures { AnswersAs (AnswersEvents IsAtStart test.now (said_of given)) (λ debugger. debugger) result }
+    ensures { AnswersAs (AnswersEvents IsAtStart test.now (schedule_value given)) (λ debugger. debugger) result }
 {
     let opening = test.opening(alloc)?;
     let events = given.into_events(alloc)?;

@@ -5,7 +5,7 @@ use Rattle.std.specs.Result.{IsErr}
 use Rattle.texts.specs.Results.{map_err}
 use Rattle.engine_support.specs.declared.fault.Fault.{Fault}
 use Rattle.engine_support.specs.declared.fault.Refusal.{Refusal}
-use Rattle.engine_support.specs.Engines.{Accepted, decoded}
+use Rattle.engine_support.specs.Engines.{AcceptedInput, decoded}
 use Rattle.engine_support.specs.Faults.{AnswersAs}
 use Rattle.engine_support.specs.Inputs.{After, Format, IsRefused, Reads, format}
 use Rattle.engine_support.specs.Inputs.After.{refused, read}
@@ -15,10 +15,10 @@ use Rattle.engine_support.proofs.Endings.{answered_by, handed_on, is_handed}
 use Rattle.engine_support.specs.Schedules.{schedules}
 use Rattle.engine_support.specs.Tests.{litmus_texts, tests, tests_with}
 use Rattle.engine_support.proofs.Judging.{decoded-text}
-use Rattle.engine_support.proofs.OneInput.{one_number, one_refusal, said-or_refusal, test_or_refusal, value_or_refusal}
+use Rattle.engine_support.proofs.OneInput.{one_number, one_refusal, schedule-or_refusal, test_or_refusal, value_or_refusal}
 use Rattle.litmus.specs.LitmusTests.{LitmusTest}
 use Rattle.recorder.specs.Versions.{ScheduleValue}
-use Rattle.recorder.proofs.HeadLaws.{one_said}
+use Rattle.recorder.proofs.HeadLaws.{one_schedule_value}
 use Rattle.litmus_reader.specs.Grammar.{IsTestOf}
 use Rattle.litmus_reader.proofs.TestGrammar.{one_test}
 
@@ -28,7 +28,7 @@ use Rattle.litmus_reader.proofs.TestGrammar.{one_test}
 pub record IsOne {V : Type 0} (form : Format V) (Same : Refusal → Refusal → Type 0) : Type 0 where
   pub one_value : (input : List ℕ) (v w : V) → form.Says input v → form.Says input w → v ≡ w
   pub one_reason : (input : List ℕ) (r s : Refusal) → form.Refuses input r → form.Refuses input s → Same r s
-  pub never_both : (input : List ℕ) (v : V) (r : Refusal) → Accepted form.Says input v → form.Refuses input r → ⊥
+  pub never_both : (input : List ℕ) (v : V) (r : Refusal) → AcceptedInput form.Says input v → form.Refuses input r → ⊥
 
 -- so is one that is refused for its first fault, if a text says one value and is judged by that
 pub is_one : {V : Type 0} (Says : List ℕ → V → Type 0) (value_at : List ℕ → Result V Refusal)
@@ -57,7 +57,7 @@ is_one_without Says refusal_of value_at one none = record {
 
 -- schedules are, and litmus texts, whose refusals are the same if their numbers are
 pub one_schedule : IsOne schedules (λ r s. r ≡ s)
-one_schedule = grind (arith, one_refusal, one_said, said-or_refusal)
+one_schedule = grind (arith, one_refusal, one_schedule_value, schedule-or_refusal)
 
 pub one_litmus : {V : Type 0} (Says : List ℕ → V → Type 0) (test_in : V → LitmusTest) → ((text : List ℕ) (v : V) → Says text v → IsTestOf text (test_in v))
     → ((text : List ℕ) (v w : V) → Says text v → Says text w → v ≡ w) → IsOne (litmus_texts Says) (λ r s. r.number ≡ s.number)
@@ -96,7 +96,7 @@ one_made P one a b is other = grind arith
 -- a litmus text and a schedule have answers that are alike, if they are after one test and what the schedule says
 module _ {A : Type 0} (Alike : Result A Refusal → Result A Refusal → Type 0) (refusals : (r s : Refusal) → r.number ≡ s.number → Alike (Err r) (Err s))
     (IsAnswer : LitmusTest → ScheduleValue → Result A Refusal → Type 0)
-    (alike : (q : LitmusTest) (said : ScheduleValue) (a b : Result A Refusal) → IsAnswer q said a → IsAnswer q said b → Alike a b)
+    (alike : (q : LitmusTest) (parsed : ScheduleValue) (a b : Result A Refusal) → IsAnswer q parsed a → IsAnswer q parsed b → Alike a b)
     (file schedule : List ℕ) where
   pub alike_by_schedule : (a b : Result A Refusal) → BySchedule IsAnswer (Some file) (Some schedule) a → BySchedule IsAnswer (Some file) (Some schedule) b
       → Alike a b

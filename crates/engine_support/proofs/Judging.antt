@@ -5,7 +5,7 @@ use Rattle.std.proofs.lemmas.Bool.{cases_Bool, le-ltb, lt-ltb, ltb-false}
 use Rattle.std.proofs.lemmas.Str.{IsUtf8-from_is_utf8, is_utf8-from_IsUtf8}
 use Rattle.engine_support.specs.declared.fault.Refusal.{Refusal}
 use Rattle.engine_support.specs.Faults.{not_text, too_large}
-use Rattle.engine_support.specs.Engines.{Accepted, decoded}
+use Rattle.engine_support.specs.Engines.{AcceptedInput, decoded}
 use Rattle.texts.proofs.ResultLaws.{guard_err, ok_is}
 
 -- a text within the limit is judged by its own rules
@@ -31,12 +31,12 @@ decoded-well value_at input v e = grind (arith, guard_err, ltb, cases_Bool, ltb-
 -- what is judged well has the value, where a text that is well by its own rules has it
 pub accepted_well : {V : Type 0} (value_at : List ℕ → Result V Refusal) (IsValue : List ℕ → V → Type 0)
     (input : List ℕ) (v : V) → (value_at input ≡ Ok v → IsValue input v) → decoded value_at input ≡ Ok v
-    → Accepted IsValue input v
+    → AcceptedInput IsValue input v
 accepted_well value_at IsValue input v found e = grind (arith, decoded-well)
 
 -- and the other way round
 pub accepted-decoded : {V : Type 0} (value_at : List ℕ → Result V Refusal) (IsValue : List ℕ → V → Type 0)
-    (input : List ℕ) (v : V) → (IsValue input v → value_at input ≡ Ok v) → Accepted IsValue input v
+    (input : List ℕ) (v : V) → (IsValue input v → value_at input ≡ Ok v) → AcceptedInput IsValue input v
     → decoded value_at input ≡ Ok v
 accepted-decoded value_at IsValue input v only accepted = decoded-text value_at input accepted.few accepted.text ∙ only accepted.value_is
 

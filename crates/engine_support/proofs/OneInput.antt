@@ -3,15 +3,15 @@ use Rattle.std.proofs.Common.{arith, ◌≡◌, ℕ, Bool, cond, ltb, List, leng
 use Rattle.std.specs.Str.{is_utf8}
 use Rattle.texts.proofs.FormatLaws.{settled_only}
 use Rattle.step_machine.specs.History.{History}
-use Rattle.recorder.specs.Versions.{ScheduleValue, Says, said_at}
-use Rattle.recorder.proofs.HeadLaws.{said_settles}
+use Rattle.recorder.specs.Versions.{ScheduleValue, SaysSchedule, schedule_at}
+use Rattle.recorder.proofs.HeadLaws.{value_settles}
 use Rattle.litmus.specs.LitmusTests.{LitmusTest}
 use Rattle.litmus_reader.specs.declared.faults.LitmusFault.{LitmusFault}
 use Rattle.litmus_reader.specs.Grammar.{IsTestOf}
 use Rattle.litmus_reader.specs.Reading.{Content, content_of, test_at}
 use Rattle.litmus_reader.proofs.TestGrammar.{read_exactly}
 use Rattle.engine_support.specs.declared.fault.Refusal.{Refusal}
-use Rattle.engine_support.specs.Engines.{Output, Accepted, AreOneAnswer, decoded}
+use Rattle.engine_support.specs.Engines.{Output, AcceptedInput, AreOneAnswer, decoded}
 use Rattle.engine_support.specs.Faults.{too_large, not_text}
 use Rattle.engine_support.specs.Tests.{IsNoTest, refused_test, test_of}
 use Rattle.engine_support.specs.Schedules.{schedule_of}
@@ -23,7 +23,7 @@ use Rattle.engine_support.proofs.TestTexts.{test_or_none}
 pub same_output : (a b : Output) → a.0 ≡ b.0 → a ≡ b
 same_output a b e = λ i. (e i, tt)
 
-pub test_or_refusal : (input : List ℕ) (q : LitmusTest) (r : Refusal) → Accepted IsTestOf input q → IsNoTest input r → ⊥
+pub test_or_refusal : (input : List ℕ) (q : LitmusTest) (r : Refusal) → AcceptedInput IsTestOf input q → IsNoTest input r → ⊥
 unfolding test_of IsTestOf
 test_or_refusal input q r is (line, refused) =
     let read : test_at input ≡ Ok (content_of q) = (read_exactly input (content_of q)).1 is.value_is.0 in
@@ -41,14 +41,15 @@ one_number input r s (line, e) (other, f) = numbers_of (ltb 1048576 (length inpu
 
 -- an input doesn't have a value and a refusal
 pub value_or_refusal : {V : Type 0} (value_at : List ℕ → Result V Refusal) (IsValue : List ℕ → V → Type 0) (input : List ℕ) (v : V) (r : Refusal)
-    → (IsValue input v → value_at input ≡ Ok v) → Accepted IsValue input v → decoded value_at input ≡ Err r → ⊥
+    → (IsValue input v → value_at input ≡ Ok v) → AcceptedInput IsValue input v → decoded value_at input ≡ Err r → ⊥
 value_or_refusal value_at IsValue input v r only is refused = let read : decoded value_at input ≡ Ok v = accepted-decoded value_at IsValue input v only is in cc
 
-pub said-or_refusal : (input : List ℕ) (said : ScheduleValue) (r : Refusal) → Accepted Says input said → decoded schedule_of input ≡ Err r → ⊥
+pub schedule-or_refusal : (input : List ℕ) (parsed : ScheduleValue) (r : Refusal)
+    → AcceptedInput SaysSchedule input parsed → decoded schedule_of input ≡ Err r → ⊥
 unfolding schedule_of
-said-or_refusal input said r =
-    value_or_refusal schedule_of Says input said r
-    (λ says. let found = settled_only (Says input) (said_at input) said (said_settles input) says in rw found refl)
+schedule-or_refusal input parsed r =
+    value_or_refusal schedule_of SaysSchedule input parsed r
+    (λ says. let found = settled_only (SaysSchedule input) (schedule_at input) parsed (value_settles input) says in rw found refl)
 
 pub one_refusal : {V : Type 0} (judgement : Result V Refusal) (r s : Refusal) → judgement ≡ Err r → judgement ≡ Err s → r ≡ s
 one_refusal judgement r s e f = cc
@@ -62,6 +63,6 @@ equal_alike a b e = grind arith
 -- what is one of a history is one of a test and a schedule
 module _ {A : Type 0} (B M : ℕ) (IsAnswer : LitmusTest → History → A → Type 0)
     (one : (q : LitmusTest) (t : History) (a b : A) → IsAnswer q t a → IsAnswer q t b → a ≡ b) where
-  pub one_of_history : (q : LitmusTest) (said : ScheduleValue) (a b : Result A Refusal)
-      → AnswersRun B M IsAnswer q said a → AnswersRun B M IsAnswer q said b → AreOneAnswer a b
-  one_of_history q said a b is other = grind (arith, one, one_run)
+  pub one_of_history : (q : LitmusTest) (parsed : ScheduleValue) (a b : Result A Refusal)
+      → AnswersRun B M IsAnswer q parsed a → AnswersRun B M IsAnswer q parsed b → AreOneAnswer a b
+  one_of_history q parsed a b is other = grind (arith, one, one_run)

@@ -12,7 +12,7 @@ use Rattle.std.specs.Global.{Vec}
 use Rattle.std.proofs.lemmas.List.Elements.{All-tail}
 use Rattle.litmus.specs.LitmusTests.{LitmusTest}
 use Rattle.engine_support.specs.declared.outcomes.Row.{Row}
-use Rattle.engine_support.specs.Counting.{AreLines, counted_by, counted_line, counted_of, is_key}
+use Rattle.engine_support.specs.Counting.{AreCountedLines, counted_by, counted_line, counted_of, is_key}
 use Rattle.engine_support.specs.inner.Rows.{AreFound, order, row_line}
 use Rattle.engine_support.proofs.Rows.{same_is, same_itself}
 
@@ -79,7 +79,7 @@ rows-are test whole (e ∷ rows) found =
     (rows-are test whole rows (All-tail (λ (d : Vec ℕ × Row). lookup (is_key d.0.items) whole ≡ Some d.1) e rows found))
 
 pub are_lines : (test : LitmusTest) (rows : Rows) → IsStrictlySortedBy order (keys_of rows) → AreFound rows
-    → AreLines test (counted_of rows) (flat_map (row_line test) rows)
+    → AreCountedLines test (counted_of rows) (flat_map (row_line test) rows)
 are_lines test rows sorted found = record {
   outcomes = outcomes_of rows;
   ascending = ascending_outcomes rows sorted;

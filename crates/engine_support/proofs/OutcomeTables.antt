@@ -13,7 +13,7 @@ use Rattle.std.proofs.lemmas.Map.Lookups.{btree_set_from_contains, exact_bytes}
 use Rattle.std.proofs.lemmas.Map.Views.{btree_set_contains_iff}
 use Rattle.litmus.specs.LitmusTests.{LitmusTest}
 use Rattle.engine_support.specs.Outcomes.{AreOutcomes, line_of}
-use Rattle.engine_support.specs.Counting.{AreLines, Counted, counted_both, counted_line, seen_of}
+use Rattle.engine_support.specs.Counting.{AreCountedLines, Counted, counted_both, counted_line, seen_of}
 
 -- ---- counts of a list and one element more
 
@@ -82,30 +82,30 @@ module _ {X : Type 0} (gave : (outcome : List ℕ) → X → Bool) (end_of : (ou
 
   -- ---- the lines of a table of some runs
 
-  module _ (test : LitmusTest) (runs : List X) (told : (outcome : List ℕ) → Option Counted) (text : List ℕ)
-      (is : (outcome : List ℕ) → told outcome ≡ seen_of gave end_of runs outcome) (lines : AreLines test told text) where
-    told_where : (outcome : List ℕ) → is_some (told outcome) ≡ list_any (gave outcome) runs
+  module _ (test : LitmusTest) (runs : List X) (counts_of : (outcome : List ℕ) → Option Counted) (text : List ℕ)
+      (is : (outcome : List ℕ) → counts_of outcome ≡ seen_of gave end_of runs outcome) (lines : AreCountedLines test counts_of text) where
+    counted_where : (outcome : List ℕ) → is_some (counts_of outcome) ≡ list_any (gave outcome) runs
     unfolding seen_of
-    told_where outcome = ap is_some (is outcome) ∙ some_where (list_any (gave outcome) runs) (count_by (gave outcome) runs, end_of outcome runs)
+    counted_where outcome = ap is_some (is outcome) ∙ some_where (list_any (gave outcome) runs) (count_by (gave outcome) runs, end_of outcome runs)
 
     pub are_outcomes : AreOutcomes gave runs lines.outcomes
     are_outcomes = record {
       ascending = lines.ascending;
       all = λ outcome. (
-        λ there. sym (told_where outcome) ∙ (lines.all outcome).0 there,
-        λ some. (lines.all outcome).1 (told_where outcome ∙ some),
+        λ there. sym (counted_where outcome) ∙ (lines.all outcome).0 there,
+        λ some. (lines.all outcome).1 (counted_where outcome ∙ some),
       );
     }
 
     abbrev line_at : (outcome : List ℕ) → List ℕ
     line_at outcome = line_of test outcome (count_by (gave outcome) runs) (end_of outcome runs)
 
-    line-is : (outcome : List ℕ) → Contains lines.outcomes outcome → counted_line test outcome (told outcome) ≡ line_at outcome
+    line-is : (outcome : List ℕ) → Contains lines.outcomes outcome → counted_line test outcome (counts_of outcome) ≡ line_at outcome
     unfolding seen_of
-    line-is outcome there = grind (arith, count_by, told_where)
+    line-is outcome there = grind (arith, count_by, counted_where)
 
     lines_are : (outcomes : List (List ℕ)) → All (λ outcome. Contains lines.outcomes outcome) outcomes
-        → flat_map (λ outcome. counted_line test outcome (told outcome)) outcomes ≡ flat_map line_at outcomes
+        → flat_map (λ outcome. counted_line test outcome (counts_of outcome)) outcomes ≡ flat_map line_at outcomes
     lines_are [] there = refl
     lines_are (outcome ∷ outcomes) there =
         ap₂ (λ (line : List ℕ) (rest : List ℕ). line ++ rest) (line-is outcome (there 0 outcome (omega arith)))

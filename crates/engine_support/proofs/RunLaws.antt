@@ -10,7 +10,7 @@ use Rattle.step_machine.specs.declared.events.Event.{Event}
 use Rattle.step_machine.proofs.Running.{happens-one, run-one, opening_kept}
 use Rattle.recorder.specs.Records.{Step, events_in}
 use Rattle.recorder.specs.Replaying.{RecordFrom, IsRunRecord, DiffersAt}
-use Rattle.recorder.specs.Versions.{ScheduleValue, events_said, plain, recorded}
+use Rattle.recorder.specs.Versions.{ScheduleValue, events_of_schedule, plain, recorded}
 use Rattle.recorder.proofs.RunRecords.{no_other, record_runs}
 use Rattle.engine_support.specs.declared.fault.Fault.{Fault}
 use Rattle.engine_support.specs.declared.fault.Refusal.{Refusal}
@@ -46,7 +46,7 @@ module _ (B M : ℕ) (o : OpeningValue) (steps : List Step) where
   pub one_place : (i j : ℕ) → DiffersAt B M o steps i → DiffersAt B M o steps j → i ≡ j
   one_place i j first other = omega (arith, not_before i j first other, not_before j i other first)
 
-pub one_run : (B M : ℕ) (o : OpeningValue) (said : ScheduleValue) (a b : Result History Refusal) → Runs B M o said a → Runs B M o said b → a ≡ b
+pub one_run : (B M : ℕ) (o : OpeningValue) (parsed : ScheduleValue) (a b : Result History Refusal) → Runs B M o parsed a → Runs B M o parsed b → a ≡ b
 one_run B M o (plain events) (Ok t) (Ok u) is other = ap (λ (h : History). Ok h) (run-one B M (at_opening o) events t u is other)
 one_run B M o (plain events) (Ok t) (Err r) is never = absurd never
 one_run B M o (plain events) (Err r) b never other = absurd never
@@ -73,39 +73,41 @@ abbrev refused : Refusal → Result History Refusal
 refused r = Err r
 
 -- a schedule doesn't both run and differ, and differs in one way
-pub runs_or_differs : (B M : ℕ) (o : OpeningValue) (said : ScheduleValue) (t : History) (r : Refusal) → Runs B M o said (Ok t) → Runs B M o said (Err r) → ⊥
-runs_or_differs B M o said t r ran differ = let same : Ok t ≡ refused r = one_run B M o said (Ok t) (Err r) ran differ in cc
+pub runs_or_differs : (B M : ℕ) (o : OpeningValue) (parsed : ScheduleValue) (t : History) (r : Refusal)
+    → Runs B M o parsed (Ok t) → Runs B M o parsed (Err r) → ⊥
+runs_or_differs B M o parsed t r ran differ = let same : Ok t ≡ refused r = one_run B M o parsed (Ok t) (Err r) ran differ in cc
 
-pub one_difference : (B M : ℕ) (o : OpeningValue) (said : ScheduleValue) (r s : Refusal) → Runs B M o said (Err r) → Runs B M o said (Err s) → r ≡ s
-one_difference B M o said r s differ other = let same : refused r ≡ refused s = one_run B M o said (Err r) (Err s) differ other in cc
+pub one_difference : (B M : ℕ) (o : OpeningValue) (parsed : ScheduleValue) (r s : Refusal) → Runs B M o parsed (Err r) → Runs B M o parsed (Err s) → r ≡ s
+one_difference B M o parsed r s differ other = let same : refused r ≡ refused s = one_run B M o parsed (Err r) (Err s) differ other in cc
 
-pub one_record : (B M : ℕ) (o : OpeningValue) (said : ScheduleValue) (a b : Result (List Step) Refusal) → Records B M o said a → Records B M o said b → a ≡ b
-one_record B M o said a b differs other = grind (arith, same_outcomes, runs_or_differs, one_difference)
+pub one_record : (B M : ℕ) (o : OpeningValue) (parsed : ScheduleValue) (a b : Result (List Step) Refusal)
+    → Records B M o parsed a → Records B M o parsed b → a ≡ b
+one_record B M o parsed a b differs other = grind (arith, same_outcomes, runs_or_differs, one_difference)
 
 -- a schedule's run keeps the opening
-pub opening_stays : (B M : ℕ) (o : OpeningValue) (said : ScheduleValue) (t : History) → Runs B M o said (Ok t) → t.opening ≡ o
+pub opening_stays : (B M : ℕ) (o : OpeningValue) (parsed : ScheduleValue) (t : History) → Runs B M o parsed (Ok t) → t.opening ≡ o
 opening_stays B M o (plain events) t ran = opening_kept B M o events t ran
 opening_stays B M o (recorded steps) t ran = opening_kept B M o (events_in steps) t (record_runs B M o steps t ran)
 
 -- so what is after it has as many harts
-module _ (B M : ℕ) (o p : OpeningValue) (same : p ≡ o) (said : ScheduleValue) where
-  pub harts_stay : {X : Type 0} (view : X → History) (result : Result X Fault) → AnswersAs (Runs B M p said) view result
+module _ (B M : ℕ) (o p : OpeningValue) (same : p ≡ o) (parsed : ScheduleValue) where
+  pub harts_stay : {X : Type 0} (view : X → History) (result : Result X Fault) → AnswersAs (Runs B M p parsed) view result
       → IfOk result (λ x. length (view x).opening.harts ≡ length o.harts)
-  harts_stay view (Ok x) ran = ap (λ (q : OpeningValue). length q.harts) (opening_stays B M p said (view x) ran ∙ same)
+  harts_stay view (Ok x) ran = ap (λ (q : OpeningValue). length q.harts) (opening_stays B M p parsed (view x) ran ∙ same)
   harts_stay view (Err fault) answers = tt
 
-  pub harts_left : (result : Result Config Fault) → AnswersBy (Runs B M p said) (RepresentsHistory B M) result
+  pub harts_left : (result : Result Config Fault) → AnswersBy (Runs B M p parsed) (RepresentsHistory B M) result
       → IfOk result (λ c. length c.harts ≡ length o.harts)
-  harts_left (Ok c) (t, ran, stands) = stands.count ∙ ap (λ (q : OpeningValue). length q.harts) (opening_stays B M p said t ran ∙ same)
+  harts_left (Ok c) (t, ran, stands) = stands.count ∙ ap (λ (q : OpeningValue). length q.harts) (opening_stays B M p parsed t ran ∙ same)
   harts_left (Err fault) answers = tt
 
 -- and runs its events
-pub runs_events : (B M : ℕ) (o : OpeningValue) (said : ScheduleValue) (t : History) → Runs B M o said (Ok t) → Run B M o (events_said said) t
-runs_events B M o said t ran = grind (arith, record_runs)
+pub runs_events : (B M : ℕ) (o : OpeningValue) (parsed : ScheduleValue) (t : History) → Runs B M o parsed (Ok t) → Run B M o (events_of_schedule parsed) t
+runs_events B M o parsed t ran = grind (arith, record_runs)
 
 -- the record of a run of events alone
-pub noted : (B M : ℕ) (o : OpeningValue) (steps : List Step) (events : List Event) (said : ScheduleValue)
-    → said ≡ plain events → events_in steps ≡ events → (h : History) × IsRunRecord B M o steps h
-    → Records B M o said (Ok steps)
-noted B M o steps events said is same ran = subst (λ (s : ScheduleValue). Records B M o s (Ok steps)) (sym is)
+pub noted : (B M : ℕ) (o : OpeningValue) (steps : List Step) (events : List Event) (parsed : ScheduleValue)
+    → parsed ≡ plain events → events_in steps ≡ events → (h : History) × IsRunRecord B M o steps h
+    → Records B M o parsed (Ok steps)
+noted B M o steps events parsed is same ran = subst (λ (s : ScheduleValue). Records B M o s (Ok steps)) (sym is)
     (same, (ran.0, subst (λ (es : List Event). Run B M o es ran.0) same (record_runs B M o steps ran.0 ran.1), ran.1))

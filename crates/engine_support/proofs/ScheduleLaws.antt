@@ -11,7 +11,7 @@ use Rattle.engine_support.specs.Histories.{BySchedule}
 use Rattle.engine_support.specs.Schedules.{schedules}
 use Rattle.engine_support.specs.Tests.{tests}
 use Rattle.engine_support.specs.inner.Making.{FindsUpToReads}
-use Rattle.engine_support.specs.inner.Inputs.{AreRead, test_and_said}
+use Rattle.engine_support.specs.inner.Inputs.{AreRead, test_and_value}
 use Rattle.engine_support.proofs.Endings.{answered_by, handed_on, is_handed}
 use Rattle.engine_support.proofs.InputLaws.{made_more, refused_more}
 
@@ -24,23 +24,23 @@ stopped_by P Q view seen result fault more is answers = let failed = is_handed r
 module _ (first second : Option (List ℕ)) {A C : Type 0} (P : LitmusTest → ScheduleValue → Result A Refusal → Type 0)
     (Q : LitmusTest → ScheduleValue → Result C Refusal → Type 0) where
   -- a refusal of both, or of what they say
-  pub refused_both : (r : Refusal) → ((test : LitmusTest) (said : ScheduleValue) → P test said (Err r) → Q test said (Err r))
+  pub refused_both : (r : Refusal) → ((test : LitmusTest) (parsed : ScheduleValue) → P test parsed (Err r) → Q test parsed (Err r))
       → BySchedule P first second (Err r) → BySchedule Q first second (Err r)
   refused_both r more = refused_more tests first _ _ r (λ test. refused_more schedules second (P test) (Q test) r (more test))
 
   -- what is made of both
-  pub made_both : (x : A) (c : Result C Refusal) → ((test : LitmusTest) (said : ScheduleValue) → P test said (Ok x) → Q test said c)
+  pub made_both : (x : A) (c : Result C Refusal) → ((test : LitmusTest) (parsed : ScheduleValue) → P test parsed (Ok x) → Q test parsed c)
       → BySchedule P first second (Ok x) → BySchedule Q first second c
   made_both x c more = made_more tests first _ _ x c (λ test. made_more schedules second (P test) (Q test) x c (more test))
 
 -- what is made of what was read answers both
 module _ (first second : Option (List ℕ)) {A X : Type 0} (IsAnswer : LitmusTest → ScheduleValue → Result A Refusal → Type 0) (seen : X → A)
     (result : Result X Fault) where
-  pub made_of_read : (test : LitmusTest) (said : ScheduleValue) → BySchedule AreRead first second (Ok (test, said))
-      → AnswersAs (IsAnswer test said) seen result → FindsUpToReads (BySchedule IsAnswer first second) seen result
-  made_of_read test said are_read = grind (arith, answered_by, made_both, ok_is)
+  pub made_of_read : (test : LitmusTest) (parsed : ScheduleValue) → BySchedule AreRead first second (Ok (test, parsed))
+      → AnswersAs (IsAnswer test parsed) seen result → FindsUpToReads (BySchedule IsAnswer first second) seen result
+  made_of_read test parsed are_read = grind (arith, answered_by, made_both, ok_is)
 
   -- and so does a fault in reading them
-  pub read_fault : (fault : Fault) → result ≡ Err fault → FindsUpToReads (BySchedule AreRead first second) test_and_said (Err fault)
+  pub read_fault : (fault : Fault) → result ≡ Err fault → FindsUpToReads (BySchedule AreRead first second) test_and_value (Err fault)
       → FindsUpToReads (BySchedule IsAnswer first second) seen result
   read_fault fault = grind (arith, handed_on, refused_both)

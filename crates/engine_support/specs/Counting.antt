@@ -56,8 +56,8 @@ counted_line test outcome None = []
 counted_line test outcome (Some seen) = line_of test outcome seen.0 seen.1
 
 -- a line for each outcome of which something is counted, ascending as lists of numbers
-pub record AreLines (test : LitmusTest) (told : (outcome : List ℕ) → Option Counted) (text : List ℕ) : Type 0 where
+pub record AreCountedLines (test : LitmusTest) (counts_of : (outcome : List ℕ) → Option Counted) (text : List ℕ) : Type 0 where
   pub outcomes : List (List ℕ)
   pub ascending : IsStrictlySortedBy (slice_cmp nat_cmp) outcomes
-  pub all : (outcome : List ℕ) → Contains outcomes outcome ↔ IsTrue (is_some (told outcome))
-  pub text_is : text ≡ flat_map (λ outcome. counted_line test outcome (told outcome)) outcomes
+  pub all : (outcome : List ℕ) → Contains outcomes outcome ↔ IsTrue (is_some (counts_of outcome))
+  pub text_is : text ≡ flat_map (λ outcome. counted_line test outcome (counts_of outcome)) outcomes

@@ -13,7 +13,7 @@ abbrev pub Output : Type 0
 Output = List ℕ × Unit {0}
 
 -- the input is a text within the limit, and has this value
-pub record Accepted {V : Type 0} (IsValue : List ℕ → V → Type 0) (input : List ℕ) (value : V) : Type 0 where
+pub record AcceptedInput {V : Type 0} (IsValue : List ℕ → V → Type 0) (input : List ℕ) (value : V) : Type 0 where
   pub few : length input ≤ INPUT_BYTES
   pub text : IsUtf8 input
   pub value_is : IsValue input value

@@ -1,7 +1,7 @@
 -- Inputs that are read one after the other.
 use Rattle.std.specs.Prelude.{ℕ, ◌≡◌, List, Option, IsSomeAnd, Result, Ok, Err}
 use Rattle.engine_support.specs.declared.fault.Refusal.{Refusal}
-use Rattle.engine_support.specs.Engines.{Accepted, OfInput, decoded}
+use Rattle.engine_support.specs.Engines.{AcceptedInput, OfInput, decoded}
 
 -- What an input may be: which texts say which value, and why an input is refused.
 pub record Format (V : Type 0) : Type 1 where
@@ -14,7 +14,7 @@ format Says value_at = record { Says = Says; Refuses = λ input refusal. decoded
 
 -- the input's value, or why it is refused
 abbrev pub IsReadAs : {V : Type 0} → Format V → List ℕ → Result V Refusal → Type 0
-IsReadAs form input (Ok value) = Accepted form.Says input value
+IsReadAs form input (Ok value) = AcceptedInput form.Says input value
 IsReadAs form input (Err refusal) = form.Refuses input refusal
 
 -- the same of what a reader tells

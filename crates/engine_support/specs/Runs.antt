@@ -3,7 +3,7 @@ use Rattle.std.specs.Prelude.{ℕ, ◌≡◌, List, Result, Ok, Err}
 use Rattle.step_machine.specs.History.{OpeningValue, History}
 use Rattle.step_machine.specs.Runs.{Run}
 use Rattle.recorder.specs.Records.{Step, events_in}
-use Rattle.recorder.specs.Versions.{ScheduleValue, events_said}
+use Rattle.recorder.specs.Versions.{ScheduleValue, events_of_schedule}
 use Rattle.recorder.specs.Versions.ScheduleValue.{plain, recorded}
 use Rattle.recorder.specs.Replaying.{IsRunRecord, DiffersAt}
 use Rattle.recorder.specs.declared.replaying.CheckError.{CheckError}
@@ -32,6 +32,6 @@ Runs B M opening (recorded steps) (Err refusal) = (event : ℕ) × DiffersAt B M
 
 -- What noting its outcomes gives: its events, each with its outcome in the run.
 abbrev pub Records : (B M : ℕ) → OpeningValue → ScheduleValue → Result (List Step) Refusal → Type 0
-Records B M opening said (Ok steps) = (events_in steps ≡ events_said said)
-    × ((history : History) × Runs B M opening said (Ok history) × IsRunRecord B M opening steps history)
-Records B M opening said (Err refusal) = Runs B M opening said (Err refusal)
+Records B M opening parsed (Ok steps) = (events_in steps ≡ events_of_schedule parsed)
+    × ((history : History) × Runs B M opening parsed (Ok history) × IsRunRecord B M opening steps history)
+Records B M opening parsed (Err refusal) = Runs B M opening parsed (Err refusal)

@@ -2,7 +2,7 @@
 
 ghost use Rattle.std.specs.Prelude.{◌≡◌, ◌≤◌, length};
 ghost use Rattle.recorder.specs.Schedule.{OfHarts};
-ghost use Rattle.recorder.specs.Versions.{events_said, said_of};
+ghost use Rattle.recorder.specs.Versions.{events_of_schedule, schedule_value};
 ghost use Rattle.recorder.specs.declared.reading.TheConstants.{MAX_EVENTS};
 ghost use Rattle.engine_support.specs.Engines.{Ends};
 ghost use Rattle.engine_support.specs.Faults.{AnswersAs};
@@ -34,14 +34,14 @@ pub trait ScheduleCommand<const B: usize, const M: usize> {
     ghost is_answer: { LitmusTest → ScheduleValue → Result (List ℕ × Self.Value) Refusal → Type 0 };
 
     /// The text to be written for a test and a schedule, and the value.
-    fn answer(alloc: Global, test: &Test, said: Schedule) -> Result<(String, Self::Value), Fault>
+    fn answer(alloc: Global, test: &Test, parsed: Schedule) -> Result<(String, Self::Value), Fault>
         requires some_capacity { 1 ≤ B }
         requires capacity { B ≤ 64 }
         requires words { MAX_LOCATIONS ≤ M }
         requires size { M ≤ 65536 }
-        requires harts { OfHarts (events_said (said_of said)) }
-        requires few { length (events_said (said_of said)) ≤ MAX_EVENTS }
-        ensures { AnswersAs (is_answer test.now (said_of said)) text_and_value result };
+        requires harts { OfHarts (events_of_schedule (schedule_value parsed)) }
+        requires few { length (events_of_schedule (schedule_value parsed)) ≤ MAX_EVENTS }
+        ensures { AnswersAs (is_answer test.now (schedule_value parsed)) text_and_value result };
 }
 
 /// What is to be written for the inputs that the readers give.
@@ -57,8 +57,8 @@ fn made<C: ScheduleCommand<B, M>, const B: usize, const M: usize, F: Read, S: Re
     ensures made { FindsUpToReads (BySchedule C.is_answer (F.remaining file.old) (S.remaining schedule.old)) text_and_value result }
     ensures unread { IsRefused tests (F.remaining file.old) → schedule.new ≡ schedule.old }
 {
-    let (test, said) = read_both(alloc, file, schedule)?;
-    C::answer(alloc, &test, said)
+    let (test, parsed) = read_both(alloc, file, schedule)?;
+    C::answer(alloc, &test, parsed)
 }
 
 /// Reads a litmus text and then a schedule of either version, each to its end, writes what the command

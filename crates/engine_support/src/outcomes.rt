@@ -6,7 +6,7 @@ ghost use Rattle.std.specs.String.{string_bytes};
 ghost use Rattle.std.specs.Io.KnownBytes.{Appends};
 ghost use Rattle.litmus.specs.LitmusTests.{IsThere, left_sides};
 ghost use Rattle.engine_support.specs.Outcomes.{line_of, value_text};
-ghost use Rattle.engine_support.specs.Counting.{AreLines, counted, counted_both, counted_by, counted_of, Counts, rows_in};
+ghost use Rattle.engine_support.specs.Counting.{AreCountedLines, counted, counted_both, counted_by, counted_of, Counts, rows_in};
 ghost use Rattle.engine_support.specs.inner.Rows.{lines_in};
 
 use crate::places::write_place;
@@ -151,7 +151,7 @@ impl Outcomes {
 
     /// What is written is a line for each outcome of which something is counted. It does nothing.
     pub fn has_lines(&self, test: &Test)
-        ensures { AreLines test.now (counted self.now) (lines_in test.now self.now) }
+        ensures { AreCountedLines test.now (counted self.now) (lines_in test.now self.now) }
     {
         let _rows = self.rows.iter();
     }

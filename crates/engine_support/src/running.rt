@@ -5,7 +5,7 @@ ghost use Rattle.step_machine.specs.History.{FitsIn, OpeningValue, History};
 ghost use Rattle.step_machine.specs.Standing.{RepresentsHistory};
 ghost use Rattle.recorder.specs.Records.{Step};
 ghost use Rattle.recorder.specs.Schedule.{OfHarts};
-ghost use Rattle.recorder.specs.Versions.{ScheduleValue, events_said, said_of};
+ghost use Rattle.recorder.specs.Versions.{ScheduleValue, events_of_schedule, schedule_value};
 ghost use Rattle.recorder.specs.declared.reading.TheConstants.{MAX_EVENTS};
 ghost use Rattle.engine_support.specs.Faults.{AnswersAs, AnswersBy};
 ghost use Rattle.engine_support.specs.Histories.{BySchedule};
@@ -14,7 +14,7 @@ ghost use Rattle.engine_support.specs.Tests.{tests};
 ghost use Rattle.engine_support.specs.Runs.{Records, Runs, fault_of_check};
 ghost use Rattle.engine_support.specs.declared.fault.Refusal.{Refusal};
 ghost use Rattle.engine_support.specs.inner.Making.{FindsUpToReads};
-ghost use Rattle.engine_support.specs.inner.Inputs.{AreRead, test_and_said};
+ghost use Rattle.engine_support.specs.inner.Inputs.{AreRead, test_and_value};
 ghost use Rattle.litmus.specs.declared.litmus_test.TheConstants.{MAX_LOCATIONS};
 
 use crate::fault::{DIFFERS, Fault, Position};
@@ -43,16 +43,16 @@ impl From<CheckError> for Fault {
 pub fn machine_after<const B: usize, const M: usize>(
     alloc: Global,
     opening: Opening,
-    said: Schedule,
+    parsed: Schedule,
 ) -> Result<Machine<B, M>, Fault>
     requires some_capacity { 1 ≤ B }
     requires capacity { B ≤ 64 }
     requires some_word { 1 ≤ M }
     requires size { M ≤ 65536 }
     requires fits { FitsIn M opening }
-    ensures { AnswersAs (Runs B M opening (said_of said)) (λ machine. machine.history) result }
+    ensures { AnswersAs (Runs B M opening (schedule_value parsed)) (λ machine. machine.history) result }
 {
-    match said {
+    match parsed {
         Schedule::Plain(events) => Ok(replay(alloc, opening, &events)?),
         Schedule::Record(steps) => Ok(replay_checked(alloc, opening, &steps)?),
     }
@@ -62,14 +62,14 @@ pub fn machine_after<const B: usize, const M: usize>(
 pub fn state_after<const B: usize, const M: usize>(
     alloc: Global,
     opening: &Opening,
-    said: Schedule,
+    parsed: Schedule,
 ) -> Result<MachineState<B, M>, Fault>
     requires capacity { B ≤ 64 }
     requires size { M ≤ 65536 }
     requires fits { FitsIn M opening.now }
-    ensures { AnswersBy (Runs B M opening.now (said_of said)) (RepresentsHistory B M) result }
+    ensures { AnswersBy (Runs B M opening.now (schedule_value parsed)) (RepresentsHistory B M) result }
 {
-    match said {
+    match parsed {
         Schedule::Plain(events) => Ok(replay_state(alloc, opening, &events)?),
         Schedule::Record(steps) => Ok(check_record(alloc, opening, &steps)?),
     }
@@ -85,7 +85,7 @@ pub fn machine_of_schedule<const B: usize, const M: usize>(
     requires capacity { B ≤ 64 }
     requires words { MAX_LOCATIONS ≤ M }
     requires size { M ≤ 65536 }
-    ensures ran { AnswersAs (Runs B M test.now.opening (said_of schedule)) (λ machine. machine.history) result }
+    ensures ran { AnswersAs (Runs B M test.now.opening (schedule_value schedule)) (λ machine. machine.history) result }
     ensures harts { IfOk result (λ machine. length machine.history.opening.harts ≡ length test.now.opening.harts) }
     ensures names { IfOk result (λ _. length test.now.names ≤ M) }
 {
@@ -102,7 +102,7 @@ pub fn state_of_schedule<const B: usize, const M: usize>(
     requires capacity { B ≤ 64 }
     requires words { MAX_LOCATIONS ≤ M }
     requires size { M ≤ 65536 }
-    ensures ran { AnswersBy (Runs B M test.now.opening (said_of schedule)) (RepresentsHistory B M) result }
+    ensures ran { AnswersBy (Runs B M test.now.opening (schedule_value schedule)) (RepresentsHistory B M) result }
     ensures harts { IfOk result (λ machine. length machine.harts ≡ length test.now.opening.harts) }
     ensures names { IfOk result (λ _. length test.now.names ≤ M) }
 {
@@ -120,7 +120,7 @@ pub fn record_of_schedule<const B: usize, const M: usize>(
     requires capacity { B ≤ 64 }
     requires words { MAX_LOCATIONS ≤ M }
     requires size { M ≤ 65536 }
-    ensures { AnswersAs (Records B M test.now.opening (said_of schedule)) (λ steps. steps.items) result }
+    ensures { AnswersAs (Records B M test.now.opening (schedule_value schedule)) (λ steps. steps.items) result }
 {
     let opening = test.opening(alloc)?;
     match schedule {
@@ -139,20 +139,20 @@ pub fn read_both<F: Read, S: Read>(
     file: &mut F,
     schedule: &mut S,
 ) -> Result<(Test, Schedule), Fault>
-    ensures read { FindsUpToReads (BySchedule AreRead (F.remaining file.old) (S.remaining schedule.old)) test_and_said result }
+    ensures read { FindsUpToReads (BySchedule AreRead (F.remaining file.old) (S.remaining schedule.old)) test_and_value result }
     ensures unread { IsRefused tests (F.remaining file.old) → schedule.new ≡ schedule.old }
-    ensures harts { IfOk result (λ read. OfHarts (events_said (said_of read.1))) }
-    ensures few { IfOk result (λ read. length (events_said (said_of read.1)) ≤ MAX_EVENTS) }
+    ensures harts { IfOk result (λ read. OfHarts (events_of_schedule (schedule_value read.1))) }
+    ensures few { IfOk result (λ read. length (events_of_schedule (schedule_value read.1)) ≤ MAX_EVENTS) }
 {
     let test = read_test(alloc, file)?;
-    let said = read_schedule(alloc, schedule)?;
-    Ok((test, said))
+    let parsed = read_schedule(alloc, schedule)?;
+    Ok((test, parsed))
 }
 
 /// Running a schedule from an opening gives one history, or one event that differs first; noting its
 /// outcomes gives one record. It does nothing.
 pub fn laws_of_schedules()
-    ensures runs { (B M : ℕ) (o : OpeningValue) (said : ScheduleValue) (a b : Result History Refusal) → Runs B M o said a → Runs B M o said b → a ≡ b }
-    ensures records { (B M : ℕ) (o : OpeningValue) (said : ScheduleValue) (a b : Result (List Step) Refusal)
-        → Records B M o said a → Records B M o said b → a ≡ b }
+    ensures runs { (B M : ℕ) (o : OpeningValue) (parsed : ScheduleValue) (a b : Result History Refusal) → Runs B M o parsed a → Runs B M o parsed b → a ≡ b }
+    ensures records { (B M : ℕ) (o : OpeningValue) (parsed : ScheduleValue) (a b : Result (List Step) Refusal)
+        → Records B M o parsed a → Records B M o parsed b → a ≡ b }
 {}

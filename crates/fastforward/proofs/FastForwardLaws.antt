@@ -1,7 +1,7 @@
 -- The laws of one block, all together, and so the laws of the ring.
 use Rattle.std.proofs.Common.{ℕ, ◌≡◌, refl, arith, lit≤}
 use Rattle.std.proofs.Math.Nat.{zero-mod}
-use Rattle.poll_close.proofs.Ring.{Block, IsBlock, Within, word_of, slot_of, BlockLaws, Begins, opens_with, ◌&◌, sends, AllLaws, all_laws, words_of}
+use Rattle.poll_close.proofs.Ring.{SenderBlock, IsBlock, Within, word_of, slot_of, BlockLaws, Begins, opens_with, ◌&◌, sends, AllLaws, all_laws, words_of}
 use Rattle.fastforward.specs.Listing.{listing, fastforward}
 use Rattle.fastforward.specs.FastForward.{fastforward_blocks, fastforward_means}
 use Rattle.fastforward.specs.Invariant.Counters.{Counters, Landed, Words}
@@ -20,7 +20,7 @@ nothing = record {
   landed = record { slots = 0; mark = 0; nulls = 0; tails = 0; done = 0 };
 }
 
-begins : (k : Block) → IsBlock k → Begins fastforward_blocks nothing k (opens_with (words_of listing.sender) k)
+begins : (k : SenderBlock) → IsBlock k → Begins fastforward_blocks nothing k (opens_with (words_of listing.sender) k)
 begins k is = record {
   order = omega (arith, is.some_slot);
   words = record { mark = refl; tail = omega (arith, zero-mod k.size); done = refl; full = λ j from below. omega arith; empty = λ j from below. refl };
@@ -37,7 +37,7 @@ begins k is = record {
   closings = refl;
 }
 
-words_same : (k : Block) (n : Landed) (word new : ℕ → ℕ) → IsBlock k → ((a : ℕ) → Within k a → new a ≡ word a) → Words k n word → Words k n new
+words_same : (k : SenderBlock) (n : Landed) (word new : ℕ → ℕ) → IsBlock k → ((a : ℕ) → Within k a → new a ≡ word a) → Words k n word → Words k n new
 words_same k n word new is same w = grind (arith, word_of, slot_of)
 
 pub laws : BlockLaws fastforward_blocks

@@ -3,17 +3,17 @@ use Rattle.std.proofs.Common.{ℕ, suc, ◌+◌, ◌<◌, ◌≤◌, ◌≡◌, 
 use Rattle.std.specs.Prelude.{slice_index}
 use Rattle.std.specs.List.{slice_get}
 use Rattle.std.proofs.lemmas.Bool.{cases_lt, cases_eq}
-use Rattle.poll_close.specs.Invariant.Blocks.{Block, offset, slot}
+use Rattle.poll_close.specs.Invariant.Blocks.{SenderBlock, offset, slot}
 use Rattle.poll_close.proofs.Writes.{IsWrite, hit, miss, same_write}
 use Rattle.poll_close.proofs.Blocks.{IsBlock}
 use Rattle.poll_close.proofs.BlockLaws.{Lands}
 use Rattle.fastforward.specs.FastForward.{fastforward_blocks}
 use Rattle.fastforward.specs.Invariant.Stores.{sender_stores, receiver_stores}
-use Rattle.fastforward.specs.Invariant.Counters.{Counters, sent, gone, nulls, taken, freed, CounterInvariant, Words}
+use Rattle.fastforward.specs.Invariant.Counters.{Counters, sent, gone, nulls, taken_so_far, freed, CounterInvariant, Words}
 use Rattle.fastforward.proofs.Stores.{slots_apart, slot-again, store_word, store_mark, store_null, store_tail, store_done}
 
 -- a store of the sender
-module _ (k : Block) (is : IsBlock k) (n : Counters) (order : CounterInvariant k n) (word new : ℕ → ℕ) (words : Words k n.landed word) where
+module _ (k : SenderBlock) (is : IsBlock k) (n : Counters) (order : CounterInvariant k n) (word new : ℕ → ℕ) (words : Words k n.landed word) where
   word_lands : n.landed.slots < n.sender.stored
       → IsWrite word new (slot k.size k.base n.landed.slots, slice_index k.list n.landed.slots)
       → Lands fastforward_blocks k n new (suc (gone n.landed)) (freed n.landed)
@@ -91,7 +91,7 @@ module _ (k : Block) (is : IsBlock k) (n : Counters) (order : CounterInvariant k
           mark_lands full waits (is_of (k.base + 4, 1) (store_mark k (gone n.landed) (omega (arith, full, waits, order.marked_one))))
 
 -- a store of the receiver to the block
-module _ (k : Block) (is : IsBlock k) (n : Counters) (order : CounterInvariant k n) (word new : ℕ → ℕ) (words : Words k n.landed word) where
+module _ (k : SenderBlock) (is : IsBlock k) (n : Counters) (order : CounterInvariant k n) (word new : ℕ → ℕ) (words : Words k n.landed word) where
   null_lands : n.landed.nulls ≡ n.landed.tails → n.landed.nulls < nulls n.receiver
       → IsWrite word new (slot k.size k.base n.landed.nulls, 0)
       → Lands fastforward_blocks k n new (gone n.landed) (suc (freed n.landed))
@@ -165,7 +165,7 @@ module _ (k : Block) (is : IsBlock k) (n : Counters) (order : CounterInvariant k
       one = omega (arith, some, order.done_one)
 
   -- whichever of its stores to the block is the oldest pending one, it lands
-  pub receiver_lands : (x : ℕ × ℕ) → freed n.landed < taken n.receiver → slice_get (receiver_stores k) (freed n.landed) ≡ Some x
+  pub receiver_lands : (x : ℕ × ℕ) → freed n.landed < taken_so_far n.receiver → slice_get (receiver_stores k) (freed n.landed) ≡ Some x
       → IsWrite word new x → Lands fastforward_blocks k n new (gone n.landed) (suc (freed n.landed))
   receiver_lands x more oldest write = at (cases_eq n.landed.nulls n.landed.tails) (cases_lt n.landed.nulls (length k.list))
     where

@@ -6,4 +6,4 @@ pub mod Sender
 pub mod Receiver
 pub mod ReceiverActs
 pub mod FastForwardLaws
-pub mod Falling
+pub mod Decreasing

@@ -1,7 +1,7 @@
 -- The tables mean the listings.
 use Rattle.std.specs.Prelude.{◌≡◌, refl, Some, map}
 use Rattle.rv_decode.specs.Meaning.{meaning}
-use Rattle.poll_close.specs.Listing.{words_of, lines_of}
+use Rattle.rv_decode.specs.Listings.{words_of, lines_of}
 use Rattle.fastforward.specs.Listing.{listing}
 
 -- by the decoder's own function, on numerals

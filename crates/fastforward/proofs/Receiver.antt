@@ -8,7 +8,7 @@ use Rattle.std.proofs.lemmas.Bool.Decides.{nat_tests}
 use Rattle.rv_decode.specs.declared.instruction.Instr.{Instr}
 use Rattle.hart.proofs.Instructions.{IsAt}
 use Rattle.poll_close.specs.Rankings.{runs}
-use Rattle.poll_close.specs.Invariant.Blocks.{Block, offset, slot}
+use Rattle.poll_close.specs.Invariant.Blocks.{SenderBlock, offset, slot}
 use Rattle.poll_close.specs.Invariant.ReceiverState.{ReceiverRegisters, whole_of, receiving}
 use Rattle.poll_close.specs.Invariant.BlockInvariant.{Flag, unread_of}
 use Rattle.step_machine.proofs.Lines.{loads, stores, sum_line, load_line, store_line, same_jumps, other_goes_on}
@@ -16,7 +16,7 @@ use Rattle.poll_close.proofs.Blocks.{IsBlock, offset_low, word_of, word_from, sl
 use Rattle.poll_close.proofs.BlockLaws.{found_in, Changes, Right_at}
 use Rattle.poll_close.proofs.Distance.{flags, far_off}
 use Rattle.poll_close.proofs.ReceiverMoves as step
-use Rattle.poll_close.specs.Listing.{lines_of}
+use Rattle.rv_decode.specs.Listings.{lines_of}
 use Rattle.fastforward.specs.Listing.{ring_lines, listing}
 use Rattle.fastforward.specs.FastForward.{fastforward_blocks}
 use Rattle.fastforward.specs.Invariant.Counters.{Counters, nulls, CounterInvariant, Words}
@@ -25,7 +25,7 @@ use Rattle.fastforward.proofs.Means.{receiver_decoded}
 use Rattle.fastforward.proofs.ReceiverReads.{seen_tail, seen_word, seen_none}
 use Rattle.fastforward.proofs.ReceiverActs.{stores_null}
 
-module _ (k : Block) (i count : ℕ) (n : Counters) (word : ℕ → ℕ) (r : ReceiverRegisters) (v : ℕ) (is : IsBlock k)
+module _ (k : SenderBlock) (i count : ℕ) (n : Counters) (word : ℕ → ℕ) (r : ReceiverRegisters) (v : ℕ) (is : IsBlock k)
     (order : CounterInvariant k n) (words : Words k n.landed word) where
   at : (j : ℕ) {instr : Instr} → slice_get (map Some (lines_of listing.receiver)) j ≡ Some (Some instr)
       → IsAt (receiving ring_lines (whole_of k count) (4 * j) r) instr
@@ -39,7 +39,7 @@ module _ (k : Block) (i count : ℕ) (n : Counters) (word : ℕ → ℕ) (r : Re
   keeps_at_14 h z =
       let line = load_line (at 5 refl) (omega (arith, is.even, h.0.visits.base)) refl (omega (arith, is.inside, is.some_slot, h.0.visits.base)) is.small in
       let read : v ≡ offset k n.receiver.tails =
-      z.find (k.base + 8) (word_of k is 8 (omega arith) refl) (line.wants ∙ ap (λ b. loads (b + 8)) h.0.visits.base)
+      z.find (k.base + 8) (word_of k is 8 (omega arith) refl) (line.needs ∙ ap (λ b. loads (b + 8)) h.0.visits.base)
       ∙ seen_tail k n word order words h.0.quiet.level h.0.open_yet in
       step.reads fastforward_blocks k i count n order r v 0x14 0x18 (r.x8 + 8) (λ w. record r { x7 = w }) refl
       (word_from k is r.x8 8 h.0.visits.base (omega arith) refl) line
@@ -61,7 +61,7 @@ module _ (k : Block) (i count : ℕ) (n : Counters) (word : ℕ → ℕ) (r : Re
   keeps_at_1C h z =
       let line = load_line (at 7 refl) (omega (arith, is.even, h.1.1, h.1.2)) refl
       (omega (arith, is.inside, h.1.1, h.1.2, offset_low k is n.receiver.tails)) is.small in
-      let read = z.find (slot k.size k.base n.receiver.tails) (slot_of k is n.receiver.tails) (line.wants ∙ ap loads
+      let read = z.find (slot k.size k.base n.receiver.tails) (slot_of k is n.receiver.tails) (line.needs ∙ ap loads
       (let same : r.x28 + 16 ≡ slot k.size k.base n.receiver.tails = omega (arith, h.1.1, h.1.2) in same)) in
       step.acts fastforward_blocks k i count n order r v 0x1C 0x20 (loads (r.x28 + 16)) (λ w. record r { x11 = w })
       (record n.receiver { seen = n.landed.slots })

@@ -1,22 +1,22 @@
 -- The receiver's stores and reports, and what stays of its assertions, as the laws of a block ask for
 -- them.
 use Rattle.std.proofs.Common.{ℕ, ◌+◌, ◌<◌, ◌≡◌, [], ◌∷◌, length, refl, arith, ◌≤◌}
-use Rattle.poll_close.specs.Invariant.Blocks.{Block, offset, slot}
+use Rattle.poll_close.specs.Invariant.Blocks.{SenderBlock, offset, slot}
 use Rattle.poll_close.proofs.BlockLaws.{Changes, Stepped}
 use Rattle.fastforward.specs.FastForward.{fastforward_blocks}
-use Rattle.fastforward.specs.Invariant.Counters.{Counters, nulls, taken, CounterInvariant}
+use Rattle.fastforward.specs.Invariant.Counters.{Counters, nulls, taken_so_far, CounterInvariant}
 use Rattle.fastforward.specs.Invariant.RingLines.{Level, Filled}
 use Rattle.fastforward.proofs.Stores.{store_null, store_tail, store_done}
 
 -- the receiver's own numbers grow
-module _ (k : Block) (n : Counters) (order : CounterInvariant k n) where
+module _ (k : SenderBlock) (n : Counters) (order : CounterInvariant k n) where
   pub stores_null : Level n.receiver → n.receiver.tails < n.receiver.seen → n.receiver.done ≡ 0
       → Changes fastforward_blocks k n (record n.receiver { own = nulls n.receiver + 1 })
       ((slot k.size k.base n.receiver.tails, 0) ∷ [])
   stores_null level more on = record {
     order = omega (arith, level, more);
     stores = (let within : n.receiver.tails < length k.list = omega (arith, more, order.seen_slots, order.slots_landed, order.stored_all) in
-        (omega arith, store_null k n.receiver.tails (taken n.receiver) within (omega (arith, level, on))));
+        (omega arith, store_null k n.receiver.tails (taken_so_far n.receiver) within (omega (arith, level, on))));
   }
 
   pub stores_tail : Filled n.receiver → n.receiver.done ≡ 0
@@ -26,7 +26,7 @@ module _ (k : Block) (n : Counters) (order : CounterInvariant k n) where
     changes = record {
       order = omega (arith, filled, on);
       stores = (let within : n.receiver.tails < length k.list = omega (arith, filled, order.nulls_slots, order.slots_landed, order.stored_all) in
-          (omega arith, store_tail k n.receiver.tails (taken n.receiver) within (omega (arith, filled, on))));
+          (omega arith, store_tail k n.receiver.tails (taken_so_far n.receiver) within (omega (arith, filled, on))));
     };
     level = filled;
   }
@@ -36,7 +36,7 @@ module _ (k : Block) (n : Counters) (order : CounterInvariant k n) where
   stores_done level all on = record {
     changes = record {
       order = omega (arith, all);
-      stores = (omega (arith, on), store_done k (taken n.receiver) (omega (arith, level, all, on)));
+      stores = (omega (arith, on), store_done k (taken_so_far n.receiver) (omega (arith, level, all, on)));
     };
     level = level;
   }

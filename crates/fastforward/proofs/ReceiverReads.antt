@@ -3,19 +3,19 @@ use Rattle.std.proofs.Common.{ℕ, zero, suc, ◌+◌, ◌*◌, ◌<◌, ◌≤�
 use Rattle.std.specs.Prelude.{slice_index}
 use Rattle.std.specs.List.{slice_get}
 use Rattle.std.proofs.lemmas.Bool.{cases_lt, cases_eq}
-use Rattle.poll_close.specs.Invariant.Blocks.{Block, offset, slot}
+use Rattle.poll_close.specs.Invariant.Blocks.{SenderBlock, offset, slot}
 use Rattle.poll_close.specs.Invariant.BlockInvariant.{unread_of}
 use Rattle.poll_close.proofs.Found.{in_memory, none_pending, newest_found, last_found}
 use Rattle.poll_close.proofs.Blocks.{IsBlock}
 use Rattle.poll_close.proofs.BlockLaws.{found_in}
 use Rattle.fastforward.specs.FastForward.{fastforward_blocks}
 use Rattle.fastforward.specs.Invariant.Stores.{receiver_stores}
-use Rattle.fastforward.specs.Invariant.Counters.{Counters, nulls, taken, freed, CounterInvariant, Words}
+use Rattle.fastforward.specs.Invariant.Counters.{Counters, nulls, taken_so_far, freed, CounterInvariant, Words}
 use Rattle.fastforward.proofs.Stores.{slots_apart, slot-again, store_null, store_tail, store_done, Place, place_at}
 
-module _ (k : Block) (n : Counters) (word : ℕ → ℕ) (order : CounterInvariant k n) (words : Words k n.landed word) where
+module _ (k : SenderBlock) (n : Counters) (word : ℕ → ℕ) (order : CounterInvariant k n) (words : Words k n.landed word) where
   pub seen_mark : found_in (unread_of fastforward_blocks k n) word (k.base + 4) ≡ n.landed.mark
-  seen_mark = in_memory (receiver_stores k) (freed n.landed) (taken n.receiver) word
+  seen_mark = in_memory (receiver_stores k) (freed n.landed) (taken_so_far n.receiver) word
       (k.base + 4) (λ t x from below got. differs t x (place_at k t x got)) ∙ words.mark
     where
       differs : (t : ℕ) (x : ℕ × ℕ) → Place k t x.0 → x.0 ≢ k.base + 4
@@ -32,12 +32,12 @@ module _ (k : Block) (n : Counters) (word : ℕ → ℕ) (order : CounterInvaria
           → found_in (unread_of fastforward_blocks k n) word (k.base + 8) ≡ offset k n.receiver.tails
       at c is (inr none) =
           let same : n.landed.tails ≡ n.receiver.tails = omega (arith, order.tails_landed) in
-          none_pending (receiver_stores k) (freed n.landed) (taken n.receiver) word
+          none_pending (receiver_stores k) (freed n.landed) (taken_so_far n.receiver) word
           (k.base + 8) (omega (arith, same, level, on, order.tail_after)) ∙ words.tail ∙ ap (offset k) same
       at zero is (inl some) = absurd (omega arith)
       at (suc c) is (inl some) =
           let next : c + 1 ≡ n.receiver.tails = omega arith in
-          last_found (receiver_stores k) (freed n.landed) (taken n.receiver) word
+          last_found (receiver_stores k) (freed n.landed) (taken_so_far n.receiver) word
           (k.base + 8) (offset k (c + 1)) (2 * c + 1) (omega (arith, level, on, is))
           (omega (arith, is, some, on, order.done_landed, order.null_before))
           (store_tail k c (2 * c + 1)
@@ -58,20 +58,20 @@ module _ (k : Block) (n : Counters) (word : ℕ → ℕ) (order : CounterInvaria
       at : (n.receiver.done ≡ 0) ⊎ (n.receiver.done ≢ 0) → (n.landed.done ≡ 0) ⊎ (n.landed.done ≢ 0)
           → found_in (unread_of fastforward_blocks k n) word (k.base + 12) ≡ n.receiver.done
       at (inl none) kd =
-          in_memory (receiver_stores k) (freed n.landed) (taken n.receiver) word (k.base + 12)
+          in_memory (receiver_stores k) (freed n.landed) (taken_so_far n.receiver) word (k.base + 12)
           (λ t x from below got. differs t x (omega (arith, below, none, nulls_all, order.tails_nulls))
           (place_at k t x got))
           ∙ words.done ∙ (let same : n.landed.done ≡ n.receiver.done = omega (arith, order.done_landed) in same)
       at (inr one) (inr landed) =
           let all : n.landed.tails ≡ length k.list = order.all_landed (omega (arith, landed)) in
-          none_pending (receiver_stores k) (freed n.landed) (taken n.receiver) word (k.base + 12)
+          none_pending (receiver_stores k) (freed n.landed) (taken_so_far n.receiver) word (k.base + 12)
           (omega (arith, all, landed, nulls_all, order.tails_nulls, order.tail_after, order.done_one)) ∙ words.done
           ∙
           (let same : n.landed.done ≡ n.receiver.done = omega (arith, order.done_landed, order.done_one, landed) in
           same)
       at (inr one) (inl pending) =
           let all : n.receiver.tails ≡ length k.list = order.done_all (omega (arith, one)) in
-          last_found (receiver_stores k) (freed n.landed) (taken n.receiver) word (k.base + 12) 1 (2 * length k.list)
+          last_found (receiver_stores k) (freed n.landed) (taken_so_far n.receiver) word (k.base + 12) 1 (2 * length k.list)
           (omega (arith, all, one, nulls_all, order.tails_nulls, order.done_one))
           (omega (arith, all, pending, nulls_all, order.nulls_landed, order.tails_landed))
           (store_done k (2 * length k.list) refl)
@@ -89,7 +89,7 @@ module _ (k : Block) (n : Counters) (word : ℕ → ℕ) (order : CounterInvaria
       → n.receiver.tails < n.landed.nulls + k.size
       → found_in (unread_of fastforward_blocks k n) word (slot k.size k.base n.receiver.tails)
       ≡ word (slot k.size k.base n.receiver.tails)
-  slot_in_memory is level on near = in_memory (receiver_stores k) (freed n.landed) (taken n.receiver) word
+  slot_in_memory is level on near = in_memory (receiver_stores k) (freed n.landed) (taken_so_far n.receiver) word
       (slot k.size k.base n.receiver.tails)
       (λ t x from below got. elsewhere is t x (omega (arith, below, level, on))
       (λ s twice. omega (arith, from, twice, near, order.null_before)) (place_at k t x got))
@@ -119,7 +119,7 @@ module _ (k : Block) (n : Counters) (word : ℕ → ℕ) (order : CounterInvaria
           store_null k n.landed.nulls (2 * n.landed.nulls)
           (omega (arith, round, is.some_slot, order.tails_nulls, order.nulls_slots, order.slots_landed, order.stored_all))
           refl ∙ ap (λ a. Some (a, 0)) here in
-          newest_found (receiver_stores k) (freed n.landed) (taken n.receiver) word
+          newest_found (receiver_stores k) (freed n.landed) (taken_so_far n.receiver) word
           (slot k.size k.base n.receiver.tails) 0 (2 * n.landed.nulls) (omega (arith, on, order.tail_after, order.done_landed))
           (omega (arith, round, level, is.some_slot)) store
           (λ t x more below got. elsewhere is t x (omega (arith, below, level, on))

@@ -5,7 +5,8 @@ use Rattle.std.specs.List.{slice_get}
 use Rattle.std.proofs.lemmas.Bool.{cases_eq, not-false}
 use Rattle.step_machine.proofs.Lines.{word-plus}
 use Rattle.step_machine.proofs.Modulo.{offset_step, offset_wrap}
-use Rattle.poll_close.proofs.Ring.{lines_of, Block, offset, slot, SenderRegisters, unsent_of, Reasons, in_memory, newest_found, IsBlock, base_plus, offset_low}
+use Rattle.poll_close.proofs.Ring.{lines_of, SenderBlock, offset, slot, SenderRegisters, unsent_of}
+use Rattle.poll_close.proofs.Ring.{Reasons, in_memory, newest_found, IsBlock, base_plus, offset_low}
 use Rattle.poll_close.proofs.Ring.{word_of, slot_at, found_in, Sender, Right, ◌&◌, Rows, rows}
 use Rattle.poll_close.proofs.Outlines as outline
 use Rattle.fastforward.specs.Listing.{listing}
@@ -16,7 +17,7 @@ use Rattle.fastforward.specs.Invariant.Sender.{sender}
 use Rattle.fastforward.proofs.Means.{sender_decoded}
 use Rattle.fastforward.proofs.Stores.{slots_apart, slot-again, store_word, store_mark, word_at}
 
-module _ (k : Block) (is : IsBlock k) (n : Counters) (order : CounterInvariant k n) (word : ℕ → ℕ) (words : Words k n.landed word) where
+module _ (k : SenderBlock) (is : IsBlock k) (n : Counters) (order : CounterInvariant k n) (word : ℕ → ℕ) (words : Words k n.landed word) where
   -- a slot whose null is not in memory holds the word of a round before: in memory, or pending
   full_slot : n.sender.marked ≡ 0 → n.sender.stored < length k.list → n.sender.stored ≡ n.landed.nulls + k.size
       → found_in (unsent_of fastforward_blocks k n) word (slot k.size k.base n.sender.stored)
@@ -67,7 +68,7 @@ module _ (k : Block) (is : IsBlock k) (n : Counters) (order : CounterInvariant k
 abbrev pub fastforward_sender : Sender fastforward_blocks
 fastforward_sender = record { lines = lines_of listing.sender; decoded = sender_decoded }
 
-module _ (k : Block) (n : Counters) (word : ℕ → ℕ) (v : ℕ) (r : SenderRegisters) (is : IsBlock k)
+module _ (k : SenderBlock) (n : Counters) (word : ℕ → ℕ) (v : ℕ) (r : SenderRegisters) (is : IsBlock k)
     (order : CounterInvariant k n) (words : Words k n.landed word) where
   line : Rows fastforward_blocks fastforward_sender k n word v r
   line = rows fastforward_blocks fastforward_sender k n word v r is order

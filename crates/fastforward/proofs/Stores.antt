@@ -3,7 +3,7 @@ use Rattle.std.proofs.Common.{ℕ, ◌+◌, ◌*◌, ◌<◌, ◌≡◌, ◌≢�
 use Rattle.std.specs.Prelude.{slice_index}
 use Rattle.std.specs.List.{slice_get}
 use Rattle.std.proofs.Math.Nat.{add-mod_right}
-use Rattle.poll_close.specs.Invariant.Blocks.{Block, offset, slot, slot_store, tail_store}
+use Rattle.poll_close.specs.Invariant.Blocks.{SenderBlock, offset, slot, slot_store, tail_store}
 use Rattle.step_machine.proofs.Modulo.{mod_apart}
 use Rattle.poll_close.proofs.Windows.{Each, single_at, single_last, first_at, second_at, pair_last, pair_is, singles-each, pairs-each}
 use Rattle.poll_close.proofs.Blocks.{IsBlock, IsStore, offset_small, word_of, slot_of}
@@ -16,7 +16,7 @@ slots_apart S b i j some less near same = mod_apart S i j some less near (omega 
 pub slot-again : (S b j : ℕ) → slot S b (j + S) ≡ slot S b j
 slot-again S b j = ap (λ n. b + 16 + 4 * n) (add-mod_right j S)
 
-module _ (k : Block) where
+module _ (k : SenderBlock) where
   -- the sender's store i is word i, and its last the mark
   pub store_word : (i n : ℕ) → i < length k.list → n ≡ i → slice_get (sender_stores k) n ≡ Some (slot k.size k.base i, slice_index k.list i)
   store_word i n less at = single_at (slot_store k) (k.base + 4, 1) k.list i n less at

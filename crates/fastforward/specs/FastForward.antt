@@ -8,7 +8,7 @@ use Rattle.poll_close.specs.Invariant.BlockInvariant.{BlockInvariant, ranking_of
 use Rattle.poll_close.specs.Invariant.Channels.{means_by}
 use Rattle.fastforward.specs.Listing.{ring_lines}
 use Rattle.fastforward.specs.Invariant.Stores.{sender_stores, receiver_stores}
-use Rattle.fastforward.specs.Invariant.Counters.{Landed, sent, gone, taken, freed, CounterInvariant, Words}
+use Rattle.fastforward.specs.Invariant.Counters.{Landed, sent, gone, taken_so_far, freed, CounterInvariant, Words}
 use Rattle.fastforward.specs.Invariant.Sender.{sender}
 use Rattle.fastforward.specs.Invariant.RingLines.{Level, Filled, rows}
 
@@ -28,7 +28,7 @@ fastforward_blocks = record {
   receiver_stores = receiver_stores;
   sent = sent;
   gone = gone;
-  taken = taken;
+  taken = taken_so_far;
   freed = freed;
   Level = Level;
   Filled = Filled;

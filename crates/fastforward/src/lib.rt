@@ -4,7 +4,7 @@
 
 #![tactic(auto)]
 
-ghost use Rattle.poll_close.specs.Listing.{lines_of};
+ghost use Rattle.rv_decode.specs.Listings.{lines_of};
 ghost use Rattle.fastforward.specs.Listing.{listing, fastforward};
 ghost use Rattle.poll_close.specs.Means.{AllMean};
 
@@ -55,8 +55,8 @@ impl<const B: usize, const M: usize> Finish<B, M> for FastForward {
         is_ready_at(machine, hart, 0x10, 28, 16, None)
     }
 
-    #[tactic(auto, using(crate::proofs::Falling::fastforward_falls))]
-    fn falls() {}
+    #[tactic(auto, using(crate::proofs::Decreasing::fastforward_decreases))]
+    fn ranking_decreases() {}
 }
 
 /// Each word of the ring's tables means its line's instruction. It does nothing.

@@ -2,35 +2,23 @@
 use Rattle.std.proofs.Common.{◌≡◌, ℕ, zero, suc, ◌+◌, ◌<◌, ◌≤◌, inl, inr, List, Some, refl, sym, ◌∙◌, ap, subst, arith}
 use Rattle.std.specs.List.{slice_get}
 use Rattle.std.proofs.lemmas.Bool.{cases_lt}
-use Rattle.finding.specs.inner.Levels.{IsLedToBy, AreFewest, GoesOn, IsAmong, LeadsInto, IsSearched}
+use Rattle.finding.specs.inner.Levels.{IsLedToBy, AreFewest, IsExpanded, IsAmong, LeadsInto, IsSearched}
 
 -- it is among more of them
 pub among_more : {X : Type 0} {xs : List X} {count more : ℕ} (x : X) → count ≤ more → IsAmong count xs x → IsAmong more xs x
 among_more x few is = record { place = is.place; before = omega (arith, few, is.before); there = is.there }
 
 goes_on_more : {Node Step : Type 0} {next : Node → Step → Node} {Wanted : Node → Type 0} {nodes : List Node} {count more : ℕ} (node : Node)
-    → count ≤ more → GoesOn next Wanted count nodes node → GoesOn next Wanted more nodes node
+    → count ≤ more → IsExpanded next Wanted count nodes node → IsExpanded next Wanted more nodes node
 goes_on_more {next = next} node few goes = record {
   leads = λ step. among_more (next node step) few (goes.leads step);
   unwanted = goes.unwanted;
 }
 
--- before the first step
-pub searched_first : {Node Step : Type 0} (next : Node → Step → Node) (Wanted : Node → Type 0) (first : Node) (nodes : List Node)
-    → slice_get nodes 0 ≡ Some first → IsSearched next Wanted first nodes 0 1 0
-searched_first {Node = Node} next Wanted first nodes is = record {
-  near = at_once;
-  gone_on = λ number node before there. absurd (omega (arith, before));
-}
-  where
-    at_once : (count : ℕ) (node : Node) → count ≤ 0 → IsLedToBy next first count node → IsAmong 1 nodes node
-    at_once zero node few led = record { place = 0; before = omega arith; there = is ∙ ap (λ (n : Node). Some n) (sym led) }
-    at_once (suc count) node few led = absurd (omega (arith, few))
-
 -- each node of the level leads into the next
 pub searched_level : {Node Step : Type 0} {next : Node → Step → Node} {Wanted : Node → Type 0} {first : Node} {nodes : List Node} {done level depth : ℕ}
     (more : ℕ) → level ≤ more
-    → ((number : ℕ) (node : Node) → done ≤ number → number < level → slice_get nodes number ≡ Some node → GoesOn next Wanted more nodes node)
+    → ((number : ℕ) (node : Node) → done ≤ number → number < level → slice_get nodes number ≡ Some node → IsExpanded next Wanted more nodes node)
     → IsSearched next Wanted first nodes done level depth → IsSearched next Wanted first nodes level more (depth + 1)
 searched_level {Node = Node} {next = next} {Wanted = Wanted} {first = first} {nodes = nodes} {done = done} {level = level} {depth = depth}
     more few goes searched = record {
@@ -38,7 +26,7 @@ searched_level {Node = Node} {next = next} {Wanted = Wanted} {first = first} {no
       gone_on = all;
     }
   where
-    all : (number : ℕ) (node : Node) → number < level → slice_get nodes number ≡ Some node → GoesOn next Wanted more nodes node
+    all : (number : ℕ) (node : Node) → number < level → slice_get nodes number ≡ Some node → IsExpanded next Wanted more nodes node
     all number node before there = elim (cases_lt number done) [
       | inl less ↦ goes_on_more node few (searched.gone_on number node less there)
       | inr later ↦ goes number node later before there

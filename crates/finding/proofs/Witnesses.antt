@@ -8,11 +8,9 @@ use Rattle.step_machine.specs.declared.events.Outcome.{Outcome}
 use Rattle.step_machine.specs.declared.events.Outcome.TheVariants as outcome
 use Rattle.step_machine.specs.History.{History, at_opening}
 use Rattle.step_machine.specs.Runs.{IsFor, Happens, RunFrom, event_of}
+use Rattle.step_machine.proofs.Follows.{event_of-for}
 use Rattle.litmus.specs.LitmusTests.{LitmusTest}
 use Rattle.finding.specs.Find.{IsWitness, Shows}
-
-event_of-for : (ev : Event) (e : Entry) → IsFor ev e → event_of e ≡ ev
-event_of-for ev e for_it = grind arith
 
 -- each of these events adds an entry
 record EachAdds (t : History) (evs : List Event) (new : History) : Type 0 where

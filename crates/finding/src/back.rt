@@ -3,7 +3,7 @@
 //! It is proved to be as long as the levels are many, and nothing else: who gets it runs it.
 
 ghost use Rattle.std.specs.Prelude.{◌≡◌, ◌≤◌, ◌<◌, ◌+◌, IfOk, IfSome, OnOk, length};
-ghost use Rattle.recorder.specs.Schedule.{OfHarts, hart_of};
+ghost use Rattle.recorder.specs.Schedule.{OfHarts, hart_of_event};
 ghost use Rattle.step_machine.specs.declared.opening.TheConstants.{MAX_HARTS};
 ghost use Rattle.finding.specs.inner.Parts.{IsRight, tables_of};
 
@@ -42,7 +42,7 @@ fn event_to<const B: usize, const M: usize>(
     requires few { length tables.now.opening.harts ≤ MAX_HARTS }
     requires right { IsRight B (tables_of B M tables.now) book.old.machine book.old.steps.items }
     ensures right { OnOk result (IsRight B (tables_of B M tables.now) book.new.machine book.new.steps.items) }
-    ensures hart { IfOk result (λ found. IfSome found (λ event. hart_of event < MAX_HARTS)) }
+    ensures hart { IfOk result (λ found. IfSome found (λ event. hart_of_event event < MAX_HARTS)) }
 {
     let memory = number_at(row, tables.harts() as usize);
     let mut landing = None;
@@ -75,7 +75,7 @@ fn step_back<const B: usize, const M: usize, const N: usize>(
     requires few { length tables.now.opening.harts ≤ MAX_HARTS }
     requires right { IsRight B (tables_of B M tables.now) book.old.machine book.old.steps.items }
     ensures right { OnOk result (IsRight B (tables_of B M tables.now) book.new.machine book.new.steps.items) }
-    ensures hart { IfOk result (λ found. IfSome found (λ event. hart_of event < MAX_HARTS)) }
+    ensures hart { IfOk result (λ found. IfSome found (λ event. hart_of_event event < MAX_HARTS)) }
 {
     for number in from..end.min(met.len()) {
         met.row_into(number, row)?;

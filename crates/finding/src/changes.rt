@@ -1,7 +1,7 @@
 //! The words of memory as changes: the index and the word of each that differs from the opening's.
 
 ghost use Rattle.std.specs.Prelude.{◌≡◌, OnOk};
-ghost use Rattle.finding.specs.inner.Parts.{span_of, words_said};
+ghost use Rattle.finding.specs.inner.Parts.{span_of, words_of_changes};
 
 use std::alloc::AllocError;
 
@@ -37,7 +37,7 @@ pub(crate) fn words_into(
     changes: &[u32],
     words: &mut Vec<u32>,
 ) -> Result<(), AllocError>
-    ensures { OnOk result (words.new.items ≡ words_said first.now changes.now) }
+    ensures { OnOk result (words.new.items ≡ words_of_changes first.now changes.now) }
 {
     words.clear();
     words.extend_from_slice(&first[..first.len().min(length_of(changes))])?;

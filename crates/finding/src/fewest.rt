@@ -7,7 +7,7 @@ ghost use Rattle.std.specs.Prelude.{◌≡◌, ◌≤◌, ◌<◌, ◌+◌, IfOk
 ghost use Rattle.step_machine.specs.Positions.{AreOfOneOpening, Position, next_position, position_of};
 ghost use Rattle.step_machine.specs.declared.opening.TheConstants.{MAX_HARTS};
 ghost use Rattle.finding.specs.Find.{IsWantedAt};
-ghost use Rattle.finding.specs.inner.Levels.{AreFewestFor, GoesOn, IsAmong};
+ghost use Rattle.finding.specs.inner.Levels.{AreFewestFor, IsExpanded, IsAmong};
 ghost use Rattle.finding.specs.inner.Parts.{IsRight, RowLeads, position_by_row, positions_by, row_after, tables_of};
 
 use crate::book::Book;
@@ -139,7 +139,7 @@ fn goes_on<const B: usize, const M: usize, const N: usize>(
     requires right { IsRight B (tables_of B M tables.now) book.old.machine book.old.steps.items }
     ensures right { OnOk result (IsRight B (tables_of B M tables.now) book.new.machine book.new.steps.items) }
     ensures goes { IfOk result (λ yes. IsTrue yes → (position : Position) → slice_get (positions_by (tables_of B M tables.now) met.now) number ≡ Some position
-        → GoesOn (next_position B) (IsWantedAt test.now) count (positions_by (tables_of B M tables.now) met.now) position) }
+        → IsExpanded (next_position B) (IsWantedAt test.now) count (positions_by (tables_of B M tables.now) met.now) position) }
 {
     met.row_into(number, row)?;
     if row.len() != tables.harts() as usize + 1 {
@@ -171,7 +171,7 @@ fn all_go_on<const B: usize, const M: usize, const N: usize>(
     ensures right { OnOk result (IsRight B (tables_of B M tables.now) book.new.machine book.new.steps.items) }
     ensures go { IfOk result (λ yes. IsTrue yes → (number : ℕ) (position : Position) → from ≤ number → number < end
         → slice_get (positions_by (tables_of B M tables.now) met.now) number ≡ Some position
-        → GoesOn (next_position B) (IsWantedAt test.now) count (positions_by (tables_of B M tables.now) met.now) position) }
+        → IsExpanded (next_position B) (IsWantedAt test.now) count (positions_by (tables_of B M tables.now) met.now) position) }
 {
     let mut row = Vec::new(alloc);
     let mut rows = Rows::new(alloc);

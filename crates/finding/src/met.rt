@@ -19,11 +19,11 @@ pub(crate) struct Met<const N: usize> {
 
 impl<const N: usize> Model for Met<N> {
     ghost use Rattle.std.specs.Prelude.{ℕ, List, map};
-    ghost use Rattle.states.specs.Digits.{row_of};
+    ghost use Rattle.states.specs.Digits.{numbers_of_key};
 
     ghost Value = { List (List ℕ) };
 
-    ghost view = { λ m. map (row_of m.layout) m.keys };
+    ghost view = { λ m. map (numbers_of_key m.layout) m.keys };
 }
 
 /// Room for two rows.

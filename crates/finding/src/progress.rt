@@ -10,7 +10,7 @@ pub trait SearchProgress {
     fn report(&mut self, states: u32, depth: u32);
 
     /// Whether it is to learn which harts are stopped.
-    fn wants_stops(&self) -> bool;
+    fn shows_stops(&self) -> bool;
 
     /// In one more of the states that were seen this hart is stopped, for this reason.
     fn stopped(&mut self, hart: u32, why: Stop);
@@ -27,11 +27,11 @@ impl<P: SearchProgress> SearchProgress for Option<P> {
         }
     }
 
-    fn wants_stops(&self) -> bool
+    fn shows_stops(&self) -> bool
         ensures { self.now ≡ None → result ≡ false }
     {
         match self {
-            Some(progress) => progress.wants_stops(),
+            Some(progress) => progress.shows_stops(),
             None => false,
         }
     }

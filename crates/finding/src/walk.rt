@@ -271,12 +271,12 @@ impl<const N: usize> Walk<N> {
         ensures harts { length machine.new.harts ≡ length machine.old.harts }
         ensures states { self.new ≡ self.old }
     {
-        if !is_finished && !progress.wants_stops() {
+        if !is_finished && !progress.shows_stops() {
             return Ok(false);
         }
         let number = self.keys.len().wrapping_sub(1);
         self.layout.row_into(&self.keys.key(number), &mut self.row)?;
-        if progress.wants_stops() {
+        if progress.shows_stops() {
             reports.see(machine, stepper, number, &self.row, progress)?;
         }
         if !is_finished {

@@ -3,7 +3,7 @@
 ghost use Rattle.std.specs.Prelude.{◌≡◌, ◌<◌, ◌*◌, ◌/◌};
 ghost use Rattle.rv_decode.specs.Fits.{Fits};
 ghost use Rattle.hart.specs.Effects.{load_width, store_width, sign_extended, extended, stored, updated, computed};
-ghost use Rattle.hart.specs.Effects.{with_immediate, shifted, is_taken, read, written, next_pc, address};
+ghost use Rattle.hart.specs.Effects.{with_immediate, shifted, is_taken, register_value, register_written, next_pc, address};
 ghost use Rattle.hart.specs.Effects.{registers_after, pc_after};
 
 use rv_decode::instruction::{
@@ -132,14 +132,14 @@ pub(crate) fn is_taken(op: BranchOp, left: u32, right: u32) -> bool
 
 /// The register's word. x0 is no case of its own, since a hart keeps 0 there.
 pub(crate) fn read(registers: &[u32; 32], register: Reg) -> u32
-    ensures { result ≡ read registers.now register }
+    ensures { result ≡ register_value registers.now register }
 {
     registers[register.number as usize]
 }
 
 /// Puts `word` into the register; a write to x0 is dropped.
 fn write(registers: &mut [u32; 32], register: Reg, word: u32)
-    ensures { registers.new ≡ written registers.old register word }
+    ensures { registers.new ≡ register_written registers.old register word }
 {
     if register.number != 0 {
         registers[register.number as usize] = word;

@@ -11,7 +11,7 @@ use Rattle.step_machine.specs.declared.events.Entry.{Entry}
 use Rattle.step_machine.specs.History.{OpeningValue}
 use Rattle.hart_threads.specs.Seats.{SeatView, Continues}
 use Rattle.hart_threads.specs.Missing.{is_missing, IsFirst, IsComplete, sits_at, acts_for, lands_for}
-use Rattle.hart_threads.specs.Parts.{Fits, Merge}
+use Rattle.hart_threads.specs.Parts.{HoldsPart, Merge}
 use Rattle.hart_threads.specs.Records.{Refuses}
 use Rattle.hart_threads.specs.Returns.{GrowsInto, IsMerged, Fails}
 use Rattle.hart_threads.specs.Faults.{fault_of}
@@ -126,7 +126,7 @@ harts_within n seats complete k d lt = elim (cases_lt (get_or seats k d).hart n)
 
 -- ---- what is gathered of the seats that come back, by those that were given
 
-grown : (n : ℕ) (es : List Entry) (s t : SeatView) → Continues n s t → Fits es t → GrowsInto n es s
+grown : (n : ℕ) (es : List Entry) (s t : SeatView) → Continues n s t → HoldsPart es t → GrowsInto n es s
 grown n es s t on fits = grind arith
 
 pub merged_from : (n : ℕ) (o : OpeningValue) (es : List Entry) (given back : List SeatView)
@@ -134,7 +134,7 @@ pub merged_from : (n : ℕ) (o : OpeningValue) (es : List Entry) (given back : L
     → IsMerged n o es given
 merged_from n o es given back complete come merge = record {
   complete = complete;
-  parts = zip_left (Continues n) (Fits es) (GrowsInto n es) (grown n es) given back come merge.fit;
+  parts = zip_left (Continues n) (HoldsPart es) (GrowsInto n es) (grown n es) given back come merge.fit;
 }
 
 -- a refusal to gather the seats that come back

@@ -10,8 +10,8 @@ use Rattle.step_machine.specs.declared.events.Entry.{Entry}
 use Rattle.step_machine.specs.Entries.{own, is_own}
 use Rattle.hart_threads.specs.Seats.{SeatView}
 use Rattle.step_machine.specs.Placing.{IsOwn}
-use Rattle.hart_threads.specs.Parts.{Fits, HasPart, part_of}
-use Rattle.hart_threads.specs.inner.Searches.{counted, keeps}
+use Rattle.hart_threads.specs.Parts.{HoldsPart, HasPart, part_of}
+use Rattle.hart_threads.specs.inner.Searches.{counting_entries, keeps}
 
 own-filter : (h : ℕ) (es : List Entry) → own h es ≡ filter (is_own h) es
 own-filter h [] = refl
@@ -39,7 +39,7 @@ first_left xs x is = grind arith
 -- the diary is at its end and an entry more passes
 pub too_short : (s : SeatView) (es : List Entry) (i : ℕ) (d : Entry) (rest : List Entry) → i < length es
     → keeps s (get_or es i d) ≡ true → slice_get rest 0 ≡ None → s.diary ≡ filter (keeps s) (take i es) ++ rest
-    → Fits es s → ⊥
+    → HoldsPart es s → ⊥
 too_short s es i d rest within passes none so_far fits =
     let whole : s.diary ≡ filter (keeps s) (take i es) ++ get_or es i d ∷ filter (keeps s) (drop (i + 1) es) =
     fits ∙ part-filter s es ∙ filter_at (keeps s) es i d within passes in
@@ -54,7 +54,7 @@ too_short s es i d rest within passes none so_far fits =
 -- the diary has another entry where one passes
 pub another : (s : SeatView) (es : List Entry) (i : ℕ) (d first : Entry) (later : List Entry) → i < length es
     → keeps s (get_or es i d) ≡ true → (first ≡ get_or es i d → ⊥)
-    → s.diary ≡ filter (keeps s) (take i es) ++ first ∷ later → Fits es s → ⊥
+    → s.diary ≡ filter (keeps s) (take i es) ++ first ∷ later → HoldsPart es s → ⊥
 another s es i d first later within passes differs so_far fits =
     let whole : s.diary ≡ filter (keeps s) (take i es) ++ get_or es i d ∷ filter (keeps s) (drop (i + 1) es) =
     fits ∙ part-filter s es ∙ filter_at (keeps s) es i d within passes in
@@ -65,14 +65,14 @@ another s es i d first later within passes differs so_far fits =
 
 pub at_the_end : (s : SeatView) (es : List Entry) (i : ℕ) (rest : List Entry) (o : Option Entry) (b : Bool)
     → i ≡ length es → o ≡ slice_get rest 0 → is_some o ≡ not b → s.diary ≡ filter (keeps s) (take i es) ++ rest
-    → MatchBool b (Fits es s) (Fits es s → ⊥)
+    → MatchBool b (HoldsPart es s) (HoldsPart es s → ⊥)
 at_the_end s es i rest o b end first some so_far =
     at rest b
     (so_far ∙ ap (λ (xs : List Entry). filter (keeps s) xs ++ rest) (ap (λ (n : ℕ). take n es) end ∙ take-length es)
     ∙ ap (λ (xs : List Entry). xs ++ rest) (sym (part-filter s es)))
     (sym (ap is_some first) ∙ some)
   where
-    at : (xs : List Entry) (c : Bool) → s.diary ≡ part_of s es ++ xs → is_some (slice_get xs 0) ≡ not c → MatchBool c (Fits es s) (Fits es s → ⊥)
+    at : (xs : List Entry) (c : Bool) → s.diary ≡ part_of s es ++ xs → is_some (slice_get xs 0) ≡ not c → MatchBool c (HoldsPart es s) (HoldsPart es s → ⊥)
     at [] true all is = all ∙ append-nil (part_of s es)
     at [] false all is = absurd (cc)
     at (x ∷ xs) true all is = absurd (cc)
@@ -83,6 +83,6 @@ at_the_end s es i rest o b end first some so_far =
 
 -- what counts of a seat's diary decides whether it has its part
 pub part_has : (us : List Entry) (s : SeatView) (b : Bool) → (s.acts ≡ true → All (IsOwn s.hart) s.diary)
-    → MatchBool b (counted s.acts s.diary ≡ part_of s us) (counted s.acts s.diary ≡ part_of s us → ⊥)
+    → MatchBool b (counting_entries s.acts s.diary ≡ part_of s us) (counting_entries s.acts s.diary ≡ part_of s us → ⊥)
     → MatchBool b (HasPart us s) (HasPart us s → ⊥)
 part_has us s b mine known = grind arith

@@ -11,7 +11,7 @@ use Rattle.step_machine.specs.Entries.{own}
 use Rattle.step_machine.specs.Paths.{after_entries, opens_as, state_of}
 use Rattle.hart_threads.specs.Seats.{SeatView, AsksBank, Continues, state_in}
 use Rattle.hart_threads.specs.Missing.{IsComplete}
-use Rattle.hart_threads.specs.Parts.{Fits, Merge, IsLeast, landings}
+use Rattle.hart_threads.specs.Parts.{HoldsPart, Merge, IsLeast, landings}
 use Rattle.hart_threads.specs.GettingOn.{GetsOn, SeatGetsOn, OpensAs}
 use Rattle.hart_threads.specs.GettingOn.GetsOn.{over, goes, waits}
 use Rattle.hart_threads.specs.declared.turns.Ending.{Ending}
@@ -29,7 +29,7 @@ Went n s t = t.acts ≡ true → GotOn n s t
 
 -- a seat that opened as its hart, and whose diary is its part of the entries
 abbrev OpensInto : ℕ → OpeningValue → List Entry → SeatView → Type 0
-OpensInto M o es t = OpensAs M o t × Fits es t
+OpensInto M o es t = OpensAs M o t × HoldsPart es t
 
 where_done : (e : Ending) (P : Type 0) → (e ≡ ending.NoMemory → ⊥) → (e ≡ ending.NoHart → ⊥) → WhereDone e P → P
 where_done e P found served done = grind arith

@@ -1,7 +1,7 @@
 //! A diary as it is read.
 
 ghost use Rattle.std.specs.Prelude.{◌≡◌, drop, slice_get};
-ghost use Rattle.hart_threads.specs.inner.Searches.{counted};
+ghost use Rattle.hart_threads.specs.inner.Searches.{counting_entries};
 
 use std::marker::Model;
 use step_machine::Entry;
@@ -35,8 +35,8 @@ impl<'a> Rest<'a> {
     /// Takes what is left up to the next entry that counts, and that: for an acting seat a memory entry, for a
     /// landing seat any.
     pub(crate) fn next_counted(&mut self, acts: bool) -> Option<Entry>
-        ensures value { result ≡ slice_get (counted acts self.old) 0 }
-        ensures rest { counted acts self.new ≡ drop 1 (counted acts self.old) }
+        ensures value { result ≡ slice_get (counting_entries acts self.old) 0 }
+        ensures rest { counting_entries acts self.new ≡ drop 1 (counting_entries acts self.old) }
     {
         while let Some(entry) = self.next() {
             if !acts || entry.is_memory() {

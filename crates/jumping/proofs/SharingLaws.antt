@@ -3,7 +3,7 @@ use Rattle.std.proofs.Common.{◌≡◌, ℕ, ◌+◌, ◌-◌, ◌≤◌, ◌<�
 use Rattle.std.specs.Prelude.{IfOk, slice_index_or}
 use Rattle.std.proofs.Math.Nat.{div-mul-le_self}
 use Rattle.std.proofs.lemmas.Nat.{le-div}
-use Rattle.jumping.specs.Sharing.{first_of, place_of, AreOfJobs}
+use Rattle.jumping.specs.Sharing.{first_of, first_run_of_job, AreOfJobs}
 
 -- ---- where they begin
 
@@ -21,16 +21,16 @@ within_all runs jobs job some most = search rules
 
 -- the same of the runs from `first` on and before `end`
 module _ (first end jobs : ℕ) (some : 1 ≤ jobs) where
-  pub none_placed : place_of first end jobs 0 ≡ first
+  pub none_placed : first_run_of_job first end jobs 0 ≡ first
   none_placed = omega (arith, none_before (end - first) jobs some)
 
-  pub all_placed : (job : ℕ) → job ≡ jobs → first ≤ end → place_of first end jobs job ≡ end
+  pub all_placed : (job : ℕ) → job ≡ jobs → first ≤ end → first_run_of_job first end jobs job ≡ end
   all_placed job last order = omega (arith, all_before (end - first) jobs job some last, order)
 
-  pub placed_later : (job : ℕ) → place_of first end jobs job ≤ place_of first end jobs (job + 1)
+  pub placed_later : (job : ℕ) → first_run_of_job first end jobs job ≤ first_run_of_job first end jobs (job + 1)
   placed_later job = omega (arith, later_after (end - first) jobs job some)
 
-  pub placed_within : (job : ℕ) → job ≤ jobs → first ≤ end → place_of first end jobs job ≤ end
+  pub placed_within : (job : ℕ) → job ≤ jobs → first ≤ end → first_run_of_job first end jobs job ≤ end
   placed_within job most order = omega (arith, within_all (end - first) jobs job some most, order)
 
 -- ---- what they gave

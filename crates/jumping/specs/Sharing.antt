@@ -6,12 +6,12 @@ abbrev pub first_of : (runs jobs job : ℕ) → ℕ
 first_of runs jobs job = runs * job / jobs
 
 -- the same of the runs from `first` on and before `end`
-abbrev pub place_of : (first end jobs job : ℕ) → ℕ
-place_of first end jobs job = first + first_of (end - first) jobs job
+abbrev pub first_run_of_job : (first end jobs job : ℕ) → ℕ
+first_run_of_job first end jobs job = first + first_of (end - first) jobs job
 
 -- what is known of a job's runs, which end where those of the next job begin
 abbrev pub IsOfJob : {X : Type 0} → (Knows : (first end : ℕ) → X → Type 0) → (first end jobs job : ℕ) → X → Type 0
-IsOfJob Knows first end jobs job part = Knows (place_of first end jobs job) (place_of first end jobs (job + 1)) part
+IsOfJob Knows first end jobs job part = Knows (first_run_of_job first end jobs job) (first_run_of_job first end jobs (job + 1)) part
 
 -- what the jobs from this one on gave, in order: each value is as its job's has to be
 abbrev pub AreOfJobs : {X E : Type 0} → (Is : ℕ → X → Type 0) → (job : ℕ) → List (Result X E) → Type 0

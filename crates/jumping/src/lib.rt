@@ -7,8 +7,8 @@
 
 #![tactic(auto)]
 
+pub mod parallel;
 pub mod progress;
-pub mod spreading;
 
 ghost use Rattle.std.specs.Prelude.{◌≡◌, ◌≤◌, ◌*◌, IfOk};
 ghost use Rattle.recorder.specs.Drawing.{left_after};

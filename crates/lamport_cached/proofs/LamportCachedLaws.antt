@@ -3,12 +3,13 @@ use Rattle.std.proofs.Common.{◌≡◌, refl, ◌∙◌, ap, arith, lit≤}
 use Rattle.std.proofs.Math.Nat.{zero-mod}
 use Rattle.std.specs.Prelude.{slice_index}
 use Rattle.hart.specs.State.{HartState}
-use Rattle.poll_close.proofs.Ring.{Decreases, rank_of, next_by, Block, Standing, IsBlock, BlockLaws, opens_with, stands_at, AllLaws, all_laws, falls}
+use Rattle.poll_close.proofs.Ring.{Decreases, rank_of, next_by, SenderBlock, Standing, IsBlock}
+use Rattle.poll_close.proofs.Ring.{BlockLaws, opens_with, stands_at, AllLaws, all_laws, ranking_decreases}
 use Rattle.poll_close.proofs.Ring.{AllMayLoad}
 use Rattle.lamport_ring.specs.Invariant.Counters.{Sent}
 use Rattle.lamport_ring.specs.Invariant.Programs.{outline_of}
 use Rattle.lamport_ring.proofs.Laws.{Reads, SenderLaws, block_laws, nothing}
-use Rattle.lamport_ring.proofs.Falling.{progress, loads_tail}
+use Rattle.lamport_ring.proofs.Decreasing.{progress, loads_tail}
 use Rattle.lamport_ring.proofs.SenderSteps.{none_read}
 use Rattle.lamport_cached.specs.Listing.{lamport_cached}
 use Rattle.lamport_cached.specs.LamportCached.{lamport_cached_blocks, lamport_cached_means, lamport_cached_ranking}
@@ -16,7 +17,7 @@ use Rattle.lamport_cached.specs.Invariant.Sender.{program}
 use Rattle.lamport_cached.proofs.Sender.{sender}
 use Rattle.lamport_cached.proofs.SenderRows.{reasons}
 
-stands : (k : Block) → IsBlock k → Standing (outline_of program) k nothing.sender (opens_with program.code k)
+stands : (k : SenderBlock) → IsBlock k → Standing (outline_of program) k nothing.sender (opens_with program.code k)
 stands k is = record {
   place = 0x00;
   written = record { x5 = 0; x6 = 0; x7 = 0; x10 = 0; x11 = 0; x17 = 0; x28 = 0 };
@@ -28,7 +29,7 @@ stands k is = record {
   );
 }
 
-reads : (k : Block) (n : Sent) (s : HartState) → Standing (outline_of program) k n s → s.pc ≡ 0x1C → Reads k n s
+reads : (k : SenderBlock) (n : Sent) (s : HartState) → Standing (outline_of program) k n s → s.pc ≡ 0x1C → Reads k n s
 reads k n s st here =
     let at = stands_at (outline_of program) k n s st 0x1C here (omega arith) (omega arith) in
     record {
@@ -37,17 +38,17 @@ reads k n s st here =
       next = ap (λ (z : HartState). slice_index z.registers 6) at.0 ∙ at.1.next;
     }
 
-owes : SenderLaws program
-owes = record { listed = sender; stands = stands; reasons = reasons; reads = reads }
+sender_laws : SenderLaws program
+sender_laws = record { listed = sender; stands = stands; reasons = reasons; reads = reads }
 
 laws : BlockLaws lamport_cached_blocks
-laws = block_laws program owes
+laws = block_laws program sender_laws
 
 pub lamport_cached_laws : AllLaws lamport_cached lamport_cached_means
 lamport_cached_laws = all_laws lamport_cached_blocks laws 2 (lit≤ tt) (lit≤ tt, lit≤ tt)
 
-pub lamport_cached_falls : Decreases lamport_cached lamport_cached_means (rank_of lamport_cached_ranking) (next_by lamport_cached_ranking)
-lamport_cached_falls = falls lamport_cached_blocks laws 2 (lit≤ tt) (progress program owes)
+pub lamport_cached_decreases : Decreases lamport_cached lamport_cached_means (rank_of lamport_cached_ranking) (next_by lamport_cached_ranking)
+lamport_cached_decreases = ranking_decreases lamport_cached_blocks laws 2 (lit≤ tt) (progress program sender_laws)
 
 pub lamport_cached_loads : AllMayLoad lamport_cached lamport_cached_means 0x1C 8 8
 lamport_cached_loads = loads_tail program lamport_cached (lit≤ tt)

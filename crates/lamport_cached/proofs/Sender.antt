@@ -1,6 +1,6 @@
 -- Why each row of the sender's outline is right: from its assertion, the act there leads to the next row's.
 use Rattle.std.proofs.Common.{ℕ, suc, ◌+◌, ◌≡◌, ◌==◌, false, refl, sym, ◌∙◌, ap, arith}
-use Rattle.poll_close.proofs.Ring.{lines_of, Block, SenderRegisters, IsBlock, base_plus, word_of, slot_at, Sender, Rows, rows}
+use Rattle.poll_close.proofs.Ring.{lines_of, SenderBlock, SenderRegisters, IsBlock, base_plus, word_of, slot_at, Sender, Rows, rows}
 use Rattle.poll_close.proofs.Outlines as outline
 use Rattle.lamport_ring.specs.Invariant.Counters.{Counters, CounterInvariant, Words}
 use Rattle.lamport_ring.proofs.SenderSteps as step
@@ -11,7 +11,7 @@ use Rattle.lamport_cached.proofs.Means.{sender_decoded}
 abbrev pub sender : Sender lamport_cached_blocks
 sender = record { lines = lines_of listing.sender; decoded = sender_decoded }
 
-module _ (k : Block) (n : Counters) (word : ℕ → ℕ) (v : ℕ) (r : SenderRegisters) (is : IsBlock k) (order : CounterInvariant k n)
+module _ (k : SenderBlock) (n : Counters) (word : ℕ → ℕ) (v : ℕ) (r : SenderRegisters) (is : IsBlock k) (order : CounterInvariant k n)
     (words : Words k n.landed word) where
   line : Rows lamport_cached_blocks sender k n word v r
   line = rows lamport_cached_blocks sender k n word v r is order

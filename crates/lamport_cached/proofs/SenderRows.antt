@@ -1,13 +1,13 @@
 -- All rows of the sender's outline. They stand apart from their reasons: what refuses an edit there is then that row alone.
 use Rattle.std.proofs.Common.{ℕ}
-use Rattle.poll_close.proofs.Ring.{Block, SenderRegisters, Reasons, IsBlock, Right, ◌&◌}
+use Rattle.poll_close.proofs.Ring.{SenderBlock, SenderRegisters, Reasons, IsBlock, Right, ◌&◌}
 use Rattle.lamport_ring.specs.Invariant.Counters.{Counters, CounterInvariant, Words}
 use Rattle.lamport_cached.specs.LamportCached.{lamport_cached_blocks}
 use Rattle.lamport_cached.specs.Invariant.Sender.{program}
 use Rattle.lamport_cached.proofs.Sender.{sender}
 use Rattle.lamport_cached.proofs.Sender as row
 
-module _ (k : Block) (n : Counters) (word : ℕ → ℕ) (v : ℕ) (r : SenderRegisters) (is : IsBlock k) (order : CounterInvariant k n)
+module _ (k : SenderBlock) (n : Counters) (word : ℕ → ℕ) (v : ℕ) (r : SenderRegisters) (is : IsBlock k) (order : CounterInvariant k n)
     (words : Words k n.landed word) where
   pub reasons : Reasons (Right lamport_cached_blocks sender k n word v r) program.rows
   reasons = row.keeps_at_00 k n word v r is order words & row.keeps_at_04 k n word v r is order words & row.keeps_at_08 k n word v r is order words

@@ -4,7 +4,7 @@
 
 #![tactic(auto)]
 
-ghost use Rattle.poll_close.specs.Listing.{lines_of};
+ghost use Rattle.rv_decode.specs.Listings.{lines_of};
 ghost use Rattle.lamport_cached.specs.Listing.{listing, lamport_cached};
 ghost use Rattle.poll_close.specs.Means.{AllMean};
 
@@ -56,8 +56,8 @@ impl<const B: usize, const M: usize> Finish<B, M> for LamportCached {
         is_ready_at(machine, hart, 0x1C, 8, 8, Some(6))
     }
 
-    #[tactic(auto, using(crate::proofs::LamportCachedLaws::lamport_cached_falls))]
-    fn falls() {}
+    #[tactic(auto, using(crate::proofs::LamportCachedLaws::lamport_cached_decreases))]
+    fn ranking_decreases() {}
 }
 
 /// Each word of the ring's tables means its line's instruction. It does nothing.

@@ -3,7 +3,8 @@ use Rattle.std.proofs.Common.{◌≡◌, refl, ◌∙◌, ap, arith, lit≤}
 use Rattle.std.proofs.Math.Nat.{zero-mod}
 use Rattle.std.specs.Prelude.{slice_index}
 use Rattle.hart.specs.State.{HartState}
-use Rattle.poll_close.proofs.Ring.{Decreases, rank_of, next_by, Block, Standing, IsBlock, BlockLaws, opens_with, stands_at, AllLaws, all_laws, falls}
+use Rattle.poll_close.proofs.Ring.{Decreases, rank_of, next_by, SenderBlock, Standing, IsBlock}
+use Rattle.poll_close.proofs.Ring.{BlockLaws, opens_with, stands_at, AllLaws, all_laws, ranking_decreases}
 use Rattle.poll_close.proofs.Ring.{AllMayLoad}
 use Rattle.lamport_ring.specs.Listing.{lamport}
 use Rattle.lamport_ring.specs.Lamport.{lamport_blocks, lamport_means, lamport_ranking}
@@ -11,11 +12,11 @@ use Rattle.lamport_ring.specs.Invariant.Programs.{outline_of}
 use Rattle.lamport_ring.specs.Invariant.Counters.{Sent}
 use Rattle.lamport_ring.specs.Invariant.Sender.{lamport_program}
 use Rattle.lamport_ring.proofs.Laws.{Reads, SenderLaws, block_laws, nothing}
-use Rattle.lamport_ring.proofs.Falling.{progress, loads_tail}
+use Rattle.lamport_ring.proofs.Decreasing.{progress, loads_tail}
 use Rattle.lamport_ring.proofs.Sender.{lamport_sender}
 use Rattle.lamport_ring.proofs.SenderRows.{reasons}
 
-stands : (k : Block) → IsBlock k → Standing (outline_of lamport_program) k nothing.sender (opens_with lamport_program.code k)
+stands : (k : SenderBlock) → IsBlock k → Standing (outline_of lamport_program) k nothing.sender (opens_with lamport_program.code k)
 stands k is = record {
   place = 0x00;
   written = record { x5 = 0; x6 = 0; x7 = 0; x10 = 0; x11 = 0; x17 = 0; x28 = 0 };
@@ -23,22 +24,22 @@ stands k is = record {
   holds = (record { taken = refl; heads = refl; unmarked = refl }, omega (arith, zero-mod k.size));
 }
 
-reads : (k : Block) (n : Sent) (s : HartState) → Standing (outline_of lamport_program) k n s → s.pc ≡ 0x18 → Reads k n s
+reads : (k : SenderBlock) (n : Sent) (s : HartState) → Standing (outline_of lamport_program) k n s → s.pc ≡ 0x18 → Reads k n s
 reads k n s st here =
     let at = stands_at (outline_of lamport_program) k n s st 0x18 here (omega arith) (omega arith) in
     record { heads = at.1.0.heads; unmarked = at.1.0.unmarked; next = ap (λ (z : HartState). slice_index z.registers 6) at.0 ∙ at.1.1 }
 
-owes : SenderLaws lamport_program
-owes = record { listed = lamport_sender; stands = stands; reasons = reasons; reads = reads }
+sender_laws : SenderLaws lamport_program
+sender_laws = record { listed = lamport_sender; stands = stands; reasons = reasons; reads = reads }
 
 laws : BlockLaws lamport_blocks
-laws = block_laws lamport_program owes
+laws = block_laws lamport_program sender_laws
 
 pub lamport_laws : AllLaws lamport lamport_means
 lamport_laws = all_laws lamport_blocks laws 2 (lit≤ tt) (lit≤ tt, lit≤ tt)
 
-pub lamport_falls : Decreases lamport lamport_means (rank_of lamport_ranking) (next_by lamport_ranking)
-lamport_falls = falls lamport_blocks laws 2 (lit≤ tt) (progress lamport_program owes)
+pub lamport_decreases : Decreases lamport lamport_means (rank_of lamport_ranking) (next_by lamport_ranking)
+lamport_decreases = ranking_decreases lamport_blocks laws 2 (lit≤ tt) (progress lamport_program sender_laws)
 
 pub lamport_loads : AllMayLoad lamport lamport_means 0x18 8 8
 lamport_loads = loads_tail lamport_program lamport (lit≤ tt)

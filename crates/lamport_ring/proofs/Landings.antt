@@ -7,13 +7,13 @@ use Rattle.step_machine.proofs.Modulo.{mod_apart}
 use Rattle.poll_close.proofs.Writes.{IsWrite, hit, miss, same_write}
 use Rattle.lamport_ring.specs.Invariant.Stores.{sender_stores, receiver_stores}
 use Rattle.lamport_ring.proofs.Stores.{store_slot, store_head, store_mark, store_tail, store_done}
-use Rattle.poll_close.specs.Invariant.Blocks.{Block, offset, slot}
-use Rattle.lamport_ring.specs.Invariant.Counters.{Counters, sent, gone, freed, taken, CounterInvariant, Words}
+use Rattle.poll_close.specs.Invariant.Blocks.{SenderBlock, offset, slot}
+use Rattle.lamport_ring.specs.Invariant.Counters.{Counters, sent, gone, freed, taken_so_far, CounterInvariant, Words}
 use Rattle.poll_close.proofs.Blocks.{IsBlock}
 use Rattle.poll_close.proofs.BlockLaws.{Lands}
 use Rattle.lamport_ring.specs.Invariant.Programs.{Program, blocks_of}
 
-module _ (p : Program) (k : Block) (is : IsBlock k) (n : Counters) (order : CounterInvariant k n) (word new : ℕ → ℕ)
+module _ (p : Program) (k : SenderBlock) (is : IsBlock k) (n : Counters) (order : CounterInvariant k n) (word new : ℕ → ℕ)
     (words : Words k n.landed word) where
   slot_lands : n.landed.slots ≡ n.landed.heads → n.landed.heads < length k.list → gone n.landed < sent n.sender
       → IsWrite word new (slot k.size k.base n.landed.slots, slice_index k.list n.landed.slots)
@@ -187,7 +187,7 @@ module _ (p : Program) (k : Block) (is : IsBlock k) (n : Counters) (order : Coun
             order.marked_one,
           )
 
-  pub receiver_lands : (x : ℕ × ℕ) → freed n.landed < taken n.receiver → slice_get (receiver_stores k) (freed n.landed) ≡ Some x
+  pub receiver_lands : (x : ℕ × ℕ) → freed n.landed < taken_so_far n.receiver → slice_get (receiver_stores k) (freed n.landed) ≡ Some x
       → IsWrite word new x → Lands (blocks_of p) k n new (gone n.landed) (suc (freed n.landed))
   receiver_lands x more oldest write = at (cases_lt n.landed.tails n.receiver.tails)
     where

@@ -3,10 +3,11 @@ use Rattle.std.proofs.Common.{ℕ, ◌+◌, ◌<◌, ◌≤◌, ◌≡◌, [], �
 use Rattle.std.proofs.Math.Nat.{zero-mod}
 use Rattle.std.specs.Prelude.{slice_index}
 use Rattle.hart.specs.State.{HartState}
-use Rattle.poll_close.proofs.Ring.{Block, offset, SenderRegisters, Standing, Reasons, IsBlock, Within, base_word, word_of, slot_of, BlockLaws, Begins, Stepped}
+use Rattle.poll_close.proofs.Ring.{SenderBlock, offset, SenderRegisters, Standing, Reasons, IsBlock, Within}
+use Rattle.poll_close.proofs.Ring.{base_word, word_of, slot_of, BlockLaws, Begins, Stepped}
 use Rattle.poll_close.proofs.Ring.{opens_with, Sender, Right, ◌&◌, sends}
 use Rattle.lamport_ring.specs.Invariant.Programs.{Program, outline_of, blocks_of}
-use Rattle.lamport_ring.specs.Invariant.Counters.{Sent, Counters, Landed, taken, CounterInvariant, Words}
+use Rattle.lamport_ring.specs.Invariant.Counters.{Sent, Counters, Landed, taken_so_far, CounterInvariant, Words}
 use Rattle.lamport_ring.proofs.Means.{receiver_decoded}
 use Rattle.lamport_ring.proofs.Stores.{store_tail, store_done, sender_stores_are, receiver_stores_are}
 use Rattle.lamport_ring.proofs.Landings.{sender_lands, receiver_lands}
@@ -21,7 +22,7 @@ nothing = record {
 }
 
 -- at the line that reads the tail, x6 is the offset after the next word's
-pub record Reads (k : Block) (n : Sent) (s : HartState) : Type 0 where
+pub record Reads (k : SenderBlock) (n : Sent) (s : HartState) : Type 0 where
   pub heads : n.headed ≡ n.stored
   pub unmarked : n.marked ≡ 0
   pub next : slice_index s.registers 6 ≡ offset k (n.stored + 1)
@@ -30,12 +31,12 @@ pub record Reads (k : Block) (n : Sent) (s : HartState) : Type 0 where
 -- its reason, and at the line that reads the tail it holds a word
 pub record SenderLaws (p : Program) : Type 0 where
   pub listed : Sender (blocks_of p)
-  pub stands : (k : Block) → IsBlock k → Standing (outline_of p) k nothing.sender (opens_with p.code k)
-  pub reasons : (k : Block) (n : Counters) (word : ℕ → ℕ) (v : ℕ) (r : SenderRegisters) → IsBlock k → CounterInvariant k n
+  pub stands : (k : SenderBlock) → IsBlock k → Standing (outline_of p) k nothing.sender (opens_with p.code k)
+  pub reasons : (k : SenderBlock) (n : Counters) (word : ℕ → ℕ) (v : ℕ) (r : SenderRegisters) → IsBlock k → CounterInvariant k n
       → Words k n.landed word → Reasons (Right (blocks_of p) listed k n word v r) p.rows
-  pub reads : (k : Block) (n : Sent) (s : HartState) → Standing (outline_of p) k n s → s.pc ≡ p.reads → Reads k n s
+  pub reads : (k : SenderBlock) (n : Sent) (s : HartState) → Standing (outline_of p) k n s → s.pc ≡ p.reads → Reads k n s
 
-begins : (p : Program) (laws : SenderLaws p) (k : Block) → IsBlock k → Begins (blocks_of p) nothing k (opens_with p.code k)
+begins : (p : Program) (laws : SenderLaws p) (k : SenderBlock) → IsBlock k → Begins (blocks_of p) nothing k (opens_with p.code k)
 begins p laws k is = record {
   order = omega (arith, is.some_slot);
   words = record {
@@ -53,11 +54,11 @@ begins p laws k is = record {
   closings = refl;
 }
 
-words_same : (k : Block) (n : Landed) (word new : ℕ → ℕ) → IsBlock k → ((a : ℕ) → Within k a → new a ≡ word a) → Words k n word → Words k n new
+words_same : (k : SenderBlock) (n : Landed) (word new : ℕ → ℕ) → IsBlock k → ((a : ℕ) → Within k a → new a ≡ word a) → Words k n word → Words k n new
 words_same k n word new is same w = grind (arith, base_word, word_of, slot_of)
 
 -- the receiver's own numbers grow
-module _ (p : Program) (k : Block) (n : Counters) (order : CounterInvariant k n) where
+module _ (p : Program) (k : SenderBlock) (n : Counters) (order : CounterInvariant k n) where
   stores_tail : n.receiver.tails < n.receiver.seen → n.receiver.done ≡ 0
       → Stepped (blocks_of p) k n (record n.receiver { tails = n.receiver.tails + 1; mark = n.landed.mark })
       ((k.base + 8, offset k (n.receiver.tails + 1)) ∷ [])
@@ -66,7 +67,7 @@ module _ (p : Program) (k : Block) (n : Counters) (order : CounterInvariant k n)
       order = omega (arith, more, on);
       stores = (let within : n.receiver.tails < length k.list =
           omega (arith, more, order.seen_heads, order.heads_slots, order.slots_landed, order.stored_all) in
-          (omega arith, store_tail k n.receiver.tails (taken n.receiver) within (omega (arith, on))));
+          (omega arith, store_tail k n.receiver.tails (taken_so_far n.receiver) within (omega (arith, on))));
     };
     level = tt;
   }
@@ -76,7 +77,7 @@ module _ (p : Program) (k : Block) (n : Counters) (order : CounterInvariant k n)
   stores_done all on = record {
     changes = record {
       order = omega (arith, all);
-      stores = (omega (arith, on), store_done k (taken n.receiver) (omega (arith, all, on)));
+      stores = (omega (arith, on), store_done k (taken_so_far n.receiver) (omega (arith, all, on)));
     };
     level = tt;
   }

@@ -7,5 +7,5 @@ pub mod Sender
 pub mod SenderRows
 pub mod Receiver
 pub mod Laws
-pub mod Falling
+pub mod Decreasing
 pub mod LamportLaws

@@ -9,7 +9,7 @@ use Rattle.rv_decode.specs.declared.instruction.Instr.{Instr}
 use Rattle.hart.proofs.Instructions.{IsAt}
 use Rattle.poll_close.specs.Reports.{taken}
 use Rattle.poll_close.specs.Rankings.{runs}
-use Rattle.poll_close.specs.Invariant.Blocks.{Block, offset, slot}
+use Rattle.poll_close.specs.Invariant.Blocks.{SenderBlock, offset, slot}
 use Rattle.poll_close.specs.Invariant.ReceiverState.{ReceiverRegisters, whole_of, receiving}
 use Rattle.poll_close.specs.Invariant.BlockInvariant.{Flag}
 use Rattle.step_machine.proofs.Lines.{loads, sum_line, load_line, same_jumps, other_goes_on}
@@ -18,14 +18,14 @@ use Rattle.poll_close.proofs.Blocks.{IsBlock, offset_low, base_word, word_of, wo
 use Rattle.poll_close.proofs.BlockLaws.{Right_at}
 use Rattle.poll_close.proofs.Distance.{flags, far_off}
 use Rattle.poll_close.proofs.ReceiverMoves as step
-use Rattle.poll_close.specs.Listing.{lines_of}
+use Rattle.rv_decode.specs.Listings.{lines_of}
 use Rattle.lamport_ring.specs.Listing.{ring_lines, listing}
 use Rattle.lamport_ring.specs.Invariant.Programs.{Program, blocks_of}
 use Rattle.lamport_ring.specs.Invariant.Counters.{Counters, CounterInvariant, Words}
 use Rattle.lamport_ring.proofs.Means.{receiver_decoded}
 use Rattle.lamport_ring.proofs.ReceiverReads.{seen_head, seen_tail, seen_slot}
 
-module _ (p : Program) (k : Block) (i count : ℕ) (n : Counters) (word : ℕ → ℕ) (r : ReceiverRegisters) (v : ℕ) (is : IsBlock k)
+module _ (p : Program) (k : SenderBlock) (i count : ℕ) (n : Counters) (word : ℕ → ℕ) (r : ReceiverRegisters) (v : ℕ) (is : IsBlock k)
     (order : CounterInvariant k n) (words : Words k n.landed word) where
   at : (j : ℕ) {instr : Instr} → slice_get (map Some (lines_of listing.receiver)) j ≡ Some (Some instr)
       → IsAt (receiving ring_lines (whole_of k count) (4 * j) r) instr
@@ -39,7 +39,7 @@ module _ (p : Program) (k : Block) (i count : ℕ) (n : Counters) (word : ℕ �
   keeps_at_14 h z =
       let line = load_line (at 5 refl) (omega (arith, is.even, h.0.visits.base)) refl (omega (arith, is.inside, is.some_slot, h.0.visits.base)) is.small in
       let read : v ≡ offset k n.landed.heads = z.find k.base (base_word k is)
-      (line.wants ∙ ap loads (let same : r.x8 + 0 ≡ k.base = omega (arith, h.0.visits.base) in same))
+      (line.needs ∙ ap loads (let same : r.x8 + 0 ≡ k.base = omega (arith, h.0.visits.base) in same))
       ∙ seen_head k n word order words in
       step.acts (blocks_of p) k i count n order r v 0x14 0x18 (loads (r.x8 + 0)) (λ w. record r { x6 = w })
       (record n.receiver { seen = n.landed.heads }) (tt, word_from k is r.x8 0 h.0.visits.base (omega arith) refl)
@@ -83,7 +83,7 @@ module _ (p : Program) (k : Block) (i count : ℕ) (n : Counters) (word : ℕ �
   keeps_at_18 h z =
       let line = load_line (at 6 refl) (omega (arith, is.even, h.0.visits.base)) refl (omega (arith, is.inside, is.some_slot, h.0.visits.base)) is.small in
       let read : v ≡ offset k n.receiver.tails = z.find (k.base + 8) (word_of k is 8 (omega arith) refl)
-      (line.wants ∙ ap (λ b. loads (b + 8)) h.0.visits.base) ∙ seen_tail k n word order words h.0.open_yet in
+      (line.needs ∙ ap (λ b. loads (b + 8)) h.0.visits.base) ∙ seen_tail k n word order words h.0.open_yet in
       step.reads (blocks_of p) k i count n order r v 0x18 0x1C (r.x8 + 8) (λ w. record r { x7 = w }) refl
       (word_from k is r.x8 8 h.0.visits.base (omega arith) refl) line
       (h.0, (record { is = h.1.is; last = h.1.last }, read))
@@ -135,7 +135,7 @@ module _ (p : Program) (k : Block) (i count : ℕ) (n : Counters) (word : ℕ �
       let line = load_line (at 9 refl) (omega (arith, is.even, h.1.1, h.1.2)) refl
       (omega (arith, is.inside, h.1.1, h.1.2, offset_low k is n.receiver.tails)) is.small in
       let read : v ≡ slice_index k.list n.receiver.tails =
-      z.find (slot k.size k.base n.receiver.tails) (slot_of k is n.receiver.tails) (line.wants ∙ ap loads
+      z.find (slot k.size k.base n.receiver.tails) (slot_of k is n.receiver.tails) (line.needs ∙ ap loads
       (let same : r.x28 + 16 ≡ slot k.size k.base n.receiver.tails = omega (arith, h.1.1, h.1.2) in same))
       ∙ seen_slot k n word order words (omega (arith, h.1.0, order.seen_heads, order.heads_slots)) in
       step.reads (blocks_of p) k i count n order r v 0x24 0x28 (r.x28 + 16) (λ w. record r { x11 = w }) refl

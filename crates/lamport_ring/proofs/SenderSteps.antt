@@ -6,7 +6,7 @@ use Rattle.std.proofs.Math.Nat.{add-mod_right, zero-mod}
 use Rattle.std.specs.Prelude.{slice_index}
 use Rattle.std.proofs.lemmas.Bool.{cases_eq}
 use Rattle.hart.specs.Effects.{word as word_of_sum}
-use Rattle.poll_close.specs.Invariant.Blocks.{Block, offset, slot, slot_store, window, AreNext}
+use Rattle.poll_close.specs.Invariant.Blocks.{SenderBlock, offset, slot, slot_store, window, AreNext}
 use Rattle.step_machine.proofs.Lines.{word-plus}
 use Rattle.step_machine.proofs.Modulo.{offset_step, offset_wrap}
 use Rattle.poll_close.proofs.Windows.{pairs-each}
@@ -15,19 +15,19 @@ use Rattle.poll_close.proofs.Blocks.{IsBlock, offset_low}
 use Rattle.poll_close.proofs.BlockLaws.{found_in}
 use Rattle.lamport_ring.specs.Invariant.Stores.{head_store, sender_stores}
 use Rattle.lamport_ring.specs.Invariant.Counters.{Sent, Counters, sent, gone, CounterInvariant, Words}
-use Rattle.lamport_ring.specs.Invariant.Assertions.{Between, HoldsWord, Asked, HasRead, Room, Stored, Marked}
+use Rattle.lamport_ring.specs.Invariant.Assertions.{Between, HoldsWord, Asked, HasRead, Room, StoredWord, Marked}
 use Rattle.lamport_ring.proofs.Stores.{store_slot, store_head, store_mark}
 
 -- a store that the sender makes: its numbers are in order, and it is the next one of its list
-pub record Stores (k : Block) (n : Counters) (made : Sent) (x : ℕ × ℕ) : Type 0 where
+pub record Stores (k : SenderBlock) (n : Counters) (made : Sent) (x : ℕ × ℕ) : Type 0 where
   pub order : CounterInvariant k (record n { sender = made })
   pub next : AreNext (sender_stores k) (sent n.sender) (sent made) (x ∷ [])
 
 -- before it has read a tail, x7 is that of none
-pub none_read : (k : Block) (n : Sent) → IsBlock k → n.stored ≡ 0 → n.seen ≡ 0 → HasRead k n 0
+pub none_read : (k : SenderBlock) (n : Sent) → IsBlock k → n.stored ≡ 0 → n.seen ≡ 0 → HasRead k n 0
 none_read k n is stored seen = record { near = omega (arith, is.some_slot, stored); is = rw seen (omega (arith, zero-mod k.size)) }
 
-module _ (k : Block) (n : Counters) (is : IsBlock k) (order : CounterInvariant k n) where
+module _ (k : SenderBlock) (n : Counters) (is : IsBlock k) (order : CounterInvariant k n) where
   -- it is given a word of its list, or there is none
   pub given : {x5 : ℕ} → Between k n.sender → x5 ≡ offset k n.sender.stored → n.sender.asked < length k.list
       → Asked k (record n.sender { asked = suc n.sender.asked }) x5 (slice_index k.list n.sender.asked) 1
@@ -125,11 +125,11 @@ module _ (k : Block) (n : Counters) (is : IsBlock k) (order : CounterInvariant k
   }
 
   pub is_stored : {x5 x6 x10 : ℕ} → HoldsWord k n.sender x5 x10 → x6 ≡ offset k (n.sender.stored + 1)
-      → Stored k (record n.sender { stored = n.sender.stored + 1 }) x6
+      → StoredWord k (record n.sender { stored = n.sender.stored + 1 }) x6
   is_stored h next = record { taken = h.taken; heads = omega (arith, h.heads); unmarked = h.unmarked; next = next }
 
   -- then the head
-  pub stores_index : {x6 : ℕ} → Stored k n.sender x6 → Stores k n (record n.sender { headed = n.sender.headed + 1 }) (k.base + 0, x6)
+  pub stores_index : {x6 : ℕ} → StoredWord k n.sender x6 → Stores k n (record n.sender { headed = n.sender.headed + 1 }) (k.base + 0, x6)
   stores_index h = record {
     order = omega (arith, h.heads);
     next = (
@@ -139,7 +139,7 @@ module _ (k : Block) (n : Counters) (is : IsBlock k) (order : CounterInvariant k
     );
   }
 
-  pub is_between : {x6 : ℕ} → Stored k n.sender x6 → Between k (record n.sender { headed = n.sender.headed + 1 })
+  pub is_between : {x6 : ℕ} → StoredWord k n.sender x6 → Between k (record n.sender { headed = n.sender.headed + 1 })
   is_between h = record { taken = h.taken; heads = h.heads; unmarked = h.unmarked }
 
   -- at the end the mark

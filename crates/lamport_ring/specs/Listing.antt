@@ -8,7 +8,8 @@ use Rattle.rv_decode.specs.declared.instruction.LoadOp.TheVariants as load
 use Rattle.rv_decode.specs.declared.instruction.StoreOp.TheVariants as store
 use Rattle.rv_decode.specs.declared.instruction.Instr.TheVariants.{Jal, Branch, Load, Store, Immediate, Register, Ecall}
 use Rattle.poll_close.specs.Laws.{Ring}
-use Rattle.poll_close.specs.Listing.{Listed, line, Listing, words_of, RingLines, receiver_with}
+use Rattle.rv_decode.specs.Listings.{Listed, line, words_of}
+use Rattle.poll_close.specs.Listing.{Listing, RingLines, receiver_with}
 
 abbrev pub sender_listing : List Listed
 sender_listing =

@@ -6,7 +6,7 @@ use Rattle.litmus.specs.declared.symbols.Symbol.TheVariants as symbol
 use Rattle.litmus.specs.Formulas.{Formula, is}
 use Rattle.litmus.specs.Grammar.{Begins}
 use Rattle.litmus.specs.Drafting.{Group, Stage, awaits, has, empty_group, disjunction_of, negated_by, all_taken}
-use Rattle.litmus.specs.Drafting.{stage_after, formula_at, or_misplaced, with_symbol, symbol_added, finished}
+use Rattle.litmus.specs.Drafting.{stage_after, formula_at, or_misplaced, with_symbol, symbol_added, formula_of_symbols}
 use Rattle.litmus.specs.inner.Building.{Build, build_at}
 use Rattle.litmus.proofs.StageLaws.{all_taken-append}
 use Rattle.litmus.proofs.GrammarLaws.{finished_only}
@@ -31,7 +31,7 @@ rest-finishes (awaits around here) = closes-finishes around (record here { negat
 rest-finishes (has around here f) = closes-finishes around here f
 
 pub begins_at : (symbols : List Symbol) (stage : Stage) → stage_after symbols ≡ Some stage → Begins symbols
-unfolding finished stage_after
+unfolding formula_of_symbols stage_after
 begins_at symbols stage same =
     let ends : (g : Formula) × (or_misplaced (formula_at (all_taken (Some stage) (rest_at stage))) ≡ Ok g) = rest-finishes stage in (
       rest_at stage,
@@ -53,7 +53,7 @@ all_taken-none [] = refl
 all_taken-none (w ∷ symbols) = all_taken-none symbols
 
 pub begins_taken : (symbols : List Symbol) → stage_after symbols ≡ None → ¬ Begins symbols
-unfolding finished stage_after
+unfolding formula_of_symbols stage_after
 begins_taken symbols nowhere = grind (arith, finished_only, all_taken-append, all_taken-none)
 
 refused-none : (symbols : List Symbol) (next : Symbol) (o : Option Stage) → or_misplaced (with_symbol symbols next o) ≡ Err tt → o ≡ None

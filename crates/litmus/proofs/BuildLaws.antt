@@ -11,7 +11,7 @@ use Rattle.litmus.specs.declared.symbols.Step.TheVariants as step
 use Rattle.litmus.specs.declared.symbols.Frame.{Frame}
 use Rattle.litmus.specs.Formulas.{Formula, is}
 use Rattle.litmus.specs.Steps.{steps_of}
-use Rattle.litmus.specs.Drafting.{Group, Stage, awaits, has, negated_by, conjoined, disjoined, conjunction_of, disjunction_of, completed, taken}
+use Rattle.litmus.specs.Drafting.{Group, Stage, awaits, has, negated_by, conjoined, disjoined, conjunction_of, disjunction_of, completed, next_stage}
 use Rattle.litmus.specs.inner.Building.{Build, and_closed, or_closed, all_closed, with_operand, with_and, with_or}
 use Rattle.litmus.specs.inner.Building.{with_close, built, empty_mark, or_steps, and_steps, steps_around, end_of}
 use Rattle.litmus.specs.inner.Building.{mark_of, marks_around, build_of, build_at}
@@ -83,7 +83,7 @@ with_close-law outer g here f = grind (arith, length-last, slice_get-last, take-
 abbrev opened : List Frame → List Step → Option Build
 opened around steps = Some (record { steps = steps; around = around; here = empty_mark; has_operand = false })
 
-pub built-law : (stage : Stage) (next : Symbol) → built (build_of stage) next ≡ build_at (taken stage next)
+pub built-law : (stage : Stage) (next : Symbol) → built (build_of stage) next ≡ build_at (next_stage stage next)
 unfolding built
 built-law (awaits around here) (symbol.Is place value) = ap (λ (b : Build). Some b) (with_operand-completed around here (is place value))
 built-law (awaits around here) symbol.Open =

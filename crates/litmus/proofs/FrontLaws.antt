@@ -7,8 +7,8 @@ use Rattle.litmus.specs.Formulas.{Formula, is, both, either}
 use Rattle.litmus.specs.Grammar.{operand, conjunction, disjunction, Stands, atom, negated, enclosed, one_operand}
 use Rattle.litmus.specs.Grammar.{joined, one_conjunction, parted, IsConditionOf}
 use Rattle.litmus.specs.Drafting.{Group, Stage, awaits, has, empty_group, negated_by, conjoined, disjoined}
-use Rattle.litmus.specs.Drafting.{conjunction_of, disjunction_of, enclosed as closed_into, taken, taken_from, all_taken}
-use Rattle.litmus.specs.Drafting.{stage_after, formula_at, or_misplaced, finished}
+use Rattle.litmus.specs.Drafting.{conjunction_of, disjunction_of, enclosed as closed_into, next_stage, taken_from, all_taken}
+use Rattle.litmus.specs.Drafting.{stage_after, formula_at, or_misplaced, formula_of_symbols}
 
 -- the symbols in front of the last conjunct's disjunct, and in front of the last operand's conjunct
 abbrev OrFront : Option Formula → List Symbol → Type 0
@@ -143,7 +143,7 @@ close-reached (g ∷ around) here f symbols before =
     (enclosed whole (disjunction_of here f) (whole-stands (g ∷ around) here f symbols before))
     (ap (λ (ws : List Symbol). ws ++ symbol.Close ∷ []) (before.is ∙ ap (λ (ws : List Symbol). ws ++ whole) before.outside.4) ∙ simp (append_assoc) refl)
 
-reached-taken : (stage : Stage) (symbols : List Symbol) (next : Symbol) → Reached (Some stage) symbols → Reached (taken stage next) (symbols ++ next ∷ [])
+reached-taken : (stage : Stage) (symbols : List Symbol) (next : Symbol) → Reached (Some stage) symbols → Reached (next_stage stage next) (symbols ++ next ∷ [])
 reached-taken (awaits around here) symbols (symbol.Is place value) before =
     completed-reached around here (is place value) before.outer before.inner (symbol.Is place value ∷ [])
     (symbols ++ symbol.Is place value ∷ []) before.outside before.front (atom place value)
@@ -178,8 +178,8 @@ found-at (Some (has [] here g)) symbols f reached same =
 found-at x symbols f reached same = absurd (cc)
 
 -- symbols that are read as a formula are a condition of it
-pub finished-found : (symbols : List Symbol) (f : Formula) → finished symbols ≡ Ok f → IsConditionOf symbols f
-unfolding finished stage_after
+pub finished-found : (symbols : List Symbol) (f : Formula) → formula_of_symbols symbols ≡ Ok f → IsConditionOf symbols f
+unfolding formula_of_symbols stage_after
 finished-found symbols f same =
     found-at (stage_after symbols) symbols f (reached-all_taken (Some (awaits [] empty_group)) [] symbols (record {
       outer = [];

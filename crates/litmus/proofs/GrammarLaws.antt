@@ -6,7 +6,8 @@ use Rattle.litmus.specs.declared.symbols.Symbol.TheVariants as symbol
 use Rattle.litmus.specs.Formulas.{Formula, negation, both, either}
 use Rattle.litmus.specs.Grammar.{Level, operand, conjunction, disjunction, Stands, atom, negated, enclosed, one_operand}
 use Rattle.litmus.specs.Grammar.{joined, one_conjunction, parted, IsConditionOf}
-use Rattle.litmus.specs.Drafting.{Group, Stage, awaits, has, empty_group, negated_by, conjoined, disjoined, completed, all_taken, stage_after, finished}
+use Rattle.litmus.specs.Drafting.{Group, Stage, awaits, has, empty_group, negated_by}
+use Rattle.litmus.specs.Drafting.{conjoined, disjoined, completed, all_taken, stage_after, formula_of_symbols}
 
 abbrev group : Option Formula → Option Formula → Group
 group disjuncts conjuncts = record { disjuncts = disjuncts; conjuncts = conjuncts; negations = 0 }
@@ -92,6 +93,6 @@ reads disjunction symbols f (parted left right g h stands_left stands_right) = �
     (λ d. reads conjunction right h stands_right around d rest)
 
 -- a condition's symbols are read as its formula
-pub finished_only : (symbols : List Symbol) (f : Formula) → IsConditionOf symbols f → finished symbols ≡ Ok f
-unfolding finished stage_after
+pub finished_only : (symbols : List Symbol) (f : Formula) → IsConditionOf symbols f → formula_of_symbols symbols ≡ Ok f
+unfolding formula_of_symbols stage_after
 finished_only symbols f stands = grind (arith, reads disjunction symbols f stands [] [], append-nil symbols)

@@ -9,8 +9,8 @@ use Rattle.litmus.specs.Formulas.{Formula}
 use Rattle.litmus.specs.Steps.{steps_of, formula_of}
 use Rattle.litmus.specs.inner.StepLaws.{formula_of-steps_of}
 use Rattle.litmus.specs.Faults.{fault_of}
-use Rattle.litmus.specs.Drafting.{Group, Stage, awaits, has, empty_group, disjunction_of, enclosed, taken, taken_from}
-use Rattle.litmus.specs.Drafting.{all_taken, stage_after, formula_at, or_misplaced, with_symbol, symbol_added, finished}
+use Rattle.litmus.specs.Drafting.{Group, Stage, awaits, has, empty_group, disjunction_of, enclosed, next_stage, taken_from}
+use Rattle.litmus.specs.Drafting.{all_taken, stage_after, formula_at, or_misplaced, with_symbol, symbol_added, formula_of_symbols}
 use Rattle.litmus.specs.inner.Building.{Build, all_closed, built, is_empty, is_finished, IsWithin, or_steps, and_steps}
 use Rattle.litmus.specs.inner.Building.{steps_around, end_of, mark_of, marks_around, build_of, build_at}
 use Rattle.litmus.proofs.BuildLaws.{built-law, all_closed-law}
@@ -84,7 +84,7 @@ few-more n (g ∷ around) few = (omega (arith, few.0), few-more n around few.1)
 few-enclosed : (n : ℕ) (around : List Group) (f : Formula) → Few n around → FewAfter (n + 1) (enclosed around f)
 few-enclosed n around f few = grind (arith, few-more)
 
-few-taken : (n : ℕ) (stage : Stage) (next : Symbol) → FewAt n stage → FewAfter (n + 1) (taken stage next)
+few-taken : (n : ℕ) (stage : Stage) (next : Symbol) → FewAt n stage → FewAfter (n + 1) (next_stage stage next)
 few-taken n stage next few = grind (arith, few-more, few-enclosed)
 
 few-taken_from : (n : ℕ) (stage : Option Stage) (next : Symbol) → FewAfter n stage → FewAfter (n + 1) (taken_from stage next)
@@ -148,8 +148,8 @@ open-at stage incomplete = grind arith
 pub finished_complete : (symbols : List Symbol) (b : Build) → build_at (stage_after symbols) ≡ Some b → is_finished b ≡ true → Ends (stage_after symbols) b
 finished_complete symbols b same complete = grind (arith, some_same, ends-at)
 
-pub finished-open : (symbols : List Symbol) (b : Build) → build_at (stage_after symbols) ≡ Some b → is_finished b ≡ false → finished symbols ≡ Err tt
-unfolding finished
+pub finished-open : (symbols : List Symbol) (b : Build) → build_at (stage_after symbols) ≡ Some b → is_finished b ≡ false → formula_of_symbols symbols ≡ Err tt
+unfolding formula_of_symbols
 finished-open symbols b same incomplete = grind (arith, open-at, some_same)
 
 -- the steps of a formula are a condition's
@@ -166,6 +166,6 @@ condition_steps symbols b steps same complete closed = grind (arith, finished_co
 
 pub finished-steps : (symbols : List Symbol) (b : Build) (steps : List Step) (f : Formula)
     → build_at (stage_after symbols) ≡ Some b → is_finished b ≡ true → steps ≡ all_closed b.here b.steps
-    → f ≡ formula_of steps → finished symbols ≡ Ok f
-unfolding finished
+    → f ≡ formula_of steps → formula_of_symbols symbols ≡ Ok f
+unfolding formula_of_symbols
 finished-steps symbols b steps f same complete closed answer = grind (arith, finished_complete symbols b same complete, formula_again steps)

@@ -48,18 +48,18 @@ enclosed [] f = None
 enclosed (here ∷ around) f = Some (completed around here f)
 
 -- the stage after one more symbol; None where the symbol may not stand there
-abbrev pub taken : Stage → Symbol → Option Stage
-taken (awaits around here) (symbol.Is place value) = Some (completed around here (is place value))
-taken (awaits around here) symbol.Not = Some (awaits around (record here { negations = here.negations + 1 }))
-taken (awaits around here) symbol.Open = Some (awaits (here ∷ around) empty_group)
-taken (has around here f) symbol.And = Some (awaits around (record here { conjuncts = Some (conjunction_of here f) }))
-taken (has around here f) symbol.Or = Some (awaits around (record { disjuncts = Some (disjunction_of here f); conjuncts = None; negations = 0 }))
-taken (has around here f) symbol.Close = enclosed around (disjunction_of here f)
-taken other s = None
+abbrev pub next_stage : Stage → Symbol → Option Stage
+next_stage (awaits around here) (symbol.Is place value) = Some (completed around here (is place value))
+next_stage (awaits around here) symbol.Not = Some (awaits around (record here { negations = here.negations + 1 }))
+next_stage (awaits around here) symbol.Open = Some (awaits (here ∷ around) empty_group)
+next_stage (has around here f) symbol.And = Some (awaits around (record here { conjuncts = Some (conjunction_of here f) }))
+next_stage (has around here f) symbol.Or = Some (awaits around (record { disjuncts = Some (disjunction_of here f); conjuncts = None; negations = 0 }))
+next_stage (has around here f) symbol.Close = enclosed around (disjunction_of here f)
+next_stage other s = None
 
 abbrev pub taken_from : Option Stage → Symbol → Option Stage
 taken_from None next = None
-taken_from (Some stage) next = taken stage next
+taken_from (Some stage) next = next_stage stage next
 
 abbrev pub all_taken : Option Stage → List Symbol → Option Stage
 all_taken stage [] = stage
@@ -90,5 +90,5 @@ unfoldable pub symbol_added : List Symbol → Symbol → Result (List Symbol) (U
 symbol_added symbols next = or_misplaced (with_symbol symbols next (stage_after (symbols ++ next ∷ [])))
 
 -- what all the symbols are, where they are a condition
-unfoldable pub finished : List Symbol → Result Formula (Unit {0})
-finished symbols = or_misplaced (formula_at (stage_after symbols))
+unfoldable pub formula_of_symbols : List Symbol → Result Formula (Unit {0})
+formula_of_symbols symbols = or_misplaced (formula_at (stage_after symbols))

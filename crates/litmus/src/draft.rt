@@ -3,7 +3,7 @@
 ghost use Rattle.std.specs.Prelude.{◌≡◌, ◌≢◌, ◌↔◌, [], ◌∷◌, ◌++◌, Ok, Err, IfOk, OnOk, OnErr};
 ghost use Rattle.texts.specs.Results.{GivesUpToMemory};
 ghost use Rattle.litmus.specs.declared.draft.ConditionError.TheVariants.{NoMemory, Misplaced};
-ghost use Rattle.litmus.specs.Drafting.{symbol_added, finished};
+ghost use Rattle.litmus.specs.Drafting.{symbol_added, formula_of_symbols};
 ghost use Rattle.litmus.specs.Faults.{fault_of};
 
 use crate::builder::Builder;
@@ -95,7 +95,7 @@ impl ConditionDraft {
     /// The condition of the symbols. It is `Misplaced` exactly where they are none. It takes no memory,
     /// so there is no other `Err`.
     pub fn finish(self) -> Result<Condition, ConditionError>
-        ensures exact { GivesUpToMemory fault_of (λ (f : Formula). f) result (finished self) }
+        ensures exact { GivesUpToMemory fault_of (λ (f : Formula). f) result (formula_of_symbols self) }
         ensures found { IfOk result (IsConditionOf self) }
         ensures only { (f : Formula) → IsConditionOf self f → result ≡ Ok f }
         ensures misplaced { (result ≡ Err Misplaced) ↔ ((f : Formula) → ¬ IsConditionOf self f) }

@@ -9,7 +9,7 @@ use Rattle.texts.specs.Results.{◌>>=◌}
 use Rattle.texts.specs.Cutting.{before, after, is_byte, AreBlanks}
 use Rattle.texts.proofs.ResultLaws.{ok_is, bind_ok}
 use Rattle.assembler.specs.Faults.{Refusal}
-use Rattle.assembler.specs.Drafts.{Line, words_of, drafted, all_drafted, finished}
+use Rattle.assembler.specs.Drafts.{Line, word_count, drafted, all_drafted, all_instructions}
 use Rattle.assembler.proofs.ProgramGrammar.{all_found, all_only, finished-found, finished_only, none_above}
 use Rattle.litmus_reader.specs.declared.faults.LitmusFault.{LitmusFault}
 use Rattle.litmus_reader.specs.Table.{Column, Code, as_instr, cell_added, cells_added, line_added, lines_added, table_from, table_at, codes_of}
@@ -29,21 +29,21 @@ use Rattle.texts.specs.declared.pieces.Separators.TheVariants.{Byte}
 as_instr-ok : {A : Type 0} (r : Result A Refusal) (x : A) → as_instr r ≡ Ok x → r ≡ Ok x
 as_instr-ok r x e = grind (arith, ok_is)
 
-words_of-append : (above below : List Line) → words_of (above ++ below) ≡ words_of above + words_of below
+words_of-append : (above below : List Line) → word_count (above ++ below) ≡ word_count above + word_count below
 words_of-append [] below = omega arith
 words_of-append (line ∷ above) below = let rest = words_of-append above below in omega (arith, rest)
 
 -- a column's words are no fewer with more cells
-words_grow : (above : Column) (texts : List (List ℕ)) (all : Column) → all_drafted above texts ≡ Ok all → words_of above ≤ words_of all
+words_grow : (above : Column) (texts : List (List ℕ)) (all : Column) → all_drafted above texts ≡ Ok all → word_count above ≤ word_count all
 words_grow above texts all e = grind (arith, all_found above texts all e, words_of-append above)
 
 cell_found : (column : Column) (cell : List ℕ) (more : Column) → cell_added column cell ≡ Ok more → drafted column cell ≡ Ok more
 unfolding cell_added
 cell_found column cell more e = grind (arith, bind_ok, as_instr-ok, cases_Bool, ok_is)
 
-cell_only : (column : Column) (cell : List ℕ) (more : Column) → drafted column cell ≡ Ok more → words_of more ≤ 4096 → cell_added column cell ≡ Ok more
+cell_only : (column : Column) (cell : List ℕ) (more : Column) → drafted column cell ≡ Ok more → word_count more ≤ 4096 → cell_added column cell ≡ Ok more
 unfolding cell_added
-cell_only column cell more e few = rw (e, le-ltb 4096 (words_of more) few) refl
+cell_only column cell more e few = rw (e, le-ltb 4096 (word_count more) few) refl
 
 -- ---- all columns
 
@@ -54,7 +54,7 @@ AreEnds rows hart (column ∷ columns) ends = (end : Column) × (others : List C
     × (all_drafted column (column_of hart rows) ≡ Ok end) × AreEnds rows (hart + 1) columns others
 
 abbrev AreFew : List Column → Type 0
-AreFew ends = AllByRecursion (λ end. words_of end ≤ 4096) ends
+AreFew ends = AllByRecursion (λ end. word_count end ≤ 4096) ends
 
 -- the cells from a hart's on
 abbrev AreFrom : ℕ → Cells → Cells → Type 0
@@ -144,7 +144,7 @@ abbrev pub AreCodes : List Cells → ℕ → List Code → Type 0
 AreCodes rows hart [] = Unit {0}
 AreCodes rows hart (code ∷ codes) = IsColumnCode (column_of hart rows) code × AreCodes rows (hart + 1) codes
 
-code_found : (cells : List (List ℕ)) (end : Column) (code : Code) → all_drafted [] cells ≡ Ok end → finished end ≡ Ok code → IsColumnCode cells code
+code_found : (cells : List (List ℕ)) (end : Column) (code : Code) → all_drafted [] cells ≡ Ok end → all_instructions end ≡ Ok code → IsColumnCode cells code
 code_found cells end code e done = grind (arith, all_found [] cells end e, finished-found end code done)
 
 codes_found : (rows : List Cells) (hart harts : ℕ) (ends : List Column) (codes : List Code)
@@ -153,11 +153,11 @@ codes_found : (rows : List Cells) (hart harts : ℕ) (ends : List Column) (codes
 codes_found rows hart zero ends codes are e = grind (arith, ok_is)
 codes_found rows hart (suc harts) ends codes are e =
     let all : codes_of (are.0 ∷ are.1) ≡ Ok codes = ap codes_of (sym are.2) ∙ e in
-    let step = bind_ok (as_instr (finished are.0)) (λ (code : Code). codes_of are.1 >>= λ (others : List Code). Ok (code ∷ others)) codes all in
+    let step = bind_ok (as_instr (all_instructions are.0)) (λ (code : Code). codes_of are.1 >>= λ (others : List Code). Ok (code ∷ others)) codes all in
     let rest = bind_ok (codes_of are.1) (λ (others : List Code). Ok (step.0 ∷ others)) codes step.2 in
     let below = codes_found rows (hart + 1) harts are.1 rest.0 are.4 rest.1 in
     subst (λ (cs : List Code). AreCodes rows hart cs × (length cs ≡ suc harts)) (ok_is LitmusFault (step.0 ∷ rest.0) codes rest.2)
-    ((code_found (column_of hart rows) are.0 step.0 are.3 (as_instr-ok (finished are.0) step.0 step.1), below.0), ap suc below.1)
+    ((code_found (column_of hart rows) are.0 step.0 are.3 (as_instr-ok (all_instructions are.0) step.0 step.1), below.0), ap suc below.1)
 
 record Ends (rows : List Cells) (hart : ℕ) (codes : List Code) : Type 0 where
   ends : List Column

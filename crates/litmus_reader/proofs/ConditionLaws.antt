@@ -16,7 +16,7 @@ use Rattle.litmus.specs.declared.symbols.Symbol.{Symbol}
 use Rattle.litmus.specs.declared.symbols.Symbol.TheVariants as symbol
 use Rattle.litmus.specs.Formulas.{Formula}
 use Rattle.litmus.specs.Grammar.{IsConditionOf, Begins}
-use Rattle.litmus.specs.Drafting.{Stage, stage_after, with_symbol, or_misplaced, symbol_added, finished}
+use Rattle.litmus.specs.Drafting.{Stage, stage_after, with_symbol, or_misplaced, symbol_added, formula_of_symbols}
 use Rattle.litmus.proofs.GrammarLaws.{finished_only}
 use Rattle.litmus.proofs.FrontLaws.{finished-found}
 use Rattle.litmus.proofs.BeginLaws.{refused_begins}
@@ -84,7 +84,7 @@ symbol_found words next more e = with_symbol-found words next (stage_after (word
 symbol_begins : (words : List Symbol) (next : Symbol) → Begins (words ++ next ∷ []) → as_condition (symbol_added words next) ≡ Ok (words ++ next ∷ [])
 symbol_begins words next begun = grind (arith, symbol_found, refused_begins)
 
-finished-ok : (words : List Symbol) (formula : Formula) → as_condition (finished words) ≡ Ok formula → finished words ≡ Ok formula
+finished-ok : (words : List Symbol) (formula : Formula) → as_condition (formula_of_symbols words) ≡ Ok formula → formula_of_symbols words ≡ Ok formula
 finished-ok words formula e = grind arith
 
 -- ---- the places that atoms look at
@@ -327,13 +327,13 @@ IsConditionFound harts ms text condition =
 finished-condition : (harts : ℕ) (ms : Names) (text : List ℕ) (quantified : Quantified) (gathered : ConditionSoFar)
     (condition : Condition) → IsQuantified text quantified → NoneBegins BeginsUnread text
     → TokensFound harts ms [] (tokens_of quantified.1) gathered
-    → (as_condition (finished gathered.0) >>= λ formula. condition_so quantified.0 formula gathered.1) ≡ Ok condition
+    → (as_condition (formula_of_symbols gathered.0) >>= λ formula. condition_so quantified.0 formula gathered.1) ≡ Ok condition
     → IsConditionFound harts ms text condition
 finished-condition harts ms text quantified gathered condition front none walk e =
-    let formula = bind_ok (as_condition (finished gathered.0)) (λ formula. condition_so quantified.0 formula gathered.1) condition e in
+    let formula = bind_ok (as_condition (formula_of_symbols gathered.0)) (λ formula. condition_so quantified.0 formula gathered.1) condition e in
     let spelled : AreTokens quantified.1 walk.words = are_tokens walk.words quantified.1 walk.whole in
     let stands : IsConditionOf walk.known formula.0 =
-    finished-found walk.known formula.0 (subst (λ (ws : List Symbol). finished ws ≡ Ok formula.0) walk.following
+    finished-found walk.known formula.0 (subst (λ (ws : List Symbol). formula_of_symbols ws ≡ Ok formula.0) walk.following
     (finished-ok gathered.0 formula.0 formula.1)) in
     subst (IsConditionFound harts ms text)
     (ok_is LitmusFault (record { quantifier = quantified.0; formula = formula.0; names = gathered.1 }) condition
@@ -353,10 +353,10 @@ condition_found harts ms text condition few e = go (quantifier_in (before_line U
     go (Some quantified) first shown =
         let gathered = bind_ok (tokens_added harts ([], each_once ms) (tokens_of quantified.1))
         (λ gathered. none_unread (from_line Unread text) >>= λ end.
-        as_condition (finished gathered.0) >>= λ formula. condition_so quantified.0 formula gathered.1) condition
+        as_condition (formula_of_symbols gathered.0) >>= λ formula. condition_so quantified.0 formula gathered.1) condition
         shown in
         let end = bind_ok (none_unread (from_line Unread text))
-        (λ end. as_condition (finished gathered.0.0) >>= λ formula. condition_so quantified.0 formula gathered.0.1)
+        (λ end. as_condition (formula_of_symbols gathered.0.0) >>= λ formula. condition_so quantified.0 formula gathered.0.1)
         condition gathered.2 in
         let none = nowhere_found Unread BeginsUnread unread_matches text (none_unread-found (from_line Unread text) end.0 end.1) in
         let whole : before_line Unread text ≡ text = (nowhere_only Unread BeginsUnread unread_matches text none).0 in

@@ -12,7 +12,7 @@ use Rattle.texts.proofs.ResultLaws.{ok_is, bind_ok}
 use Rattle.litmus_tokens.specs.Settings.{Value}
 use Rattle.litmus_tokens.specs.Settings.Value.{number, address_of}
 use Rattle.litmus_reader.specs.declared.faults.LitmusFault.{LitmusFault}
-use Rattle.litmus_reader.specs.Locations.{Names, index_from, joined, resolved, value_resolved}
+use Rattle.litmus_reader.specs.Locations.{Names, index_from, name_added, resolved, value_resolved}
 use Rattle.litmus_reader.specs.Openings.{each_once, name_of_value, IsAt, IsWorth}
 
 -- the name is one of these
@@ -188,7 +188,7 @@ pub resolved-found : (ms : Names) (name : List ℕ) (found : ℕ × Names) → r
 unfolding resolved
 resolved-found ms name found e = go (index_from 0 (each_once ms) name) refl e
   where
-    go : (o : Option ℕ) → index_from 0 (each_once ms) name ≡ o → joined (each_once ms) name o ≡ Ok found → IsResolved ms name found
+    go : (o : Option ℕ) → index_from 0 (each_once ms) name ≡ o → name_added (each_once ms) name o ≡ Ok found → IsResolved ms name found
     go (Some index) is shown = subst (IsResolved ms name) (ok_is LitmusFault (index, each_once ms) found shown) (old_resolved ms name index is)
     go None is shown = elim (cases_Bool (nat_lt (length (each_once ms)) 1024)) [
       | inl room ↦ subst (IsResolved ms name)
@@ -205,7 +205,7 @@ unfolding resolved
 resolved-only ms name few = go (index_from 0 (each_once ms) name) refl
   where
     Answer : Option ℕ → Type 0
-    Answer o = (index : ℕ) × (joined (each_once ms) name o ≡ Ok (index, each_once (ms ++ name ∷ []))) × IsAt (each_once (ms ++ name ∷ [])) name index
+    Answer o = (index : ℕ) × (name_added (each_once ms) name o ≡ Ok (index, each_once (ms ++ name ∷ []))) × IsAt (each_once (ms ++ name ∷ [])) name index
 
     go : (o : Option ℕ) → index_from 0 (each_once ms) name ≡ o → Answer o
     go (Some index) is = let resolved = old_resolved ms name index is in (

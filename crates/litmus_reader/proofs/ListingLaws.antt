@@ -14,18 +14,18 @@ use Rattle.litmus_reader.specs.Faults.{fault_of}
 use Rattle.litmus_reader.specs.Marks.{before_line}
 use Rattle.litmus_reader.specs.Reading.{Content, content_of}
 use Rattle.litmus_reader.specs.Grammar.{IsContent, IsTestOf}
-use Rattle.litmus_reader.specs.Listings.{RowOf, rows_at, after_items, listing_in, listing_at}
+use Rattle.litmus_reader.specs.Listings.{ListedRowOf, table_rows, after_items, listing_in, listing_at}
 use Rattle.litmus_reader.proofs.LayoutLaws.{layout_only}
 
-pub test_listed : (text : List ℕ) (content : Content) → IsContent text content → (rows : List RowOf) × (listing_at text ≡ Ok rows)
+pub test_listed : (text : List ℕ) (content : Content) → IsContent text content → (rows : List ListedRowOf) × (listing_at text ≡ Ok rows)
 unfolding after_items listing_in listing_at
 test_listed text content c =
     let clean : cleaned_text text ≡ c.clean = only_cleaned text c.clean c.cleaned in
     let laying = layout_only c.clean c.init c.table c.condition_text c.laid_out in
-    (rows_at text (length c.clean - length laying.rest) (before_line Condition laying.rest), rw (clean, laying.headed, laying.braced, laying.closed) refl)
+    (table_rows text (length c.clean - length laying.rest) (before_line Condition laying.rest), rw (clean, laying.headed, laying.braced, laying.closed) refl)
 
 -- what a reader of listings answers where a test stands
-pub only_memory : {X : Type 0} (view : X → List RowOf) (text : List ℕ) (result : Result X (TextError (AtLine LitmusFault)))
+pub only_memory : {X : Type 0} (view : X → List ListedRowOf) (text : List ℕ) (result : Result X (TextError (AtLine LitmusFault)))
     → GivesUpToMemory fault_of view result (listing_at text) → (test : LitmusTest) → IsTestOf text test → IfErr result (λ error. error ≡ NoMemory)
 unfolding IsTestOf
 only_memory view text (Ok x) gives test is = tt

@@ -6,7 +6,7 @@ use Rattle.std.proofs.lemmas.List.{length-map}
 use Rattle.std.proofs.lemmas.List.Elements.{recursion_from_All, All-head, All-tail}
 use Rattle.rv_decode.specs.Meaning.{meaning}
 use Rattle.rv_decode.specs.declared.instruction.Instr.{Instr}
-use Rattle.assembler.specs.Drafts.{Line, size_of, words_of}
+use Rattle.assembler.specs.Drafts.{Line, size_of, word_count}
 use Rattle.assembler.specs.Statements.{Made}
 use Rattle.assembler.specs.Program.{IsPlaced, ArePlaced}
 use Rattle.assembler.specs.Program.IsPlaced.{nothing, single, double, jumping, branching}
@@ -37,7 +37,7 @@ placed_size all at made instrs (double i j) = refl
 placed_size all at made instrs (jumping rd name place defined reached) = refl
 placed_size all at made instrs (branching op rs1 rs2 name place defined reached) = refl
 
-pub lines_size : (all : List Line) (at : ℕ) (lines : List Line) (instrs : List Instr) → ArePlaced all at lines instrs → length instrs ≡ words_of lines
+pub lines_size : (all : List Line) (at : ℕ) (lines : List Line) (instrs : List Instr) → ArePlaced all at lines instrs → length instrs ≡ word_count lines
 lines_size all at [] instrs placed = ap length placed
 lines_size all at (line ∷ below) instrs (front, rest, is, here, further) =
     let first = placed_size all at line.made front here in
@@ -130,7 +130,7 @@ plain_harts : (names : Names) (equations : List Equation) (rows : List Cells) (h
     → AreSmall equations → AreHarts names equations rows hart (map hart_content harts) → All HasPlainCode harts → AllByRecursion IsPlainHart harts
 plain_harts names equations rows hart [] few small are are_plain = tt
 plain_harts names equations rows hart (first ∷ others) few small ((all, instrs, lines, made, meant), registers, inbox, further) are_plain =
-    let long : length instrs ≡ words_of all = lines_size all 0 all instrs made.placed in
+    let long : length instrs ≡ word_count all = lines_size all 0 all instrs made.placed in
     let same : length first.code ≡ length instrs = sym (length-map first.code meaning) ∙ (ap length meant ∙ length-map instrs Some) in (
       record {
         short = omega (arith, long, same, made.few);

@@ -11,7 +11,7 @@ use Rattle.rv_decode.specs.Meaning.{meaning}
 use Rattle.assembler.specs.declared.faults.AsmFault.{AsmFault}
 use Rattle.assembler.specs.Faults.{Refusal}
 use Rattle.assembler.specs.Statements.{Made}
-use Rattle.assembler.specs.Drafts.{Line, onto, finished, size_of, words_of, placed, at_line, all_placed, place_of}
+use Rattle.assembler.specs.Drafts.{Line, onto, all_instructions, size_of, word_count, placed_statement, refused_at_line, all_placed, label_place}
 use Rattle.litmus_reader.specs.declared.faults.LitmusFault.{LitmusFault}
 use Rattle.litmus_reader.specs.declared.faults.LitmusFault.TheVariants.{BadInstr}
 use Rattle.texts.specs.declared.errors.TextError.{TextError}
@@ -30,12 +30,12 @@ onto-more : (front : List Code) (code : Code) (others : Result (List Code) Litmu
     → onto front (onto (code ∷ []) others) ≡ onto (front ++ code ∷ []) others
 onto-more front code others = grind (arith, append_assoc)
 
-codes_more : (code : Code) (column : Column) (columns : List Column) → finished column ≡ Ok code
+codes_more : (code : Code) (column : Column) (columns : List Column) → all_instructions column ≡ Ok code
     → codes_of (column ∷ columns) ≡ onto (code ∷ []) (codes_of columns)
 codes_more code column columns done = rw done refl
 
 pub turn_going : (faulty : Option ℕ) (words : List (Vec ℕ Global)) (more : Vec ℕ Global) (column : Column)
-    (columns : List Column) (whole : Result (List Code) LitmusFault) → finished column ≡ Ok (map meaning more.items)
+    (columns : List Column) (whole : Result (List Code) LitmusFault) → all_instructions column ≡ Ok (map meaning more.items)
     → going faulty (instructions_of words) (codes_of (column ∷ columns)) ≡ whole
     → going faulty (instructions_of (words ++ more ∷ [])) (codes_of columns) ≡ whole
 turn_going None words more column columns whole done so_far =
@@ -59,10 +59,10 @@ Sized n (Err e) = Unit {0}
 after_sized : {A X E : Type 0} (n : ℕ) (r : Result A E) (f : A → Result (List X) E) → ((a : A) → Sized n (f a)) → Sized n (r >>= f)
 after_sized n r f each = grind arith
 
-at_line-sized : {X : Type 0} (n line : ℕ) (r : Result (List X) AsmFault) → Sized n r → Sized n (at_line line r)
+at_line-sized : {X : Type 0} (n line : ℕ) (r : Result (List X) AsmFault) → Sized n r → Sized n (refused_at_line line r)
 at_line-sized n line r sized = grind arith
 
-placed-sized : (found : List ℕ → Option ℕ) (at : ℕ) (made : Option Made) → Sized (size_of made) (placed found at made)
+placed-sized : (found : List ℕ → Option ℕ) (at : ℕ) (made : Option Made) → Sized (size_of made) (placed_statement found at made)
 placed-sized found at made = grind (arith, after_sized)
 
 onto-sized : {X E : Type 0} (m n : ℕ) (front : List X) (r : Result (List X) E) → length front ≡ m → Sized n r → Sized (m + n) (onto front r)
@@ -72,11 +72,11 @@ joined_sized : {X E : Type 0} (m n : ℕ) (r : Result (List X) E) (others : Resu
     → Sized n others → Sized (m + n) (r >>= λ front. onto front others)
 joined_sized m n r others here rest = grind (arith, onto-sized)
 
-all_placed-sized : (found : List ℕ → Option ℕ) (at line : ℕ) (lines : List Line) → Sized (words_of lines) (all_placed found at line lines)
+all_placed-sized : (found : List ℕ → Option ℕ) (at line : ℕ) (lines : List Line) → Sized (word_count lines) (all_placed found at line lines)
 all_placed-sized found at line [] = refl
 all_placed-sized found at line (first ∷ rest) =
-    joined_sized (size_of first.made) (words_of rest) (at_line line (placed found at first.made)) _
-    (at_line-sized (size_of first.made) line (placed found at first.made) (placed-sized found at first.made))
+    joined_sized (size_of first.made) (word_count rest) (refused_at_line line (placed_statement found at first.made)) _
+    (at_line-sized (size_of first.made) line (placed_statement found at first.made) (placed-sized found at first.made))
     (all_placed-sized found (at + size_of first.made) (line + 1) rest)
 
 abbrev Short : {X E : Type 0} → Result (List X) E → Type 0
@@ -89,9 +89,9 @@ short_of n r few sized = grind arith
 checked_short : {X : Type 0} {E : Type 0} (n : ℕ) (b : Bool) (e : E) (r : Result (List X) E) → nat_lt 4096 n ≡ b → Sized n r → Short (if b then Err e else r)
 checked_short n b e r over sized = grind (arith, short_of, ltb-false)
 
-finished-short : (column : Column) → Short (finished column)
-unfolding finished
-finished-short column = checked_short (words_of column) (nat_lt 4096 (words_of column)) _ _ refl (all_placed-sized (place_of column) 0 1 column)
+finished-short : (column : Column) → Short (all_instructions column)
+unfolding all_instructions
+finished-short column = checked_short (word_count column) (nat_lt 4096 (word_count column)) _ _ refl (all_placed-sized (label_place column) 0 1 column)
 
 instr_short : {X : Type 0} (r : Result (List X) Refusal) → Short r → Short (as_instr r)
 instr_short r short = grind arith
@@ -106,8 +106,8 @@ joined_short n r others here rest = grind arith
 
 codes_short : (columns : List Column) → AllShort (length columns) (codes_of columns)
 codes_short [] = (refl, tt)
-codes_short (column ∷ columns) = joined_short (length columns) (as_instr (finished column)) (codes_of columns)
-    (instr_short (finished column) (finished-short column)) (codes_short columns)
+codes_short (column ∷ columns) = joined_short (length columns) (as_instr (all_instructions column)) (codes_of columns)
+    (instr_short (all_instructions column) (finished-short column)) (codes_short columns)
 
 answer_short : (columns : List Column) (codes : List Code) → codes_of columns ≡ Ok codes → (length codes ≡ length columns) × AreShort codes
 answer_short columns codes shown = let P : Result (List Code) LitmusFault → Type 0 = λ r. AllShort (length columns) r in subst P shown (codes_short columns)

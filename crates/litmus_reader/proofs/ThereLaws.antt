@@ -13,7 +13,7 @@ use Rattle.litmus.specs.declared.symbols.Symbol.TheVariants as symbol
 use Rattle.litmus.specs.Formulas.{Formula, places}
 use Rattle.litmus.specs.Grammar.{Level, operand, conjunction, disjunction, Stands}
 use Rattle.litmus.specs.Grammar.Stands.{atom, negated, enclosed, one_operand, joined, one_conjunction, parted}
-use Rattle.litmus.specs.Drafting.{Stage, stage_after, with_symbol, or_misplaced, symbol_added, finished}
+use Rattle.litmus.specs.Drafting.{Stage, stage_after, with_symbol, or_misplaced, symbol_added, formula_of_symbols}
 use Rattle.litmus.specs.LitmusTests.{IsThere}
 use Rattle.litmus.proofs.FrontLaws.{finished-found}
 use Rattle.litmus_tokens.specs.Settings as setting
@@ -110,7 +110,7 @@ Resolved names found = (found.0 < length found.1) × (length names ≤ length fo
 new_resolved : (names : Names) (name : List ℕ) (b : Bool) (e : LitmusFault) → IfOk (if b then Ok (length names, names ++ name ∷ []) else Err e) (Resolved names)
 new_resolved names name b e = grind (arith, length-append)
 
-joined-resolved : (names : Names) (name : List ℕ) (o : Option ℕ) → Within (length names) o → IfOk (locations.joined names name o) (Resolved names)
+joined-resolved : (names : Names) (name : List ℕ) (o : Option ℕ) → Within (length names) o → IfOk (locations.name_added names name o) (Resolved names)
 joined-resolved names name o within = grind (arith, new_resolved)
 
 resolved-there : (names : Names) (name : List ℕ) → IfOk (resolved names name) (Resolved names)
@@ -183,7 +183,7 @@ tokens_there harts names so_far (token.Tokens.goes_on first others) fine =
 abbrev pub AsksThere : (harts : ℕ) → Names → Condition → Type 0
 AsksThere harts names condition = All (IsThere harts (length condition.names)) (places condition.formula) × (length names ≤ length condition.names)
 
-finished-there : (harts n : ℕ) (words : List Symbol) (r : Result Formula (Unit {0})) → finished words ≡ r
+finished-there : (harts n : ℕ) (words : List Symbol) (r : Result Formula (Unit {0})) → formula_of_symbols words ≡ r
     → AllThere harts n words → IfOk (as_condition r) (λ f. All (IsThere harts n) (places f))
 finished-there harts n words (Ok f) done there = formula_there harts n disjunction words f (finished-found words f done) there
 finished-there harts n words (Err misplaced) done there = tt
@@ -195,8 +195,8 @@ after_there harts names text (Some quantified) =
     (tokens_there harts names ([], names) (tokens_of quantified.1) (tt, omega arith)) (λ gathered fine.
     after_ok (λ _. Unit {0}) (AsksThere harts names) (none_unread (from_line Unread text)) _ (none_fine (from_line Unread text)) (λ end _.
     after_ok (λ f. All (IsThere harts (length gathered.1)) (places f)) (AsksThere harts names)
-    (as_condition (finished gathered.0)) _
-    (finished-there harts (length gathered.1) gathered.0 (finished gathered.0) refl fine.0)
+    (as_condition (formula_of_symbols gathered.0)) _
+    (finished-there harts (length gathered.1) gathered.0 (formula_of_symbols gathered.0) refl fine.0)
     (λ f there. (there, fine.1))))
   where
     none_fine : (o : Option (List ℕ)) → IfOk (none_unread o) (λ _. Unit {0})

@@ -9,7 +9,7 @@ use Rattle.litmus.specs.declared.symbols.Place.TheVariants as place
 use Rattle.litmus.specs.declared.symbols.Symbol.{Symbol}
 use Rattle.litmus.specs.declared.symbols.Symbol.TheVariants as symbol
 use Rattle.litmus.specs.Formulas.{Formula}
-use Rattle.litmus.specs.Drafting.{symbol_added, finished}
+use Rattle.litmus.specs.Drafting.{symbol_added, formula_of_symbols}
 use Rattle.litmus_tokens.specs.Settings as setting
 use Rattle.litmus_tokens.specs.Tokens as token
 use Rattle.litmus_tokens.specs.Tokens.{Tokens, tokens_of}
@@ -91,7 +91,7 @@ after_quantifier harts names text None = Err BadCondition
 after_quantifier harts names text (Some quantified) = do
   gathered ← tokens_added harts ([], names) (tokens_of quantified.1)
   end ← none_unread (from_line Unread text)
-  formula ← as_condition (finished gathered.0)
+  formula ← as_condition (formula_of_symbols gathered.0)
   Ok (record { quantifier = quantified.0; formula = formula; names = gathered.1 })
 
 -- the condition in a text, where the init part has these names; no line of it may be one of a part that

@@ -21,11 +21,11 @@ pub record HeadingOf : Type 0 where
   pub condition : List ℕ
 
 -- the words of a text in one line, with one space (32) between two
-abbrev pub words : List ℕ → List (List ℕ)
-words text = filter (λ piece. nat_lt 0 (length piece)) (pieces Gaps text)
+abbrev pub heading_words : List ℕ → List (List ℕ)
+heading_words text = filter (λ piece. nat_lt 0 (length piece)) (pieces Gaps text)
 
 abbrev pub in_one_line : List ℕ → List ℕ
-in_one_line text = join_with_byte 32 (words text)
+in_one_line text = join_with_byte 32 (heading_words text)
 
 -- The name is the header line's second token. The condition is what stands from its first line to the end of the text,
 -- in one line and without comments.

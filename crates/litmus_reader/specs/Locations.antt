@@ -18,13 +18,13 @@ abbrev pub index_from : ℕ → Names → List ℕ → Option ℕ
 index_from at [] name = None
 index_from at (other ∷ others) name = if bytes_eq other name then Some at else index_from (at + 1) others name
 
-abbrev pub joined : Names → List ℕ → Option ℕ → Result (ℕ × Names) LitmusFault
-joined names name (Some index) = Ok (index, names)
-joined names name None = if nat_lt (length names) MAX_LOCATIONS then Ok (length names, names ++ name ∷ []) else Err TooMany
+abbrev pub name_added : Names → List ℕ → Option ℕ → Result (ℕ × Names) LitmusFault
+name_added names name (Some index) = Ok (index, names)
+name_added names name None = if nat_lt (length names) MAX_LOCATIONS then Ok (length names, names ++ name ∷ []) else Err TooMany
 
 -- the index of the location of this name, which joins the others where it is new
 unfoldable pub resolved : Names → List ℕ → Result (ℕ × Names) LitmusFault
-resolved names name = joined names name (index_from 0 names name)
+resolved names name = name_added names name (index_from 0 names name)
 
 -- a location in it has the shape of a name
 abbrev pub HasLocation : NamedPlace → Type 0

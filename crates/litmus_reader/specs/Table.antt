@@ -8,7 +8,7 @@ use Rattle.rv_decode.specs.declared.instruction.Instr.{Instr}
 use Rattle.rv_decode.specs.Meaning.{meaning}
 use Rattle.rv_decode.specs.declared.instruction.TheConstants.{MAX_CODE}
 use Rattle.assembler.specs.Faults.{Refusal}
-use Rattle.assembler.specs.Drafts.{Line, words_of, drafted, finished, AllPlain}
+use Rattle.assembler.specs.Drafts.{Line, word_count, drafted, all_instructions, AllPlain}
 use Rattle.litmus_reader.specs.declared.faults.LitmusFault.{LitmusFault}
 use Rattle.litmus_reader.specs.declared.faults.LitmusFault.TheVariants.{BadTable, BadInstr, TooMany}
 use Rattle.litmus_reader.specs.declared.marks.Mark.TheVariants.{Visible}
@@ -26,7 +26,7 @@ abbrev pub as_instr : {A : Type 0} → Result A Refusal → Result A LitmusFault
 as_instr result = map_err (λ refusal. BadInstr) result
 
 abbrev pub in_limit : Column → Result Column LitmusFault
-in_limit column = if nat_lt MAX_CODE (words_of column) then Err TooMany else Ok column
+in_limit column = if nat_lt MAX_CODE (word_count column) then Err TooMany else Ok column
 
 -- a column with one more cell; one that is no statement is `BadInstr`, and one with which the code is too
 -- long `TooMany`
@@ -77,7 +77,7 @@ Code = List (Option Instr)
 abbrev pub codes_of : List Column → Result (List Code) LitmusFault
 codes_of [] = Ok []
 codes_of (column ∷ columns) = do
-  code ← as_instr (finished column)
+  code ← as_instr (all_instructions column)
   codes ← codes_of columns
   Ok (code ∷ codes)
 

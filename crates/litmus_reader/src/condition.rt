@@ -5,7 +5,7 @@ ghost use Rattle.std.specs.Result.{IfErr};
 ghost use Rattle.texts.specs.Results.{GivesUpToMemory};
 ghost use Rattle.litmus.specs.Formulas.{Formula, places};
 ghost use Rattle.litmus.specs.LitmusTests.{IsThere};
-ghost use Rattle.litmus.specs.Drafting.{symbol_added, finished};
+ghost use Rattle.litmus.specs.Drafting.{symbol_added, formula_of_symbols};
 ghost use Rattle.litmus.specs.declared.symbols.Symbol.{Symbol};
 ghost use Rattle.litmus_tokens.specs.Settings.{place_of as named_place_of, equation_of};
 ghost use Rattle.litmus_tokens.specs.Tokens.{token_of as named_token_of, tokens_of};
@@ -167,7 +167,7 @@ fn read_tokens(
 /// The condition of the symbols. Where one is missing, `BadCondition` is met at the text's end.
 fn finish(draft: ConditionDraft) -> Result<Condition, Refusal>
     ensures place { IfErr result (λ refusal. refusal ≡ Refused (record { fault = BadCondition; left = 0 })) }
-    ensures exact { GivesUpToMemory fault_in (λ (f : Formula). f) result (as_condition (finished draft)) }
+    ensures exact { GivesUpToMemory fault_in (λ (f : Formula). f) result (as_condition (formula_of_symbols draft)) }
 {
     match draft.finish() {
         Ok(condition) => Ok(condition),

@@ -6,7 +6,7 @@ ghost use Rattle.litmus.specs.LitmusTests.{LitmusTest};
 ghost use Rattle.litmus_reader.specs.Reading.{Content, test_at};
 ghost use Rattle.litmus_reader.specs.Grammar.{IsContent, IsTestOf};
 ghost use Rattle.litmus_reader.specs.Headings.{HeadingOf, IsHeading, heading_at};
-ghost use Rattle.litmus_reader.specs.Listings.{RowOf, listing_at};
+ghost use Rattle.litmus_reader.specs.Listings.{ListedRowOf, listing_at};
 ghost use Rattle.litmus_reader.specs.PlainOpenings.{IsPlainOpening};
 
 /// A text stands for one test at most, the words of its code among it. It does nothing.
@@ -32,7 +32,7 @@ pub fn one_heading()
 
 /// Each text that stands for a test has a listing. It does nothing.
 pub fn tests_are_listed()
-    ensures { (text : List ℕ) (content : Content) → IsContent text content → (rows : List RowOf) × (listing_at text ≡ Ok rows) }
+    ensures { (text : List ℕ) (content : Content) → IsContent text content → (rows : List ListedRowOf) × (listing_at text ≡ Ok rows) }
 {}
 
 /// Each test of a text keeps the limits of an opening: words of 32 bits, x0 that is 0, and empty inboxes. It

@@ -13,7 +13,7 @@ ghost use Rattle.litmus_reader.specs.Faults.{fault_of, fault_in};
 ghost use Rattle.litmus_reader.specs.Grammar.{IsTestOf};
 ghost use Rattle.litmus_reader.specs.Rows.{cells_of, row_in};
 ghost use Rattle.litmus_reader.specs.Listings.{after_items as items_end, cell_of, ends_in as line_ends};
-ghost use Rattle.litmus_reader.specs.Listings.{listing_at, listing_in as rows_in, row_on, rows_at, rows_from};
+ghost use Rattle.litmus_reader.specs.Listings.{listing_at, listing_in as rows_in, row_on, table_rows, rows_from};
 ghost use Rattle.litmus_reader.specs.Listings.{words_made};
 
 use crate::faults::{LitmusError, LitmusFault};
@@ -59,9 +59,9 @@ pub struct ListedRow {
 }
 
 impl Model for ListedRow {
-    ghost use Rattle.litmus_reader.specs.Listings.{RowOf};
+    ghost use Rattle.litmus_reader.specs.Listings.{ListedRowOf};
 
-    ghost Value = { RowOf };
+    ghost Value = { ListedRowOf };
 
     ghost view = { λ row. record { line = row.line; cells = row.cells.items } };
 }
@@ -182,7 +182,7 @@ fn rows_at(
     bytes: usize,
     table: &[u8],
 ) -> Result<Vec<ListedRow>, AllocError>
-    ensures { IfOk result (λ rows. rows.items ≡ rows_at text.now bytes table.now) }
+    ensures { IfOk result (λ rows. rows.items ≡ table_rows text.now bytes table.now) }
 {
     rows_from(alloc, ends_in(text, bytes), following(text, bytes), table)
 }

@@ -2,7 +2,7 @@
 use Rattle.std.specs.Prelude.{◌≡◌, ℕ, ◌⊎◌, IsTrue, List, [], ◌∷◌, ◌++◌, Option, None, Some, codes}
 use Rattle.rv_decode.specs.declared.instruction.Reg.{Reg}
 use Rattle.rv_decode.specs.Registers.{register_named}
-use Rattle.texts.specs.Numbers.{Says, capped}
+use Rattle.texts.specs.Numbers.{SaysDecimal, capped}
 use Rattle.texts.specs.Pieces.{is_gap}
 use Rattle.litmus_tokens.specs.Names.{core, is_name, IsNumber}
 use Rattle.litmus_tokens.specs.declared.settings.Spot.{Spot}
@@ -34,7 +34,7 @@ IsValue text (address_of name) = IsTrue (is_name name) × (core text ≡ name)
 -- `H:reg`, `name` or `[name]`; `:` is 58, `[` is 91, `]` is 93. The hart's number is capped.
 abbrev pub IsNamedPlace : List ℕ → NamedPlace → Type 0
 IsNamedPlace text (in_register hart register) = (digits name : List ℕ) × (n : ℕ) × (text ≡ digits ++ 58 ∷ name)
-    × Says (core digits) n × (hart ≡ capped n) × (register_named (core name) ≡ Some register)
+    × SaysDecimal (core digits) n × (hart ≡ capped n) × (register_named (core name) ≡ Some register)
 IsNamedPlace text (at_location name) = IsTrue (is_name name)
     × ((core text ≡ name) ⊎ ((inner : List ℕ) × (core text ≡ 91 ∷ (inner ++ 93 ∷ [])) × (core inner ≡ name)))
 

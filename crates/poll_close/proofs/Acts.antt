@@ -19,13 +19,13 @@ use Rattle.poll_close.specs.Going.{GoesOn}
 use Rattle.poll_close.specs.Invariant.Blocks.{as_write, as_writes}
 use Rattle.step_machine.proofs.Lines.{loads}
 use Rattle.step_machine.specs.History.{History, with_entry}
-use Rattle.step_machine.specs.Entries.{hart_of, is_land, store_of, land_of, write_of, report_of, pending, read, reported}
+use Rattle.step_machine.specs.Entries.{hart_of, is_land, own_store, land_of, write_of, report_of, pending, read, reported}
 use Rattle.step_machine.specs.Access.{access_of}
 use Rattle.step_machine.specs.WordReads.{WritesWord, word_in_memory}
 use Rattle.step_machine.proofs.WordReads.{word_in_memory-other, word_in_memory-write}
 use Rattle.memory.specs.declared.writes.Write.{Write}
 use Rattle.memory.specs.Writes.{write, IsWholeWord}
-use Rattle.step_machine.specs.Paths.{entry_of, value_of, state_of}
+use Rattle.step_machine.specs.Paths.{entry_of, number_read, state_of}
 use Rattle.step_machine.specs.Legal.{Allowed, Legal}
 use Rattle.step_machine.specs.Runs.{CanFollow}
 use Rattle.step_machine.proofs.Appended.{pending-last, reported-last}
@@ -46,16 +46,16 @@ stored_by (need.Report r) = []
 stored_by need.Exit = []
 stored_by (need.Stop why) = []
 
-abbrev pub said_by : Need → List Report
-said_by need.Inner = []
-said_by (need.Load a width) = []
-said_by (need.Store a width w) = []
-said_by (need.Amo a op rs2) = []
-said_by (need.Fence full) = []
-said_by (need.Next w) = []
-said_by (need.Report r) = r ∷ []
-said_by need.Exit = []
-said_by (need.Stop why) = []
+abbrev pub reports_of_need : Need → List Report
+reports_of_need need.Inner = []
+reports_of_need (need.Load a width) = []
+reports_of_need (need.Store a width w) = []
+reports_of_need (need.Amo a op rs2) = []
+reports_of_need (need.Fence full) = []
+reports_of_need (need.Next w) = []
+reports_of_need (need.Report r) = r ∷ []
+reports_of_need need.Exit = []
+reports_of_need (need.Stop why) = []
 
 -- an act that leaves memory as it is, and loads or stores a whole word at such an address if any
 abbrev pub IsNoAmo : (ℕ → Type 0) → Need → Type 0
@@ -74,8 +74,8 @@ whole_width width b is plain = grind (arith, nat_tests)
 
 -- the entry that hart h makes of a need, as each definition sees it
 record Seen (h k : ℕ) (same : Bool) (es : List Entry) (n : Need) (e : Entry) : Type 0 where
-  stores : store_of k e ≡ (if same then as_writes (stored_by n) else [])
-  says : report_of k e ≡ (if same then said_by n else [])
+  stores : own_store k e ≡ (if same then as_writes (stored_by n) else [])
+  says : report_of k e ≡ (if same then reports_of_need n else [])
   lands : land_of k e ≡ 0
   writes : write_of es e ≡ []
 
@@ -117,9 +117,9 @@ pub going : (P : ℕ → Type 0) (l : Layout) (n : ℕ) (B M : ℕ) (t : History
 going P l n B M t h s e is can mine act plain reach = grind (
   arith,
   act_only B M t h s e mine act is can,
-  goes_on P (hart_of e) (need_of s) (value_of e),
-  writes_word P (hart_of e) (need_of s) (value_of e),
-  touches P l n (hart_of e) (need_of s) (value_of e),
+  goes_on P (hart_of e) (need_of s) (number_read e),
+  writes_word P (hart_of e) (need_of s) (number_read e),
+  touches P l n (hart_of e) (need_of s) (number_read e),
 )
 
 -- what a load read
@@ -134,17 +134,17 @@ pub record Acted (M : ℕ) (t new : History) (h : ℕ) (s : HartState) (v : ℕ)
   pub buffer : pending h new.entries ≡ pending h t.entries ++ as_writes (stored_by (need_of s))
   pub buffers : (k : ℕ) → k ≢ h → pending k new.entries ≡ pending k t.entries
   pub memory : (a : ℕ) → word_in_memory new.opening new.entries a ≡ word_in_memory t.opening t.entries a
-  pub reports : reported h new.entries ≡ reported h t.entries ++ said_by (need_of s)
+  pub reports : reported h new.entries ≡ reported h t.entries ++ reports_of_need (need_of s)
   pub others : (k : ℕ) → k ≢ h → reported k new.entries ≡ reported k t.entries
   pub loaded : (a : ℕ) → need_of s ≡ loads a → v ≡ read t.opening t.entries h a 4
 
 pub acted : (P : ℕ → Type 0) (B M : ℕ) (t : History) (h : ℕ) (s : HartState) (e : Entry) → Legal B t
     → state_of M t h ≡ Some s → CanFollow B M t e → hart_of e ≡ h → is_land e ≡ false
-    → (s.status ≡ status.Running → Plain P (need_of s)) → Acted M t (with_entry t e) h s (value_of e)
+    → (s.status ≡ status.Running → Plain P (need_of s)) → Acted M t (with_entry t e) h s (number_read e)
 acted P B M t h s e legal is can mine act no_amo = grind (
   arith,
   act_only B M t h s e mine act is can,
-  seen P h h true t.entries (need_of s) (value_of e) (eq-eqb h h refl),
+  seen P h h true t.entries (need_of s) (number_read e) (eq-eqb h h refl),
   seen P h,
   eq-eqb h h refl,
   state_of-mine M t h e mine act,

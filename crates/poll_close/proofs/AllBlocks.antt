@@ -19,13 +19,13 @@ use Rattle.step_machine.specs.Entries.{hart_of, is_land, pending, read}
 use Rattle.step_machine.specs.Access.{access_of}
 use Rattle.step_machine.specs.WordReads.{WritesWord, AllWriteWords, OpensWithWords, word_in_memory}
 use Rattle.step_machine.proofs.WordReads.{read-word}
-use Rattle.step_machine.specs.Paths.{value_of, state_of}
+use Rattle.step_machine.specs.Paths.{number_read, state_of}
 use Rattle.step_machine.specs.Legal.{Legal}
 use Rattle.step_machine.specs.Runs.{CanFollow}
 use Rattle.poll_close.specs.Layout.{Layout}
 use Rattle.poll_close.specs.Going.{GoesOn}
 use Rattle.poll_close.specs.Touching.{Touches}
-use Rattle.poll_close.specs.Invariant.Blocks.{Block, block_of, is_within, as_write, as_writes, to_block, window, AreNext}
+use Rattle.poll_close.specs.Invariant.Blocks.{SenderBlock, block_of, is_within, as_write, as_writes, to_block, window, AreNext}
 use Rattle.poll_close.specs.Invariant.BlockInvariant.{BlockInvariant, Count, unsent_of, unread_of}
 use Rattle.poll_close.specs.Invariant.Channels.{BlockPart}
 use Rattle.poll_close.proofs.Acts.{Acted, Landed, acted, landed, Plain, going, stored_by}
@@ -53,17 +53,17 @@ pub read-is : (t : History) (h a : ℕ) → OpensWithWords t.opening → AllWrit
 read-is t h a opens written aligned = read-word t.opening t.entries h a opens written aligned
 
 -- all that a block's statement sees is as it was
-pub record Untouched (M : ℕ) (k : Block) (i : ℕ) (t new : History) : Type 0 where
+pub record Untouched (M : ℕ) (k : SenderBlock) (i : ℕ) (t new : History) : Type 0 where
   pub state : state_of M new (i + 1) ≡ state_of M t (i + 1)
   pub buffer : pending (i + 1) new.entries ≡ pending (i + 1) t.entries
   pub theirs : to_block k (pending 0 new.entries) ≡ to_block k (pending 0 t.entries)
   pub memory : (a : ℕ) → Within k a → word_in_memory new.opening new.entries a ≡ word_in_memory t.opening t.entries a
 
 -- a block's statement after an event that is not the receiver's act: the receiver's own numbers are as they were
-abbrev pub Grown : (m : BlockInvariant) → ℕ → Block → ℕ → History → Count m → Type 0
+abbrev pub Grown : (m : BlockInvariant) → ℕ → SenderBlock → ℕ → History → Count m → Type 0
 Grown m M k i new n = (after : Count m) × BlockPart m k M i new after × (after.receiver ≡ n.receiver)
 
-module _ (m : BlockInvariant) (laws : BlockLaws m) (M : ℕ) (k : Block) (i : ℕ) (t new : History) (n : Count m)
+module _ (m : BlockInvariant) (laws : BlockLaws m) (M : ℕ) (k : SenderBlock) (i : ℕ) (t new : History) (n : Count m)
     (is : IsBlock k) (part : BlockPart m k M i t n) where
   pub untouched : Untouched M k i t new → BlockPart m k M i new n
   untouched u = record {
@@ -95,7 +95,7 @@ module _ (m : BlockInvariant) (laws : BlockLaws m) (M : ℕ) (k : Block) (i : �
       let seen : ℕ → ℕ = found_in (unsent_of m k n) (word_in_memory t.opening t.entries) in
       let sent : Sends m k n part.sender.stands (would_read seen (need_of part.sender.stands)) = laws.sends k n
       part.sender.stands (word_in_memory t.opening t.entries) (would_read seen (need_of part.sender.stands)) is
-      part.order part.words part.sender.holds runs (λ a within wants. ap (would_read seen) wants) in
+      part.order part.words part.sender.holds runs (λ a within needs. ap (would_read seen) needs) in
       record {
         no_amo = sent.plain;
         whole = λ x one. IsStore-whole k x
@@ -108,7 +108,7 @@ module _ (m : BlockInvariant) (laws : BlockLaws m) (M : ℕ) (k : Block) (i : �
   acts_part v opens written a =
       let s : HartState = part.sender.stands in
       let sent : Sends m k n s v = laws.sends k n s (word_in_memory t.opening t.entries) v is part.order part.words
-      part.sender.holds a.running (λ b word wants. a.loaded b wants ∙ found b word.aligned) in (
+      part.sender.holds a.running (λ b word needs. a.loaded b needs ∙ found b word.aligned) in (
         record n { sender = sent.after },
         record {
           order = sent.order;
@@ -178,12 +178,12 @@ module _ (m : BlockInvariant) (laws : BlockLaws m) (B M : ℕ) (S : Layout) (lis
   pub sender_acts : (j : ℕ) (within : j < length lists) (e : Entry) → CanFollow B M t e → hart_of e ≡ j + 1
       → is_land e ≡ false → BlocksAfter m M S lists (with_entry t e) f
   sender_acts j within e can mine alone =
-      let a : Acted M t (with_entry t e) (j + 1) (parts j within).sender.stands (value_of e) =
+      let a : Acted M t (with_entry t e) (j + 1) (parts j within).sender.stands (number_read e) =
       acted _ B M t (j + 1) (parts j within).sender.stands e legal (parts j within).sender.state can mine alone
       (sender_plain m laws M (block_of M S lists j) j t t (f j) (are j within) (parts j within)) in
       one_changed (with_entry t e) j
       (acts_part m laws M (block_of M S lists j) j t (with_entry t e) (f j) (are j within) (parts j within)
-      (value_of e) opens written a) (λ i less other. record {
+      (number_read e) opens written a) (λ i less other. record {
         state = a.states (i + 1) (λ same. other (omega arith));
         buffer = a.buffers (i + 1) (λ same. other (omega arith));
         theirs = ap (to_block (block_of M S lists i)) (a.buffers 0 (omega arith));

@@ -10,11 +10,11 @@ use Rattle.std.proofs.lemmas.Nat.{mod_below, row_fits}
 use Rattle.memory.specs.declared.writes.Write.{Write}
 use Rattle.memory.specs.Writes.{newest_word, IsWholeWord}
 use Rattle.poll_close.specs.Layout.{block_size, Layout}
-use Rattle.poll_close.specs.Invariant.Blocks.{Block, block_of, offset, slot, is_within, as_write, as_writes, is_to, to_block}
+use Rattle.poll_close.specs.Invariant.Blocks.{SenderBlock, block_of, offset, slot, is_within, as_write, as_writes, is_to, to_block}
 use Rattle.poll_close.proofs.Windows.{newest_to}
 
 -- a block that an opening lays out, and its words
-pub record IsBlock (k : Block) : Type 0 where
+pub record IsBlock (k : SenderBlock) : Type 0 where
   pub some_slot : 1 ≤ k.size
   pub even : k.base % 4 ≡ 0
   pub inside : k.base + 16 + 4 * k.size ≤ 4 * k.words
@@ -26,20 +26,20 @@ pub record IsBlock (k : Block) : Type 0 where
   pub words : (j : ℕ) → j < length k.list → slice_index k.list j < 2 ^ 32
   pub full : (j : ℕ) → j < length k.list → slice_index k.list j ≢ 0
 
-pub record Within (k : Block) (a : ℕ) : Type 0 where
+pub record Within (k : SenderBlock) (a : ℕ) : Type 0 where
   pub from : k.base ≤ a
   pub below : a < k.base + block_size k.size
 
 -- the address of a word of the block, and a store of a whole word to it
-pub record IsWordOf (k : Block) (a : ℕ) : Type 0 where
+pub record IsWordOf (k : SenderBlock) (a : ℕ) : Type 0 where
   pub within : Within k a
   pub aligned : a % 4 ≡ 0
 
-pub record IsStore (k : Block) (x : ℕ × ℕ) : Type 0 where
+pub record IsStore (k : SenderBlock) (x : ℕ × ℕ) : Type 0 where
   pub place : IsWordOf k x.0
   pub word : x.1 < 2 ^ 32
 
-module _ (k : Block) (is : IsBlock k) where
+module _ (k : SenderBlock) (is : IsBlock k) where
   pub offset_low : (j : ℕ) → offset k j + 4 ≤ 4 * k.size
   offset_low j = let below : j % k.size < k.size = mod_below j k.size (omega (arith, is.some_slot)) in omega arith
 
@@ -70,10 +70,10 @@ module _ (k : Block) (is : IsBlock k) where
   pub word_end : (a : ℕ) → IsWordOf k a → a + 4 ≤ k.base + block_size k.size
   word_end a word = omega (arith, is.even, word.aligned, word.within.below)
 
-pub within_true : (k : Block) (a : ℕ) → Within k a → is_within k a ≡ true
+pub within_true : (k : SenderBlock) (a : ℕ) → Within k a → is_within k a ≡ true
 within_true k a h = grind (arith, nat_tests, h.from, h.below)
 
-pub within_from : (k : Block) (a : ℕ) → is_within k a ≡ true → Within k a
+pub within_from : (k : SenderBlock) (a : ℕ) → is_within k a ≡ true → Within k a
 within_from k a h = record { from = grind (arith, nat_tests); below = grind (arith, nat_tests) }
 
 apart_below : (M : ℕ) (S : Layout) (lists : List (List ℕ)) (i j a : ℕ) → block_size S.size ≤ S.stride → i < j
@@ -84,32 +84,32 @@ pub apart : (M : ℕ) (S : Layout) (lists : List (List ℕ)) (i j a : ℕ) → b
     → Within (block_of M S lists i) a → Within (block_of M S lists j) a → ⊥
 apart M S lists i j a room other h g = grind (arith, cases_lt i j, apart_below M S lists i j a room, apart_below M S lists j i a room)
 
-to_block-none : (k : Block) (ws : List Write) (w : Write) → is_within k w.addr ≡ false → to_block k (ws ++ w ∷ []) ≡ to_block k ws
+to_block-none : (k : SenderBlock) (ws : List Write) (w : Write) → is_within k w.addr ≡ false → to_block k (ws ++ w ∷ []) ≡ to_block k ws
 to_block-none k ws w off = filter-append (is_to k) ws (w ∷ []) ∙ ap (λ b. to_block k ws ++ (if b then w ∷ [] else [])) off ∙ append-nil (to_block k ws)
 
-to_block-one : (k : Block) (ws : List Write) (w : Write) → is_within k w.addr ≡ true → to_block k (ws ++ w ∷ []) ≡ to_block k ws ++ w ∷ []
+to_block-one : (k : SenderBlock) (ws : List Write) (w : Write) → is_within k w.addr ≡ true → to_block k (ws ++ w ∷ []) ≡ to_block k ws ++ w ∷ []
 to_block-one k ws w on = filter-append (is_to k) ws (w ∷ []) ∙ ap (λ b. to_block k ws ++ (if b then w ∷ [] else [])) on
 
 -- at most one store is made: within the block it joins the block's part, and no other's
-pub to_block-stored : (k : Block) (ws : List Write) (qs : List (ℕ × ℕ)) → (qs ≡ []) ⊎ ((x : ℕ × ℕ) × (qs ≡ x ∷ []))
+pub to_block-stored : (k : SenderBlock) (ws : List Write) (qs : List (ℕ × ℕ)) → (qs ≡ []) ⊎ ((x : ℕ × ℕ) × (qs ≡ x ∷ []))
     → ((x : ℕ × ℕ) → qs ≡ x ∷ [] → Within k x.0) → to_block k (ws ++ as_writes qs) ≡ to_block k ws ++ as_writes qs
 to_block-stored k ws qs h3 inside = grind (arith, append-nil, to_block-one, within_true)
 
-pub to_block-elsewhere : (k : Block) (ws : List Write) (qs : List (ℕ × ℕ))
+pub to_block-elsewhere : (k : SenderBlock) (ws : List Write) (qs : List (ℕ × ℕ))
     → (qs ≡ []) ⊎ ((x : ℕ × ℕ) × (qs ≡ x ∷ [])) → ((x : ℕ × ℕ) → qs ≡ x ∷ [] → Within k x.0 → ⊥)
     → to_block k (ws ++ as_writes qs) ≡ to_block k ws
 to_block-elsewhere k ws qs h3 outside = grind (arith, append-nil, to_block-none, within_from)
 
-pub outside_differs : (k : Block) (a b : ℕ) → Within k a → is_within k b ≡ false → (b == a) ≡ false
+pub outside_differs : (k : SenderBlock) (a b : ℕ) → Within k a → is_within k b ≡ false → (b == a) ≡ false
 outside_differs k a b h off = grind (arith, cases_eq, within_true, nat_tests)
 
-newest_first : (k : Block) (a : ℕ) (found : Option ℕ) (w : Write) (ws : List Write) → Within k a → (b : Bool)
+newest_first : (k : SenderBlock) (a : ℕ) (found : Option ℕ) (w : Write) (ws : List Write) → Within k a → (b : Bool)
     → is_within k w.addr ≡ b → ((f : Option ℕ) → newest_word a f (to_block k ws) ≡ newest_word a f ws)
     → newest_word a found (to_block k (w ∷ ws)) ≡ newest_word a found (w ∷ ws)
 newest_first k a found w ws h b on more = grind (arith, outside_differs)
 
 -- what is pending for an address of the block is pending in the block's part
-pub newest-to_block : (k : Block) (a : ℕ) (found : Option ℕ) (ws : List Write) → Within k a → newest_word a found (to_block k ws) ≡ newest_word a found ws
+pub newest-to_block : (k : SenderBlock) (a : ℕ) (found : Option ℕ) (ws : List Write) → Within k a → newest_word a found (to_block k ws) ≡ newest_word a found ws
 newest-to_block k a found [] h = refl
 newest-to_block k a found (w ∷ ws) h = newest_first k a found w ws h (is_within k w.addr) refl (λ f. newest-to_block k a f ws h)
 
@@ -124,7 +124,7 @@ pub first-as_writes : (xs : List (ℕ × ℕ)) (w : Write) (ws : List Write) →
 first-as_writes [] w ws is = cc
 first-as_writes (x ∷ xs) w ws is = (x, xs, refl, (let same : w ≡ as_write x = cc in same), (let more : ws ≡ as_writes xs = cc in more))
 
-pub IsStore-whole : (k : Block) (x : ℕ × ℕ) → IsStore k x → IsWholeWord (as_write x)
+pub IsStore-whole : (k : SenderBlock) (x : ℕ × ℕ) → IsStore k x → IsWholeWord (as_write x)
 IsStore-whole k x is = record { whole = refl; aligned = is.place.aligned; small = is.word }
 
 -- numbers may be chosen block by block

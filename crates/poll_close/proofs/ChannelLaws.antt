@@ -21,7 +21,7 @@ use Rattle.step_machine.proofs.Appended.{reported-last}
 use Rattle.step_machine.proofs.Follows.{Path-hart, state_of-other}
 use Rattle.step_machine.proofs.Stays.{report_of-other, states_land}
 use Rattle.poll_close.specs.Layout.{Layout, sender_registers, senders_from, opening_at}
-use Rattle.poll_close.specs.Laws.{Ring, Meaning, AreWords, AcceptedAt, AreShort, Opens, Keeps, Cleans, Goes, Stays}
+use Rattle.poll_close.specs.Laws.{Ring, Meaning, AreWords, AcceptedAt, FitsHart, Opens, Keeps, Cleans, Goes, Stays}
 use Rattle.poll_close.specs.Going.{GoesOn, AllGoOn}
 use Rattle.poll_close.specs.Touching.{Touches, AllTouch}
 use Rattle.poll_close.specs.Invariant.Blocks.{block_of, as_writes}
@@ -40,7 +40,7 @@ use Rattle.poll_close.proofs.Delivering.{senders-length}
 
 -- what a ring's kind states of it
 abbrev pub AllLaws : Ring → Meaning → Type 0
-AllLaws ring means = AreShort ring × Opens ring means × Keeps ring means × Cleans ring means × Goes ring means × Stays ring means
+AllLaws ring means = FitsHart ring × Opens ring means × Keeps ring means × Cleans ring means × Goes ring means × Stays ring means
 
 -- the blocks of an accepted opening
 pub blocks : (ring : Ring) (M : ℕ) (S : Layout) (lists : List (List ℕ)) → 1 ≤ ring.least → AcceptedAt ring M lists S
@@ -140,7 +140,7 @@ module _ (m : BlockInvariant) (laws : BlockLaws m) (least : ℕ) (some : 1 ≤ l
         senders = λ j within. record {
           words = ap (λ c. take c (slice_index_or lists j [])) (sym (begun j within).took);
           closed = λ k is. cc;
-          said = λ is. absurd (omega (arith, (begun j within).closings, is));
+          reporting = λ is. absurd (omega (arith, (begun j within).closings, is));
         };
         clean = clean-none lists;
       };
@@ -170,14 +170,14 @@ module _ (m : BlockInvariant) (laws : BlockLaws m) (least : ℕ) (some : 1 ≤ l
       go_on : (new : History) → state_of M new 0 ≡ state_of M t 0 → reported 0 new.entries ≡ reported 0 t.entries
           → BlocksAfter m M S lists new ch.numbers → AllGoOn new.entries → AllTouch S (length lists) new.entries
           → AllWriteWords new.entries → Channel m M S lists new
-      go_on new state said b all reached words = record {
+      go_on new state reporting b all reached words = record {
         unstopped = all;
         touched = reached;
         written = words;
         numbers = b.numbers;
         parts = b.parts;
         receiver = part_stays m M S lists t new ch.numbers b state ch.receiver;
-        reports = reports_stay m M S lists t new ch.numbers b (reported 0 t.entries) (reported 0 new.entries) said ch.reports;
+        reports = reports_stay m M S lists t new ch.numbers b (reported 0 t.entries) (reported 0 new.entries) reporting ch.reports;
       }
 
       acts : (h : ℕ) → hart_of e ≡ h → is_land e ≡ false → Channel m M S lists (with_entry t e)
@@ -243,5 +243,5 @@ module _ (m : BlockInvariant) (laws : BlockLaws m) (least : ℕ) (some : 1 ≤ l
   pub stays : Stays ring_by (means_by m)
   stays B M lists S t accepted ch = ch.touched
 
-  pub all_laws : AreShort ring_by → AllLaws ring_by (means_by m)
+  pub all_laws : FitsHart ring_by → AllLaws ring_by (means_by m)
   all_laws short = (short, opens, keeps, cleans, goes, stays)

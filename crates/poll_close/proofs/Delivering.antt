@@ -11,7 +11,7 @@ use Rattle.step_machine.specs.Legal.{WellFormed}
 use Rattle.step_machine.specs.Runs.{Happens, Run, RunFrom}
 use Rattle.step_machine.proofs.Running.{shape_of, kept-happens, kept-at_opening}
 use Rattle.poll_close.specs.Layout.{Layout, senders_from}
-use Rattle.poll_close.specs.Laws.{Ring, opening_over, Meaning, AcceptedAt, AreShort, Opens, Keeps, Cleans}
+use Rattle.poll_close.specs.Laws.{Ring, opening_over, Meaning, AcceptedAt, FitsHart, Opens, Keeps, Cleans}
 use Rattle.poll_close.specs.Delivery.{Delivers}
 
 -- what has been known of a history since its opening
@@ -70,7 +70,7 @@ pub senders-length : (code : List ℕ) (S : Layout) (i : ℕ) (lists : List (Lis
 senders-length code S i [] = refl
 senders-length code S i (ws ∷ lists) = ap (λ n. suc n) (senders-length code S (i + 1) lists)
 
-pub channel-fits : (ring : Ring) (M : ℕ) (lists : List (List ℕ)) (S : Layout) (o : OpeningValue) → AreShort ring
+pub channel-fits : (ring : Ring) (M : ℕ) (lists : List (List ℕ)) (S : Layout) (o : OpeningValue) → FitsHart ring
     → AcceptedAt ring M lists S → o ≡ opening_over ring lists S → FitsIn M o
 channel-fits ring M lists S o short accepted is = grind (arith, senders-length, All-cons, senders-short)
 

@@ -11,8 +11,8 @@ use Rattle.hart.specs.declared.status.Status.TheVariants as status
 use Rattle.hart.specs.declared.need.Report.{Report}
 use Rattle.poll_close.specs.Rankings.{Around, some_open, rest_from, runs}
 use Rattle.poll_close.specs.Plans.{is_closed}
-use Rattle.poll_close.specs.Invariant.Blocks.{Block}
-use Rattle.poll_close.specs.Invariant.Outlines.{Row, Standing, rank_in, left_of}
+use Rattle.poll_close.specs.Invariant.Blocks.{SenderBlock}
+use Rattle.poll_close.specs.Invariant.Outlines.{OutlineRow, Standing, rank_in, left_of}
 use Rattle.poll_close.specs.Invariant.BlockInvariant.{BlockInvariant, Count, unsent_of, unread_of, DistanceToReport}
 use Rattle.poll_close.specs.Invariant.BlockInvariant.{Near, Round, Over, Visit, length_of, opened_rows}
 use Rattle.step_machine.proofs.Lines.{loads}
@@ -25,7 +25,7 @@ is_short (Round n) = nat_lt n 23
 is_short (Over n) = nat_lt n 23
 is_short (Visit stale n other) = nat_lt n 23 && nat_lt other 23
 
-abbrev pub are_short : {Held : Type 1} → List (Row DistanceToReport Held) → Bool
+abbrev pub are_short : {Held : Type 1} → List (OutlineRow DistanceToReport Held) → Bool
 are_short [] = true
 are_short (row ∷ rows) = is_short row.rank && are_short rows
 
@@ -33,7 +33,7 @@ module _ (a : Around) (x : List ℕ) where
   length_short : (w : DistanceToReport) → is_short w ≡ true → length_of a x w ≤ 22 + a.rest + a.start
   length_short w short = grind (arith, nat_tests, and_parts)
 
-  pub rank_short : {Held : Type 1} (rows : List (Row DistanceToReport Held)) → are_short rows ≡ true → (here : ℕ)
+  pub rank_short : {Held : Type 1} (rows : List (OutlineRow DistanceToReport Held)) → are_short rows ≡ true → (here : ℕ)
       → rank_in (length_of a x) rows here ≤ 22 + a.rest + a.start
   rank_short [] short here = omega arith
   rank_short (row ∷ rows) short here = grind (arith, and_parts, length_short, rank_short rows)
@@ -43,14 +43,14 @@ pub record BlockProgress (m : BlockInvariant) (least : ℕ) : Type 0 where
   pub short : are_short (opened_rows m m.rows) ≡ true
   -- with nothing pending, an act of a sender that does not wait brings it nearer to its end; one that
   -- waits has a word ready; one that has ended has its mark landed
-  pub nearer : (k : Block) (n : Count m) (s : HartState) (word : ℕ → ℕ) (v : ℕ) → IsBlock k → m.CounterInvariant k n
+  pub nearer : (k : SenderBlock) (n : Count m) (s : HartState) (word : ℕ → ℕ) (v : ℕ) → IsBlock k → m.CounterInvariant k n
       → m.Words k n.landed word → Standing m.sender k n.sender s → s.status ≡ status.Running → unsent_of m k n ≡ []
       → unread_of m k n ≡ [] → ((a : ℕ) → IsWordOf k a → need_of s ≡ loads a → v ≡ word a) → m.waits s word ≡ false
       → left_of m.sender (advanced s v) < left_of m.sender s
-  pub ready : (k : Block) (n : Count m) (s : HartState) (word : ℕ → ℕ) → IsBlock k → least ≤ k.size → m.CounterInvariant k n
+  pub ready : (k : SenderBlock) (n : Count m) (s : HartState) (word : ℕ → ℕ) → IsBlock k → least ≤ k.size → m.CounterInvariant k n
       → m.Words k n.landed word → Standing m.sender k n.sender s → s.status ≡ status.Running → unsent_of m k n ≡ []
       → unread_of m k n ≡ [] → m.waits s word ≡ true → m.Ready k n
-  pub marked : (k : Block) (n : Count m) (s : HartState) → IsBlock k → m.CounterInvariant k n
+  pub marked : (k : SenderBlock) (n : Count m) (s : HartState) → IsBlock k → m.CounterInvariant k n
       → Standing m.sender k n.sender s → runs (Some s) ≡ false → unsent_of m k n ≡ [] → m.marks n.landed ≡ 1
 
 -- from a visit that may find nothing to one that may so too, or that finds something

@@ -6,7 +6,7 @@ use Rattle.step_machine.specs.History.{History}
 use Rattle.poll_close.specs.Laws.{Ring, Meaning}
 use Rattle.poll_close.specs.Standing.{Stands}
 use Rattle.poll_close.specs.Waiting.{MayLoad}
-use Rattle.poll_close.specs.Invariant.Blocks.{Block}
+use Rattle.poll_close.specs.Invariant.Blocks.{SenderBlock}
 use Rattle.poll_close.specs.Invariant.Outlines.{Standing}
 use Rattle.poll_close.specs.Invariant.BlockInvariant.{BlockInvariant, Count}
 use Rattle.poll_close.specs.Invariant.Channels.{means_by}
@@ -20,7 +20,7 @@ AllMayLoad ring means line base offset = (B M : ℕ) (t : History) (h : ℕ) →
 
 -- they may if the word there is the sender's block's
 pub may_load : (m : BlockInvariant) (ring : Ring) → 1 ≤ ring.least → (line base offset : ℕ)
-    → ((k : Block) (n : Count m) (s : HartState) → IsBlock k → Standing m.sender k n.sender s → s.pc ≡ line
+    → ((k : SenderBlock) (n : Count m) (s : HartState) → IsBlock k → Standing m.sender k n.sender s → s.pc ≡ line
     → IsWordOf k (slice_index s.registers base + offset))
     → AllMayLoad ring (means_by m) line base offset
 may_load m ring some line base offset word B M t h stands sender hart s at here =

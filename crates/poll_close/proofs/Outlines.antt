@@ -14,10 +14,10 @@ use Rattle.hart.specs.declared.need.Need.{Need}
 use Rattle.hart.specs.declared.need.Need.TheVariants as need
 use Rattle.hart.proofs.Instructions.{IsAt}
 use Rattle.poll_close.specs.Rankings.{runs}
-use Rattle.poll_close.specs.Invariant.Blocks.{Block, AreNext}
+use Rattle.poll_close.specs.Invariant.Blocks.{SenderBlock, AreNext}
 use Rattle.poll_close.specs.Invariant.SenderState.{SenderRegisters, fixed, running, ended}
 use Rattle.poll_close.specs.Invariant.BlockInvariant.{BlockInvariant, Count, unsent_of}
-use Rattle.poll_close.specs.Invariant.Outlines.{Row, SenderRow, Reasons, Outline, either, stands, HoldsIn, SenderIs, Standing, left_of}
+use Rattle.poll_close.specs.Invariant.Outlines.{OutlineRow, SenderRow, Reasons, Outline, either, stands, HoldsIn, SenderIs, Standing, left_of}
 use Rattle.poll_close.proofs.Acts.{stored_by, IsNoAmo}
 use Rattle.step_machine.proofs.Lines.{Line, loads, at_line}
 use Rattle.poll_close.proofs.Blocks.{IsBlock, IsWordOf}
@@ -30,13 +30,13 @@ reason & others = (reason, others)
 
 -- where each row is right, what is wanted follows at any offset from what holds there
 pub found : {Rank : Type 0} {Held : Type 1} (holds : Held → Type 0) (Goal : ℕ → Type 0)
-    (rows : List (Row Rank Held)) → Reasons (λ (row : Row Rank Held). holds row.holds → Goal row.at) rows → (here : ℕ)
+    (rows : List (OutlineRow Rank Held)) → Reasons (λ (row : OutlineRow Rank Held). holds row.holds → Goal row.at) rows → (here : ℕ)
     → HoldsIn holds rows here → Goal here
 found holds Goal [] reasons here h = absurd h
 found holds Goal (row ∷ rows) reasons here h = grind (arith, nat_tests, found holds Goal rows reasons.1 here)
 
 -- where it has ended, and where it runs
-module _ (o : Outline) (k : Block) (here : ℕ) (n : o.Own) (r : SenderRegisters) where
+module _ (o : Outline) (k : SenderBlock) (here : ℕ) (n : o.Own) (r : SenderRegisters) where
   abbrev inbox : List ℕ
   inbox = drop (o.asked n) k.list
 
@@ -51,7 +51,7 @@ module _ (o : Outline) (k : Block) (here : ℕ) (n : o.Own) (r : SenderRegisters
   at_run is = by false is
 
 -- what a state tells: its line, and that all holds that does at its end
-module _ (o : Outline) (k : Block) (n : o.Own) (s : HartState) (st : Standing o k n s) where
+module _ (o : Outline) (k : SenderBlock) (n : o.Own) (s : HartState) (st : Standing o k n s) where
   pub stands_at : (pc : ℕ) → s.pc ≡ pc → o.over ≢ pc + 4 → 4 ≤ o.over → (s ≡ stands o k pc n st.written) × SenderIs o pc k n st.written
   stands_at pc is other some =
       let place : st.place ≡ pc = at (st.place == o.over) refl in
@@ -76,7 +76,7 @@ module _ (o : Outline) (k : Block) (n : o.Own) (s : HartState) (st : Standing o 
   has_ended off = at (st.place == o.over) refl st.holds
     where
       at : (b : Bool) → (st.place == o.over) ≡ b → either b (o.done k n)
-          (HoldsIn (λ (H : Block → o.Own → SenderRegisters → Type 0). H k n st.written) o.rows st.place) → o.done k n
+          (HoldsIn (λ (H : SenderBlock → o.Own → SenderRegisters → Type 0). H k n st.written) o.rows st.place) → o.done k n
       at true over h = h
       at false on h = let bad : false ≡ true = sym off ∙ ap (λ (z : HartState). runs (Some z)) (st.is ∙ at_run o k st.place n st.written on) in cc
 
@@ -85,7 +85,7 @@ pub record Sender (m : BlockInvariant) : Type 0 where
   pub lines : List Instr
   pub decoded : map meaning m.sender.code ≡ map Some lines
 
-module _ (m : BlockInvariant) (g : Sender m) (k : Block) (n : Count m) (word : ℕ → ℕ) (v : ℕ) (r : SenderRegisters) where
+module _ (m : BlockInvariant) (g : Sender m) (k : SenderBlock) (n : Count m) (word : ℕ → ℕ) (v : ℕ) (r : SenderRegisters) where
   abbrev now : ℕ → HartState
   now here = stands m.sender k here n.sender r
 
@@ -107,7 +107,7 @@ module _ (m : BlockInvariant) (g : Sender m) (k : Block) (n : Count m) (word : �
     pub made : m.sender.Own
     pub written : SenderRegisters
     pub plain : IsNoAmo (IsWordOf k) wanted
-    pub wants : need_of (now here) ≡ wanted
+    pub needs : need_of (now here) ≡ wanted
     pub leaves : advanced (now here) v ≡ stands m.sender k there made written
     pub order : m.CounterInvariant k (record n { sender = made })
     pub stores : AreNext (m.sender_stores k) (m.sent n.sender) (m.sent made) (stored_by wanted)
@@ -141,7 +141,7 @@ module _ (m : BlockInvariant) (g : Sender m) (k : Block) (n : Count m) (word : �
     made = made;
     written = written v;
     plain = plain;
-    wants = line.wants;
+    needs = line.needs;
     leaves = line.leaves v;
     order = order;
     stores = stores;
@@ -165,42 +165,42 @@ module _ (m : BlockInvariant) (g : Sender m) (k : Block) (n : Count m) (word : �
   right reasons here running h find = by_test (here == m.sender.over) refl h
     where
       by_test : (b : Bool) → (here == m.sender.over) ≡ b → either b (m.sender.done k n.sender)
-          (HoldsIn (λ (H : Block → m.sender.Own → SenderRegisters → Type 0). H k n.sender r) m.sender.rows here)
+          (HoldsIn (λ (H : SenderBlock → m.sender.Own → SenderRegisters → Type 0). H k n.sender r) m.sender.rows here)
           → Goes here
       by_test true over h =
           let bad : status.Ended ≡ status.Running =
           sym (ap (λ (s : HartState). s.status) (at_end m.sender k here n.sender r over)) ∙ running in
           cc
-      by_test false on h = found (λ (H : Block → m.sender.Own → SenderRegisters → Type 0). H k n.sender r)
+      by_test false on h = found (λ (H : SenderBlock → m.sender.Own → SenderRegisters → Type 0). H k n.sender r)
           (λ j. Finds j → Goes j) m.sender.rows reasons here h find
 
 -- so its acts keep the block's meaning, and bring it nearer to its end, as the laws of a block ask
 module _ (m : BlockInvariant) (g : Sender m)
-    (reasons : (k : Block) (n : Count m) (word : ℕ → ℕ) (v : ℕ) (r : SenderRegisters) → IsBlock k → m.CounterInvariant k n
-    → m.Words k n.landed word → Reasons (Right m g k n word v r) m.sender.rows) (k : Block) (n : Count m)
+    (reasons : (k : SenderBlock) (n : Count m) (word : ℕ → ℕ) (v : ℕ) (r : SenderRegisters) → IsBlock k → m.CounterInvariant k n
+    → m.Words k n.landed word → Reasons (Right m g k n word v r) m.sender.rows) (k : SenderBlock) (n : Count m)
     (s : HartState) (word : ℕ → ℕ) (v : ℕ) (is : IsBlock k) (order : m.CounterInvariant k n) (words : m.Words k n.landed word)
     (st : Standing m.sender k n.sender s) (running : s.status ≡ status.Running) where
   act : ((a : ℕ) → IsWordOf k a → need_of s ≡ loads a → v ≡ found_in (unsent_of m k n) word a) → Goes m g k n word v st.written st.place
   act find = right m g k n word v st.written (reasons k n word v st.written is order words) st.place
       (subst (λ (z : HartState). z.status ≡ status.Running) st.is running) st.holds
-      (λ a inside wants. find a inside (ap need_of st.is ∙ wants))
+      (λ a inside needs. find a inside (ap need_of st.is ∙ needs))
 
   pub sends : ((a : ℕ) → IsWordOf k a → need_of s ≡ loads a → v ≡ found_in (unsent_of m k n) word a) → Sends m k n s v
   sends find =
       let a : Goes m g k n word v st.written st.place = act find in
-      let wants : need_of s ≡ a.wanted = ap need_of st.is ∙ a.wants in
+      let needs : need_of s ≡ a.wanted = ap need_of st.is ∙ a.needs in
       record {
         after = a.made;
-        plain = subst (IsNoAmo (IsWordOf k)) (sym wants) a.plain;
+        plain = subst (IsNoAmo (IsWordOf k)) (sym needs) a.plain;
         stands = record { place = a.there; written = a.written; is = ap (λ z. advanced z v) st.is ∙ a.leaves; holds = a.holds };
         order = a.order;
-        stores = subst (λ w. AreNext (m.sender_stores k) (m.sent n.sender) (m.sent a.made) (stored_by w)) (sym wants) a.stores;
+        stores = subst (λ w. AreNext (m.sender_stores k) (m.sent n.sender) (m.sent a.made) (stored_by w)) (sym needs) a.stores;
       }
 
   pub nearer : unsent_of m k n ≡ [] → ((a : ℕ) → IsWordOf k a → need_of s ≡ loads a → v ≡ word a)
       → m.waits s word ≡ false → left_of m.sender (advanced s v) < left_of m.sender s
   nearer none find on =
-      let a : Goes m g k n word v st.written st.place = act (λ a inside wants. find a inside wants ∙ sym (ap (λ ps. found_in ps word a) none)) in
+      let a : Goes m g k n word v st.written st.place = act (λ a inside needs. find a inside needs ∙ sym (ap (λ ps. found_in ps word a) none)) in
       let less : left_of m.sender (stands m.sender k a.there a.made a.written)
       < left_of m.sender (stands m.sender k st.place n.sender st.written) =
       a.nearer (none, subst (λ (z : HartState). m.waits z word ≡ false) st.is on) in

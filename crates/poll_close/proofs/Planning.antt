@@ -11,7 +11,7 @@ use Rattle.step_machine.specs.declared.events.Entry.TheVariants as entry
 use Rattle.step_machine.specs.declared.events.Outcome.{Outcome}
 use Rattle.std.proofs.lemmas.List.{length-map, length-drop}
 use Rattle.step_machine.specs.History.{HartOpeningValue, OpeningValue, History, at_opening, with_entry}
-use Rattle.step_machine.specs.Entries.{hart_of, is_land, pending, reported, store_of, land_of}
+use Rattle.step_machine.specs.Entries.{hart_of, is_land, pending, reported, own_store, land_of}
 use Rattle.step_machine.specs.Legal.{WellFormed}
 use Rattle.step_machine.specs.Runs.{Happens, Run, RunFrom, IsOwnRun, event_of}
 use Rattle.step_machine.proofs.Running.{shape_of, RunFrom-more, run-one, opening-run, opening_kept}
@@ -27,7 +27,7 @@ use Rattle.std.specs.Prelude.{map}
 use Rattle.std.specs.List.{slice_get}
 use Rattle.poll_close.specs.Laws.{Ring, opening_over, Meaning, AcceptedAt, Opens, Keeps, Cleans}
 use Rattle.poll_close.specs.Reports.{Clean}
-use Rattle.poll_close.specs.Standing.{Stands, lists_of}
+use Rattle.poll_close.specs.Standing.{Stands, opening_lists}
 use Rattle.poll_close.proofs.Standing.{inboxes, stands-opens, stands-happens, stands-run, stands-clean}
 use Rattle.poll_close.specs.Layout.{Layout}
 use Rattle.poll_close.specs.Delivery.{DeliversWhole, DeliversWholeOver}
@@ -63,7 +63,7 @@ finished ring means B M t cleans s done = record {
   closed = each_closed (reported 0 t.entries) (senders_of t) done;
   whole = λ i less.
       (let at = closed_at (reported 0 t.entries) i (each_closed (reported 0 t.entries) (senders_of t) done i less) in
-      closed_whole (reported 0 t.entries) (lists_of t.opening) i at.0 (stands-clean ring means B M t cleans s) at.1);
+      closed_whole (reported 0 t.entries) (opening_lists t.opening) i at.0 (stands-clean ring means B M t cleans s) at.1);
 }
 
 same_harts : (B M : ℕ) (t : History) (ev : Event) (o : Outcome) (new : History) → Happens B M t ev o new → length new.opening.harts ≡ length t.opening.harts
@@ -102,10 +102,10 @@ lands_one B M t h o new kept hart some hap = grind (arith, shape_of, pending-lan
 pick : (g h : ℕ) (p : Write) (b : Bool) → length (if b then p ∷ [] else []) ≤ 1
 pick g h p b = grind arith
 
-few : (h : ℕ) (e : Entry) → is_land e ≡ false → length (drop (land_of h e) (store_of h e)) ≤ 1
+few : (h : ℕ) (e : Entry) → is_land e ≡ false → length (drop (land_of h e) (own_store h e)) ≤ 1
 few h e act = grind (arith, pick)
 
-elsewhere : (k : ℕ) (e : Entry) → is_land e ≡ false → k ≢ hart_of e → (store_of k e ≡ []) × (land_of k e ≡ 0)
+elsewhere : (k : ℕ) (e : Entry) → is_land e ≡ false → k ≢ hart_of e → (own_store k e ≡ []) × (land_of k e ≡ 0)
 elsewhere k e act other = grind (arith, store_of-other)
 
 pub record Stepped (left : History → ℕ) (t new : History) (h : ℕ) : Type 0 where
@@ -139,8 +139,8 @@ pub turned : {ring : Ring} {means : Meaning} (left next : ℕ → History → �
     → Keeps ring means → 1 ≤ B → Planned ring means B M start evs t → AllLanded t → is_done t ≡ false → h ≡ next M t
     → Happens B M t (event.Act h) o new → Turned ring means B M (left M) start (evs ++ event.Act h ∷ []) t new h
 unfolding Decreases
-turned {ring} {means} left next {B} {M} {start} {evs} {t} h o new falls keeps some p all open_yet chosen hap =
-    let near : Nearer B M (left M) t h = subst (Nearer B M (left M) t) (sym chosen) (falls B M t some p.stands all open_yet) in
+turned {ring} {means} left next {B} {M} {start} {evs} {t} h o new ranking_decreases keeps some p all open_yet chosen hap =
+    let near : Nearer B M (left M) t h = subst (Nearer B M (left M) t) (sym chosen) (ranking_decreases B M t some p.stands all open_yet) in
     let after : Planned ring means B M start (evs ++ event.Act h ∷ []) new = planned-more (event.Act h) o new keeps p hap in
     record {
       hart = omega (arith, near.hart, after.harts, p.harts);
@@ -219,14 +219,14 @@ get_below [] k x is = cc
 get_below (r ∷ rs) zero x is = omega arith
 get_below (r ∷ rs) (suc k) x is = let less : k < length rs = get_below rs k x is in omega arith
 
-senders-count : (t : History) → length (lists_of t.opening) ≡ senders_of t
+senders-count : (t : History) → length (opening_lists t.opening) ≡ senders_of t
 senders-count t = length-map (drop 1 t.opening.harts) (λ (h : HartOpeningValue). h.inbox) ∙ length-drop 1 t.opening.harts
 
 pub open_where_word : (ring : Ring) (means : Meaning) (B M : ℕ) (t : History) → Cleans ring means
     → Stands ring means B M t → ends_in_word (reported 0 t.entries) ≡ true → is_done t ≡ false
 open_where_word ring means B M t cleans s word = at (is_done t) refl
   where
-    clean : Clean (reported 0 t.entries) (lists_of t.opening)
+    clean : Clean (reported 0 t.entries) (opening_lists t.opening)
     clean = stands-clean ring means B M t cleans s
 
     at : (b : Bool) → is_done t ≡ b → is_done t ≡ false
@@ -246,7 +246,7 @@ open_where_word ring means B M t cleans s word = at (is_done t) refl
 -- the reports after the events and the plan
 pub whole_delivered : (B M : ℕ) (o : OpeningValue) (events plan : List Event) (mid new : History) (reports : List Report)
     → Run B M o events mid → RunFrom B M mid plan new → Finishes B M mid plan → (is_done mid ≡ true → plan ≡ [])
-    → new.opening ≡ o → reports ≡ reported 0 new.entries → Clean reports (lists_of new.opening) → DeliversWhole B M o (lists_of o) events reports
+    → new.opening ≡ o → reports ≡ reported 0 new.entries → Clean reports (opening_lists new.opening) → DeliversWhole B M o (opening_lists o) events reports
 whole_delivered B M o events plan mid new reports first second finishes none same answer clean = grind (arith, senders-count, run-one)
 
 -- so of a channel over lists, which its opening was given
@@ -256,7 +256,7 @@ pub whole_over : (ring : Ring) (means : Meaning) (B M : ℕ) (lists : List (List
     → DeliversWholeOver ring B M lists l events reports
 whole_over ring means B M lists l events plan mid new reports cleans run ran finishes none stands answer =
     let o : OpeningValue = opening_over ring lists l in
-    let whole : DeliversWhole B M o (lists_of o) events reports = whole_delivered B M o events plan mid new reports run ran finishes none
+    let whole : DeliversWhole B M o (opening_lists o) events reports = whole_delivered B M o events plan mid new reports run ran finishes none
     (opening-run B M mid plan new ran ∙ opening_kept B M o events mid run) answer (rw answer (stands-clean ring means B M new cleans stands)) in
     subst (λ (given : List (List ℕ)). DeliversWhole B M o given events reports) (inboxes ring.sender l 0 lists) whole
 
@@ -281,7 +281,7 @@ done_or : (b : Bool) → (b ≡ true) ⊎ (b ≡ false)
 done_or b = grind arith
 
 module _ (ring : Ring) (means : Meaning) (left next : ℕ → History → ℕ) (keeps : Keeps ring means)
-    (cleans : Cleans ring means) (falls : Decreases ring means left next) (B M : ℕ) (some : 1 ≤ B) (start : History)
+    (cleans : Cleans ring means) (ranking_decreases : Decreases ring means left next) (B M : ℕ) (some : 1 ≤ B) (start : History)
   where
     abbrev Reached : (History → Type 0) → Type 0
     Reached P = (evs : List Event) × (t : History) × Planned ring means B M start evs t × P t
@@ -314,7 +314,7 @@ module _ (ring : Ring) (means : Meaning) (left next : ℕ → History → ℕ) (
         → (more : List Event) × (u : History) × Over ring means B M (left M) start more t u
     turn_one evs t p all open_yet =
         let hap = happens_some B M t (event.Act (next M t)) p.stands.kept in
-        let turn = turned left next (next M t) hap.0 hap.1 falls keeps some p all open_yet refl hap.2 in
+        let turn = turned left next (next M t) hap.0 hap.1 ranking_decreases keeps some p all open_yet refl hap.2 in
         elim (cases_lt 0 (length (pending (next M t) hap.1.entries))) [
           | inl more ↦
               let land = happens_some B M hap.1 (event.Land (next M t)) turn.planned.stands.kept in (
@@ -351,7 +351,7 @@ pub run_can_finish : (ring : Ring) (means : Meaning) (left next : ℕ → Histor
     → Keeps ring means → Cleans ring means → Decreases ring means left next
     → (B M : ℕ) (lists : List (List ℕ)) (S : Layout) (evs : List Event) (t : History) → 1 ≤ B
     → AcceptedAt ring M lists S → Run B M (opening_over ring lists S) evs t → CanFinish B M t
-run_can_finish ring means left next opens keeps cleans falls B M lists S evs t some accepted run =
-    can_finish ring means left next keeps cleans falls B M some t
+run_can_finish ring means left next opens keeps cleans ranking_decreases B M lists S evs t some accepted run =
+    can_finish ring means left next keeps cleans ranking_decreases B M some t
     (stands-run ring means B M (at_opening (opening_over ring lists S)) evs t keeps
     (stands-opens ring means B M lists S (at_opening (opening_over ring lists S)) opens accepted refl) run)

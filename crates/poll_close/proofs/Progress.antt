@@ -20,7 +20,7 @@ use Rattle.step_machine.specs.declared.events.Entry.TheVariants as entry
 use Rattle.step_machine.specs.History.{OpeningValue, History, with_entry}
 use Rattle.step_machine.specs.Entries.{pending, read, reported}
 use Rattle.step_machine.specs.WordReads.{OpensWithWords, word_in_memory}
-use Rattle.step_machine.specs.Paths.{entry_of, value_of, state_of}
+use Rattle.step_machine.specs.Paths.{entry_of, number_read, state_of}
 use Rattle.step_machine.specs.Legal.{WellFormed}
 use Rattle.step_machine.specs.Runs.{IsFor, CanFollow, NoEntry}
 use Rattle.step_machine.proofs.Appended.{reported-last}
@@ -29,16 +29,16 @@ use Rattle.step_machine.proofs.Acts.{HasToWait, decide, does}
 use Rattle.poll_close.specs.Layout.{Layout, opening_at}
 use Rattle.poll_close.specs.Reports.{taken, sender_of, Clean}
 use Rattle.poll_close.specs.Laws.{AcceptedAt, Keeps}
-use Rattle.poll_close.specs.Standing.{lists_of}
+use Rattle.poll_close.specs.Standing.{opening_lists}
 use Rattle.poll_close.specs.Rankings.{Ranking, Around, around, Nearer, Decreases, some_open, visited_by, is_running}
 use Rattle.poll_close.specs.Rankings.{runs, receiver_rank, receiver_rank_if, rank_by_states, rank_of, ring_size}
 use Rattle.poll_close.specs.Rankings.{ready_if, is_ready, next_of, next_by}
 use Rattle.poll_close.specs.Plans.{AllLanded, is_closed, is_done, senders_of}
-use Rattle.poll_close.specs.Invariant.Blocks.{Block, block_of, as_writes}
+use Rattle.poll_close.specs.Invariant.Blocks.{SenderBlock, block_of, as_writes}
 use Rattle.poll_close.specs.Invariant.ReceiverState.{ReceiverRegisters, whole_of, receiver_of, receives, closings_due}
 use Rattle.poll_close.specs.Invariant.BlockInvariant.{BlockInvariant, unsent_of, unread_of, rows_of, ranking_of}
 use Rattle.poll_close.specs.Invariant.Channels.{Channel, means_by}
-use Rattle.poll_close.proofs.Acts.{Acted, acted, said_by}
+use Rattle.poll_close.proofs.Acts.{Acted, acted, reports_of_need}
 use Rattle.poll_close.proofs.Blocks.{IsBlock}
 use Rattle.poll_close.proofs.BlockLaws.{BlockLaws, Receives, Says, Finds, Idle}
 use Rattle.poll_close.proofs.CleanReports.{taken-other}
@@ -48,8 +48,8 @@ use Rattle.poll_close.proofs.Delivering.{senders-length}
 use Rattle.poll_close.proofs.Standing.{inboxes}
 use Rattle.poll_close.proofs.ChannelLaws.{blocks, ring_by, keeps}
 use Rattle.poll_close.proofs.Distance.{BlockProgress, rank_short}
-use Rattle.poll_close.proofs.Shares.{share_same, share_acts, sum_falls, receiver_rank_falls, rank_same}
-use Rattle.poll_close.proofs.Shares.{receiver_rank_small, closed_from, closed_other, report_falls, open_from, some_from}
+use Rattle.poll_close.proofs.Shares.{share_same, share_acts, sum_decreases, receiver_rank_decreases, rank_same}
+use Rattle.poll_close.proofs.Shares.{receiver_rank_small, closed_from, closed_other, report_decreases, open_from, some_from}
 use Rattle.poll_close.proofs.Shares.{shuts_less}
 use Rattle.std.proofs.lemmas.Bool.Decides.{nat_tests}
 
@@ -105,8 +105,8 @@ module _ (m : BlockInvariant) (laws : BlockLaws m) (least : ℕ) (some_least : 1
   senders : senders_of t ≡ length lists
   senders = omega (arith, harts)
 
-  lists_is : lists_of t.opening ≡ lists
-  lists_is = ap lists_of opening ∙ inboxes m.sender.code S 0 lists
+  lists_is : opening_lists t.opening ≡ lists
+  lists_is = ap opening_lists opening ∙ inboxes m.sender.code S 0 lists
 
   size_is : ring_size t.opening ≡ S.size
   size_is = ap ring_size opening ∙ mul-div_cancel_left S.size (lit< tt)
@@ -129,21 +129,21 @@ module _ (m : BlockInvariant) (laws : BlockLaws m) (least : ℕ) (some_least : 1
   rank_is new same =
       let n : senders_of new ≡ length lists = ap (λ (o : OpeningValue). length o.harts - 1) same ∙ senders in
       let s : ring_size new.opening ≡ S.size = ap ring_size same ∙ size_is in
-      let l : lists_of new.opening ≡ lists = ap lists_of same ∙ lists_is in
+      let l : opening_lists new.opening ≡ lists = ap opening_lists same ∙ lists_is in
       rw (n, s, l) refl
 
-  rank_falls : (new : History) → new.opening ≡ t.opening
+  rank_decreases : (new : History) → new.opening ≡ t.opening
       → rank_by_states p (length lists) S.size lists (reported 0 new.entries) (λ h. state_of M new h)
       < rank_by_states p (length lists) S.size lists rs (λ h. state_of M t h) → rank_of p M new < rank_of p M t
-  rank_falls new same less = rw (rank_is new same, rank_is t refl) less
+  rank_decreases new same less = rw (rank_is new same, rank_is t refl) less
 
   pub landing : (u : History) (h : ℕ) → rank_of p M (with_entry u (entry.Land h)) ≡ rank_of p M u
-  landing u h = rank_same p (senders_of u) (ring_size u.opening) (lists_of u.opening) (reported 0 u.entries)
+  landing u h = rank_same p (senders_of u) (ring_size u.opening) (opening_lists u.opening) (reported 0 u.entries)
       (reported 0 (with_entry u (entry.Land h)).entries) (λ k. state_of M u k)
       (λ k. state_of M (with_entry u (entry.Land h)) k)
       (reported-last 0 u.entries (entry.Land h) ∙ append-nil (reported 0 u.entries)) (λ k. states_land M u h k)
 
-  abbrev receiver_block : Block
+  abbrev receiver_block : SenderBlock
   receiver_block = block_of M S lists ch.receiver.block
 
   near : (a : Around) (s : HartState) → p.receiver a s ≤ 22 + a.rest + a.start
@@ -164,24 +164,25 @@ module _ (m : BlockInvariant) (laws : BlockLaws m) (least : ℕ) (some_least : 1
     act_found : (a : ℕ) → a % 4 ≡ 0 → read t.opening t.entries (j + 1) a 4 ≡ word_in_memory t.opening t.entries a
     act_found a aligned = grind (arith, read-is, opens_words, quiet_buffer)
 
-    sender_falls : (e : Entry) → IsFor (event.Act (j + 1)) e → CanFollow B M t e → rank_of p M (with_entry t e) < rank_of p M t
-    sender_falls e for_event can =
-        let a : Acted M t (with_entry t e) (j + 1) s (value_of e) =
+    sender_act_decreases : (e : Entry) → IsFor (event.Act (j + 1)) e → CanFollow B M t e → rank_of p M (with_entry t e) < rank_of p M t
+    sender_act_decreases e for_event can =
+        let a : Acted M t (with_entry t e) (j + 1) s (number_read e) =
         acted _ B M t (j + 1) s e kept.legal (ch.parts j within).sender.state can for_event.0 for_event.1
         (sender_plain m laws M (block_of M S lists j) j t t (ch.numbers j) (are j within) (ch.parts j within)) in
-        let less : p.sender (advanced s (value_of e)) < p.sender s =
-        prog.nearer (block_of M S lists j) (ch.numbers j) s (word_in_memory t.opening t.entries) (value_of e)
+        let less : p.sender (advanced s (number_read e)) < p.sender s =
+        prog.nearer (block_of M S lists j) (ch.numbers j) s (word_in_memory t.opening t.entries) (number_read e)
         (are j within) (ch.parts j within).order (ch.parts j within).words (ch.parts j within).sender.holds running
-        (unsent j within) (unread j within) (λ b inside wants. a.loaded b wants ∙ act_found b inside.aligned)
+        (unsent j within) (unread j within) (λ b inside needs. a.loaded b needs ∙ act_found b inside.aligned)
         (not-true (p.waits s (word_in_memory t.opening t.entries)) is_on.1) in
-        let said : reported 0 (with_entry t e).entries ≡ rs = a.others 0 (omega arith) in
-        rank_falls (with_entry t e) refl
-        (sum_falls p (length lists) S.size lists rs (reported 0 (with_entry t e).entries) (λ h. state_of M t h) (λ h. state_of M (with_entry t e) h) j within
+        let reporting : reported 0 (with_entry t e).entries ≡ rs = a.others 0 (omega arith) in
+        rank_decreases (with_entry t e) refl
+        (sum_decreases p (length lists) S.size lists rs (reported 0 (with_entry t e).entries) (λ h. state_of M t h)
+        (λ h. state_of M (with_entry t e) h) j within
         (λ i below other. share_same p (length lists) S.size lists rs (reported 0 (with_entry t e).entries)
-        (λ h. state_of M t h) (λ h. state_of M (with_entry t e) h) i (ap (λ ys. taken ys i) said)
-        (ap (λ ys. is_closed ys i) said) (a.states (i + 1) (λ same. other (omega arith))))
+        (λ h. state_of M t h) (λ h. state_of M (with_entry t e) h) i (ap (λ ys. taken ys i) reporting)
+        (ap (λ ys. is_closed ys i) reporting) (a.states (i + 1) (λ same. other (omega arith))))
         (share_acts p (length lists) S.size lists rs (reported 0 (with_entry t e).entries) (λ h. state_of M t h)
-        (λ h. state_of M (with_entry t e) h) j s (advanced s (value_of e)) said (ch.parts j within).sender.state
+        (λ h. state_of M (with_entry t e) h) j s (advanced s (number_read e)) reporting (ch.parts j within).sender.state
         a.state less)
         (receiver_rank_small p (length lists) S.size lists near (reported 0 (with_entry t e).entries)
         (λ h. state_of M (with_entry t e) h)
@@ -192,7 +193,7 @@ module _ (m : BlockInvariant) (laws : BlockLaws m) (least : ℕ) (some_least : 1
     sender_decreases = record {
       hart = omega (arith, harts, within);
       acts = can_act B M t (j + 1) s kept (ch.parts j within).sender.state running some (quiet_buffer (j + 1) (omega arith));
-      alone = sender_falls;
+      alone = sender_act_decreases;
       landed = λ u. landing u (j + 1);
     }
 
@@ -208,8 +209,8 @@ module _ (m : BlockInvariant) (laws : BlockLaws m) (least : ℕ) (some_least : 1
   each_shut j less = grind arith
 
   -- who is reported closed is noted so, and the other way round
-  shut_said : (j : ℕ) → j < length lists → (ch.numbers j).receiver.closings ≢ 0 → is_closed rs j ≡ true
-  shut_said j less closings = grind (arith, senders, each_shut, closed_from)
+  closed_noted : (j : ℕ) → j < length lists → (ch.numbers j).receiver.closings ≢ 0 → is_closed rs j ≡ true
+  closed_noted j less closings = grind (arith, senders, each_shut, closed_from)
 
   owing : closings_due ch.receiver.place < ch.receiver.noted.x20
   owing =
@@ -219,7 +220,7 @@ module _ (m : BlockInvariant) (laws : BlockLaws m) (least : ℕ) (some_least : 1
       at : ((ch.numbers some_one.0).receiver.closings ≡ 0) ⊎ ((ch.numbers some_one.0).receiver.closings ≢ 0)
           → (ch.numbers some_one.0).receiver.closings ≡ 0
       at (inl none) = none
-      at (inr closings) = let bad : is_closed rs some_one.0 ≡ true = shut_said some_one.0 some_one.1 closings in
+      at (inr closings) = let bad : is_closed rs some_one.0 ≡ true = closed_noted some_one.0 some_one.1 closings in
           let good : is_closed rs some_one.0 ≡ false = some_one.2 in cc
 
   took_is : (j : ℕ) (less : j < length lists) → (ch.numbers j).receiver.took ≡ (ch.numbers j).receiver.tails
@@ -265,41 +266,41 @@ module _ (m : BlockInvariant) (laws : BlockLaws m) (least : ℕ) (some_least : 1
     running_st = grind (arith, is_equal, owing)
 
     idle_at : Idle m receiver_block b (length lists) ch.receiver.place (ch.numbers b) r rs (λ h. state_of M t h)
-    idle_at = grind (arith, took_is, shut_said, marked, not-true, ready, not-false, some_is_open, owing)
+    idle_at = grind (arith, took_is, closed_noted, marked, not-true, ready, not-false, some_is_open, owing)
 
-    receiver_falls : (e : Entry) → IsFor (event.Act 0) e → CanFollow B M t e → rank_of p M (with_entry t e) < rank_of p M t
+    receiver_act_decreases : (e : Entry) → IsFor (event.Act 0) e → CanFollow B M t e → rank_of p M (with_entry t e) < rank_of p M t
     unfolding Keeps
-    receiver_falls e for_event can = by_says v_says
+    receiver_act_decreases e for_event can = by_says v_says
       where
-        a : Acted M t (with_entry t e) 0 st (value_of e)
+        a : Acted M t (with_entry t e) 0 st (number_read e)
         a = acted _ B M t 0 st e kept.legal ch.receiver.state can for_event.0 for_event.1
             (plain_by m laws B M S lists are accepted.senders t ch.numbers kept.legal opens_words ch.written ch.parts
             ch.receiver ch.reports)
 
-        find : Finds m receiver_block (length lists) ch.receiver.place (ch.numbers b) (word_in_memory t.opening t.entries) r (value_of e)
-        find x inside wants = a.loaded x wants
+        find : Finds m receiver_block (length lists) ch.receiver.place (ch.numbers b) (word_in_memory t.opening t.entries) r (number_read e)
+        find x inside needs = a.loaded x needs
             ∙ found m laws B M S lists are accepted.senders t ch.numbers kept.legal opens_words ch.written ch.parts
             ch.receiver ch.reports x inside
 
-        move : Receives m receiver_block b (length lists) ch.receiver.place (ch.numbers b) r (value_of e)
+        move : Receives m receiver_block b (length lists) ch.receiver.place (ch.numbers b) r (number_read e)
         move = moves_by m laws B M S lists are accepted.senders t ch.numbers kept.legal opens_words ch.written
-            ch.parts ch.receiver ch.reports (value_of e) a.running find
+            ch.parts ch.receiver ch.reports (number_read e) a.running find
 
         after : Channel m M S lists (with_entry t e)
         after = keeps m laws least some_least B M lists S t e accepted opening kept can ch
 
-        silent : said_by (need_of st) ≡ [] → rank_of p M (with_entry t e) < rank_of p M t
+        silent : reports_of_need (need_of st) ≡ [] → rank_of p M (with_entry t e) < rank_of p M t
         silent none =
-            let said : reported 0 (with_entry t e).entries ≡ rs = a.reports ∙ ap (λ ys. rs ++ ys) none ∙ append-nil rs in
-            let less : receiver_rank p (length lists) S.size rs (λ h. state_of M t h) (advanced st (value_of e))
+            let reporting : reported 0 (with_entry t e).entries ≡ rs = a.reports ∙ ap (λ ys. rs ++ ys) none ∙ append-nil rs in
+            let less : receiver_rank p (length lists) S.size rs (λ h. state_of M t h) (advanced st (number_read e))
             < receiver_rank p (length lists) S.size rs (λ h. state_of M t h) st =
             subst (λ (z : HartState). receiver_rank p (length lists) S.size rs (λ h. state_of M t h) z
             < receiver_rank p (length lists) S.size rs (λ h. state_of M t h) st) (sym move.leaves)
-            (move.nearer (sym (ap said_by move.wants) ∙ none) rs (λ h. state_of M t h) idle_at) in
-            rank_falls (with_entry t e) refl
-            (receiver_rank_falls p (length lists) S.size lists rs (reported 0 (with_entry t e).entries)
-            (λ h. state_of M t h) (λ h. state_of M (with_entry t e) h) said
-            (λ i below. a.states (i + 1) (omega arith)) (moved (advanced st (value_of e)) a.state less))
+            (move.nearer (sym (ap reports_of_need move.needs) ∙ none) rs (λ h. state_of M t h) idle_at) in
+            rank_decreases (with_entry t e) refl
+            (receiver_rank_decreases p (length lists) S.size lists rs (reported 0 (with_entry t e).entries)
+            (λ h. state_of M t h) (λ h. state_of M (with_entry t e) h) reporting
+            (λ i below. a.states (i + 1) (omega arith)) (moved (advanced st (number_read e)) a.state less))
           where
             moved : (next : HartState) → state_of M (with_entry t e) 0 ≡ Some next
                 → receiver_rank p (length lists) S.size rs (λ h. state_of M t h) next
@@ -312,20 +313,20 @@ module _ (m : BlockInvariant) (laws : BlockLaws m) (least : ℕ) (some_least : 1
                 < receiver_rank p (length lists) S.size rs (λ h. state_of M t h) st)
                 (sym (a.states (visited_by next + 1) (omega arith))) less)
 
-        tells : (x : Report) → said_by (need_of st) ≡ x ∷ [] → sender_of x ≡ b → rank_of p M (with_entry t e) < rank_of p M t
+        tells : (x : Report) → reports_of_need (need_of st) ≡ x ∷ [] → sender_of x ≡ b → rank_of p M (with_entry t e) < rank_of p M t
         tells x one from =
-            let said : reported 0 (with_entry t e).entries ≡ rs ++ x ∷ [] = a.reports ∙ ap (λ ys. rs ++ ys) one in
-            rank_falls (with_entry t e) refl
+            let reporting : reported 0 (with_entry t e).entries ≡ rs ++ x ∷ [] = a.reports ∙ ap (λ ys. rs ++ ys) one in
+            rank_decreases (with_entry t e) refl
             (subst (λ (ys : List Report).
             rank_by_states p (length lists) S.size lists ys (λ h. state_of M (with_entry t e) h)
-            < rank_by_states p (length lists) S.size lists rs (λ h. state_of M t h)) (sym said)
-            (sum_falls p (length lists) S.size lists rs (rs ++ x ∷ []) (λ h. state_of M t h) (λ h. state_of M (with_entry t e) h) b ch.receiver.known
+            < rank_by_states p (length lists) S.size lists rs (λ h. state_of M t h)) (sym reporting)
+            (sum_decreases p (length lists) S.size lists rs (rs ++ x ∷ []) (λ h. state_of M t h) (λ h. state_of M (with_entry t e) h) b ch.receiver.known
             (λ i below other. share_same p (length lists) S.size lists rs (rs ++ x ∷ []) (λ h. state_of M t h)
             (λ h. state_of M (with_entry t e) h) i (taken-other rs i x (λ same. other (sym same ∙ from)))
             (closed_other rs x i (λ same. other (sym same ∙ from))) (a.states (i + 1) (omega arith)))
-            (report_falls p lists rs (λ h. state_of M t h) (λ h. state_of M (with_entry t e) h) b
+            (report_decreases p lists rs (λ h. state_of M t h) (λ h. state_of M (with_entry t e) h) b
             (a.states (b + 1) (omega arith)) x from
-            (subst (λ (ys : List Report). Clean ys lists) said after.reports.clean))
+            (subst (λ (ys : List Report). Clean ys lists) reporting after.reports.clean))
             (receiver_rank_small p (length lists) S.size lists near (rs ++ x ∷ [])
             (λ h. state_of M (with_entry t e) h)
             (receives m.ring_lines (whole_of
@@ -333,10 +334,10 @@ module _ (m : BlockInvariant) (laws : BlockLaws m) (least : ℕ) (some_least : 1
             (length lists)) after.receiver.place
             after.receiver.noted) after.receiver.state)))
 
-        v_says : Says m receiver_block b (ch.numbers b).receiver move.after (said_by (need_of st))
-        v_says = subst (λ (w : Need). Says m receiver_block b (ch.numbers b).receiver move.after (said_by w)) (sym move.wants) move.says
+        v_says : Says m receiver_block b (ch.numbers b).receiver move.after (reports_of_need (need_of st))
+        v_says = subst (λ (w : Need). Says m receiver_block b (ch.numbers b).receiver move.after (reports_of_need w)) (sym move.needs) move.says
 
-        by_says : Says m receiver_block b (ch.numbers b).receiver move.after (said_by (need_of st)) → rank_of p M (with_entry t e) < rank_of p M t
+        by_says : Says m receiver_block b (ch.numbers b).receiver move.after (reports_of_need (need_of st)) → rank_of p M (with_entry t e) < rank_of p M t
         by_says (inl none) = silent none.0
         by_says (inr (inl word)) = tells (report.Took b (slice_index receiver_block.list ((ch.numbers b).receiver.took))) word.0 refl
         by_says (inr (inr closing)) = tells (report.Closed b) closing.0 refl
@@ -345,7 +346,7 @@ module _ (m : BlockInvariant) (laws : BlockLaws m) (least : ℕ) (some_least : 1
     receiver_decreases = record {
       hart = omega (arith, harts);
       acts = can_act B M t 0 st kept ch.receiver.state running_st some (quiet_buffer 0 (omega arith));
-      alone = receiver_falls;
+      alone = receiver_act_decreases;
       landed = λ u. landing u 0;
     }
 
@@ -356,9 +357,9 @@ module _ (m : BlockInvariant) (laws : BlockLaws m) (least : ℕ) (some_least : 1
         | inr ready ↦ subst (Nearer B M (rank_of p M) t) (sym ready.2) (sender_decreases ready.0 (omega (arith, senders, ready.1)) ready.3)
       ]
 
-pub falls : (m : BlockInvariant) (laws : BlockLaws m) (least : ℕ) (some_least : 1 ≤ least) → BlockProgress m least
+pub ranking_decreases : (m : BlockInvariant) (laws : BlockLaws m) (least : ℕ) (some_least : 1 ≤ least) → BlockProgress m least
     → Decreases (ring_by m laws least some_least) (means_by m) (rank_of (ranking_of m)) (next_by (ranking_of m))
 unfolding Decreases
-falls m laws least some_least prog B M t some stands landed open_yet =
+ranking_decreases m laws least some_least prog B M t some stands landed open_yet =
     hart_decreases m laws least some_least prog B M stands.opens.layout stands.opens.lists t some stands.opens.accepted
     stands.opens.opening stands.kept stands.meant landed open_yet

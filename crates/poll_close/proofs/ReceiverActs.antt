@@ -19,7 +19,7 @@ use Rattle.step_machine.specs.Entries.{hart_of, is_land, pending, read, reported
 use Rattle.step_machine.specs.Access.{access_of}
 use Rattle.step_machine.specs.WordReads.{WritesWord, AllWriteWords, OpensWithWords, word_in_memory}
 use Rattle.memory.specs.Writes.{newest_word}
-use Rattle.step_machine.specs.Paths.{value_of}
+use Rattle.step_machine.specs.Paths.{number_read}
 use Rattle.step_machine.specs.Legal.{Legal}
 use Rattle.step_machine.specs.Runs.{CanFollow}
 use Rattle.poll_close.specs.Layout.{Layout}
@@ -30,7 +30,7 @@ use Rattle.poll_close.specs.Invariant.Blocks.{block_of, as_write, as_writes, to_
 use Rattle.poll_close.specs.Invariant.ReceiverState.{ReceiverRegisters, whole_of, receives, closings_due}
 use Rattle.poll_close.specs.Invariant.BlockInvariant.{BlockInvariant, Count, unread_of, AllReported, ReceiverIs}
 use Rattle.poll_close.specs.Invariant.Channels.{BlockPart, ReceiverPart, ReportsOf, ReportPart, all_closings}
-use Rattle.poll_close.proofs.Acts.{Acted, Plain, acted, going, stored_by, said_by}
+use Rattle.poll_close.proofs.Acts.{Acted, Plain, acted, going, stored_by, reports_of_need}
 use Rattle.poll_close.proofs.Windows.{window-made}
 use Rattle.poll_close.proofs.Blocks.{IsBlock, Within, IsWordOf, word_end, IsStore, IsStore-whole, newest-as_writes}
 use Rattle.poll_close.proofs.Blocks.{apart, to_block-stored, to_block-elsewhere, newest-to_block, put, put_same}
@@ -95,11 +95,11 @@ module _ (m : BlockInvariant) (M : ℕ) (S : Layout) (lists : List (List ℕ)) (
       ]
 
   -- one report of the visited sender
-  one_said : (x : Report) (n : Count m) → sender_of x ≡ b → (f b).receiver.closings ≡ 0
+  one_noted : (x : Report) (n : Count m) → sender_of x ≡ b → (f b).receiver.closings ≡ 0
       → ReportsOf (rs ++ x ∷ []) b (slice_index_or lists b []) n.receiver.took n.receiver.closings
       → ((i : ℕ) → x ≡ report.Closed i → taken rs i ≡ slice_index_or lists i [])
       → ReportPart m lists (rs ++ x ∷ []) (put f b n)
-  one_said x n from open_yet new all = record {
+  one_noted x n from open_yet new all = record {
     senders = reports_put (rs ++ x ∷ []) n new
         (λ j within other. reports_other rs j (slice_index_or lists j []) ((f j).receiver.took)
         ((f j).receiver.closings) x (λ same. other (sym same ∙ from)) (reports.senders j within));
@@ -122,15 +122,15 @@ module _ (m : BlockInvariant) (M : ℕ) (S : Layout) (lists : List (List ℕ)) (
                 (sym (taken-other rs i x (λ same. other (sym same ∙ from)))) (reports.clean.in_order i)
           ]
 
-  pub said_reports : (said : List Report) (n : Count m)
-      → Says m (block_of M S lists b) b (f b).receiver n.receiver said → ReportPart m lists (rs ++ said) (put f b n)
-  said_reports said n (inl none) = grind (arith, put, append-nil, reports, reports_put)
-  said_reports said n (inr (inl word)) = subst (λ (ys : List Report). ReportPart m lists (rs ++ ys) (put f b n)) (sym word.0)
-      (one_said (report.Took b (slice_index (slice_index_or lists b []) ((f b).receiver.took))) n refl word.4
+  pub noted_reports : (reporting : List Report) (n : Count m)
+      → Says m (block_of M S lists b) b (f b).receiver n.receiver reporting → ReportPart m lists (rs ++ reporting) (put f b n)
+  noted_reports reporting n (inl none) = grind (arith, put, append-nil, reports, reports_put)
+  noted_reports reporting n (inr (inl word)) = subst (λ (ys : List Report). ReportPart m lists (rs ++ ys) (put f b n)) (sym word.0)
+      (one_noted (report.Took b (slice_index (slice_index_or lists b []) ((f b).receiver.took))) n refl word.4
       (rw (word.1, word.2) (reports_took rs b (slice_index_or lists b []) ((f b).receiver.took) ((f b).receiver.closings) word.3 (reports.senders b known)))
       (λ i is. cc))
-  said_reports said n (inr (inr closing)) = subst (λ (ys : List Report). ReportPart m lists (rs ++ ys) (put f b n)) (sym closing.0)
-      (one_said (report.Closed b) n refl closing.4
+  noted_reports reporting n (inr (inr closing)) = subst (λ (ys : List Report). ReportPart m lists (rs ++ ys) (put f b n)) (sym closing.0)
+      (one_noted (report.Closed b) n refl closing.4
       (rw (closing.1, closing.2) (reports_closed rs b (slice_index_or lists b []) ((f b).receiver.took) ((f b).receiver.closings) (reports.senders b known)))
       (λ i is. subst (λ (j : ℕ). taken rs j ≡ slice_index_or lists j []) (ap sender_of is)
       ((reports.senders b known).words ∙ ap (λ c. take c (slice_index_or lists b [])) closing.3
@@ -186,8 +186,8 @@ module _ (m : BlockInvariant) (laws : BlockLaws m) (B M : ℕ) (S : Layout) (lis
       let v : ℕ = would_read seen (need_of (receives m.ring_lines (whole_of (block_of M S lists part.block) (length lists)) part.place part.noted)) in
       let r : Receives m (block_of M S lists part.block) part.block (length lists) part.place (f part.block)
       part.noted v =
-      moves_by v runs (λ a inside wants. ap (would_read seen) wants) in
-      subst (Plain (IsWordOf (block_of M S lists part.block))) (sym r.wants) (record {
+      moves_by v runs (λ a inside needs. ap (would_read seen) needs) in
+      subst (Plain (IsWordOf (block_of M S lists part.block))) (sym r.needs) (record {
         no_amo =
             r.plain;
         whole = λ x one. IsStore-whole (block_of M S lists part.block) x (stored_is v r x one);
@@ -246,7 +246,7 @@ module _ (m : BlockInvariant) (laws : BlockLaws m) (B M : ℕ) (S : Layout) (lis
               buffer = a.buffers (part.block + 1) (λ zero_is. omega arith) ∙ old.sender.buffer;
             };
             theirs = ap (to_block (block_of M S lists part.block))
-                (a.buffer ∙ ap (λ w. pending 0 t.entries ++ as_writes (stored_by w)) r.wants)
+                (a.buffer ∙ ap (λ w. pending 0 t.entries ++ as_writes (stored_by w)) r.needs)
                 ∙ to_block-stored (block_of M S lists part.block) (pending 0 t.entries) (stored_by r.wanted)
                 (stored_cases r.wanted) inside ∙ ap (λ ws. ws ++ as_writes (stored_by r.wanted)) old.theirs
                 ∙ sym
@@ -268,7 +268,7 @@ module _ (m : BlockInvariant) (laws : BlockLaws m) (B M : ℕ) (S : Layout) (lis
             state = a.states (i + 1) (λ zero_is. omega arith);
             buffer = a.buffers (i + 1) (λ zero_is. omega arith);
             theirs = ap (to_block (block_of M S lists i))
-                (a.buffer ∙ ap (λ w. pending 0 t.entries ++ as_writes (stored_by w)) r.wants)
+                (a.buffer ∙ ap (λ w. pending 0 t.entries ++ as_writes (stored_by w)) r.needs)
                 ∙ to_block-elsewhere (block_of M S lists i) (pending 0 t.entries) (stored_by r.wanted)
                 (stored_cases r.wanted)
                 (λ x one here. apart M S lists i part.block x.0 (are part.block part.known).room other here (inside x one));
@@ -312,12 +312,12 @@ module _ (m : BlockInvariant) (laws : BlockLaws m) (B M : ℕ) (S : Layout) (lis
         parts = λ i within. each i within (cases_eq i part.block);
         receiver = came r.holds;
         reports = subst (λ (rs : List Report). ReportPart m lists rs (put f part.block n))
-            (sym (a.reports ∙ ap (λ w. reported 0 t.entries ++ said_by w) r.wants))
-            (said_reports m M S lists f part.block part.known (reported 0 t.entries) reports (said_by r.wanted) n r.says);
+            (sym (a.reports ∙ ap (λ w. reported 0 t.entries ++ reports_of_need w) r.needs))
+            (noted_reports m M S lists f part.block part.known (reported 0 t.entries) reports (reports_of_need r.wanted) n r.says);
       }
 
   pub receiver_acts : (e : Entry) → CanFollow B M t e → hart_of e ≡ 0 → is_land e ≡ false → Received m M S lists (with_entry t e)
   receiver_acts e can mine alone =
       let s : HartState = receives m.ring_lines (whole_of (block_of M S lists part.block) (length lists)) part.place part.noted in
-      let a : Acted M t (with_entry t e) 0 s (value_of e) = acted _ B M t 0 s e legal part.state can mine alone plain_by in
-      received (with_entry t e) (value_of e) a (moves_by (value_of e) a.running (λ b inside wants. a.loaded b wants ∙ found b inside))
+      let a : Acted M t (with_entry t e) 0 s (number_read e) = acted _ B M t 0 s e legal part.state can mine alone plain_by in
+      received (with_entry t e) (number_read e) a (moves_by (number_read e) a.running (λ b inside needs. a.loaded b needs ∙ found b inside))

@@ -10,11 +10,12 @@ use Rattle.hart.specs.State.{HartState}
 use Rattle.hart.specs.declared.need.Need.{Need}
 use Rattle.hart.specs.declared.need.Need.TheVariants as need
 use Rattle.hart.proofs.Instructions.{IsAt, took_need, took_after, closed_need, closed_after, exit_need, exit_after}
-use Rattle.poll_close.specs.Listing.{RingLines, lines_of, receiver_with}
-use Rattle.poll_close.specs.Invariant.Blocks.{Block, offset}
+use Rattle.rv_decode.specs.Listings.{lines_of}
+use Rattle.poll_close.specs.Listing.{RingLines, receiver_with}
+use Rattle.poll_close.specs.Invariant.Blocks.{SenderBlock, offset}
 use Rattle.poll_close.specs.Invariant.ReceiverState.{ReceiverRegisters, ReceiverConstants, whole_of, receiving, receives, closings_due}
 use Rattle.poll_close.specs.Invariant.BlockInvariant.{BlockInvariant, ReceiverCounts, Count, ReceiverIs, Flag, rows_of}
-use Rattle.poll_close.proofs.Acts.{stored_by, said_by, IsNoAmo}
+use Rattle.poll_close.proofs.Acts.{stored_by, reports_of_need, IsNoAmo}
 use Rattle.step_machine.proofs.Lines.{Line, loads, at_line, stores, word-plus, word-minus, add_line, sum_line, load_line}
 use Rattle.step_machine.proofs.Lines.{store_line, jump_line, same_jumps, other_goes_on, other_jumps, same_goes_on}
 use Rattle.poll_close.proofs.BlockLaws.{Changes, Comes, Says, Nearer, Receives, Decodes, BlockLaws, Runs, Right_at}
@@ -35,7 +36,7 @@ pub at_of : (m : RingLines) → Decodes m → (c : ReceiverConstants) (r : Recei
     → slice_get (map Some (lines_of (receiver_with m))) j ≡ Some (Some instr) → IsAt (receiving m c (4 * j) r) instr
 at_of m decodes c r j is = at_line (receiving m c (4 * j) r) j refl (ap (λ xs. slice_get xs j) decodes ∙ is)
 
-module _ (m : BlockInvariant) (k : Block) (i count : ℕ) (n : Count m) (order : m.CounterInvariant k n) (r : ReceiverRegisters) (v : ℕ) where
+module _ (m : BlockInvariant) (k : SenderBlock) (i count : ℕ) (n : Count m) (order : m.CounterInvariant k n) (r : ReceiverRegisters) (v : ℕ) where
   abbrev pub now : ℕ → ReceiverRegisters → HartState
   now here noted = receives m.ring_lines (whole_of k count) here noted
 
@@ -50,15 +51,15 @@ module _ (m : BlockInvariant) (k : Block) (i count : ℕ) (n : Count m) (order :
       → IsNoAmo (IsWordOf k) wanted → Line (now here r) wanted (λ w. now there (noted w))
       → Changes m k n after (stored_by wanted)
       → ReceiverIs m k i there after (noted v) ⊎ Comes m k count there after (noted v)
-      → Says m k i n.receiver after (said_by wanted) → Counts here there (noted v) after
-      → (said_by wanted ≡ [] → Nearer m k i count here there n r (noted v)) → Receives m k i count here n r v
+      → Says m k i n.receiver after (reports_of_need wanted) → Counts here there (noted v) after
+      → (reports_of_need wanted ≡ [] → Nearer m k i count here there n r (noted v)) → Receives m k i count here n r v
   acts here there wanted noted after plain line changes holds says counts nearer = record {
     wanted = wanted;
     there = there;
     noted = noted v;
     after = after;
     plain = plain;
-    wants = line.wants;
+    needs = line.needs;
     leaves = line.leaves v;
     changes = changes;
     holds = holds;
@@ -109,7 +110,7 @@ module _ (m : BlockInvariant) (k : Block) (i count : ℕ) (n : Count m) (order :
     keeps_at_08 : Right_here 0x08  -- visit: lw x5,12(x8)
     keeps_at_08 h z =
         let line = load_line (at 2 refl) (omega (arith, is.even, h.1.base)) refl (omega (arith, is.inside, is.some_slot, h.1.base)) is.small in
-        let found = z.find (k.base + 12) (word_of k is 12 (omega arith) refl) (line.wants ∙ ap (λ b. loads (b + 12)) h.1.base) in
+        let found = z.find (k.base + 12) (word_of k is 12 (omega arith) refl) (line.needs ∙ ap (λ b. loads (b + 12)) h.1.base) in
         reads 0x08 0x0C (r.x8 + 12) (λ w. record r { x5 = w }) refl (word_from k is r.x8 12 h.1.base (omega arith) refl) line
         (h.0, h.1, found ∙ laws.sees_done k n word_at order words)
         (λ rs states idle. flags 16 17 21 22 (is_closed rs r.x22) (is_closed rs r.x22) (omega arith) (far_off rs count (r.x22 + 1)) (λ on. on))
@@ -130,7 +131,7 @@ module _ (m : BlockInvariant) (k : Block) (i count : ℕ) (n : Count m) (order :
     keeps_at_10 h z =
         let line = load_line (at 4 refl) (omega (arith, is.even, h.visits.base)) refl (omega (arith, is.inside, is.some_slot, h.visits.base)) is.small in
         let read : v ≡ m.marks n.landed = z.find (k.base + 4) (word_of k is 4 (omega arith) refl)
-        (line.wants ∙ ap (λ b. loads (b + 4)) h.visits.base) ∙ laws.sees_mark k n word_at order words in
+        (line.needs ∙ ap (λ b. loads (b + 4)) h.visits.base) ∙ laws.sees_mark k n word_at order words in
         let made = laws.reports k n o.took o.closings order h.quiet.level (laws.shut_done k n order) in
         acts 0x10 0x14 (loads (r.x8 + 4)) (λ w. record r { x30 = w }) (record o { mark = m.marks n.landed })
         (tt, word_from k is r.x8 4 h.visits.base (omega arith) refl) line made.changes
@@ -202,7 +203,7 @@ module _ (m : BlockInvariant) (k : Block) (i count : ℕ) (n : Count m) (order :
     keeps_at_40 h z =
         let made = laws.reports k n (o.took + 1) o.closings order h.0.level (laws.shut_done k n order) in
         acts 0x40 0x44 (need.Report (report.Took r.x10 r.x11)) (λ w. r) (record o { took = o.took + 1; mark = m.marks n.landed }) tt
-        (record { wants = took_need (at 16 refl) h.2; leaves = λ w. took_after (at 16 refl) h.2 w }) made.changes
+        (record { needs = took_need (at 16 refl) h.2; leaves = λ w. took_after (at 16 refl) h.2 w }) made.changes
         (inl (record { words = sym h.0.ahead; closed = h.0.closed; level = made.level }, h.0.visits))
         (inr (inl (rw (h.1, h.0.word) refl, refl, refl, omega (arith, h.0.ahead, laws.tails_all k n order), h.0.closed ∙ h.0.open_yet)))
         refl (λ none rs states idle. cc)
@@ -241,7 +242,7 @@ module _ (m : BlockInvariant) (k : Block) (i count : ℕ) (n : Count m) (order :
           words = h.0.quiet.words;
           all = h.1;
           done = refl;
-          unsaid = h.0.quiet.closed ∙ h.0.open_yet;
+          unclosed = h.0.quiet.closed ∙ h.0.open_yet;
         }))
         (inl (refl, refl, refl)) refl (λ none rs states idle. omega arith)
 
@@ -258,10 +259,10 @@ module _ (m : BlockInvariant) (k : Block) (i count : ℕ) (n : Count m) (order :
     keeps_at_5C h z =
         let made = laws.reports k n o.took 1 order h.0.level (omega (arith, h.0.done)) in
         acts 0x5C 0x60 (need.Report (report.Closed r.x10)) (λ w. r) (record o { closings = 1; mark = m.marks n.landed }) tt
-        (record { wants = closed_need (at 23 refl) h.2; leaves = λ w. closed_after (at 23 refl) h.2 w }) made.changes
+        (record { needs = closed_need (at 23 refl) h.2; leaves = λ w. closed_after (at 23 refl) h.2 w }) made.changes
         (inl (record { words = h.0.words; closed = sym h.0.done; level = made.level }, h.0.visits))
-        (inr (inr (rw h.1 refl, refl, refl, h.0.words ∙ h.0.all, h.0.unsaid)))
-        (omega (arith, h.0.unsaid)) (λ none rs states idle. cc)
+        (inr (inr (rw h.1 refl, refl, refl, h.0.words ∙ h.0.all, h.0.unclosed)))
+        (omega (arith, h.0.unclosed)) (λ none rs states idle. cc)
 
     keeps_at_60 : Right_here 0x60  -- addi x20,x20,-1
     keeps_at_60 h z =
@@ -331,7 +332,7 @@ module _ (m : BlockInvariant) (k : Block) (i count : ℕ) (n : Count m) (order :
 
     keeps_at_7C : Right_here 0x7C  -- ecall
     keeps_at_7C h z =
-        acts 0x7C 0x80 need.Exit (λ w. r) o tt (record { wants = exit_need (at 31 refl) h.1; leaves = λ w. exit_after (at 31 refl) h.1 w }) unchanged
+        acts 0x7C 0x80 need.Exit (λ w. r) o tt (record { needs = exit_need (at 31 refl) h.1; leaves = λ w. exit_after (at 31 refl) h.1 w }) unchanged
         (inl (h.0, h.2)) (inl (refl, refl, refl)) refl (λ none rs states idle. omega arith)
 
     keeps_at_80 : Right_here 0x80
@@ -344,6 +345,6 @@ module _ (m : BlockInvariant) (k : Block) (i count : ℕ) (n : Count m) (order :
         & laws.moves k i count n word_at r v is order words in
         let close = keeps_at_48 & keeps_at_4C & keeps_at_50 & keeps_at_54 & keeps_at_58 & keeps_at_5C & keeps_at_60 & keeps_at_64 & last in
         let take = keeps_at_28 & keeps_at_2C & keeps_at_30 & keeps_at_34 & keeps_at_38 & keeps_at_3C & keeps_at_40 & keeps_at_44 & close in
-        found (λ (H : Block → ℕ → ReceiverCounts m.Own → ReceiverRegisters → Type 0). H k i o r)
+        found (λ (H : SenderBlock → ℕ → ReceiverCounts m.Own → ReceiverRegisters → Type 0). H k i o r)
         (λ at. Runs m k count at n word_at r v → Receives m k i count at n r v) (rows_of m)
         (keeps_at_00 & keeps_at_04 & keeps_at_08 & keeps_at_0C & keeps_at_10 & laws.moves_14 k i count n word_at r v is order words & take) here h

@@ -1,8 +1,8 @@
 -- The names of this crate that the proofs of a ring cite, passed on from one place. Declares nothing.
-pub use Rattle.poll_close.specs.Listing.{words_of, lines_of}
+pub use Rattle.rv_decode.specs.Listings.{words_of, lines_of}
 pub use Rattle.poll_close.specs.Laws.{Ring}
 pub use Rattle.poll_close.specs.Rankings.{Decreases, rank_of, next_by, runs}
-pub use Rattle.poll_close.specs.Invariant.Blocks.{Block, offset, slot, slot_store, tail_store, window}
+pub use Rattle.poll_close.specs.Invariant.Blocks.{SenderBlock, offset, slot, slot_store, tail_store, window}
 pub use Rattle.poll_close.specs.Invariant.SenderState.{SenderRegisters}
 pub use Rattle.poll_close.specs.Invariant.Outlines.{Standing, Reasons, stands, SenderIs}
 pub use Rattle.poll_close.specs.Invariant.BlockInvariant.{unsent_of, unread_of}
@@ -15,5 +15,5 @@ pub use Rattle.poll_close.proofs.Outlines.{Sender, Right, ◌&◌, stands_at, ba
 pub use Rattle.poll_close.proofs.SenderRows.{Rows, rows}
 pub use Rattle.poll_close.proofs.ChannelLaws.{AllLaws, all_laws}
 pub use Rattle.poll_close.proofs.Distance.{BlockProgress}
-pub use Rattle.poll_close.proofs.Progress.{falls}
+pub use Rattle.poll_close.proofs.Progress.{ranking_decreases}
 pub use Rattle.poll_close.proofs.MayLoad.{AllMayLoad, may_load}

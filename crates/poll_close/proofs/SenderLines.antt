@@ -37,7 +37,7 @@ module _ (code : List ℕ) (long : 2 < length code) (f : SenderConstants) (r : S
       let line : Line (running code f 0x04 r (w ∷ drop (suc g) list)) (need.Next (Some w))
       (λ v. running code f 0x08 (record r { x10 = w; x11 = 1 }) (drop (suc g) list)) =
       record {
-        wants = next_need (at (w ∷ drop (suc g) list)) call;
+        needs = next_need (at (w ∷ drop (suc g) list)) call;
         leaves = λ v. next_after (at (w ∷ drop (suc g) list)) call v
             ∙ ap (settles 0x08 (record r { x10 = w; x11 = 1 }) (drop (suc g) list)) inside_8;
       } in
@@ -53,7 +53,7 @@ module _ (code : List ℕ) (long : 2 < length code) (f : SenderConstants) (r : S
       let line : Line (running code f 0x04 r []) (need.Next None)
       (λ v. running code f 0x08 (record r { x11 = 0 }) []) =
       record {
-        wants = next_need (at []) call;
+        needs = next_need (at []) call;
         leaves = λ v. next_after (at []) call v ∙ ap (settles 0x08 (record r { x11 = 0 }) []) inside_8;
       } in
       subst (λ (inbox : List ℕ).

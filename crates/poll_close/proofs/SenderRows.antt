@@ -15,12 +15,12 @@ use Rattle.rv_decode.specs.declared.instruction.Instr.TheVariants.{Branch, Load,
 use Rattle.hart.specs.State.{HartState}
 use Rattle.hart.specs.declared.need.Need.{Need}
 use Rattle.hart.specs.declared.need.Need.TheVariants as need
-use Rattle.hart.specs.Effects.{read, written, next_pc, address, registers_after, pc_after}
-use Rattle.hart.specs.Steps.{need_of, need_for, advanced, after}
+use Rattle.hart.specs.Effects.{register_value, register_written, next_pc, address, registers_after, pc_after}
+use Rattle.hart.specs.Steps.{need_of, need_for, advanced, after_instruction}
 use Rattle.hart.proofs.Instructions.{IsAt, need_at, after-at, load_need, load_after, store_need, store_after, exit_need, exit_after}
 use Rattle.step_machine.proofs.Lines.{Line, loads, stores, word-plus, goes_to, leaves_in}
 use Rattle.step_machine.proofs.Lines.{same_jumps, other_goes_on, other_jumps, same_goes_on}
-use Rattle.poll_close.specs.Invariant.Blocks.{Block, AreNext}
+use Rattle.poll_close.specs.Invariant.Blocks.{SenderBlock, AreNext}
 use Rattle.poll_close.specs.Invariant.SenderState.{SenderRegisters, fixed, file, running, ended}
 use Rattle.poll_close.specs.Invariant.BlockInvariant.{BlockInvariant, Count, unsent_of}
 use Rattle.poll_close.specs.Invariant.Outlines.{stands, SenderIs, rank_in, left_of}
@@ -46,7 +46,7 @@ registers_in x = record {
 -- words it asked for and stored by then; and whether the next row is nearer to the end
 pub record Course : Type 0 where
   pub now : HartState
-  pub wants : Need
+  pub needs : Need
   pub left : HartState
   pub there : HartState
   pub asked : ℕ
@@ -72,7 +72,7 @@ pub record Call (Own : Type 0) : Type 0 where
   pub some_less : Bool
   pub none_less : Bool
 
-module _ (m : BlockInvariant) (g : Sender m) (k : Block) (n : Count m) (word : ℕ → ℕ) (v : ℕ) (r : SenderRegisters) where
+module _ (m : BlockInvariant) (g : Sender m) (k : SenderBlock) (n : Count m) (word : ℕ → ℕ) (v : ℕ) (r : SenderRegisters) where
   abbrev inside : ℕ → m.sender.Own → SenderRegisters → HartState
   inside pc made q = running m.sender.code (fixed k) pc q (drop (m.sender.asked made) k.list)
 
@@ -89,12 +89,12 @@ module _ (m : BlockInvariant) (g : Sender m) (k : Block) (n : Count m) (word : �
   Row pc = Finds m g k n word v r pc → Goes m g k n word v r pc
 
   abbrev x : Reg → ℕ
-  x a = read (file (fixed k) r) a
+  x a = register_value (file (fixed k) r) a
 
   abbrev course : (j there : ℕ) → m.sender.Own → SenderRegisters → Need → HartState → ℕ → Bool → Course
-  course j there made q wants left sent less = record {
+  course j there made q needs left sent less = record {
     now = stands m.sender k (4 * j) n.sender r;
-    wants = wants;
+    needs = needs;
     left = left;
     there = stands m.sender k there made q;
     asked = m.sender.asked made;
@@ -103,9 +103,9 @@ module _ (m : BlockInvariant) (g : Sender m) (k : Block) (n : Count m) (word : �
   }
 
   abbrev stays_inside : (j there : ℕ) → m.sender.Own → SenderRegisters → Need → Course
-  stays_inside j there made q wants = record {
+  stays_inside j there made q needs = record {
     now = here j;
-    wants = wants;
+    needs = needs;
     left = inside there made q;
     there = inside there made q;
     asked = m.sender.asked n.sender;
@@ -121,7 +121,7 @@ module _ (m : BlockInvariant) (g : Sender m) (k : Block) (n : Count m) (word : �
   left j i = registers_in (registers_after i (file (fixed k) r) (4 * j) v)
 
   abbrev loaded : Reg → SenderRegisters
-  loaded rd = registers_in (written (file (fixed k) r) rd v)
+  loaded rd = registers_in (register_written (file (fixed k) r) rd v)
 
   abbrev ways : ℕ → ℤ → Ways
   ways j o = record {
@@ -184,7 +184,7 @@ module _ (m : BlockInvariant) (g : Sender m) (k : Block) (n : Count m) (word : �
   pub record Rows : Type 0 where
     -- it only computes or jumps
     pub computes : (j : ℕ) {i : Instr} → IsLine j i
-        → course j (next j i) n.sender (left j i) (need_for (here j) i) (after (here j) v i) (m.sent n.sender)
+        → course j (next j i) n.sender (left j i) (need_for (here j) i) (after_instruction (here j) v i) (m.sent n.sender)
         (nat_lt (rank (next j i) (left j i)) (rank (4 * j) r))
         ≡ stays_inside j (next j i) n.sender (left j i) need.Inner → SenderIs m.sender (next j i) k n.sender (left j i) → Row (4 * j)
     pub branch_equal : (j : ℕ) {a b : Reg} {o : ℤ} → IsLine j (Branch branch.Equal a b o) → ways j o ≡ inner_ways j o
@@ -227,13 +227,13 @@ module _ (m : BlockInvariant) (g : Sender m) (k : Block) (n : Count m) (word : �
       → stands m.sender k there made q ≡ t → IsNoAmo (IsWordOf k) wanted → need_of s ≡ wanted → advanced s v ≡ t
       → m.CounterInvariant k (record n { sender = made }) → AreNext (m.sender_stores k) (m.sent n.sender) (m.sent made) (stored_by wanted)
       → SenderIs m.sender there k made q → (Free m g k n word v r pc → left_of m.sender t < left_of m.sender s) → Goes m g k n word v r pc
-  acts pc there wanted made q s t from to plain wants leaves order stores holds nearer = record {
+  acts pc there wanted made q s t from to plain needs leaves order stores holds nearer = record {
     wanted = wanted;
     there = there;
     made = made;
     written = q;
     plain = plain;
-    wants = ap need_of from ∙ wants;
+    needs = ap need_of from ∙ needs;
     leaves = ap (λ (z : HartState). advanced z v) from ∙ leaves ∙ sym to;
     order = order;
     stores = stores;
@@ -245,13 +245,13 @@ module _ (m : BlockInvariant) (g : Sender m) (k : Block) (n : Count m) (word : �
   jumps : m.CounterInvariant k n → (j : ℕ) (o : ℤ) → ways j o ≡ inner_ways j o → Line (here j) need.Inner (λ w. goes_to (here j) (address (4 * j) o))
       → Arrives j (address (4 * j) o) → Goes m g k n word v r (4 * j)
   jumps order j o is line h = acts (4 * j) (address (4 * j) o) need.Inner n.sender r (here j) (inside (address (4 * j) o) n.sender r)
-      (ap (λ (w : Ways). w.now) is) (ap (λ (w : Ways). w.there) is) tt line.wants (line.leaves v ∙ ap (λ (w : Ways). w.jumped) is)
+      (ap (λ (w : Ways). w.now) is) (ap (λ (w : Ways). w.there) is) tt line.needs (line.leaves v ∙ ap (λ (w : Ways). w.jumped) is)
       order refl h.0 (λ free. omega (arith, h.1))
 
   goes_on : m.CounterInvariant k n → (j : ℕ) (o : ℤ) → ways j o ≡ inner_ways j o → Line (here j) need.Inner (λ w. goes_to (here j) (next_pc (4 * j)))
       → Arrives j (next_pc (4 * j)) → Goes m g k n word v r (4 * j)
   goes_on order j o is line h = acts (4 * j) (next_pc (4 * j)) need.Inner n.sender r (here j) (inside (next_pc (4 * j)) n.sender r)
-      (ap (λ (w : Ways). w.now) is) (ap (λ (w : Ways). w.next) is) tt line.wants (line.leaves v ∙ ap (λ (w : Ways). w.went) is)
+      (ap (λ (w : Ways). w.now) is) (ap (λ (w : Ways). w.next) is) tt line.needs (line.leaves v ∙ ap (λ (w : Ways). w.went) is)
       order refl h.0 (λ free. omega (arith, h.1))
 
   -- the address of an access, which is a word's of the block
@@ -266,9 +266,9 @@ module _ (m : BlockInvariant) (g : Sender m) (k : Block) (n : Count m) (word : �
   rows is order = record {
     computes = λ j {i} found same holds find.
         let at : IsAt (here j) i = outline.at m g k n word v r j found in
-        let wants : need_of (here j) ≡ need.Inner = need_at at ∙ ap (λ (c : Course). c.wants) same in
+        let needs : need_of (here j) ≡ need.Inner = need_at at ∙ ap (λ (c : Course). c.needs) same in
         acts (4 * j) (next j i) need.Inner n.sender (left j i) (here j) (inside (next j i) n.sender (left j i)) (ap (λ (c : Course). c.now) same)
-        (ap (λ (c : Course). c.there) same) tt wants (after-at at need.Inner wants tt v ∙ ap (λ (c : Course). c.left) same) order refl holds
+        (ap (λ (c : Course). c.there) same) tt needs (after-at at need.Inner needs tt v ∙ ap (λ (c : Course). c.left) same) order refl holds
         (λ free. closer n.sender (next j i) (4 * j) (left j i) refl (below (ap (λ (c : Course). c.less) same)));
     branch_equal = λ j {a} {b} {o} found same jump on find.
         let at : IsAt (here j) (Branch branch.Equal a b o) = outline.at m g k n word v r j found in
@@ -285,11 +285,11 @@ module _ (m : BlockInvariant) (g : Sender m) (k : Block) (n : Count m) (word : �
     loads_word = λ j {rd} {rs} {o} made found same within kept holds nearer find.
         let at : IsAt (here j) (Load load.Word rd rs (pos o)) = outline.at m g k n word v r j found in
         let to = reaches is rs o within in
-        let wants : need_of (here j) ≡ loads (x rs + o) = load_need at to.1 to.2 ∙ ap loads to.0 in
+        let needs : need_of (here j) ≡ loads (x rs + o) = load_need at to.1 to.2 ∙ ap loads to.0 in
         let from : stands m.sender k (4 * j) n.sender r ≡ here j = ap (λ (c : Course). c.now) same in
-        let read : v ≡ found_in (unsent_of m k n) word (x rs + o) = find (x rs + o) within (ap need_of from ∙ wants) in
+        let read : v ≡ found_in (unsent_of m k n) word (x rs + o) = find (x rs + o) within (ap need_of from ∙ needs) in
         acts (4 * j) (next_pc (4 * j)) (loads (x rs + o)) made (loaded rd) (here j) (inside (next_pc (4 * j)) made (loaded rd)) from
-        (ap (λ (c : Course). c.there) same) (tt, within) wants (load_after at to.1 to.2 v ∙ ap (λ (c : Course). c.left) same)
+        (ap (λ (c : Course). c.there) same) (tt, within) needs (load_after at to.1 to.2 v ∙ ap (λ (c : Course). c.left) same)
         kept (ap (λ (c : Course). c.sent) same) (holds read) (λ free. closer made (next_pc (4 * j)) (4 * j) (loaded rd)
         (ap (λ (c : Course). c.asked) same) (nearer (read ∙ ap (λ ps. found_in ps word (x rs + o)) free.0) free.1));
     stores_word = λ j {rs} {from} {o} made found same within kept one holds find.
@@ -312,7 +312,7 @@ module _ (m : BlockInvariant) (g : Sender m) (k : Block) (n : Count m) (word : �
               omega (arith, less, length-drop (m.sender.asked n.sender) k.list, length-drop (suc (m.sender.asked n.sender)) k.list) in
               let h = some less in
               acts 0x04 0x08 (need.Next (Some w)) made given (inside 0x04 n.sender r) (inside 0x08 made given) from
-              (ap (λ (c : Call m.sender.Own). c.there given made) same) tt line.wants
+              (ap (λ (c : Call m.sender.Own). c.there given made) same) tt line.needs
               (line.leaves v ∙ ap (λ a. running m.sender.code (fixed k) 0x08 given (drop a k.list)) (sym asked)) h.0
               (ap (λ (c : Call m.sender.Own). c.sent) same) h.1
               (λ free. omega (arith, left, below (ap (λ (c : Call m.sender.Own). c.some_less) same), ap (λ a. length (drop a k.list)) asked))
@@ -320,7 +320,7 @@ module _ (m : BlockInvariant) (g : Sender m) (k : Block) (n : Count m) (word : �
               let line = line_04-none m.sender.code long (fixed k) r (λ inbox. outline.at_in m g k n word v r r inbox 1 found) number k.list
               (m.sender.asked n.sender) most in
               acts 0x04 0x08 (need.Next None) n.sender refused (inside 0x04 n.sender r) (inside 0x08 n.sender refused) from
-              (ap (λ (c : Call m.sender.Own). c.there refused n.sender) same) tt line.wants (line.leaves v) order refl (none most)
+              (ap (λ (c : Call m.sender.Own). c.there refused n.sender) same) tt line.needs (line.leaves v) order refl (none most)
               (λ free. closer n.sender 0x08 0x04 refused refl (below (ap (λ (c : Call m.sender.Own). c.none_less) same)))
         ];
     exits = λ j found same number holds find.

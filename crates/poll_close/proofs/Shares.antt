@@ -44,13 +44,13 @@ module _ (p : Ranking) (n size : ℕ) (lists : List (List ℕ)) where
   pub share_acts : (rs new : List Report) (states after : ℕ → Option HartState) (i : ℕ) (s next : HartState)
       → new ≡ rs → states (i + 1) ≡ Some s → after (i + 1) ≡ Some next → p.sender next < p.sender s
       → share p lists new after i < share p lists rs states i
-  share_acts rs new states after i s next said state new_state less = rw (said, state, new_state) (omega arith)
+  share_acts rs new states after i s next reporting state new_state less = rw (reporting, state, new_state) (omega arith)
 
-  pub sum_falls : (rs new : List Report) (states after : ℕ → Option HartState) (j : ℕ) → j < n
+  pub sum_decreases : (rs new : List Report) (states after : ℕ → Option HartState) (j : ℕ) → j < n
       → ((i : ℕ) → i < n → i ≢ j → share p lists new after i ≡ share p lists rs states i)
       → share p lists new after j < share p lists rs states j → receiver_rank_if p n size new after (after 0) < round n
       → rank_by_states p n size lists new after < rank_by_states p n size lists rs states
-  sum_falls rs new states after j within same fall near =
+  sum_decreases rs new states after j within same fall near =
       let a : ℕ = total (share p lists new after) n in
       let b : ℕ = total (share p lists rs states) n in
       let less : total (share p lists new after) n < total (share p lists rs states) n =
@@ -63,11 +63,11 @@ module _ (p : Ranking) (n size : ℕ) (lists : List (List ℕ)) where
           let fits : a * round n + round n ≤ b * round n = row_fits a (round n) b (round n) less (omega arith) in
           omega (arith, fits, near)
 
-  pub receiver_rank_falls : (rs new : List Report) (states after : ℕ → Option HartState) → new ≡ rs
+  pub receiver_rank_decreases : (rs new : List Report) (states after : ℕ → Option HartState) → new ≡ rs
       → ((i : ℕ) → i < n → after (i + 1) ≡ states (i + 1))
       → receiver_rank_if p n size rs after (after 0) < receiver_rank_if p n size rs states (states 0)
       → rank_by_states p n size lists new after < rank_by_states p n size lists rs states
-  receiver_rank_falls rs new states after said state fall = grind (arith, total-same, share_same)
+  receiver_rank_decreases rs new states after reporting state fall = grind (arith, total-same, share_same)
 
   receiver_rank_same : (rs : List Report) (states after : ℕ → Option HartState) (o : Option HartState)
       → ((h : ℕ) → after h ≡ states h) → receiver_rank_if p n size rs after o ≡ receiver_rank_if p n size rs states o
@@ -76,7 +76,7 @@ module _ (p : Ranking) (n size : ℕ) (lists : List (List ℕ)) where
   pub rank_same : (rs new : List Report) (states after : ℕ → Option HartState) → new ≡ rs
       → ((h : ℕ) → after h ≡ states h)
       → rank_by_states p n size lists new after ≡ rank_by_states p n size lists rs states
-  rank_same rs new states after said same = grind (arith, total-same, share_same, receiver_rank_same)
+  rank_same rs new states after reporting same = grind (arith, total-same, share_same, receiver_rank_same)
 
   -- it is never further away than a round
   pub receiver_rank_small : ((a : Around) (s : HartState) → p.receiver a s ≤ 22 + a.rest + a.start)
@@ -113,9 +113,9 @@ module _ (p : Ranking) (lists : List (List ℕ)) (rs : List Report) (states afte
   fewer : (L a b c d x y : ℕ) → b ≤ L → d ≤ 1 → a + c + 1 ≡ b + d → x ≡ y → L + 1 - (b + d) + x < L + 1 - (a + c) + y
   fewer L a b c d x y most bit more state = omega arith
 
-  pub report_falls : (x : Report) → sender_of x ≡ j → Clean (rs ++ x ∷ []) lists → share p lists (rs ++ x ∷ []) after j < share p lists rs states j
-  report_falls (report.Took i w) from clean = grind (arith, nat_tests, taken-took, length-append, closed_more, or-false, fewer, bound, one_most)
-  report_falls (report.Closed i) from clean =
+  pub report_decreases : (x : Report) → sender_of x ≡ j → Clean (rs ++ x ∷ []) lists → share p lists (rs ++ x ∷ []) after j < share p lists rs states j
+  report_decreases (report.Took i w) from clean = grind (arith, nat_tests, taken-took, length-append, closed_more, or-false, fewer, bound, one_most)
+  report_decreases (report.Closed i) from clean =
       let on : (i == j) ≡ true = grind (arith, nat_tests, from) in
       let words : length (taken (rs ++ report.Closed i ∷ []) j) ≡ length (taken rs j) = ap length (taken-closed rs i j) in
       let now : is_closed (rs ++ report.Closed i ∷ []) j ≡ true =

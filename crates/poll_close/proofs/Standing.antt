@@ -14,14 +14,14 @@ use Rattle.poll_close.specs.Layout.{Layout, senders_from}
 use Rattle.poll_close.specs.Laws.{Ring, opening_over, Meaning, AcceptedAt, Opens, Keeps, Cleans, Goes}
 use Rattle.poll_close.specs.Going.{AllGoOn}
 use Rattle.poll_close.specs.Reports.{Clean}
-use Rattle.poll_close.specs.Standing.{Stands, lists_of}
+use Rattle.poll_close.specs.Standing.{Stands, opening_lists}
 use Rattle.poll_close.proofs.Delivering.{Known, known-happens, known-run, senders-length}
 use Rattle.hart.specs.State.{HartState}
 use Rattle.step_machine.specs.Paths.{state_of}
 use Rattle.step_machine.specs.WordReads.{OpensWithWords, word_in_memory}
 use Rattle.step_machine.proofs.WordReads.{memory-word}
 use Rattle.poll_close.specs.Invariant.Outlines.{Standing}
-use Rattle.poll_close.specs.Invariant.Blocks.{Block, block_of}
+use Rattle.poll_close.specs.Invariant.Blocks.{SenderBlock, block_of}
 use Rattle.poll_close.specs.Invariant.BlockInvariant.{BlockInvariant, Count}
 use Rattle.poll_close.specs.Invariant.Channels.{means_by}
 use Rattle.poll_close.proofs.Blocks.{IsBlock}
@@ -57,9 +57,9 @@ module _ (ring : Ring) (means : Meaning) (B M : ℕ) where
   stands-run t evs new keeps s run = again s.opens.lists s.opens.layout new s.opens.accepted
       (known-run ring means keeps B M s.opens.lists s.opens.layout s.opens.accepted t evs new (known t s) run)
 
-  pub stands-clean : (t : History) → Cleans ring means → Stands ring means B M t → Clean (reported 0 t.entries) (lists_of t.opening)
+  pub stands-clean : (t : History) → Cleans ring means → Stands ring means B M t → Clean (reported 0 t.entries) (opening_lists t.opening)
   stands-clean t cleans s =
-      let lists : lists_of t.opening ≡ s.opens.lists = ap lists_of s.opens.opening ∙ inboxes ring.sender s.opens.layout 0 s.opens.lists in
+      let lists : opening_lists t.opening ≡ s.opens.lists = ap opening_lists s.opens.opening ∙ inboxes ring.sender s.opens.layout 0 s.opens.lists in
       rw lists (cleans B M s.opens.lists s.opens.layout t s.opens.accepted s.opens.opening s.kept s.meant)
 
   pub stands-goes : (t : History) → Goes ring means → Stands ring means B M t → AllGoOn t.entries
@@ -82,13 +82,14 @@ module _ (ring : Ring) (means : Meaning) (B M : ℕ) where
 
   -- what its holder sees is clean
   pub clean-seen : (p q : HistoryWithRoom) (rs : List Report) → p ≡ q → rs ≡ reported 0 p.history.entries
-      → Cleans ring means → Stands ring means B M p.history → Clean rs (lists_of q.history.opening)
-  clean-seen p q rs view is cleans s = subst (λ (z : HistoryWithRoom). Clean rs (lists_of z.history.opening)) view (rw is (stands-clean p.history cleans s))
+      → Cleans ring means → Stands ring means B M p.history → Clean rs (opening_lists q.history.opening)
+  clean-seen p q rs view is cleans s = subst (λ (z : HistoryWithRoom). Clean rs (opening_lists z.history.opening))
+      view (rw is (stands-clean p.history cleans s))
 
 -- ---- a sender's hart, where a plan asks whether it is ready
 
 pub record Sender (m : BlockInvariant) (M : ℕ) (t : History) (h : ℕ) : Type 0 where
-  pub block : Block
+  pub block : SenderBlock
   pub numbers : Count m
   pub is : IsBlock block
   pub words : block.words ≡ M

@@ -85,8 +85,8 @@ Cleans ring means = (B M : ℕ) (lists : List (List ℕ)) (l : Layout) (t : Hist
     → Clean (reported 0 t.entries) lists
 
 -- tables that fit a hart
-abbrev pub AreShort : Ring → Type 0
-AreShort ring = (length ring.sender ≤ MAX_CODE) × (length ring.receiver ≤ MAX_CODE)
+abbrev pub FitsHart : Ring → Type 0
+FitsHart ring = (length ring.sender ≤ MAX_CODE) × (length ring.receiver ≤ MAX_CODE)
 
 -- no hart of such a channel is ever stopped
 abbrev pub Goes : Ring → Meaning → Type 0

@@ -8,7 +8,7 @@ use Rattle.step_machine.specs.History.{History}
 use Rattle.step_machine.specs.Entries.{pending, reported}
 use Rattle.step_machine.specs.Runs.{RunFrom}
 use Rattle.poll_close.specs.Reports.{taken}
-use Rattle.poll_close.specs.Standing.{lists_of}
+use Rattle.poll_close.specs.Standing.{opening_lists}
 
 -- sender i is reported closed
 abbrev pub is_closed : List Report → ℕ → Bool
@@ -41,7 +41,7 @@ is_done t = all_closed (reported 0 t.entries) (senders_of t)
 -- every sender is reported closed, and its whole list is taken
 pub record Finished (t : History) : Type 0 where
   pub closed : (i : ℕ) → i < senders_of t → is_closed (reported 0 t.entries) i ≡ true
-  pub whole : (i : ℕ) → i < senders_of t → taken (reported 0 t.entries) i ≡ slice_index_or (lists_of t.opening) i []
+  pub whole : (i : ℕ) → i < senders_of t → taken (reported 0 t.entries) i ≡ slice_index_or (opening_lists t.opening) i []
 
 -- these events run, and after them the channel is finished
 pub record Finishes (B M : ℕ) (t : History) (evs : List Event) : Type 0 where

@@ -17,7 +17,7 @@ use Rattle.step_machine.specs.Paths.{state_of}
 use Rattle.step_machine.specs.Runs.{IsFor, CanFollow, NoEntry}
 use Rattle.poll_close.specs.Laws.{Ring, Meaning}
 use Rattle.poll_close.specs.Reports.{taken}
-use Rattle.poll_close.specs.Standing.{Stands, lists_of}
+use Rattle.poll_close.specs.Standing.{Stands, opening_lists}
 use Rattle.poll_close.specs.Plans.{is_closed, is_done, senders_of, AllLanded}
 
 -- What the receiver's way depends on, besides its state: the words taken of the sender that it visits, the
@@ -111,7 +111,7 @@ ring_size o = ring_bytes o.harts / 4
 
 -- how much is left, by states and reports alone
 abbrev pub rank_of : Ranking → ℕ → History → ℕ
-rank_of p M t = rank_by_states p (senders_of t) (ring_size t.opening) (lists_of t.opening) (reported 0 t.entries) (λ h. state_of M t h)
+rank_of p M t = rank_by_states p (senders_of t) (ring_size t.opening) (opening_lists t.opening) (reported 0 t.entries) (λ h. state_of M t h)
 
 -- hart h is a sender that runs and does not wait
 abbrev pub ready_if : Ranking → (ℕ → ℕ) → Option HartState → Bool

@@ -6,8 +6,8 @@ use Rattle.poll_close.specs.Layout.{Layout}
 use Rattle.poll_close.specs.Laws.{Ring, opening_over, Meaning, AcceptedAt}
 
 -- the lists that an opening's senders were given
-abbrev pub lists_of : OpeningValue → List (List ℕ)
-lists_of o = map (λ (h : HartOpeningValue). h.inbox) (drop 1 o.harts)
+abbrev pub opening_lists : OpeningValue → List (List ℕ)
+opening_lists o = map (λ (h : HartOpeningValue). h.inbox) (drop 1 o.harts)
 
 -- the opening of a channel over accepted lists, of some layout
 pub record IsOpeningOf (ring : Ring) (M : ℕ) (o : OpeningValue) : Type 0 where

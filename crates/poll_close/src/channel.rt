@@ -43,7 +43,7 @@ impl<K: RingKind, const B: usize, const M: usize> Channel<K, B, M> {
     ghost use Rattle.step_machine.specs.Runs.{Happens, RunFrom, IsOwnRun};
     ghost use Rattle.poll_close.specs.Going.{AllGoOn};
     ghost use Rattle.poll_close.specs.Reports.{Clean};
-    ghost use Rattle.poll_close.specs.Standing.{IsOpeningOf, lists_of};
+    ghost use Rattle.poll_close.specs.Standing.{IsOpeningOf, opening_lists};
 
     /// A channel over these lists at its opening, with rings of `ring` slots in the dense layout. Err as
     /// [`opening`](crate::openings::opening).
@@ -127,7 +127,7 @@ impl<K: RingKind, const B: usize, const M: usize> Channel<K, B, M> {
     /// What the receiver reported, oldest first.
     pub fn reports(&self) -> &[Report]
         ensures value { result.now ≡ reported 0 self.now.history.entries }
-        ensures clean { Clean result.now (lists_of self.now.history.opening) }
+        ensures clean { Clean result.now (opening_lists self.now.history.opening) }
     {
         K::laws();
         self.machine.reports(0)

@@ -182,5 +182,5 @@ pub fn laws_of_plans<K: Finish<B, M>, const B: usize, const M: usize>()
         → Run capacity memory (opening_over K.RingKind.ring lists l) events t → CanFinish capacity memory t }
 {
     K::laws();
-    K::falls();
+    K::ranking_decreases();
 }

@@ -4,7 +4,7 @@ ghost use Rattle.std.specs.Prelude.{◌≡◌};
 
 /// A kind of ring. A ring whose laws can't be proved is no instance.
 pub trait RingKind {
-    ghost use Rattle.poll_close.specs.Laws.{Ring, Meaning, AreShort, Opens, Keeps, Cleans, Goes, Stays};
+    ghost use Rattle.poll_close.specs.Laws.{Ring, Meaning, FitsHart, Opens, Keeps, Cleans, Goes, Stays};
 
     /// The tables and the least size, as a definition.
     ghost ring: { Ring };
@@ -27,7 +27,7 @@ pub trait RingKind {
     /// The laws: the tables fit a hart, every opening has the meaning, every event keeps it, it gives
     /// clean reports, no hart is stopped, and each touches its blocks alone. It does nothing.
     fn laws()
-        ensures short { AreShort ring }
+        ensures short { FitsHart ring }
         ensures opens { Opens ring meaning }
         ensures keeps { Keeps ring meaning }
         ensures cleans { Cleans ring meaning }

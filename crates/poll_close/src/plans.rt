@@ -33,7 +33,7 @@ pub trait Finish<const B: usize, const M: usize>: RingKind {
 
     /// The law: where nothing is pending and some sender is not reported closed, the hart that comes
     /// next can act, and less is left after its act and its store's landing. It does nothing.
-    fn falls()
+    fn ranking_decreases()
         ensures { Decreases Self.ring Self.meaning (rank_of ranking) (next_by ranking) };
 }
 
@@ -127,7 +127,7 @@ fn plan_in<K: Finish<B, M>, const B: usize, const M: usize>(
     ensures stands { OnOk result (Stands K.RingKind.ring K.RingKind.meaning B M machine.new.history) }
 {
     K::laws();
-    K::falls();
+    K::ranking_decreases();
     let mut plan = Vec::new(alloc);
     if is_finished::<K, B, M>(machine) {
         return Ok(plan);

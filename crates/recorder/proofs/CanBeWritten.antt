@@ -11,7 +11,7 @@ use Rattle.hart.specs.declared.need.Need.{Need}
 use Rattle.hart.proofs.Needs.{IsTrueOf, need_is_true}
 use Rattle.step_machine.specs.History.{OpeningValue, History, at_opening}
 use Rattle.step_machine.specs.Entries.{is_land, hart_of as hart_of_entry}
-use Rattle.step_machine.specs.Paths.{entry_of, value_of, CanMake}
+use Rattle.step_machine.specs.Paths.{entry_of, number_read, CanMake}
 use Rattle.step_machine.specs.Runs.{IsFor, CanFollow, idle, Happens}
 use Rattle.step_machine.specs.declared.events.Event.{Event}
 use Rattle.step_machine.specs.declared.events.Event.TheVariants.{Act, Land}
@@ -26,9 +26,9 @@ use Rattle.texts.specs.Cutting.{tokens}
 use Rattle.texts.specs.Rows.{RowPlace, fixed, any, Made, Row, Fill, IsRowOf}
 use Rattle.texts.proofs.ResultLaws.{some_is}
 use Rattle.texts.proofs.FormatLaws.{stand_all}
-use Rattle.recorder.specs.Schedule.{hart_of, OfHarts}
-use Rattle.recorder.specs.Outcomes.{HartOutcome, stopped, outcome_rows, IsWidth, Fits, OutcomeFits, IsOutcomeOf}
-use Rattle.recorder.specs.Records.{Step, events_in, IsStepsOf, Line, IsLineOf, lines_of, IsRecordOf, CanBeWritten}
+use Rattle.recorder.specs.Schedule.{hart_of_event, OfHarts}
+use Rattle.recorder.specs.Outcomes.{HartOutcome, stopped, outcome_rows, IsWidth, IsEntryOf, OutcomeFits, IsOutcomeOf}
+use Rattle.recorder.specs.Records.{Step, events_in, IsStepsOf, SizedLine, IsLineOf, record_lines, IsRecordOf, CanBeWritten}
 use Rattle.recorder.specs.Replaying.{RecordFrom, IsRunRecord}
 
 -- ---- a run's outcomes
@@ -37,14 +37,14 @@ width_is : (width : ℕ) → IsTrue (width == 1 || width == 2 || width == 4) →
 width_is width is = grind (arith, eqb-true)
 
 -- an entry that a state makes is of its hart, and of a width that has a name
-need_fits : (h : ℕ) (s : HartState) (n : Need) (v : ℕ) → IsTrueOf s n → Fits h (entry_of h n v)
+need_fits : (h : ℕ) (s : HartState) (n : Need) (v : ℕ) → IsTrueOf s n → IsEntryOf h (entry_of h n v)
 need_fits h s n v is = grind (arith, width_is)
 
-made_fits : (h : ℕ) (s : HartState) (e : Entry) → hart_of_entry e ≡ h → CanMake s e → Fits h e
+made_fits : (h : ℕ) (s : HartState) (e : Entry) → hart_of_entry e ≡ h → CanMake s e → IsEntryOf h e
 made_fits h s e mine can =
-    subst (Fits h) (sym (can.made ∙ ap (λ g. entry_of g (need_of s) (value_of e)) mine)) (need_fits h s (need_of s) (value_of e) (need_is_true s))
+    subst (IsEntryOf h) (sym (can.made ∙ ap (λ g. entry_of g (need_of s) (number_read e)) mine)) (need_fits h s (need_of s) (number_read e) (need_is_true s))
 
-act_fits : (B M : ℕ) (t : History) (h : ℕ) (e : Entry) → hart_of_entry e ≡ h → is_land e ≡ false → CanFollow B M t e → Fits h e
+act_fits : (B M : ℕ) (t : History) (h : ℕ) (e : Entry) → hart_of_entry e ≡ h → is_land e ≡ false → CanFollow B M t e → IsEntryOf h e
 act_fits B M t h e mine act follows =
     let there = state_there M t h (subst (λ g. g < length t.opening.harts) mine (hart_follows B M t e follows)) in
     made_fits h there.0 e mine (act_only B M t h there.0 e mine act there.1 follows).0
@@ -67,7 +67,7 @@ happens_fits B M t event NoHart new happens = idle-fits M t event NoHart happens
 run_fits : (B M : ℕ) (t : History) (steps : List Step) (new : History) → RecordFrom B M t steps new → OfHarts (events_in steps) → All CanBeWritten steps
 run_fits B M t [] new is harts = All-nil CanBeWritten
 run_fits B M t (step ∷ steps) new is harts =
-    let OfHart : Event → Type 0 = λ event. hart_of event < 64 in
+    let OfHart : Event → Type 0 = λ event. hart_of_event event < 64 in
     All-cons CanBeWritten step steps
     (All-head OfHart step.0 (events_in steps) harts, happens_fits B M t step.0 step.1 is.0 is.1)
     (run_fits B M is.0 steps new is.2 (All-tail OfHart step.0 (events_in steps) harts))
@@ -118,13 +118,13 @@ all_fit = grind (arith, fits_as, stop_fits)
 row_fits : (words : List (List ℕ)) (h : ℕ) (outcome : Outcome) → IsRowOf outcome_rows words (h, outcome) → OutcomeFits h outcome
 row_fits words h outcome is = rows-fit outcome_rows words (h, outcome) all_fit is
 
-line-fits : (line : Line) (part : List Step) → IsLineOf line part → All CanBeWritten part
+line-fits : (line : SizedLine) (part : List Step) → IsLineOf line part → All CanBeWritten part
 line-fits line part is = go (tokens line.0) is
   where
     go : (words : List (List ℕ)) → IsStepsOf words part → All CanBeWritten part
     go [] same = rw same (All-nil CanBeWritten)
     go (token ∷ words) (event, times, outcome, spells, hart, least, tells, same) =
-        rw same (All-replicate CanBeWritten times (event, outcome) (hart, (row_fits words (hart_of event) outcome tells.0, tells.1)))
+        rw same (All-replicate CanBeWritten times (event, outcome) (hart, (row_fits words (hart_of_event event) outcome tells.0, tells.1)))
 
 pub text_can_be_written : (text : List ℕ) (steps : List Step) → IsRecordOf text steps → All CanBeWritten steps
-text_can_be_written text steps (body, is, ends, lines) = stand_all IsLineOf CanBeWritten line-fits (lines_of body) steps lines.0
+text_can_be_written text steps (body, is, ends, lines) = stand_all IsLineOf CanBeWritten line-fits (record_lines body) steps lines.0

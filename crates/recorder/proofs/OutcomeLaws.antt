@@ -24,10 +24,10 @@ use Rattle.texts.proofs.ResultLaws.{some, some_is}
 use Rattle.texts.proofs.RowLaws.{rows-settle, rows-of_length, rows-by_name, Solid, AreSolid, decimal_says, decimal_solid, solid_by_test, row-again}
 use Rattle.recorder.specs.declared.faults.AtByte.{AtByte}
 use Rattle.recorder.specs.declared.faults.ScheduleFault.TheVariants.{BadOutcome}
-use Rattle.recorder.specs.Schedule.{hart_of}
+use Rattle.recorder.specs.Schedule.{hart_of_event}
 use Rattle.recorder.specs.Reading.{at_byte}
 use Rattle.recorder.specs.Outcomes.{HartOutcome, stop_of, stopped, outcome_rows, may_have, event_outcome, SaysOutcome}
-use Rattle.recorder.specs.Outcomes.{entry_row, outcome_row, outcome_text, IsWidth, Fits, OutcomeFits, IsOutcomeOf}
+use Rattle.recorder.specs.Outcomes.{entry_row, outcome_row, outcome_text, IsWidth, IsEntryOf, OutcomeFits, IsOutcomeOf}
 use Rattle.rv_decode.specs.Word.{IsWord}
 use Rattle.recorder.specs.Outcomes.{HasWords, OutcomeHasWords, is_same_outcome}
 
@@ -44,31 +44,31 @@ outcome_settles fault event words = of_read (rows_at outcome_rows words) (rows-s
   where
     of_read : (read : Option HartOutcome) → DecidesGrammar (IsRowOf outcome_rows words) (or_fault fault read)
         → DecidesGrammar (SaysOutcome event words) (or_fault fault (event_outcome event read))
-    of_read None settles = λ outcome tells. settles (hart_of event, outcome) tells.0
-    of_read (Some found) settles = by_test ((found.0 == hart_of event) && may_have event found.1) refl
+    of_read None settles = λ outcome tells. settles (hart_of_event event, outcome) tells.0
+    of_read (Some found) settles = by_test ((found.0 == hart_of_event event) && may_have event found.1) refl
       where
-        by_test : (b : Bool) → ((found.0 == hart_of event) && may_have event found.1) ≡ b
+        by_test : (b : Bool) → ((found.0 == hart_of_event event) && may_have event found.1) ≡ b
             → DecidesGrammar (SaysOutcome event words) (or_fault fault (cond b (Some found.1) None))
         by_test true fits =
-            let both = and_parts (found.0 == hart_of event) (may_have event found.1) fits in (
+            let both = and_parts (found.0 == hart_of_event event) (may_have event found.1) fits in (
               (
                 subst (λ (h : ℕ). IsRowOf outcome_rows words (h, found.1))
-                    (eqb-true found.0 (hart_of event) both.0) settles.0,
+                    (eqb-true found.0 (hart_of_event event) both.0) settles.0,
                 both.1,
               ),
-              λ outcome tells. ap (λ (t : HartOutcome). t.1) (settles.1 (hart_of event, outcome) tells.0),
+              λ outcome tells. ap (λ (t : HartOutcome). t.1) (settles.1 (hart_of_event event, outcome) tells.0),
             )
         by_test false other = λ outcome tells.
-            let same = settles.1 (hart_of event, outcome) tells.0 in
-            let hart : (found.0 == hart_of event) ≡ true = eq-eqb found.0 (hart_of event) (sym (ap (λ (t : HartOutcome). t.0) same)) in
+            let same = settles.1 (hart_of_event event, outcome) tells.0 in
+            let hart : (found.0 == hart_of_event event) ≡ true = eq-eqb found.0 (hart_of_event event) (sym (ap (λ (t : HartOutcome). t.0) same)) in
             let may : may_have event found.1 ≡ true = subst (λ (o : Outcome). may_have event o ≡ true) (ap (λ (t : HartOutcome). t.1) same) tells.1 in
             absurd (let never : true ≡ false = rw (hart, may) at other in cc)
 
 -- ---- what is written is read again
 
 -- a row that is written says its outcome
-abbrev pub IsSaid : ℕ → Outcome → List Written → Type 0
-IsSaid h outcome row = IsRowOf outcome_rows (map word_text row) (h, outcome) × AreSolid row
+abbrev pub IsOutcomeRow : ℕ → Outcome → List Written → Type 0
+IsOutcomeRow h outcome row = IsRowOf outcome_rows (map word_text row) (h, outcome) × AreSolid row
 
 small : (n : ℕ) → IsWord n → SaysWord (decimal n) n
 small n is = decimal_says n is
@@ -79,7 +79,8 @@ solid n is = decimal_solid n (omega (arith, is))
 stop_again : (why : Stop) → (stop_of (stop_number why) ≡ Some why) × IsWord (stop_number why)
 stop_again why = grind arith
 
-load_says : (h a width v : ℕ) → IsWord h → IsWidth width → IsWord a → IsWord v → IsSaid h (Did (entry.Load h a width v)) (entry_row (entry.Load h a width v))
+load_says : (h a width v : ℕ) → IsWord h → IsWidth width → IsWord a → IsWord v
+    → IsOutcomeRow h (Did (entry.Load h a width v)) (entry_row (entry.Load h a width v))
 load_says h a width v hart (inl (inl is)) a' v' = rw is (
   inr (inr (inl ((refl, (h, small h hart, (a, small a a', (v, small v v', refl))))))),
   (solid_by_test (codes "load1") refl, (solid h hart, (solid a a', (solid v v', tt)))),
@@ -93,7 +94,8 @@ load_says h a width v hart (inr is) a' v' = rw is (
   (solid_by_test (codes "load") refl, (solid h hart, (solid a a', (solid v v', tt)))),
 )
 
-store_says : (h a width v : ℕ) → IsWord h → IsWidth width → IsWord a → IsWord v → IsSaid h (Did (entry.Store h a width v)) (entry_row (entry.Store h a width v))
+store_says : (h a width v : ℕ) → IsWord h → IsWidth width → IsWord a → IsWord v
+    → IsOutcomeRow h (Did (entry.Store h a width v)) (entry_row (entry.Store h a width v))
 store_says h a width v hart (inl (inl is)) a' v' = rw is (
   inr (inr (inr (inr (inr (inl ((refl, (h, small h hart, (a, small a a', (v, small v v', refl)))))))))),
   (solid_by_test (codes "store1") refl, (solid h hart, (solid a a', (solid v v', tt)))),
@@ -107,48 +109,48 @@ store_says h a width v hart (inr is) a' v' = rw is (
   (solid_by_test (codes "store") refl, (solid h hart, (solid a a', (solid v v', tt)))),
 )
 
-said_here : (h : ℕ) (e : Entry) → IsWord h → Fits h e → HasWords e → IsSaid h (Did e) (entry_row e)
-said_here h (entry.Inner g) hart is words = rw (← is) (inl ((refl, (h, small h hart, refl))), (solid_by_test (codes "inner") refl, (solid h hart, tt)))
-said_here h (entry.Load g a width v) hart (is, width') (a', v') = rw (← is) (load_says h a width v hart width' a' v')
-said_here h (entry.Store g a width v) hart (is, width') (a', v') = rw (← is) (store_says h a width v hart width' a' v')
-said_here h (entry.Amo g a old new) hart is (a', old', new') = rw (← is) (
+outcome_row_of : (h : ℕ) (e : Entry) → IsWord h → IsEntryOf h e → HasWords e → IsOutcomeRow h (Did e) (entry_row e)
+outcome_row_of h (entry.Inner g) hart is words = rw (← is) (inl ((refl, (h, small h hart, refl))), (solid_by_test (codes "inner") refl, (solid h hart, tt)))
+outcome_row_of h (entry.Load g a width v) hart (is, width') (a', v') = rw (← is) (load_says h a width v hart width' a' v')
+outcome_row_of h (entry.Store g a width v) hart (is, width') (a', v') = rw (← is) (store_says h a width v hart width' a' v')
+outcome_row_of h (entry.Amo g a old new) hart is (a', old', new') = rw (← is) (
   inr (inr (inr (inr (inr (inr
       (inr (inl ((refl, (h, small h hart, (a, small a a', (old, small old old', (new, small new new', refl))))))))))))),
   (solid_by_test (codes "amo") refl, (solid h hart, (solid a a', (solid old old', (solid new new', tt))))),
 )
-said_here h (entry.Fence g true) hart is words = rw (← is) (
+outcome_row_of h (entry.Fence g true) hart is words = rw (← is) (
   inr (inr (inr (inr (inr (inr (inr (inr (inl ((refl, (h, small h hart, (refl, refl)))))))))))),
   (solid_by_test (codes "fence") refl, (solid h hart, (solid_by_test (codes "full") refl, tt))),
 )
-said_here h (entry.Fence g false) hart is words = rw (← is) (
+outcome_row_of h (entry.Fence g false) hart is words = rw (← is) (
   inr (inr (inr (inr (inr (inr (inr (inr (inr (inl ((refl, (h, small h hart, (refl, refl))))))))))))),
   (solid_by_test (codes "fence") refl, (solid h hart, (solid_by_test (codes "part") refl, tt))),
 )
-said_here h (entry.Next g (Some w)) hart is w' = rw (← is) (
+outcome_row_of h (entry.Next g (Some w)) hart is w' = rw (← is) (
   inr
       (inr (inr (inr (inr (inr (inr (inr (inr (inr (inl ((refl, (h, small h hart, (w, small w w', refl)))))))))))))),
   (solid_by_test (codes "next") refl, (solid h hart, (solid w w', tt))),
 )
-said_here h (entry.Next g None) hart is words = rw (← is) (
+outcome_row_of h (entry.Next g None) hart is words = rw (← is) (
   inr (inr (inr (inr (inr (inr (inr (inr (inr (inr (inr (inl ((refl, (h, small h hart, (refl, refl))))))))))))))),
   (solid_by_test (codes "next") refl, (solid h hart, (solid_by_test (codes "end") refl, tt))),
 )
-said_here h (entry.Took g i w) hart is (i', w') = rw (← is) (
+outcome_row_of h (entry.Took g i w) hart is (i', w') = rw (← is) (
   inr (inr (inr (inr (inr (inr
       (inr (inr (inr (inr (inr (inr (inl ((refl, (h, small h hart, (i, small i i', (w, small w w', refl))))))))))))))))),
   (solid_by_test (codes "took") refl, (solid h hart, (solid i i', (solid w w', tt)))),
 )
-said_here h (entry.Closed g i) hart is i' = rw (← is) (
+outcome_row_of h (entry.Closed g i) hart is i' = rw (← is) (
   inr (inr (inr (inr
       (inr (inr (inr (inr (inr (inr (inr (inr (inr (inl ((refl, (h, small h hart, (i, small i i', refl))))))))))))))))),
   (solid_by_test (codes "closed") refl, (solid h hart, (solid i i', tt))),
 )
-said_here h (entry.Ended g) hart is words = rw (← is) (
+outcome_row_of h (entry.Ended g) hart is words = rw (← is) (
   inr (inr
       (inr (inr (inr (inr (inr (inr (inr (inr (inr (inr (inr (inr (inl ((refl, (h, small h hart, refl))))))))))))))))),
   (solid_by_test (codes "ended") refl, (solid h hart, tt)),
 )
-said_here h (entry.Stopped g why) hart is words = let n = stop_number why in
+outcome_row_of h (entry.Stopped g why) hart is words = let n = stop_number why in
     let again = stop_again why in
     let n' = again.1 in
     rw (← is) (
@@ -156,14 +158,14 @@ said_here h (entry.Stopped g why) hart is words = let n = stop_number why in
           (inr (inr (inr (inr (inr (inl ((refl, (h, small h hart, (n, small n n', ap (stopped h) again.0))))))))))))))))))),
       (solid_by_test (codes "stopped") refl, (solid h hart, (solid n n', tt))),
     )
-said_here h (entry.Land g) hart is words = rw (← is) (
+outcome_row_of h (entry.Land g) hart is words = rw (← is) (
   inr (inr (inr (inr
       (inr (inr (inr (inr (inr (inr (inr (inr (inr (inr (inr (inr (inl ((refl, (h, small h hart, refl))))))))))))))))))),
   (solid_by_test (codes "land") refl, (solid h hart, tt)),
 )
 
-pub outcome_says : (h : ℕ) (outcome : Outcome) → IsWord h → OutcomeFits h outcome → OutcomeHasWords outcome → IsSaid h outcome (outcome_row h outcome)
-outcome_says h (Did e) hart fits words = said_here h e hart fits words
+pub outcome_says : (h : ℕ) (outcome : Outcome) → IsWord h → OutcomeFits h outcome → OutcomeHasWords outcome → IsOutcomeRow h outcome (outcome_row h outcome)
+outcome_says h (Did e) hart fits words = outcome_row_of h e hart fits words
 outcome_says h Waited hart fits words = (
   inr (inr (inr (inr (inr (inr
       (inr (inr (inr (inr (inr (inr (inr (inr (inr (inr (inr (inl ((refl, (h, small h hart, refl)))))))))))))))))))),
@@ -197,8 +199,8 @@ outcome_read event words outcome = go (event_outcome event (rows_at outcome_rows
       λ e. subst (SaysOutcome event words) (some_is x outcome e) settles.0,
     )
 
-pub outcome_again : (event : Event) (outcome : Outcome) → hart_of event < 64 → IsOutcomeOf event outcome
-    → OutcomeHasWords outcome → SaysOutcome event (tokens (outcome_text (hart_of event) outcome)) outcome
+pub outcome_again : (event : Event) (outcome : Outcome) → hart_of_event event < 64 → IsOutcomeOf event outcome
+    → OutcomeHasWords outcome → SaysOutcome event (tokens (outcome_text (hart_of_event event) outcome)) outcome
 outcome_again event outcome hart can words = grind (arith, outcome_says, row-again)
 
 -- words are read by how many they are, and by the first

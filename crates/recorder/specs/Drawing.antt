@@ -5,17 +5,17 @@ use Rattle.step_machine.specs.declared.events.Event.{Event}
 use Rattle.step_machine.specs.declared.events.Event.TheVariants.{Act, Land}
 
 -- the event of a number below twice the harts: their acts come first, and then their landings
-abbrev pub numbered : (harts number : ℕ) → Event
-numbered harts number = if nat_lt number harts then Act number else Land (number - harts)
+abbrev pub event_of_number : (harts number : ℕ) → Event
+event_of_number harts number = if nat_lt number harts then Act number else Land (number - harts)
 
 -- the event that a word draws
 abbrev pub drawn : (harts word : ℕ) → Event
-drawn harts word = numbered harts (word % (2 * harts))
+drawn harts word = event_of_number harts (word % (2 * harts))
 
 -- the next n words of 32 bits that a generator gives
-unfoldable pub words : (n : ℕ) → Stream → List ℕ
-words zero stream = []
-words (suc n) stream = (next_u32 stream).0 ∷ words n (next_u32 stream).1
+unfoldable pub drawn_words : (n : ℕ) → Stream → List ℕ
+drawn_words zero stream = []
+drawn_words (suc n) stream = (next_u32 stream).0 ∷ drawn_words n (next_u32 stream).1
 
 -- what it will give after them
 unfoldable pub left_after : (n : ℕ) → Stream → Stream
@@ -25,4 +25,4 @@ left_after (suc n) stream = left_after n (next_u32 stream).1
 -- The schedule of this number, from 0. Each has `size` events and takes `size` words of the generator's stream,
 -- after those of the schedules before it.
 abbrev pub schedule_drawn : (harts size : ℕ) → Stream → (number : ℕ) → List Event
-schedule_drawn harts size stream number = map (drawn harts) (words size (left_after (number * size) stream))
+schedule_drawn harts size stream number = map (drawn harts) (drawn_words size (left_after (number * size) stream))

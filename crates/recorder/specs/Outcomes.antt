@@ -13,7 +13,7 @@ use Rattle.step_machine.specs.declared.events.Outcome.TheVariants.{Did, Waited, 
 use Rattle.step_machine.specs.contracts.events.OutcomePartialEq.TheImpl as outcome_eq
 use Rattle.step_machine.specs.Entries.{is_land, hart_of as hart_of_entry}
 use Rattle.texts.specs.Rows.{Row, fixed, any, IsRowOf, Written, plain, number, row_text}
-use Rattle.recorder.specs.Schedule.{hart_of}
+use Rattle.recorder.specs.Schedule.{hart_of_event}
 
 -- ---- the writing
 
@@ -52,7 +52,7 @@ outcome_text h outcome = row_text (outcome_row h outcome)
 
 -- the same as a line, ended by LF (10)
 abbrev pub outcome_line : Event → Outcome → List ℕ
-outcome_line event outcome = outcome_text (hart_of event) outcome ++ 10 ∷ []
+outcome_line event outcome = outcome_text (hart_of_event event) outcome ++ 10 ∷ []
 
 abbrev pub entry_line : Entry → List ℕ
 entry_line e = row_text (entry_row e) ++ 10 ∷ []
@@ -120,11 +120,11 @@ may_have ev o = true
 
 -- The words say an outcome that the event can have.
 abbrev pub SaysOutcome : Event → List (List ℕ) → Outcome → Type 0
-SaysOutcome event words outcome = IsRowOf outcome_rows words (hart_of event, outcome) × (may_have event outcome ≡ true)
+SaysOutcome event words outcome = IsRowOf outcome_rows words (hart_of_event event, outcome) × (may_have event outcome ≡ true)
 
 abbrev pub event_outcome : Event → Option HartOutcome → Option Outcome
 event_outcome event None = None
-event_outcome event (Some found) = if (found.0 == hart_of event) && may_have event found.1 then Some found.1 else None
+event_outcome event (Some found) = if (found.0 == hart_of_event event) && may_have event found.1 then Some found.1 else None
 
 -- ---- what can be written
 
@@ -132,18 +132,18 @@ abbrev pub IsWidth : ℕ → Type 0
 IsWidth width = ((width ≡ 1) ⊎ (width ≡ 2)) ⊎ (width ≡ 4)
 
 -- an entry of this hart, of a width that has a name
-abbrev pub Fits : ℕ → Entry → Type 0
-Fits h (entry.Load g a width v) = (h ≡ g) × IsWidth width
-Fits h (entry.Store g a width v) = (h ≡ g) × IsWidth width
-Fits h e = h ≡ hart_of_entry e
+abbrev pub IsEntryOf : ℕ → Entry → Type 0
+IsEntryOf h (entry.Load g a width v) = (h ≡ g) × IsWidth width
+IsEntryOf h (entry.Store g a width v) = (h ≡ g) × IsWidth width
+IsEntryOf h e = h ≡ hart_of_entry e
 
 abbrev pub OutcomeFits : ℕ → Outcome → Type 0
-OutcomeFits h (Did e) = Fits h e
+OutcomeFits h (Did e) = IsEntryOf h e
 OutcomeFits h outcome = Unit {0}
 
 -- an outcome of the event's hart, which the event can have
 abbrev pub IsOutcomeOf : Event → Outcome → Type 0
-IsOutcomeOf event outcome = OutcomeFits (hart_of event) outcome × (may_have event outcome ≡ true)
+IsOutcomeOf event outcome = OutcomeFits (hart_of_event event) outcome × (may_have event outcome ≡ true)
 
 -- its numbers are words, as those of every entry in a program are
 abbrev pub HasWords : Entry → Type 0

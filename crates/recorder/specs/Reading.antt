@@ -17,7 +17,7 @@ use Rattle.texts.specs.declared.pieces.Separators.TheVariants.{BlanksAndLineEnds
 use Rattle.texts.specs.Pieces.{pieces}
 use Rattle.texts.specs.Numbers.{number_of}
 use Rattle.texts.specs.Cutting.{before, after, is_byte}
-use Rattle.texts.specs.Formats.{or_fault, in_turn}
+use Rattle.texts.specs.Formats.{or_fault, read_in_turn}
 use Rattle.texts.specs.declared.errors.TextError.{TextError}
 use Rattle.texts.specs.Results.{◌>>=◌, refusal_of}
 
@@ -34,25 +34,26 @@ abbrev pub once_of : Option ℕ → Option Numbers
 once_of None = None
 once_of (Some hart) = Some (hart, 1)
 
-abbrev pub counted : Option ℕ → Option ℕ → Option Numbers
-counted None times = None
-counted (Some hart) None = None
-counted (Some hart) (Some times) = Some (hart, times)
+abbrev pub numbers_given : Option ℕ → Option ℕ → Option Numbers
+numbers_given None times = None
+numbers_given (Some hart) None = None
+numbers_given (Some hart) (Some times) = Some (hart, times)
 
 abbrev pub numbers_cut : List ℕ → Option (List ℕ) → Option Numbers
 numbers_cut hart None = once_of (number_of hart)
-numbers_cut hart (Some times) = counted (number_of hart) (number_of times)
+numbers_cut hart (Some times) = numbers_given (number_of hart) (number_of times)
 
 unfoldable pub numbers_of : List ℕ → Option Numbers
 numbers_of numbers = numbers_cut (before (is_byte 42) numbers) (after (is_byte 42) numbers)
 
-abbrev pub token_of : Kind → Option Numbers → Option Token
-token_of kind None = None
-token_of kind (Some numbers) = Some (record { kind = kind; hart = numbers.0; times = numbers.1 })
+abbrev pub token_with : Kind → Option Numbers → Option Token
+token_with kind None = None
+token_with kind (Some numbers) = Some (record { kind = kind; hart = numbers.0; times = numbers.1 })
 
-unfoldable pub said_by : List ℕ → Option Token
-said_by [] = None
-said_by (c ∷ numbers) = if c == 97 then token_of kinds.Act (numbers_of numbers) else (if c == 108 then token_of kinds.Land (numbers_of numbers) else None)
+unfoldable pub token_in_word : List ℕ → Option Token
+token_in_word [] = None
+token_in_word (c ∷ numbers) =
+    if c == 97 then token_with kinds.Act (numbers_of numbers) else (if c == 108 then token_with kinds.Land (numbers_of numbers) else None)
 
 abbrev pub ends_after : List ℕ → Option (List ℕ) → Bool
 ends_after hart None = length hart == 0
@@ -63,24 +64,24 @@ unfoldable pub is_cut : List ℕ → Bool
 is_cut [] = false
 is_cut (c ∷ numbers) = ((c == 97) || (c == 108)) && ends_after (before (is_byte 42) numbers) (after (is_byte 42) numbers)
 
-abbrev pub event_of : Kind → ℕ → Event
-event_of kinds.Act hart = Act hart
-event_of kinds.Land hart = Land hart
+abbrev pub event_of_kind : Kind → ℕ → Event
+event_of_kind kinds.Act hart = Act hart
+event_of_kind kinds.Land hart = Land hart
 
 -- The run of one event for which a token stands that begins at `place` in a text of `end` bytes, where
 -- `room` more events may come.
 abbrev pub shape_fault : (end place : ℕ) → List ℕ → AtByte
 shape_fault end place word = if is_cut word && ((place + length word) == end) then at_byte Truncated end else at_byte BadToken place
 
-abbrev pub decoded : (place room : ℕ) → Token → Result (Event × ℕ) AtByte
-decoded place room token = if nat_le MAX_HARTS token.hart then Err (at_byte BadHart place)
+abbrev pub decoded_token : (place room : ℕ) → Token → Result (Event × ℕ) AtByte
+decoded_token place room token = if nat_le MAX_HARTS token.hart then Err (at_byte BadHart place)
     else (if (token.times == 0) || nat_lt room token.times then Err (at_byte BadCount place)
-    else Ok (event_of token.kind token.hart, token.times))
+    else Ok (event_of_kind token.kind token.hart, token.times))
 
 unfoldable pub run_at : (end place room : ℕ) → List ℕ → Result (Event × ℕ) AtByte
 run_at end place room word = do
-  token ← or_fault (shape_fault end place word) (said_by word)
-  decoded place room token
+  token ← or_fault (shape_fault end place word) (token_in_word word)
+  decoded_token place room token
 
 -- ---- a text
 
@@ -96,7 +97,7 @@ step_over piece = length piece + 1
 
 -- the events of the tokens that a text has from the byte `start` on, where `room` events may come
 unfoldable pub tokens_from : (start room : ℕ) → List ℕ → Result (List Event) AtByte
-tokens_from start room text = in_turn (piece_at (length text)) step_over start room (pieces BlanksAndLineEnds (drop start text))
+tokens_from start room text = read_in_turn (piece_at (length text)) step_over start room (pieces BlanksAndLineEnds (drop start text))
 
 -- the events of a text's tokens
 abbrev pub tokens_at : (room : ℕ) → List ℕ → Result (List Event) AtByte

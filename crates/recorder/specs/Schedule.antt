@@ -5,7 +5,7 @@ use Rattle.step_machine.specs.declared.events.Event.TheVariants.{Act, Land}
 use Rattle.step_machine.specs.declared.opening.TheConstants.{MAX_HARTS}
 use Rattle.texts.specs.declared.pieces.Separators.TheVariants.{BlanksAndLineEnds}
 use Rattle.texts.specs.Pieces.{pieces}
-use Rattle.texts.specs.Numbers.{Says}
+use Rattle.texts.specs.Numbers.{SaysDecimal}
 use Rattle.texts.specs.Formats.{Stand}
 use Rattle.recorder.specs.declared.reading.TheConstants.{MAX_EVENTS}
 
@@ -14,20 +14,21 @@ abbrev pub letter : Event → ℕ
 letter (Act hart) = 97
 letter (Land hart) = 108
 
-abbrev pub hart_of : Event → ℕ
-hart_of (Act hart) = hart
-hart_of (Land hart) = hart
+abbrev pub hart_of_event : Event → ℕ
+hart_of_event (Act hart) = hart
+hart_of_event (Land hart) = hart
 
 -- A token spells an event and how often it stands: its letter, its hart, and a star and the count, or no count for once.
 pub data Spells (event : Event) : List ℕ → ℕ → Type 0 where
-  once : (hart : List ℕ) → Says hart (hart_of event) → Spells event (letter event ∷ hart) 1
-  repeated : (hart count : List ℕ) (times : ℕ) → Says hart (hart_of event) → Says count times → Spells event (letter event ∷ (hart ++ 42 ∷ count)) times
+  once : (hart : List ℕ) → SaysDecimal hart (hart_of_event event) → Spells event (letter event ∷ hart) 1
+  repeated : (hart count : List ℕ) (times : ℕ) → SaysDecimal hart (hart_of_event event) → SaysDecimal count times
+      → Spells event (letter event ∷ (hart ++ 42 ∷ count)) times
 
 -- A piece is a token for a run of one event of one of the harts, once at least, or it is empty and for none.
 abbrev pub IsPieceOf : List ℕ → List Event → Type 0
 IsPieceOf [] events = events ≡ []
 IsPieceOf (c ∷ token) events = (event : Event) × (times : ℕ) × Spells event (c ∷ token) times
-    × (hart_of event < MAX_HARTS) × (0 < times) × (events ≡ replicate times event)
+    × (hart_of_event event < MAX_HARTS) × (0 < times) × (events ≡ replicate times event)
 
 -- The tokens of the text stand for these events, which are at most 1,048,576. Tokens are parted by
 -- spaces, tabs, CR and LF.
@@ -36,7 +37,7 @@ IsTokensOf text events = Stand IsPieceOf (pieces BlanksAndLineEnds text) events 
 
 -- each event is of a hart that a machine may have
 abbrev pub OfHarts : List Event → Type 0
-OfHarts events = All (λ event. hart_of event < MAX_HARTS) events
+OfHarts events = All (λ event. hart_of_event event < MAX_HARTS) events
 
 -- A line ends here: by LF (10), by CR (13) and LF, or since nothing follows.
 abbrev pub EndsLine : List ℕ → Type 0

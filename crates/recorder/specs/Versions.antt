@@ -15,31 +15,31 @@ pub data ScheduleValue : Type 0 where
   plain : List Event → ScheduleValue
   recorded : List Step → ScheduleValue
 
-abbrev pub said_of : Schedule → ScheduleValue
-said_of (Plain events) = plain events.items
-said_of (Record steps) = recorded steps.items
+abbrev pub schedule_value : Schedule → ScheduleValue
+schedule_value (Plain events) = plain events.items
+schedule_value (Record steps) = recorded steps.items
 
 -- its events
-abbrev pub events_said : ScheduleValue → List Event
-events_said (plain events) = events
-events_said (recorded steps) = events_in steps
+abbrev pub events_of_schedule : ScheduleValue → List Event
+events_of_schedule (plain events) = events
+events_of_schedule (recorded steps) = events_in steps
 
 -- The text says this.
-abbrev pub Says : List ℕ → ScheduleValue → Type 0
-Says text (plain events) = IsPlainOf text events
-Says text (recorded steps) = IsRecordOf text steps
+abbrev pub SaysSchedule : List ℕ → ScheduleValue → Type 0
+SaysSchedule text (plain events) = IsPlainOf text events
+SaysSchedule text (recorded steps) = IsRecordOf text steps
 
 -- The text is a schedule of these events, of either version.
 abbrev pub IsScheduleOf : List ℕ → List Event → Type 0
-IsScheduleOf text events = (said : ScheduleValue) × Says text said × (events ≡ events_said said)
+IsScheduleOf text events = (parsed : ScheduleValue) × SaysSchedule text parsed × (events ≡ events_of_schedule parsed)
 
 -- ---- the reading
 
-unfoldable pub said_at : List ℕ → Result ScheduleValue AtByte
-said_at text = if has_head head text then (tokens_from 15 MAX_EVENTS text >>= λ events. Ok (plain events))
+unfoldable pub schedule_at : List ℕ → Result ScheduleValue AtByte
+schedule_at text = if has_head head text then (tokens_from 15 MAX_EVENTS text >>= λ events. Ok (plain events))
     else (record_at text >>= λ steps. Ok (recorded steps))
 
-unfoldable pub schedule_at : List ℕ → Result (List Event) AtByte
-schedule_at text = do
-  said ← said_at text
-  Ok (events_said said)
+unfoldable pub events_at : List ℕ → Result (List Event) AtByte
+events_at text = do
+  parsed ← schedule_at text
+  Ok (events_of_schedule parsed)

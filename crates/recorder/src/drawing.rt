@@ -2,7 +2,7 @@
 
 ghost use Rattle.std.specs.Prelude.{◌≡◌, ◌≤◌, length, map, IfOk, OnOk, OnErr};
 ghost use Rattle.recorder.specs.Schedule.{OfHarts};
-ghost use Rattle.recorder.specs.Drawing.{drawn, words, left_after};
+ghost use Rattle.recorder.specs.Drawing.{drawn, drawn_words, left_after};
 ghost use Rattle.step_machine.specs.declared.opening.TheConstants.{MAX_HARTS};
 
 use rand_core::Rng;
@@ -37,7 +37,7 @@ pub fn seeded<R: Rng>(
 ) -> Result<Vec<Event>, AllocError>
     requires some_hart { 1 ≤ harts }
     requires most_harts { harts ≤ MAX_HARTS }
-    ensures drawn { IfOk result (λ events. events.items ≡ map (drawn harts) (words n (R.stream generator.old))) }
+    ensures drawn { IfOk result (λ events. events.items ≡ map (drawn harts) (drawn_words n (R.stream generator.old))) }
     ensures rest { OnOk result (R.stream generator.new ≡ left_after n (R.stream generator.old)) }
     ensures err { OnErr result (generator.new ≡ generator.old) }
     ensures harts { IfOk result (λ events. OfHarts events.items) }
@@ -57,7 +57,7 @@ pub fn draw<R: Rng>(
 ) -> Result<(), AllocError>
     requires some_hart { 1 ≤ harts }
     requires most_harts { harts ≤ MAX_HARTS }
-    ensures drawn { OnOk result (events.new.items ≡ map (drawn harts) (words n (R.stream generator.old))) }
+    ensures drawn { OnOk result (events.new.items ≡ map (drawn harts) (drawn_words n (R.stream generator.old))) }
     ensures rest { OnOk result (R.stream generator.new ≡ left_after n (R.stream generator.old)) }
     ensures err { OnErr result (generator.new ≡ generator.old) }
     ensures harts { OnOk result (OfHarts events.new.items) }
@@ -74,7 +74,7 @@ pub fn draw<R: Rng>(
 }
 
 #[inline(always)]
-#[tactic(auto, unfolding(crate::specs::Drawing::words, crate::specs::Drawing::left_after))]
+#[tactic(auto, unfolding(crate::specs::Drawing::drawn_words, crate::specs::Drawing::left_after))]
 fn put<R: Rng>(
     events: &mut Vec<Event>,
     generator: &mut R,
@@ -83,7 +83,7 @@ fn put<R: Rng>(
 ) -> Result<(), AllocError>
     requires some_hart { 1 ≤ harts }
     requires most_harts { harts ≤ MAX_HARTS }
-    ensures drawn { OnOk result (events.new.items ≡ map (drawn harts) (words n (R.stream generator.old))) }
+    ensures drawn { OnOk result (events.new.items ≡ map (drawn harts) (drawn_words n (R.stream generator.old))) }
     ensures rest { OnOk result (R.stream generator.new ≡ left_after n (R.stream generator.old)) }
     ensures err { OnErr result (generator.new ≡ generator.old) }
     ensures harts { OnOk result (OfHarts events.new.items) }

@@ -8,7 +8,7 @@ ghost use Rattle.step_machine.specs.declared.events.Event.{Event};
 ghost use Rattle.texts.specs.Pieces.{is_blank};
 ghost use Rattle.texts.specs.Cutting.{after, without_front};
 ghost use Rattle.texts.specs.Results.{GivesUpToMemory, refusal_of};
-ghost use Rattle.texts.specs.Runs.{runs_of};
+ghost use Rattle.texts.specs.Runs.{repetitions_of};
 ghost use Rattle.texts.specs.declared.errors.TextError.TheVariants.{Refused};
 ghost use Rattle.recorder.specs.declared.faults.ScheduleFault.TheVariants.{BadHead};
 ghost use Rattle.recorder.specs.Schedule.{OfHarts};
@@ -167,7 +167,7 @@ fn numbers_are_words(outcome: Outcome)
 
 /// The lines of the steps, and that their numbers are words.
 fn lines(alloc: Global, steps: &[(Event, Outcome)]) -> Result<String, AllocError>
-    ensures lines { IfOk result (λ text. string_bytes text ≡ flat_map record_line (runs_of is_same_step steps.now)) }
+    ensures lines { IfOk result (λ text. string_bytes text ≡ flat_map record_line (repetitions_of is_same_step steps.now)) }
     ensures words { IfOk result (λ _. All (λ step. OutcomeHasWords step.1) steps.now) }
 {
     let mut text = String::new(alloc);

@@ -85,9 +85,9 @@ fn do_steps<const B: usize, const M: usize>(
     ensures differs { IfErr result (SaysDiffers (DiffersAt B M machine.old.history.opening steps.now)) }
 {
     for (place, step) in steps.iter().enumerate() {
-        let (event, said) = *step;
+        let (event, recorded) = *step;
         let outcome = machine.step(event)?;
-        if !are_same_outcomes(outcome, said) {
+        if !are_same_outcomes(outcome, recorded) {
             return Err(CheckError::Differs { event: place });
         }
     }

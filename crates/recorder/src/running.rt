@@ -66,9 +66,9 @@ pub fn check_record<const B: usize, const M: usize>(
 {
     let mut machine = MachineState::open(alloc, opening)?;
     for (place, step) in steps.iter().enumerate() {
-        let (event, said) = *step;
+        let (event, recorded) = *step;
         let outcome = machine.step(event)?;
-        if !are_same_outcomes(outcome, said) {
+        if !are_same_outcomes(outcome, recorded) {
             return Err(CheckError::Differs { event: place });
         }
     }

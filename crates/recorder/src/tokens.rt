@@ -4,7 +4,7 @@ ghost use Rattle.std.specs.Prelude.{◌≡◌, ◌+◌, ◌≤◌, ◌||◌, ℕ
 ghost use Rattle.step_machine.specs.declared.events.Event.{Event};
 ghost use Rattle.texts.specs.Results.{GivesUpToMemory, refusal_of};
 ghost use Rattle.texts.specs.declared.errors.TextError.TheVariants.{Refused};
-ghost use Rattle.recorder.specs.Reading.{numbers_of, said_by, is_cut, event_of, run_at};
+ghost use Rattle.recorder.specs.Reading.{numbers_of, token_in_word, is_cut, event_of_kind, run_at};
 
 use crate::faults::{ScheduleError, ScheduleFault};
 use step_machine::events::Event;
@@ -30,7 +30,7 @@ pub struct Token {
 impl Kind {
     /// The event of this kind.
     fn of_hart(self, hart: u32) -> Event
-        ensures { result ≡ event_of self hart }
+        ensures { result ≡ event_of_kind self hart }
     {
         match self {
             Kind::Act => Event::Act(hart),
@@ -51,9 +51,9 @@ fn numbers_in(numbers: &[u8]) -> Option<(u64, u64)>
 }
 
 /// What the word says as a token; `None` where its shape is another one.
-#[tactic(auto, unfolding(crate::specs::Reading::said_by))]
+#[tactic(auto, unfolding(crate::specs::Reading::token_in_word))]
 fn token_in(word: &[u8]) -> Option<Token>
-    ensures { result ≡ said_by word.now }
+    ensures { result ≡ token_in_word word.now }
 {
     let (kind, numbers) = match word {
         [b'a', numbers @ ..] => (Kind::Act, numbers),
@@ -80,7 +80,7 @@ fn is_cut_short(word: &[u8]) -> bool
 
 /// Whether the word is a token, or one that ends too early.
 pub fn may_begin(word: &[u8]) -> bool
-    ensures { result ≡ (is_cut word.now || is_some (said_by word.now)) }
+    ensures { result ≡ (is_cut word.now || is_some (token_in_word word.now)) }
 {
     is_cut_short(word) || token_in(word).is_some()
 }

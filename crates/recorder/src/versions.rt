@@ -8,7 +8,7 @@ ghost use Rattle.recorder.specs.declared.faults.ScheduleFault.TheVariants.{BadHe
 ghost use Rattle.recorder.specs.Schedule.{OfHarts};
 ghost use Rattle.recorder.specs.Reading.{head, has_head};
 ghost use Rattle.recorder.specs.Records.{events_in, record_head};
-ghost use Rattle.recorder.specs.Versions.{ScheduleValue, said_of, events_said, Says, said_at, schedule_at, IsScheduleOf};
+ghost use Rattle.recorder.specs.Versions.{ScheduleValue, schedule_value, events_of_schedule, SaysSchedule, schedule_at, events_at, IsScheduleOf};
 
 use crate::faults::ScheduleError;
 use crate::heads::{HEAD, has_head};
@@ -40,7 +40,7 @@ fn events_of(alloc: Global, steps: &[(Event, Outcome)]) -> Result<Vec<Event>, Al
 impl Schedule {
     /// The events alone.
     pub fn into_events(self, alloc: Global) -> Result<Vec<Event>, AllocError>
-        ensures { IfOk result (λ events. events.items ≡ events_said (said_of self)) }
+        ensures { IfOk result (λ events. events.items ≡ events_of_schedule (schedule_value self)) }
     {
         match self {
             Schedule::Plain(events) => Ok(events),
@@ -50,9 +50,9 @@ impl Schedule {
 }
 
 /// What the schedule says that stands in these bytes.
-#[tactic(auto, unfolding(crate::specs::Versions::said_at))]
-fn said_in(alloc: Global, text: &[u8]) -> Result<Schedule, ScheduleError>
-    ensures exact { GivesUpToMemory refusal_of said_of result (said_at text.now) }
+#[tactic(auto, unfolding(crate::specs::Versions::schedule_at))]
+fn schedule_in(alloc: Global, text: &[u8]) -> Result<Schedule, ScheduleError>
+    ensures exact { GivesUpToMemory refusal_of schedule_value result (schedule_at text.now) }
     ensures headless { has_head head text.now ≡ false → has_head record_head text.now ≡ false → result ≡ Err (Refused (record { fault = BadHead; place = 0 })) }
 {
     if has_head(HEAD, text) {
@@ -69,23 +69,23 @@ fn said_in(alloc: Global, text: &[u8]) -> Result<Schedule, ScheduleError>
 /// Another first line is `BadHead` at byte 0; then the first faulty token or line is answered as
 /// [`crate::read_tokens`] or [`crate::read_record`] answers it, its place counted from the text's first
 /// byte.
-#[tactic(auto, using(crate::proofs::HeadLaws::found_said, crate::proofs::HeadLaws::only_said, crate::proofs::HeadLaws::said_harts, crate::proofs::HeadLaws::said_few))]
+#[tactic(auto, using(crate::proofs::HeadLaws::found_value, crate::proofs::HeadLaws::only_value, crate::proofs::HeadLaws::schedule_harts, crate::proofs::HeadLaws::schedule_few))]
 pub fn read_either(alloc: Global, text: &str) -> Result<Schedule, ScheduleError>
-    ensures found { IfOk result (λ schedule. Says text.now (said_of schedule)) }
-    ensures only { (said : ScheduleValue) → Says text.now said → GivesUpToMemory refusal_of said_of result (Ok said) }
-    ensures exact { GivesUpToMemory refusal_of said_of result (said_at text.now) }
+    ensures found { IfOk result (λ schedule. SaysSchedule text.now (schedule_value schedule)) }
+    ensures only { (parsed : ScheduleValue) → SaysSchedule text.now parsed → GivesUpToMemory refusal_of schedule_value result (Ok parsed) }
+    ensures exact { GivesUpToMemory refusal_of schedule_value result (schedule_at text.now) }
     ensures headless { has_head head text.now ≡ false → has_head record_head text.now ≡ false → result ≡ Err (Refused (record { fault = BadHead; place = 0 })) }
-    ensures harts { IfOk result (λ schedule. OfHarts (events_said (said_of schedule))) }
-    ensures few { IfOk result (λ schedule. length (events_said (said_of schedule)) ≤ MAX_EVENTS) }
+    ensures harts { IfOk result (λ schedule. OfHarts (events_of_schedule (schedule_value schedule))) }
+    ensures few { IfOk result (λ schedule. length (events_of_schedule (schedule_value schedule)) ≤ MAX_EVENTS) }
 {
-    said_in(alloc, text.as_bytes())
+    schedule_in(alloc, text.as_bytes())
 }
 
 /// The events of a schedule of either version, which is refused as [`read_either`] refuses it. What a
 /// record says of their outcomes is left out.
-#[tactic(auto, unfolding(crate::specs::Versions::schedule_at))]
+#[tactic(auto, unfolding(crate::specs::Versions::events_at))]
 fn events_read(alloc: Global, text: &str) -> Result<Vec<Event>, ScheduleError>
-    ensures exact { GivesUpToMemory refusal_of (λ events. events.items) result (schedule_at text.now) }
+    ensures exact { GivesUpToMemory refusal_of (λ events. events.items) result (events_at text.now) }
     ensures headless { has_head head text.now ≡ false → has_head record_head text.now ≡ false → result ≡ Err (Refused (record { fault = BadHead; place = 0 })) }
     ensures harts { IfOk result (λ events. OfHarts events.items) }
     ensures few { IfOk result (λ events. length events.items ≤ MAX_EVENTS) }
@@ -102,7 +102,7 @@ fn events_read(alloc: Global, text: &str) -> Result<Vec<Event>, ScheduleError>
 pub fn read_schedule(alloc: Global, text: &str) -> Result<Vec<Event>, ScheduleError>
     ensures found { IfOk result (λ events. IsScheduleOf text.now events.items) }
     ensures only { (events : List Event) → IsScheduleOf text.now events → GivesUpToMemory refusal_of (λ read. read.items) result (Ok events) }
-    ensures exact { GivesUpToMemory refusal_of (λ events. events.items) result (schedule_at text.now) }
+    ensures exact { GivesUpToMemory refusal_of (λ events. events.items) result (events_at text.now) }
     ensures headless { has_head head text.now ≡ false → has_head record_head text.now ≡ false → result ≡ Err (Refused (record { fault = BadHead; place = 0 })) }
     ensures harts { IfOk result (λ events. OfHarts events.items) }
     ensures few { IfOk result (λ events. length events.items ≤ MAX_EVENTS) }

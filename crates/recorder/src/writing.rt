@@ -4,7 +4,7 @@ ghost use Rattle.std.specs.Prelude.{◌≡◌, ◌≤◌, ◌++◌, length, IfOk
 ghost use Rattle.std.specs.String.{string_bytes};
 ghost use Rattle.recorder.specs.Schedule.{OfHarts};
 ghost use Rattle.recorder.specs.Versions.{IsScheduleOf};
-ghost use Rattle.recorder.specs.Writing.{is_same, token_of, tokens_of, canon};
+ghost use Rattle.recorder.specs.Writing.{is_same, repetition_text, schedule_tokens, canon};
 
 use crate::heads::HEAD;
 use crate::reading::MAX_EVENTS;
@@ -20,7 +20,7 @@ pub(crate) fn are_same(event: Event, other: Event) -> bool
 
 /// Appends the token of a run: the event, `times` times.
 pub(crate) fn push_token(out: &mut String, event: Event, times: usize) -> Result<(), AllocError>
-    ensures { OnOk result (string_bytes out.new ≡ string_bytes out.old ++ token_of (event, times)) }
+    ensures { OnOk result (string_bytes out.new ≡ string_bytes out.old ++ repetition_text (event, times)) }
 {
     let (letter, hart) = match event {
         Event::Act(hart) => ("a", hart),
@@ -36,7 +36,7 @@ pub(crate) fn push_token(out: &mut String, event: Event, times: usize) -> Result
 }
 
 fn tokens(alloc: Global, events: &[Event]) -> Result<String, AllocError>
-    ensures { IfOk result (λ text. string_bytes text ≡ tokens_of events.now) }
+    ensures { IfOk result (λ text. string_bytes text ≡ schedule_tokens events.now) }
 {
     let mut text = String::new(alloc);
     let Some(first) = events.first() else {
@@ -62,7 +62,7 @@ fn tokens(alloc: Global, events: &[Event]) -> Result<String, AllocError>
 /// Appends the tokens of the events as a schedule has them, without a head and without a line end.
 /// Where memory runs out, the text stays as it was.
 pub fn push_tokens(out: &mut String, events: &[Event]) -> Result<(), AllocError>
-    ensures pushed { OnOk result (string_bytes out.new ≡ string_bytes out.old ++ tokens_of events.now) }
+    ensures pushed { OnOk result (string_bytes out.new ≡ string_bytes out.old ++ schedule_tokens events.now) }
     ensures kept { OnErr result (string_bytes out.new ≡ string_bytes out.old) }
 {
     // written apart, so that the text grows in one step or not at all

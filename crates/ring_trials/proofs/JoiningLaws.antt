@@ -12,43 +12,45 @@ use Rattle.recorder.proofs.Drawn.{left_after-sum}
 use Rattle.poll_close.specs.Reports.{taken}
 use Rattle.poll_close.specs.Plans.{is_closed}
 use Rattle.poll_close.specs.declared.clean.Breach.{Breach}
-use Rattle.ring_trials.specs.Own.{lists_of, start_of}
+use Rattle.ring_trials.specs.UserChannel.{lists_of, start_of}
 use Rattle.ring_trials.specs.declared.runs.Total.{Total}
 use Rattle.ring_trials.specs.declared.runs.Found.{Found}
 use Rattle.ring_trials.specs.declared.runs.Found.TheVariants as found
-use Rattle.ring_trials.specs.Trials.{Source, schedule_of, AreRuns, KeepsAll, AreCleanRuns, most_of, closed_in, AreTotals, IsFirstUnclean, AreAllClean}
+use Rattle.ring_trials.specs.Trials.{ChannelSource, schedule_of_run, AreRuns, KeepsAll, AreCleanRuns, most_of}
+use Rattle.ring_trials.specs.Trials.{closed_in, AreTotals, IsFirstUnclean, AreAllClean}
 use Rattle.ring_trials.specs.Trials.{IsFoundIn}
 use Rattle.ring_trials.specs.inner.Joining.{later_than, AreCleanFrom, IsUncleanFrom, AreAllCleanFrom, IsFoundFrom}
 use Rattle.ring_trials.proofs.RunsLaws.{TakenIn, closed_few}
 
 -- ---- the runs
 
-schedule_later : (s : Source) (n k : ℕ) → schedule_of (later_than n s) k ≡ schedule_of s (n + k)
+schedule_later : (s : ChannelSource) (n k : ℕ) → schedule_of_run (later_than n s) k ≡ schedule_of_run s (n + k)
 schedule_later s n k = grind (arith, left_after-sum)
 
-runs_later : (s : Source) (n k : ℕ) (ts : List History) → AreRuns (later_than n s) k ts → AreRuns s (n + k) ts
+runs_later : (s : ChannelSource) (n k : ℕ) (ts : List History) → AreRuns (later_than n s) k ts → AreRuns s (n + k) ts
 runs_later s n k [] runs = tt
 runs_later s n k (t ∷ ts) runs = (
-  subst (λ (evs : List Event). Run s.B s.M (start_of s.own) evs t) (schedule_later s n k) runs.0,
+  subst (λ (evs : List Event). Run s.B s.M (start_of s.channel) evs t) (schedule_later s n k) runs.0,
   subst (λ (m : ℕ). AreRuns s m ts) (omega arith) (runs_later s n (k + 1) ts runs.1),
 )
 
-runs_both : (s : Source) (n : ℕ) (ts us : List History) → AreRuns s n ts → AreRuns s (n + length ts) us → AreRuns s n (ts ++ us)
+runs_both : (s : ChannelSource) (n : ℕ) (ts us : List History) → AreRuns s n ts → AreRuns s (n + length ts) us → AreRuns s n (ts ++ us)
 runs_both s n [] us runs more = subst (λ (m : ℕ). AreRuns s m us) (omega arith) more
 runs_both s n (t ∷ ts) us runs more = (runs.0, runs_both s (n + 1) ts us runs.1 (subst (λ (m : ℕ). AreRuns s m us) (omega arith) more))
 
-clean_later : (s : Source) (first n : ℕ) (ts : List History) → AreCleanRuns (later_than first s) n ts → AreCleanFrom s first (first + n) ts
+clean_later : (s : ChannelSource) (first n : ℕ) (ts : List History) → AreCleanRuns (later_than first s) n ts → AreCleanFrom s first (first + n) ts
 clean_later s first n ts clean = record {
   runs = subst (λ (m : ℕ). AreRuns s m ts) (omega arith) (runs_later s first 0 ts clean.runs);
   count = ap (λ m. first + m) clean.count;
   kept = clean.kept;
 }
 
-clean_both : (s : Source) (middle end : ℕ) (ts us : List History) → AreCleanFrom s 0 middle ts → AreCleanFrom s middle end us → AreCleanFrom s 0 end (ts ++ us)
+clean_both : (s : ChannelSource) (middle end : ℕ) (ts us : List History) → AreCleanFrom s 0 middle ts
+    → AreCleanFrom s middle end us → AreCleanFrom s 0 end (ts ++ us)
 clean_both s middle end ts us first second = record {
   runs = runs_both s 0 ts us first.runs (subst (λ (m : ℕ). AreRuns s m us) (sym first.count) second.runs);
   count = omega (arith, length-append ts us, first.count, second.count);
-  kept = All-append (KeepsAll s.own) ts us first.kept second.kept;
+  kept = All-append (KeepsAll s.channel) ts us first.kept second.kept;
 }
 
 -- ---- their totals
@@ -83,7 +85,7 @@ totals_both ts us old later new i all first second taken = record {
 -- ---- what was found of them
 
 -- of runs that were numbered from their first one on
-pub all_later : (s : Source) (first end n : ℕ) (totals : List Total) → first + n ≡ end → AreAllClean (later_than first s) n totals
+pub all_later : (s : ChannelSource) (first end n : ℕ) (totals : List Total) → first + n ≡ end → AreAllClean (later_than first s) n totals
     → AreAllCleanFrom s first end totals
 all_later s first end n totals sum all = record {
   histories = all.histories;
@@ -92,21 +94,21 @@ all_later s first end n totals sum all = record {
   count = all.count;
 }
 
-pub unclean_later : (s : Source) (first number : ℕ) (breach : Breach) → IsFirstUnclean (later_than first s) number breach
+pub unclean_later : (s : ChannelSource) (first number : ℕ) (breach : Breach) → IsFirstUnclean (later_than first s) number breach
     → IsUncleanFrom s first (first + number) breach
 unclean_later s first number breach found = record {
   before = found.before;
   clean = clean_later s first number found.before found.clean;
   history = found.history;
-  run = subst (λ (evs : List Event). Run s.B s.M (start_of s.own) evs found.history) (schedule_later s first number) found.run;
+  run = subst (λ (evs : List Event). Run s.B s.M (start_of s.channel) evs found.history) (schedule_later s first number) found.run;
   breaks = found.breaks;
 }
 
 -- of the runs from the first of all on
-clean_from_first : (s : Source) (end : ℕ) (ts : List History) → AreCleanFrom s 0 end ts → AreCleanRuns s end ts
+clean_from_first : (s : ChannelSource) (end : ℕ) (ts : List History) → AreCleanFrom s 0 end ts → AreCleanRuns s end ts
 clean_from_first s end ts clean = record { runs = clean.runs; count = omega (arith, clean.count); kept = clean.kept }
 
-pub found_from_first : (s : Source) (runs : ℕ) (given : Found) → IsFoundFrom s 0 runs given → IsFoundIn s runs given
+pub found_from_first : (s : ChannelSource) (runs : ℕ) (given : Found) → IsFoundFrom s 0 runs given → IsFoundIn s runs given
 found_from_first s runs (found.Clean totals) all = record {
   histories = all.histories;
   clean = clean_from_first s runs all.histories all.clean;
@@ -125,16 +127,16 @@ found_from_first s runs (found.Unclean number breach) found = (
 )
 
 -- of no run
-pub none_from : (s : Source) (totals : List Total) → AreTotals [] totals → length totals ≡ length (lists_of s.own) → AreAllCleanFrom s 0 0 totals
+pub none_from : (s : ChannelSource) (totals : List Total) → AreTotals [] totals → length totals ≡ length (lists_of s.channel) → AreAllCleanFrom s 0 0 totals
 none_from s totals are count = record {
   histories = [];
-  clean = record { runs = tt; count = refl; kept = All-nil (KeepsAll s.own) };
+  clean = record { runs = tt; count = refl; kept = All-nil (KeepsAll s.channel) };
   totals_are = are;
   count = count;
 }
 
 -- of two parts
-module _ (s : Source) (middle end : ℕ) (old : List Total) (first : AreAllCleanFrom s 0 middle old) where
+module _ (s : ChannelSource) (middle end : ℕ) (old : List Total) (first : AreAllCleanFrom s 0 middle old) where
   module _ (later : List Total) (second : AreAllCleanFrom s middle end later) where
     pub few_joined : (k : ℕ) (one other : Total) → slice_get old k ≡ Some one → slice_get later k ≡ Some other → one.closed + other.closed ≤ end
     few_joined k one other at there = omega (

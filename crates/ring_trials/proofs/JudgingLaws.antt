@@ -16,9 +16,9 @@ use Rattle.poll_close.specs.Layout.{Layout}
 use Rattle.poll_close.specs.Breaches.{breach_of, or_later, breach_after, first_breach, AreNotes}
 use Rattle.poll_close.specs.declared.clean.Breach.{Breach}
 use Rattle.poll_close.specs.declared.clean.Share.{Share}
-use Rattle.ring_trials.specs.Own.{lists_of, layout_from, start_of}
+use Rattle.ring_trials.specs.UserChannel.{lists_of, layout_from, start_of}
 use Rattle.ring_trials.specs.Trials.{AreNoted, entries_with, IsChannelJudged, IsChannelJudgedAt}
-use Rattle.ring_trials.specs.declared.own.Own.{Own}
+use Rattle.ring_trials.specs.declared.user_channel.UserChannel.{UserChannel}
 
 or_later-assoc : (a b c : Option Breach) → or_later (or_later a b) c ≡ or_later a (or_later b c)
 or_later-assoc None b c = refl
@@ -42,24 +42,26 @@ first_more : (l : Layout) (lists : List (List ℕ)) (es : List Entry) (e : Entry
 first_more l lists es e = after_more l lists [] es e
 
 -- an entry was noted where there was no breach yet
-pub noted_entry : (own : Own) (es : List Entry) (e : Entry) (found new : Option Breach) (shares more : List Share) → AreNoted own es found shares → found ≡ None
-    → (AreNotes (reported 0 es) shares → new ≡ breach_of (layout_from own) (lists_of own) es e)
+pub noted_entry : (channel : UserChannel) (es : List Entry) (e : Entry) (found new : Option Breach)
+    (shares more : List Share) → AreNoted channel es found shares → found ≡ None
+    → (AreNotes (reported 0 es) shares → new ≡ breach_of (layout_from channel) (lists_of channel) es e)
     → (AreNotes (reported 0 es) shares → new ≡ None → AreNotes (reported 0 (es ++ e ∷ [])) more) → length more ≡ length shares
-    → AreNoted own (es ++ e ∷ []) new more
-noted_entry own es e found new shares more noted none breach notes count = record {
+    → AreNoted channel (es ++ e ∷ []) new more
+noted_entry channel es e found new shares more noted none breach notes count = record {
   breach = breach (noted.notes none)
-      ∙ ap (λ b. or_later b (breach_of (layout_from own) (lists_of own) es e)) (sym none ∙ noted.breach)
-      ∙ sym (first_more (layout_from own) (lists_of own) es e);
+      ∙ ap (λ b. or_later b (breach_of (layout_from channel) (lists_of channel) es e)) (sym none ∙ noted.breach)
+      ∙ sym (first_more (layout_from channel) (lists_of channel) es e);
   notes = notes (noted.notes none);
   count = count ∙ noted.count;
 }
 
 -- and where there was one already
-pub noted_before : (own : Own) (es : List Entry) (e : Entry) (found : Option Breach) (first : Breach) (shares : List Share) → AreNoted own es found shares
-    → found ≡ Some first → AreNoted own (es ++ e ∷ []) found shares
-noted_before own es e found first shares noted some = record {
-  breach = some ∙ ap (λ b. or_later b (breach_of (layout_from own) (lists_of own) es e)) (sym some ∙ noted.breach)
-      ∙ sym (first_more (layout_from own) (lists_of own) es e);
+pub noted_before : (channel : UserChannel) (es : List Entry) (e : Entry) (found : Option Breach) (first : Breach)
+    (shares : List Share) → AreNoted channel es found shares
+    → found ≡ Some first → AreNoted channel (es ++ e ∷ []) found shares
+noted_before channel es e found first shares noted some = record {
+  breach = some ∙ ap (λ b. or_later b (breach_of (layout_from channel) (lists_of channel) es e)) (sym some ∙ noted.breach)
+      ∙ sym (first_more (layout_from channel) (lists_of channel) es e);
   notes = λ none. cc;
   count = noted.count;
 }
@@ -78,41 +80,44 @@ happens_opening B M t u ev outcome.NothingToLand happens = ap (λ (h : History).
 happens_opening B M t u ev outcome.Over happens = ap (λ (h : History). h.opening) happens.after
 happens_opening B M t u ev outcome.NoHart happens = ap (λ (h : History). h.opening) happens.after
 
-pub judged_more : (B M : ℕ) (own : Own) (evs : List Event) (ev : Event) (o : Outcome) (c d : Config) (found new : Option Breach) (shares more : List Share)
-    → IsChannelJudgedAt B M own evs c found shares → MovesBy B M ev o c d
-    → ((es : List Entry) → AreNoted own es found shares → AreNoted own (entries_with es o) new more) → IsChannelJudgedAt B M own (evs ++ ev ∷ []) d new more
-judged_more B M own evs ev o c d found new shares more judged moves noted =
+pub judged_more : (B M : ℕ) (channel : UserChannel) (evs : List Event) (ev : Event) (o : Outcome) (c d : Config)
+    (found new : Option Breach) (shares more : List Share)
+    → IsChannelJudgedAt B M channel evs c found shares → MovesBy B M ev o c d
+    → ((es : List Entry) → AreNoted channel es found shares → AreNoted channel (entries_with es o) new more)
+    → IsChannelJudgedAt B M channel (evs ++ ev ∷ []) d new more
+judged_more B M channel evs ev o c d found new shares more judged moves noted =
     let moved = moves judged.history judged.stands in record {
       history = moved.0;
-      run = RunFrom-more B M (at_opening (start_of own)) evs judged.history ev o moved.0 judged.run moved.1;
+      run = RunFrom-more B M (at_opening (start_of channel)) evs judged.history ev o moved.0 judged.run moved.1;
       opening = happens_opening B M judged.history moved.0 ev o moved.1 ∙ judged.opening;
       stands = moved.2;
-      noted = subst (λ (es : List Entry). AreNoted own es new more) (sym (happens_entries B M judged.history moved.0 ev o moved.1))
+      noted = subst (λ (es : List Entry). AreNoted channel es new more) (sym (happens_entries B M judged.history moved.0 ev o moved.1))
           (noted judged.history.entries judged.noted);
     }
 
 -- one event of a list more
-pub judged_next : (B M : ℕ) (own : Own) (events : List Event) (i : ℕ) (none : Event) (o : Outcome) (c d : Config) (found new : Option Breach)
-    (shares more : List Share) → i < length events → IsChannelJudgedAt B M own (take i events) c found shares → MovesBy B M (get_or events i none) o c d
-    → ((es : List Entry) → AreNoted own es found shares → AreNoted own (entries_with es o) new more)
-    → IsChannelJudgedAt B M own (take (i + 1) events) d new more
-judged_next B M own events i none o c d found new shares more within judged moves noted =
-    subst (λ (evs : List Event). IsChannelJudgedAt B M own evs d new more) (sym (take_more events i none within))
-    (judged_more B M own (take i events) (get_or events i none) o c d found new shares more judged moves noted)
+pub judged_next : (B M : ℕ) (channel : UserChannel) (events : List Event) (i : ℕ) (none : Event) (o : Outcome) (c d : Config) (found new : Option Breach)
+    (shares more : List Share) → i < length events → IsChannelJudgedAt B M channel (take i events) c found shares → MovesBy B M (get_or events i none) o c d
+    → ((es : List Entry) → AreNoted channel es found shares → AreNoted channel (entries_with es o) new more)
+    → IsChannelJudgedAt B M channel (take (i + 1) events) d new more
+judged_next B M channel events i none o c d found new shares more within judged moves noted =
+    subst (λ (evs : List Event). IsChannelJudgedAt B M channel evs d new more) (sym (take_more events i none within))
+    (judged_more B M channel (take i events) (get_or events i none) o c d found new shares more judged moves noted)
 
 -- at the opening
-pub judged_none : (B M : ℕ) (own : Own) (c d : Config) (shares : List Share) → RepresentsRunFrom B M (start_of own) c → BeginsAnew B M c d → AreNotes [] shares
-    → length shares ≡ length (lists_of own) → IsChannelJudgedAt B M own [] d None shares
-judged_none B M own c d shares stands anew notes count = record {
-  history = at_opening (start_of own);
+pub judged_none : (B M : ℕ) (channel : UserChannel) (c d : Config) (shares : List Share)
+    → RepresentsRunFrom B M (start_of channel) c → BeginsAnew B M c d → AreNotes [] shares
+    → length shares ≡ length (lists_of channel) → IsChannelJudgedAt B M channel [] d None shares
+judged_none B M channel c d shares stands anew notes count = record {
+  history = at_opening (start_of channel);
   run = refl;
   opening = refl;
   stands = subst (λ (o : OpeningValue). RepresentsHistory B M (at_opening o) d) stands.2 (anew stands.0 stands.1);
   noted = record { breach = refl; notes = λ none. notes; count = count };
 }
 
-pub judged_at : (B M : ℕ) (own : Own) (events : List Event) (c : Config) (found : Option Breach) (shares : List Share)
-    → IsChannelJudgedAt B M own events c found shares
-    → IsChannelJudged B M own events found shares × RepresentsRunFrom B M (start_of own) c
-judged_at B M own events c found shares judged =
+pub judged_at : (B M : ℕ) (channel : UserChannel) (events : List Event) (c : Config) (found : Option Breach) (shares : List Share)
+    → IsChannelJudgedAt B M channel events c found shares
+    → IsChannelJudged B M channel events found shares × RepresentsRunFrom B M (start_of channel) c
+judged_at B M channel events c found shares judged =
     (record { history = judged.history; run = judged.run; noted = judged.noted }, (judged.history, judged.stands, judged.opening))

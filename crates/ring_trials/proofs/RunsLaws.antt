@@ -15,29 +15,29 @@ use Rattle.step_machine.specs.Entries.{reported}
 use Rattle.step_machine.specs.Runs.{Run}
 use Rattle.step_machine.proofs.Stays.{slice_get-set_same, slice_get-set_other}
 use Rattle.step_machine.specs.declared.events.Event.{Event}
-use Rattle.recorder.specs.Drawing.{drawn, words, left_after}
+use Rattle.recorder.specs.Drawing.{drawn, drawn_words, left_after}
 use Rattle.poll_close.specs.Reports.{taken}
 use Rattle.poll_close.specs.Plans.{is_closed}
 use Rattle.poll_close.specs.Breaches.{first_breach, AreNotes}
 use Rattle.poll_close.specs.declared.clean.Breach.{Breach}
 use Rattle.poll_close.specs.declared.clean.Share.{Share}
 use Rattle.poll_close.proofs.BreachLaws.{first_law}
-use Rattle.ring_trials.specs.Own.{lists_of, layout_from, start_of}
-use Rattle.ring_trials.specs.declared.own.Own.{Own}
+use Rattle.ring_trials.specs.UserChannel.{lists_of, layout_from, start_of}
+use Rattle.ring_trials.specs.declared.user_channel.UserChannel.{UserChannel}
 use Rattle.ring_trials.specs.declared.runs.Total.{Total}
-use Rattle.ring_trials.specs.Trials.{Source, schedule_of, IsRunOf, AreRuns, KeepsAll, AreCleanRuns, most_of, closed_in, AreTotals}
+use Rattle.ring_trials.specs.Trials.{ChannelSource, schedule_of_run, IsRunOf, AreRuns, KeepsAll, AreCleanRuns, most_of, closed_in, AreTotals}
 use Rattle.ring_trials.specs.Trials.{IsFirstUnclean, AreAllClean, IsChannelJudged, IsUnclean}
 
-runs_last : (s : Source) (n : ℕ) (ts : List History) (t : History) → AreRuns s n ts → IsRunOf s (n + length ts) t → AreRuns s n (ts ++ t ∷ [])
+runs_last : (s : ChannelSource) (n : ℕ) (ts : List History) (t : History) → AreRuns s n ts → IsRunOf s (n + length ts) t → AreRuns s n (ts ++ t ∷ [])
 runs_last s n [] t runs run = (subst (λ (k : ℕ). IsRunOf s k t) (omega arith) run, tt)
 runs_last s n (u ∷ ts) t runs run = (runs.0, runs_last s (n + 1) ts t runs.1 (subst (λ (k : ℕ). IsRunOf s k t) (omega arith) run))
 
-clean_more : (s : Source) (n : ℕ) (ts : List History) (t : History) → AreCleanRuns s n ts → IsRunOf s n t → KeepsAll s.own t
+clean_more : (s : ChannelSource) (n : ℕ) (ts : List History) (t : History) → AreCleanRuns s n ts → IsRunOf s n t → KeepsAll s.channel t
     → AreCleanRuns s (n + 1) (ts ++ t ∷ [])
 clean_more s n ts t clean run kept = record {
   runs = runs_last s 0 ts t clean.runs (subst (λ (k : ℕ). IsRunOf s k t) (omega (arith, clean.count)) run);
   count = length-append ts (t ∷ []) ∙ ap (λ k. k + 1) clean.count;
-  kept = All-append (KeepsAll s.own) ts (t ∷ []) clean.kept (All-cons (KeepsAll s.own) t [] kept (All-nil (KeepsAll s.own)));
+  kept = All-append (KeepsAll s.channel) ts (t ∷ []) clean.kept (All-cons (KeepsAll s.channel) t [] kept (All-nil (KeepsAll s.channel)));
 }
 
 most_last : (i : ℕ) (ts : List History) (t : History) → most_of i (ts ++ t ∷ []) ≡ max (most_of i ts) (length (taken (reported 0 t.entries) i))
@@ -113,32 +113,33 @@ totals_more ts t old new shares i all totals notes taken = record {
       ∙ sym (closed_last k ts t one.1.closed (notes.closed k one.1 one.3));
 }
 
-pub few_closed : (s : Source) (n : ℕ) (totals : List Total) (k : ℕ) (one : Total) → AreAllClean s n totals → slice_get totals k ≡ Some one → one.closed ≤ n
+pub few_closed : (s : ChannelSource) (n : ℕ) (totals : List Total) (k : ℕ) (one : Total) → AreAllClean s n totals
+    → slice_get totals k ≡ Some one → one.closed ≤ n
 few_closed s n totals k one all at =
     omega (arith, all.totals_are.closed k one at, closed_few k all.histories, all.clean.count)
 
-pub none_clean : (s : Source) (totals : List Total) → AreTotals [] totals → length totals ≡ length (lists_of s.own) → AreAllClean s 0 totals
+pub none_clean : (s : ChannelSource) (totals : List Total) → AreTotals [] totals → length totals ≡ length (lists_of s.channel) → AreAllClean s 0 totals
 none_clean s totals are count = record {
   histories = [];
-  clean = record { runs = tt; count = refl; kept = All-nil (KeepsAll s.own) };
+  clean = record { runs = tt; count = refl; kept = All-nil (KeepsAll s.channel) };
   totals_are = are;
   count = count;
 }
 
-pub one_clean : (s : Source) (n : ℕ) (totals more : List Total) (shares : List Share) (found : Option Breach) → AreAllClean s n totals
-    → IsChannelJudged s.B s.M s.own (schedule_of s n) found shares → found ≡ None
+pub one_clean : (s : ChannelSource) (n : ℕ) (totals more : List Total) (shares : List Share) (found : Option Breach) → AreAllClean s n totals
+    → IsChannelJudged s.B s.M s.channel (schedule_of_run s n) found shares → found ≡ None
     → ((ts : List History) (t : History) → AreTotals ts totals → AreNotes (reported 0 t.entries) shares → AreTotals (ts ++ t ∷ []) more)
     → length more ≡ length totals → AreAllClean s (n + 1) more
 one_clean s n totals more shares found all judged none add same = record {
   histories = all.histories ++ judged.history ∷ [];
   clean = clean_more s n all.histories judged.history all.clean judged.run
-      ((first_law (layout_from s.own) (lists_of s.own) judged.history.entries).0 (sym judged.noted.breach ∙ none));
+      ((first_law (layout_from s.channel) (lists_of s.channel) judged.history.entries).0 (sym judged.noted.breach ∙ none));
   totals_are = add all.histories judged.history all.totals_are (judged.noted.notes none);
   count = same ∙ all.count;
 }
 
-pub one_unclean : (s : Source) (n : ℕ) (totals : List Total) (shares : List Share) (found : Option Breach) (breach : Breach) → AreAllClean s n totals
-    → IsChannelJudged s.B s.M s.own (schedule_of s n) found shares → found ≡ Some breach → IsFirstUnclean s n breach
+pub one_unclean : (s : ChannelSource) (n : ℕ) (totals : List Total) (shares : List Share) (found : Option Breach) (breach : Breach) → AreAllClean s n totals
+    → IsChannelJudged s.B s.M s.channel (schedule_of_run s n) found shares → found ≡ Some breach → IsFirstUnclean s n breach
 one_unclean s n totals shares found breach all judged some = record {
   before = all.histories;
   clean = all.clean;
@@ -153,11 +154,11 @@ pub left_none : (size : ℕ) (stream : Stream) → stream ≡ left_after (0 * si
 unfolding left_after
 left_none size stream = let none : 0 ≡ 0 * size = omega arith in ap (λ (n : ℕ). left_after n stream) none
 
-pub schedule_is : (s : Source) (number harts : ℕ) (now : Stream) (events : List Event) → events ≡ map (drawn harts) (words s.size now)
-    → harts ≡ length (start_of s.own).harts → now ≡ left_after (number * s.size) s.stream → events ≡ schedule_of s number
+pub schedule_is : (s : ChannelSource) (number harts : ℕ) (now : Stream) (events : List Event) → events ≡ map (drawn harts) (drawn_words s.size now)
+    → harts ≡ length (start_of s.channel).harts → now ≡ left_after (number * s.size) s.stream → events ≡ schedule_of_run s number
 schedule_is s number harts now events is same here =
-    is ∙ ap (λ (n : ℕ). map (drawn n) (words s.size now)) same
-    ∙ ap (λ (at : Stream). map (drawn (length (start_of s.own).harts)) (words s.size at)) here
+    is ∙ ap (λ (n : ℕ). map (drawn n) (drawn_words s.size now)) same
+    ∙ ap (λ (at : Stream). map (drawn (length (start_of s.channel).harts)) (drawn_words s.size at)) here
 
 -- a slice that was written over as a whole
 pub whole_again : {X : Type 0} (n : ℕ) (new old : List X) → length new ≡ length old → n ≡ length old → take n (new ++ drop (length new) old) ≡ new
@@ -168,24 +169,25 @@ whole_again n new old same whole =
 
 -- ---- one run, and whether it breaks something
 
-one_found : (B M : ℕ) (own : Own) (events : List Event) (found : Option Breach) (shares : List Share) → IsChannelJudged B M own events found shares
-    → ((o : OpeningValue) (evs : List Event) (t u : History) → Run B M o evs t → Run B M o evs u → t ≡ u) → (unclean : IsUnclean B M own events)
+one_found : (B M : ℕ) (channel : UserChannel) (events : List Event) (found : Option Breach) (shares : List Share)
+    → IsChannelJudged B M channel events found shares
+    → ((o : OpeningValue) (evs : List Event) (t u : History) → Run B M o evs t → Run B M o evs u → t ≡ u) → (unclean : IsUnclean B M channel events)
     → found ≡ Some unclean.breach
-one_found B M own events found shares judged one unclean =
-    judged.noted.breach ∙ ap (λ (t : History). first_breach (layout_from own) (lists_of own) t.entries)
-    (one (start_of own) events judged.history unclean.history judged.run unclean.run) ∙ unclean.breaks
+one_found B M channel events found shares judged one unclean =
+    judged.noted.breach ∙ ap (λ (t : History). first_breach (layout_from channel) (lists_of channel) t.entries)
+    (one (start_of channel) events judged.history unclean.history judged.run unclean.run) ∙ unclean.breaks
 
-pub unclean_some : (B M : ℕ) (own : Own) (events : List Event) (found : Option Breach) (breach : Breach) (shares : List Share)
-    → IsChannelJudged B M own events found shares → found ≡ Some breach → IsTrue true ↔ IsUnclean B M own events
-unclean_some B M own events found breach shares judged some = (
+pub unclean_some : (B M : ℕ) (channel : UserChannel) (events : List Event) (found : Option Breach) (breach : Breach) (shares : List Share)
+    → IsChannelJudged B M channel events found shares → found ≡ Some breach → IsTrue true ↔ IsUnclean B M channel events
+unclean_some B M channel events found breach shares judged some = (
   (λ pass. record { history = judged.history; run = judged.run; breach = breach; breaks = sym judged.noted.breach ∙ some }),
   (λ unclean. refl),
 )
 
-pub unclean_none : (B M : ℕ) (own : Own) (events : List Event) (found : Option Breach) (shares : List Share)
-    → IsChannelJudged B M own events found shares → found ≡ None
-    → ((o : OpeningValue) (evs : List Event) (t u : History) → Run B M o evs t → Run B M o evs u → t ≡ u) → IsTrue false ↔ IsUnclean B M own events
-unclean_none B M own events found shares judged none one = (
+pub unclean_none : (B M : ℕ) (channel : UserChannel) (events : List Event) (found : Option Breach) (shares : List Share)
+    → IsChannelJudged B M channel events found shares → found ≡ None
+    → ((o : OpeningValue) (evs : List Event) (t u : History) → Run B M o evs t → Run B M o evs u → t ≡ u) → IsTrue false ↔ IsUnclean B M channel events
+unclean_none B M channel events found shares judged none one = (
   (λ pass. cc),
-  (λ unclean. absurd (let some = one_found B M own events found shares judged one unclean in cc)),
+  (λ unclean. absurd (let some = one_found B M channel events found shares judged one unclean in cc)),
 )

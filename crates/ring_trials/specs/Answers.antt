@@ -10,18 +10,18 @@ use Rattle.recorder.specs.Writing.{canon}
 use Rattle.poll_close.specs.Breaches.{first_breach}
 use Rattle.poll_close.specs.declared.clean.Breach.{Breach}
 use Rattle.poll_close.specs.declared.clean.Breach.TheVariants as breach
-use Rattle.ring_trials.specs.Own.{lists_of, layout_from, start_of}
-use Rattle.ring_trials.specs.declared.own.Own.{Own}
+use Rattle.ring_trials.specs.UserChannel.{lists_of, layout_from, start_of}
+use Rattle.ring_trials.specs.declared.user_channel.UserChannel.{UserChannel}
 use Rattle.ring_trials.specs.declared.runs.Total.{Total}
-use Rattle.ring_trials.specs.Trials.{Source, schedule_of, IsFirstUnclean, AreAllClean, IsShortened}
+use Rattle.ring_trials.specs.Trials.{ChannelSource, schedule_of_run, IsFirstUnclean, AreAllClean, IsShortened}
 
 -- which blocks are a hart's: for the receiver all
-abbrev pub blocks_of : (hart : ℕ) → List ℕ
-blocks_of h = if h == 0 then codes "the blocks" else codes "its block"
+abbrev pub blocks_text : (hart : ℕ) → List ℕ
+blocks_text h = if h == 0 then codes "the blocks" else codes "its block"
 
 -- what a hart did outside its blocks, and where
 abbrev pub outside_text : (hart : ℕ) → (did : List ℕ) → (address : ℕ) → List ℕ
-outside_text h did a = codes "hart " ++ decimal h ++ codes " " ++ did ++ codes " outside " ++ blocks_of h ++ codes " at " ++ decimal a
+outside_text h did a = codes "hart " ++ decimal h ++ codes " " ++ did ++ codes " outside " ++ blocks_text h ++ codes " at " ++ decimal a
 
 -- what is broken, in words
 abbrev pub breach_text : Breach → List ℕ
@@ -56,34 +56,34 @@ abbrev pub clean_text : (runs : ℕ) → List Total → List (List ℕ) → List
 clean_text runs totals lists = codes "clean " ++ decimal runs ++ codes " runs" ++ 10 ∷ sender_lines 0 totals lists
 
 -- the text has this part of a schedule, and what its run breaks first
-pub record IsPartText (B M : ℕ) (own : Own) (part : List Event) (text : List ℕ) : Type 0 where
+pub record IsPartText (B M : ℕ) (channel : UserChannel) (part : List Event) (text : List ℕ) : Type 0 where
   pub history : History
-  pub run : Run B M (start_of own) part history
+  pub run : Run B M (start_of channel) part history
   pub breach : Breach
-  pub is_first : first_breach (layout_from own) (lists_of own) history.entries ≡ Some breach
+  pub is_first : first_breach (layout_from channel) (lists_of channel) history.entries ≡ Some breach
   pub text_is : text ≡ canon part ++ breach_line breach
 
 -- the text has a schedule made short, and what it breaks
-pub record IsShortText (B M : ℕ) (own : Own) (given : List Event) (text : List ℕ) : Type 0 where
+pub record IsShortText (B M : ℕ) (channel : UserChannel) (given : List Event) (text : List ℕ) : Type 0 where
   pub part : List Event
-  pub shortened : IsShortened B M own given part
-  pub shown : IsPartText B M own part text
+  pub shortened : IsShortened B M channel given part
+  pub shown : IsPartText B M channel part text
 
 -- the first unclean run, made short, and what that breaks
-pub record IsToldUnclean (s : Source) (runs : ℕ) (text : List ℕ) : Type 0 where
+pub record IsUncleanOutput (s : ChannelSource) (runs : ℕ) (text : List ℕ) : Type 0 where
   pub number : ℕ
   pub within : number < runs
   pub found : Breach
   pub first : IsFirstUnclean s number found
-  pub shown : IsShortText s.B s.M s.own (schedule_of s number) text
+  pub shown : IsShortText s.B s.M s.channel (schedule_of_run s number) text
 
 -- all runs are clean, and the text lists each sender's totals
-pub record IsToldClean (s : Source) (runs : ℕ) (text : List ℕ) : Type 0 where
+pub record IsCleanOutput (s : ChannelSource) (runs : ℕ) (text : List ℕ) : Type 0 where
   pub totals : List Total
   pub clean : AreAllClean s runs totals
-  pub text_is : text ≡ clean_text runs totals (lists_of s.own)
+  pub text_is : text ≡ clean_text runs totals (lists_of s.channel)
 
 -- the text for this number of runs, and whether all are clean
-abbrev pub IsTold : Source → (runs : ℕ) → List ℕ × Bool → Type 0
-IsTold s runs (text, true) = IsToldClean s runs text
-IsTold s runs (text, false) = IsToldUnclean s runs text
+abbrev pub IsTrialsOutput : ChannelSource → (runs : ℕ) → List ℕ × Bool → Type 0
+IsTrialsOutput s runs (text, true) = IsCleanOutput s runs text
+IsTrialsOutput s runs (text, false) = IsUncleanOutput s runs text

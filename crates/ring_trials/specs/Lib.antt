@@ -1,4 +1,4 @@
-pub mod Own
+pub mod UserChannel
 pub mod Trials
 pub mod Answers
 pub mod inner

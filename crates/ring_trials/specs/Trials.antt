@@ -19,18 +19,18 @@ use Rattle.poll_close.specs.Breaches.{first_breach, AreNotes, IsKept}
 use Rattle.poll_close.specs.declared.clean.Breach.{Breach}
 use Rattle.poll_close.specs.declared.clean.Share.{Share}
 use Rattle.shrink.specs.Shrinking.{IsPartOf, without}
-use Rattle.ring_trials.specs.Own.{lists_of, layout_from, start_of}
-use Rattle.ring_trials.specs.declared.own.Own.{Own}
+use Rattle.ring_trials.specs.UserChannel.{lists_of, layout_from, start_of}
+use Rattle.ring_trials.specs.declared.user_channel.UserChannel.{UserChannel}
 use Rattle.ring_trials.specs.declared.runs.Total.{Total}
 use Rattle.ring_trials.specs.declared.runs.Found.{Found}
 use Rattle.ring_trials.specs.declared.runs.Found.TheVariants as found
 
 -- what is noted of a run after these entries: the first breach, if there is one, and where there is none of each
 -- sender what it takes to find the next
-pub record AreNoted (own : Own) (es : List Entry) (found : Option Breach) (shares : List Share) : Type 0 where
-  pub breach : found ≡ first_breach (layout_from own) (lists_of own) es
+pub record AreNoted (channel : UserChannel) (es : List Entry) (found : Option Breach) (shares : List Share) : Type 0 where
+  pub breach : found ≡ first_breach (layout_from channel) (lists_of channel) es
   pub notes : found ≡ None → AreNotes (reported 0 es) shares
-  pub count : length shares ≡ length (lists_of own)
+  pub count : length shares ≡ length (lists_of channel)
 
 -- the entries after an event with this outcome
 abbrev pub entries_with : List Entry → Outcome → List Entry
@@ -42,52 +42,52 @@ entries_with es outcome.NoHart = es
 
 -- These events run from the opening of this channel, and their first breach is this one. Where there is none, this
 -- is noted of each sender.
-pub record IsChannelJudged (B M : ℕ) (own : Own) (events : List Event) (found : Option Breach) (shares : List Share) : Type 0 where
+pub record IsChannelJudged (B M : ℕ) (channel : UserChannel) (events : List Event) (found : Option Breach) (shares : List Share) : Type 0 where
   pub history : History
-  pub run : Run B M (start_of own) events history
-  pub noted : AreNoted own history.entries found shares
+  pub run : Run B M (start_of channel) events history
+  pub noted : AreNoted channel history.entries found shares
 
 -- the same where a machine stands after them
-pub record IsChannelJudgedAt (B M : ℕ) (own : Own) (events : List Event) (c : Config) (found : Option Breach) (shares : List Share) : Type 0 where
+pub record IsChannelJudgedAt (B M : ℕ) (channel : UserChannel) (events : List Event) (c : Config) (found : Option Breach) (shares : List Share) : Type 0 where
   pub history : History
-  pub run : Run B M (start_of own) events history
-  pub opening : history.opening ≡ start_of own
+  pub run : Run B M (start_of channel) events history
+  pub opening : history.opening ≡ start_of channel
   pub stands : RepresentsHistory B M history c
-  pub noted : AreNoted own history.entries found shares
+  pub noted : AreNoted channel history.entries found shares
 
 -- Where runs come from: buffers of B stores and a memory of M words, the channel, the stream that draws the
 -- schedules, and how many events each schedule has.
-pub record Source : Type 0 where
+pub record ChannelSource : Type 0 where
   pub B : ℕ
   pub M : ℕ
-  pub own : Own
+  pub channel : UserChannel
   pub stream : Stream
   pub size : ℕ
 
-abbrev pub source_of : (B M : ℕ) → Own → Stream → (size : ℕ) → Source
-source_of B M own stream size = record { B = B; M = M; own = own; stream = stream; size = size }
+abbrev pub channel_source : (B M : ℕ) → UserChannel → Stream → (size : ℕ) → ChannelSource
+channel_source B M channel stream size = record { B = B; M = M; channel = channel; stream = stream; size = size }
 
-abbrev pub schedule_of : Source → (number : ℕ) → List Event
-schedule_of s number = schedule_drawn (length (start_of s.own).harts) s.size s.stream number
+abbrev pub schedule_of_run : ChannelSource → (number : ℕ) → List Event
+schedule_of_run s number = schedule_drawn (length (start_of s.channel).harts) s.size s.stream number
 
 -- the run of this number, from 0
-abbrev pub IsRunOf : Source → (number : ℕ) → History → Type 0
-IsRunOf s number t = Run s.B s.M (start_of s.own) (schedule_of s number) t
+abbrev pub IsRunOf : ChannelSource → (number : ℕ) → History → Type 0
+IsRunOf s number t = Run s.B s.M (start_of s.channel) (schedule_of_run s number) t
 
 -- the runs from this number on, one after the other
-abbrev pub AreRuns : Source → (number : ℕ) → List History → Type 0
+abbrev pub AreRuns : ChannelSource → (number : ℕ) → List History → Type 0
 AreRuns s number [] = Unit {0}
 AreRuns s number (t ∷ ts) = IsRunOf s number t × AreRuns s (number + 1) ts
 
 -- the run keeps what a ring must
-abbrev pub KeepsAll : Own → History → Type 0
-KeepsAll own t = IsKept (layout_from own) (lists_of own) t.entries
+abbrev pub KeepsAll : UserChannel → History → Type 0
+KeepsAll channel t = IsKept (layout_from channel) (lists_of channel) t.entries
 
 -- the runs before this number, all of which keep what a ring must
-pub record AreCleanRuns (s : Source) (number : ℕ) (ts : List History) : Type 0 where
+pub record AreCleanRuns (s : ChannelSource) (number : ℕ) (ts : List History) : Type 0 where
   pub runs : AreRuns s 0 ts
   pub count : length ts ≡ number
-  pub kept : All (KeepsAll s.own) ts
+  pub kept : All (KeepsAll s.channel) ts
 
 -- how many words of sender i were taken at most
 abbrev pub most_of : (i : ℕ) → List History → ℕ
@@ -105,22 +105,22 @@ pub record AreTotals (ts : List History) (totals : List Total) : Type 0 where
   pub closed : (i : ℕ) (s : Total) → slice_get totals i ≡ Some s → s.closed ≡ closed_in i ts
 
 -- the run of this number is the first one that breaks something, and this is its first breach
-pub record IsFirstUnclean (s : Source) (number : ℕ) (breach : Breach) : Type 0 where
+pub record IsFirstUnclean (s : ChannelSource) (number : ℕ) (breach : Breach) : Type 0 where
   pub before : List History
   pub clean : AreCleanRuns s number before
   pub history : History
   pub run : IsRunOf s number history
-  pub breaks : first_breach (layout_from s.own) (lists_of s.own) history.entries ≡ Some breach
+  pub breaks : first_breach (layout_from s.channel) (lists_of s.channel) history.entries ≡ Some breach
 
 -- all runs are clean, and each sender has its total
-pub record AreAllClean (s : Source) (runs : ℕ) (totals : List Total) : Type 0 where
+pub record AreAllClean (s : ChannelSource) (runs : ℕ) (totals : List Total) : Type 0 where
   pub histories : List History
   pub clean : AreCleanRuns s runs histories
   pub totals_are : AreTotals histories totals
-  pub count : length totals ≡ length (lists_of s.own)
+  pub count : length totals ≡ length (lists_of s.channel)
 
 -- what was found of this number of runs
-abbrev pub IsFoundIn : Source → (runs : ℕ) → Found → Type 0
+abbrev pub IsFoundIn : ChannelSource → (runs : ℕ) → Found → Type 0
 IsFoundIn s runs (found.Clean totals) = AreAllClean s runs totals.items
 IsFoundIn s runs (found.Unclean number breach) = (number < runs) × IsFirstUnclean s number breach
 
@@ -130,20 +130,20 @@ runs_drawn runs (found.Clean totals) = runs
 runs_drawn runs (found.Unclean number breach) = number + 1
 
 -- the run of the events breaks something
-pub record IsUnclean (B M : ℕ) (own : Own) (events : List Event) : Type 0 where
+pub record IsUnclean (B M : ℕ) (channel : UserChannel) (events : List Event) : Type 0 where
   pub history : History
-  pub run : Run B M (start_of own) events history
+  pub run : Run B M (start_of channel) events history
   pub breach : Breach
-  pub breaks : first_breach (layout_from own) (lists_of own) history.entries ≡ Some breach
+  pub breaks : first_breach (layout_from channel) (lists_of channel) history.entries ≡ Some breach
 
 -- the machine stands at the end of some run of this channel, whose blocks end within 32 bits, and each sender has a share
-pub record IsBenchOf (B M : ℕ) (own : Own) (machine : Config) (shares : List Share) : Type 0 where
-  pub stands : RepresentsRunFrom B M (start_of own) machine
-  pub ends : base_of (layout_from own) (length (lists_of own)) < 2 ^ 32
-  pub count : length shares ≡ length (lists_of own)
+pub record IsBenchOf (B M : ℕ) (channel : UserChannel) (machine : Config) (shares : List Share) : Type 0 where
+  pub stands : RepresentsRunFrom B M (start_of channel) machine
+  pub ends : base_of (layout_from channel) (length (lists_of channel)) < 2 ^ 32
+  pub count : length shares ≡ length (lists_of channel)
 
 -- the answer is a part of the given events and unclean; without any one event it isn't
-pub record IsShortened (B M : ℕ) (own : Own) (given answer : List Event) : Type 0 where
+pub record IsShortened (B M : ℕ) (channel : UserChannel) (given answer : List Event) : Type 0 where
   pub part : IsPartOf answer given
-  pub unclean : IsUnclean B M own answer
-  pub minimal : (i : ℕ) → i < length answer → IsUnclean B M own (without i 1 answer) → ⊥
+  pub unclean : IsUnclean B M channel answer
+  pub minimal : (i : ℕ) → i < length answer → IsUnclean B M channel (without i 1 answer) → ⊥

@@ -3,7 +3,7 @@
 ghost use Rattle.std.specs.Prelude.{◌≡◌, ◌++◌, ◌∷◌, ◌≤◌, [], IfOk, OnOk, length, map};
 ghost use Rattle.std.specs.String.{string_bytes};
 ghost use Rattle.recorder.specs.Writing.{canon};
-ghost use Rattle.ring_trials.specs.Answers.{blocks_of, outside_text, breach_text, breach_line, sender_line, sender_lines, clean_text};
+ghost use Rattle.ring_trials.specs.Answers.{blocks_text, outside_text, breach_text, breach_line, sender_line, sender_lines, clean_text};
 
 use crate::runs::Total;
 use poll_close::Breach;
@@ -13,7 +13,7 @@ use step_machine::Event;
 
 /// What the blocks of a hart are called.
 fn blocks_of(hart: u32) -> &'static str
-    ensures { result.now ≡ blocks_of hart }
+    ensures { result.now ≡ blocks_text hart }
 {
     if hart == 0 { "the blocks" } else { "its block" }
 }

@@ -5,10 +5,10 @@ ghost use Rattle.step_machine.specs.declared.events.Entry.{Entry};
 ghost use Rattle.step_machine.specs.Standing.{RepresentsRunFrom};
 ghost use Rattle.poll_close.specs.Layout.{base_of};
 ghost use Rattle.poll_close.specs.Breaches.{AreNotes};
-ghost use Rattle.ring_trials.specs.Own.{lists_of, layout_from, start_of};
+ghost use Rattle.ring_trials.specs.UserChannel.{lists_of, layout_from, start_of};
 ghost use Rattle.ring_trials.specs.Trials.{AreNoted, entries_with, IsChannelJudged};
 
-use crate::own::Own;
+use crate::user_channel::UserChannel;
 use poll_close::{Breach, Share, note_entry};
 use std::alloc::AllocError;
 use step_machine::{Event, MachineState, Outcome};
@@ -28,19 +28,19 @@ fn begin(shares: &mut [Share])
 
 /// Takes in what an event did, where there was no breach before it; gives the first breach after it.
 fn note_outcome(
-    own: &Own,
+    channel: &UserChannel,
     shares: &mut [Share],
     found: Option<Breach>,
     outcome: Outcome,
 ) -> Option<Breach>
-    requires ends { base_of (layout_from own.now) (length (lists_of own.now)) < 2 ^ 32 }
-    requires count { length shares.old ≡ length (lists_of own.now) }
-    ensures noted { (es : List Entry) → AreNoted own.now es found shares.old → AreNoted own.now (entries_with es outcome) result shares.new }
+    requires ends { base_of (layout_from channel.now) (length (lists_of channel.now)) < 2 ^ 32 }
+    requires count { length shares.old ≡ length (lists_of channel.now) }
+    ensures noted { (es : List Entry) → AreNoted channel.now es found shares.old → AreNoted channel.now (entries_with es outcome) result shares.new }
     ensures count { length shares.new ≡ length shares.old }
 {
     match outcome {
         Outcome::Did(entry) => match found {
-            None => note_entry(shares, &own.lists, own.place, entry),
+            None => note_entry(shares, &channel.lists, channel.place, entry),
             Some(first) => Some(first),
         },
         Outcome::Waited => found,
@@ -54,24 +54,24 @@ fn note_outcome(
 /// it did before. Where there is none, `shares` has what is noted of each sender.
 #[tactic(auto, using(crate::proofs::JudgingLaws::judged_at))]
 pub fn judge<const B: usize, const M: usize>(
-    own: &Own,
+    channel: &UserChannel,
     machine: &mut MachineState<B, M>,
     shares: &mut [Share],
     events: &[Event],
 ) -> Result<Option<Breach>, AllocError>
-    requires stands { RepresentsRunFrom B M (start_of own.now) machine.old }
-    requires ends { base_of (layout_from own.now) (length (lists_of own.now)) < 2 ^ 32 }
-    requires count { length shares.old ≡ length (lists_of own.now) }
-    ensures judged { IfOk result (λ found. IsChannelJudged B M own.now events.now found shares.new) }
-    ensures stands { OnOk result (RepresentsRunFrom B M (start_of own.now) machine.new) }
-    ensures count { length shares.new ≡ length (lists_of own.now) }
+    requires stands { RepresentsRunFrom B M (start_of channel.now) machine.old }
+    requires ends { base_of (layout_from channel.now) (length (lists_of channel.now)) < 2 ^ 32 }
+    requires count { length shares.old ≡ length (lists_of channel.now) }
+    ensures judged { IfOk result (λ found. IsChannelJudged B M channel.now events.now found shares.new) }
+    ensures stands { OnOk result (RepresentsRunFrom B M (start_of channel.now) machine.new) }
+    ensures count { length shares.new ≡ length (lists_of channel.now) }
 {
     machine.restart();
     begin(shares);
     let mut found = None;
     for event in events {
         let outcome = machine.step(*event)?;
-        found = note_outcome(own, shares, found, outcome);
+        found = note_outcome(channel, shares, found, outcome);
     }
     Ok(found)
 }

@@ -1,7 +1,7 @@
 //! Runs of a channel over two programs of a user's own, by drawn schedules, judged by the definition that a
 //! ring's theorem has.
 //!
-//! The contract: [`told`] states what it answers of the runs that the generator's words draw (`specs/Answers.antt`
+//! The contract: [`run_trials`] states what it answers of the runs that the generator's words draw (`specs/Answers.antt`
 //! and `specs/Trials.antt`), each judged as `poll_close` defines a first breach. This crate reads no text and knows no
 //! ring.
 
@@ -9,11 +9,11 @@
 
 mod answer_texts;
 pub mod judging;
-pub mod own;
 pub mod passes;
 mod rounds;
+pub mod run_output;
 pub mod runs;
-pub mod telling;
+pub mod user_channel;
 
-pub use own::Own;
-pub use telling::told;
+pub use run_output::run_trials;
+pub use user_channel::UserChannel;

@@ -4,7 +4,7 @@ ghost use Rattle.std.specs.Prelude.{◌≡◌, IfOk, OnOk};
 ghost use Rattle.ring_trials.specs.Trials.{IsBenchOf, IsUnclean, IsShortened};
 
 use crate::judging::judge;
-use crate::own::Own;
+use crate::user_channel::UserChannel;
 use poll_close::Share;
 use shrink::{Question, leave_out};
 use std::alloc::{AllocError, Global};
@@ -21,15 +21,15 @@ pub struct Bench<const B: usize, const M: usize> {
 /// The question whether the run of a list of events breaks something.
 #[derive(Drop)]
 struct StillUnclean<'a, const B: usize, const M: usize> {
-    own: &'a Own,
+    channel: &'a UserChannel,
 }
 
 impl<'a, const B: usize, const M: usize> Question for StillUnclean<'a, B, M> {
     type Bench = Bench<B, M>;
 
-    ghost stands = { λ it bench. IsBenchOf B M it.own.now bench.machine bench.shares.items };
+    ghost stands = { λ it bench. IsBenchOf B M it.channel.now bench.machine bench.shares.items };
 
-    ghost holds = { λ it events. IsUnclean B M it.own.now events };
+    ghost holds = { λ it events. IsUnclean B M it.channel.now events };
 
     #[tactic(auto, using(crate::proofs::RunsLaws::unclean_some, crate::proofs::RunsLaws::unclean_none))]
     fn holds_of(
@@ -39,7 +39,7 @@ impl<'a, const B: usize, const M: usize> Question for StillUnclean<'a, B, M> {
         events: &[Event],
     ) -> Result<bool, AllocError> {
         laws_of_runs();
-        let found = judge(self.own, &mut bench.machine, &mut bench.shares, events)?;
+        let found = judge(self.channel, &mut bench.machine, &mut bench.shares, events)?;
         match found {
             Some(_) => Ok(true),
             None => Ok(false),
@@ -51,17 +51,17 @@ impl<'a, const B: usize, const M: usize> Question for StillUnclean<'a, B, M> {
 /// left out.
 pub fn shorten<const B: usize, const M: usize>(
     alloc: Global,
-    own: &Own,
+    channel: &UserChannel,
     bench: &mut Bench<B, M>,
     events: &[Event],
 ) -> Result<Vec<Event>, AllocError>
-    requires stands { IsBenchOf B M own.now bench.old.machine bench.old.shares.items }
-    requires unclean { IsUnclean B M own.now events.now }
-    ensures shortened { IfOk result (λ answer. IsShortened B M own.now events.now answer.items) }
-    ensures stands { OnOk result (IsBenchOf B M own.now bench.new.machine bench.new.shares.items) }
+    requires stands { IsBenchOf B M channel.now bench.old.machine bench.old.shares.items }
+    requires unclean { IsUnclean B M channel.now events.now }
+    ensures shortened { IfOk result (λ answer. IsShortened B M channel.now events.now answer.items) }
+    ensures stands { OnOk result (IsBenchOf B M channel.now bench.new.machine bench.new.shares.items) }
 {
     let mut left = Vec::from_slice(alloc, events)?;
-    let unclean = StillUnclean::<B, M> { own };
+    let unclean = StillUnclean::<B, M> { channel };
     leave_out(alloc, &unclean, bench, &mut left)?;
     Ok(left)
 }

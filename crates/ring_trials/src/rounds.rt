@@ -3,15 +3,15 @@
 ghost use Rattle.std.specs.Prelude.{◌≡◌, ◌≤◌, ◌+◌, ◌++◌, ℕ, List, Some, None, length, IfOk};
 ghost use Rattle.std.specs.List.{slice_get};
 ghost use Rattle.step_machine.specs.History.{History};
-ghost use Rattle.ring_trials.specs.Own.{OpensOver};
-ghost use Rattle.ring_trials.specs.Trials.{AreTotals, IsFoundIn, source_of};
+ghost use Rattle.ring_trials.specs.UserChannel.{OpensOver};
+ghost use Rattle.ring_trials.specs.Trials.{AreTotals, IsFoundIn, channel_source};
 ghost use Rattle.ring_trials.specs.inner.Joining.{IsFoundFrom};
 
-use crate::own::{Own, senders};
 use crate::runs::{Found, Total, find_on, no_totals};
+use crate::user_channel::{UserChannel, senders};
 use jumping::Jump;
+use jumping::parallel::{Trials, in_rounds};
 use jumping::progress::Progress;
-use jumping::spreading::{Trials, in_rounds};
 use std::alloc::{AllocError, Global};
 use std::thread::Threads;
 use step_machine::{MachineState, Opening};
@@ -19,12 +19,12 @@ use step_machine::{MachineState, Opening};
 /// The runs of a channel from this opening, each by `size` events that a generator draws, over buffers of `B` stores and
 /// `M` words of memory.
 #[derive(Drop)]
-struct OwnRuns<'a, const B: usize, const M: usize, G> {
-    own: &'a Own,
+struct ChannelRuns<'a, const B: usize, const M: usize, G> {
+    channel: &'a UserChannel,
     opening: &'a Opening,
     generator: &'a G,
     size: u32,
-    ghost can: { (B ≤ 64) × (M ≤ 65536) × OpensOver M own.now opening.now },
+    ghost can: { (B ≤ 64) × (M ≤ 65536) × OpensOver M channel.now opening.now },
 }
 
 /// Takes in the totals of later runs.
@@ -49,7 +49,7 @@ fn join(totals: &mut [Total], later: &[Total])
 /// runs before.
 fn found_between<const B: usize, const M: usize, G: Jump + Drop>(
     alloc: Global,
-    own: &Own,
+    channel: &UserChannel,
     opening: &Opening,
     generator: &G,
     size: u32,
@@ -58,13 +58,13 @@ fn found_between<const B: usize, const M: usize, G: Jump + Drop>(
 ) -> Result<Found, AllocError>
     requires capacity { B ≤ 64 }
     requires memory { M ≤ 65536 }
-    requires opens { OpensOver M own.now opening.now }
+    requires opens { OpensOver M channel.now opening.now }
     requires order { first ≤ end }
-    ensures { IfOk result (λ found. IsFoundFrom (source_of B M own.now (G.Rng.stream generator.now) size) first end found) }
+    ensures { IfOk result (λ found. IsFoundFrom (channel_source B M channel.now (G.Rng.stream generator.now) size) first end found) }
 {
     let mut there = generator.ahead(u64::from(first), size)?;
     let mut machine = MachineState::<B, M>::open(alloc, opening)?;
-    let found = find_on(alloc, own, &mut there, &mut machine, end - first, size)?;
+    let found = find_on(alloc, channel, &mut there, &mut machine, end - first, size)?;
     match found {
         Found::Clean(totals) => Ok(Found::Clean(totals)),
         Found::Unclean { number, breach } => Ok(Found::Unclean {
@@ -76,19 +76,20 @@ fn found_between<const B: usize, const M: usize, G: Jump + Drop>(
 
 /// A job's runs take a machine, a schedule and the senders' totals, however many they are. None is made after one that
 /// isn't clean.
-impl<'a, const B: usize, const M: usize, G: Jump + Sync + Drop> Trials for OwnRuns<'a, B, M, G> {
+impl<'a, const B: usize, const M: usize, G: Jump + Sync + Drop> Trials
+    for ChannelRuns<'a, B, M, G> {
     type Part = Found;
 
-    ghost knows = { λ it first end found. IsFoundFrom (source_of B M it.own.now (G.Rng.stream it.generator.now) it.size) first end found };
+    ghost knows = { λ it first end found. IsFoundFrom (channel_source B M it.channel.now (G.Rng.stream it.generator.now) it.size) first end found };
 
     fn none(&self, alloc: Global) -> Result<Found, AllocError> {
-        Ok(Found::Clean(no_totals(alloc, senders(self.own))?))
+        Ok(Found::Clean(no_totals(alloc, senders(self.channel))?))
     }
 
     fn make(&self, alloc: Global, first: u32, end: u32) -> Result<Found, AllocError> {
         found_between::<B, M, G>(
             alloc,
-            self.own,
+            self.channel,
             self.opening,
             self.generator,
             self.size,
@@ -132,7 +133,7 @@ pub fn find_in_rounds<
 >(
     rt: &T,
     alloc: Global,
-    own: &Own,
+    channel: &UserChannel,
     opening: &Opening,
     generator: &G,
     runs: u32,
@@ -142,11 +143,11 @@ pub fn find_in_rounds<
 ) -> Result<Found, AllocError>
     requires capacity { B ≤ 64 }
     requires memory { M ≤ 65536 }
-    requires opens { OpensOver M own.now opening.now }
-    ensures { IfOk result (λ found. IsFoundIn (source_of B M own.now (G.Rng.stream generator.now) size) runs found) }
+    requires opens { OpensOver M channel.now opening.now }
+    ensures { IfOk result (λ found. IsFoundIn (channel_source B M channel.now (G.Rng.stream generator.now) size) runs found) }
 {
-    let trials = OwnRuns::<B, M, G> {
-        own,
+    let trials = ChannelRuns::<B, M, G> {
+        channel,
         opening,
         generator,
         size,

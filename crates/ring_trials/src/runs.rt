@@ -8,11 +8,11 @@ ghost use Rattle.step_machine.specs.Standing.{RepresentsRunFrom};
 ghost use Rattle.recorder.specs.Drawing.{left_after};
 ghost use Rattle.poll_close.specs.Layout.{base_of};
 ghost use Rattle.poll_close.specs.Breaches.{AreNotes};
-ghost use Rattle.ring_trials.specs.Own.{lists_of, layout_from, start_of};
-ghost use Rattle.ring_trials.specs.Trials.{AreTotals, IsFoundIn, runs_drawn, source_of};
+ghost use Rattle.ring_trials.specs.UserChannel.{lists_of, layout_from, start_of};
+ghost use Rattle.ring_trials.specs.Trials.{AreTotals, IsFoundIn, runs_drawn, channel_source};
 
 use crate::judging::judge;
-use crate::own::{Own, senders};
+use crate::user_channel::{UserChannel, senders};
 use poll_close::{Breach, Share, no_shares};
 use rand_core::Rng;
 use recorder::draw;
@@ -72,26 +72,26 @@ fn take_in(totals: &mut [Total], shares: &[Share])
 /// them all.
 pub fn find_on<const B: usize, const M: usize, G: Rng>(
     alloc: Global,
-    own: &Own,
+    channel: &UserChannel,
     generator: &mut G,
     machine: &mut MachineState<B, M>,
     runs: u32,
     size: u32,
 ) -> Result<Found, AllocError>
-    requires stands { RepresentsRunFrom B M (start_of own.now) machine.old }
-    requires ends { base_of (layout_from own.now) (length (lists_of own.now)) < 2 ^ 32 }
-    ensures found { IfOk result (λ found. IsFoundIn (source_of B M own.now (G.stream generator.old) size) runs found) }
-    ensures stands { OnOk result (RepresentsRunFrom B M (start_of own.now) machine.new) }
+    requires stands { RepresentsRunFrom B M (start_of channel.now) machine.old }
+    requires ends { base_of (layout_from channel.now) (length (lists_of channel.now)) < 2 ^ 32 }
+    ensures found { IfOk result (λ found. IsFoundIn (channel_source B M channel.now (G.stream generator.old) size) runs found) }
+    ensures stands { OnOk result (RepresentsRunFrom B M (start_of channel.now) machine.new) }
     ensures left { IfOk result (λ found. G.stream generator.new ≡ left_after (runs_drawn runs found * size) (G.stream generator.old)) }
 {
     let harts = machine.harts();
-    let count = senders(own);
+    let count = senders(channel);
     let mut totals = no_totals(alloc, count)?;
     let mut shares = no_shares(alloc, count)?;
     let mut events = Vec::new(alloc);
     for number in 0..runs {
         draw(&mut events, generator, harts, size)?;
-        let found = judge(own, machine, &mut shares, &events)?;
+        let found = judge(channel, machine, &mut shares, &events)?;
         match found {
             Some(breach) => return Ok(Found::Unclean { number, breach }),
             None => take_in(&mut totals, &shares),

@@ -23,14 +23,14 @@ one_replayed : (q : LitmusTest) (t : History) (a b : Output) → IsReplay q t a 
 one_replayed q t a b is other = same_output a b (is ∙ sym other)
 
 module _ (B M : ℕ) where
-  one_moved : (q : LitmusTest) (said : ScheduleValue) (a b : Result Output Refusal) → IsMoved B M q said a → IsMoved B M q said b → AreOneAnswer a b
-  one_moved q said (Ok a) (Ok b) (steps, records, is, read) (others, also, other, again) =
-      let records_same = one_record B M q.opening said (Ok steps) (Ok others) records also in
+  one_moved : (q : LitmusTest) (parsed : ScheduleValue) (a b : Result Output Refusal) → IsMoved B M q parsed a → IsMoved B M q parsed b → AreOneAnswer a b
+  one_moved q parsed (Ok a) (Ok b) (steps, records, is, read) (others, also, other, again) =
+      let records_same = one_record B M q.opening parsed (Ok steps) (Ok others) records also in
       let same : steps ≡ others = cc in
       same_output a b (is ∙ ap record_text same ∙ sym other)
-  one_moved q said (Ok a) (Err s) (steps, records, is, read) differs = equal_alike _ _ (one_record B M q.opening said (Ok steps) (Err s) records differs)
-  one_moved q said (Err r) (Ok b) differs (steps, records, is, read) = equal_alike _ _ (one_record B M q.opening said (Err r) (Ok steps) differs records)
-  one_moved q said (Err r) (Err s) differs other = equal_alike _ _ (one_record B M q.opening said (Err r) (Err s) differs other)
+  one_moved q parsed (Ok a) (Err s) (steps, records, is, read) differs = equal_alike _ _ (one_record B M q.opening parsed (Ok steps) (Err s) records differs)
+  one_moved q parsed (Err r) (Ok b) differs (steps, records, is, read) = equal_alike _ _ (one_record B M q.opening parsed (Err r) (Ok steps) differs records)
+  one_moved q parsed (Err r) (Err s) differs other = equal_alike _ _ (one_record B M q.opening parsed (Err r) (Err s) differs other)
 
   pub one_run : (file schedule : List ℕ) (a b : Result (List ℕ × Verdict) Refusal) → IsRunAnswer B M (Some file) (Some schedule) a
       → IsRunAnswer B M (Some file) (Some schedule) b → AreOneAnswer a b

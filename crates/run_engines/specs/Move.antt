@@ -11,8 +11,9 @@ use Rattle.engine_support.specs.Runs.{Records}
 -- The one text of the record of the schedule's run from the test's opening, which is read as this record again;
 -- a record that differs has none.
 abbrev pub IsMoved : (B M : ℕ) → LitmusTest → ScheduleValue → Result Output Refusal → Type 0
-IsMoved B M test said (Ok answer) = (steps : List Step) × Records B M test.opening said (Ok steps) × (answer.0 ≡ record_text steps) × IsRecordOf answer.0 steps
-IsMoved B M test said (Err refusal) = Records B M test.opening said (Err refusal)
+IsMoved B M test parsed (Ok answer) = (steps : List Step) × Records B M test.opening parsed (Ok steps)
+    × (answer.0 ≡ record_text steps) × IsRecordOf answer.0 steps
+IsMoved B M test parsed (Err refusal) = Records B M test.opening parsed (Err refusal)
 
 -- What answers a litmus text and a schedule of either version. A record is refused at the first event whose
 -- outcome isn't the run's.

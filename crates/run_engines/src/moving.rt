@@ -22,9 +22,9 @@ impl<const B: usize, const M: usize> ScheduleCommand<B, M> for Move {
 
     ghost is_answer = { IsMoved B M };
 
-    fn answer(alloc: Global, test: &Test, said: Schedule) -> Result<(String, ()), Fault> {
+    fn answer(alloc: Global, test: &Test, parsed: Schedule) -> Result<(String, ()), Fault> {
         records_can_be_written();
-        let steps = record_of_schedule::<B, M>(alloc, test, said)?;
+        let steps = record_of_schedule::<B, M>(alloc, test, parsed)?;
         let text = write_record(alloc, &steps)?;
         Ok((text, ()))
     }

@@ -38,8 +38,8 @@ impl<const B: usize, const M: usize> ScheduleCommand<B, M> for Replay {
 
     ghost is_answer = { AnswersRun B M IsReplay };
 
-    fn answer(alloc: Global, test: &Test, said: Schedule) -> Result<(String, ()), Fault> {
-        let machine = machine_of_schedule::<B, M>(alloc, test, said)?;
+    fn answer(alloc: Global, test: &Test, parsed: Schedule) -> Result<(String, ()), Fault> {
+        let machine = machine_of_schedule::<B, M>(alloc, test, parsed)?;
         let text = entries_text(alloc, machine.entries())?;
         Ok((text, ()))
     }

@@ -55,8 +55,8 @@ impl<const B: usize, const M: usize> ScheduleCommand<B, M> for Run {
 
     ghost is_answer = { AnswersRun B M (IsJudged M) };
 
-    fn answer(alloc: Global, test: &Test, said: Schedule) -> Result<(String, Verdict), Fault> {
-        let machine = state_of_schedule::<B, M>(alloc, test, said)?;
+    fn answer(alloc: Global, test: &Test, parsed: Schedule) -> Result<(String, Verdict), Fault> {
+        let machine = state_of_schedule::<B, M>(alloc, test, parsed)?;
         let judged = judged_text(alloc, test, &machine)?;
         Ok(judged)
     }

@@ -4,3 +4,4 @@ pub mod Meaning
 pub mod Fits
 pub mod Tables
 pub mod Registers
+pub mod Listings

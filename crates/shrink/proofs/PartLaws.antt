@@ -8,6 +8,7 @@ use Rattle.step_machine.specs.declared.events.Outcome.{Outcome}
 use Rattle.step_machine.specs.declared.events.Outcome.TheVariants as outcome
 use Rattle.step_machine.specs.History.{OpeningValue, History}
 use Rattle.step_machine.specs.Runs.{IsFor, Happens, RunFrom, Run, event_of}
+use Rattle.step_machine.proofs.Follows.{event_of-for}
 use Rattle.shrink.specs.Shrinking.{IsPartOf, empty, with_first, without_first, without}
 
 pub part_whole : (es : List Event) → IsPartOf es es
@@ -33,9 +34,6 @@ part_without (suc from) count (ev ∷ es) =
     rw next (with_first ev (without from count es) es (part_without from count es))
 
 -- ---- the entries of a run
-
-event_of-for : (ev : Event) (e : Entry) → IsFor ev e → event_of e ≡ ev
-event_of-for ev e for_it = grind arith
 
 -- the entries that some events add
 record Added (t : History) (evs : List Event) (new : History) : Type 0 where

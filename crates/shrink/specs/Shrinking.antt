@@ -39,8 +39,8 @@ RefusesRun M history NoMemory = Unit {0}
 RefusesRun M history NotFinished = IsFinished M history → ⊥
 
 -- the same of the run of the given events
-abbrev pub Refuses : (B M : ℕ) → LitmusTest → List Event → ShrinkError → Type 0
-Refuses B M q given why = (t : History) → Run B M q.opening given t → RefusesRun M t why
+abbrev pub RefusesTest : (B M : ℕ) → LitmusTest → List Event → ShrinkError → Type 0
+RefusesTest B M q given why = (t : History) → Run B M q.opening given t → RefusesRun M t why
 
 -- the number by which texts name a refusal
 abbrev pub shrink_number : ShrinkError → ℕ

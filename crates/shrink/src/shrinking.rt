@@ -4,7 +4,7 @@ ghost use Rattle.std.specs.Prelude.{◌≡◌, ◌≤◌, List, length, IfOk, If
 ghost use Rattle.step_machine.specs.Runs.{Run};
 ghost use Rattle.step_machine.specs.declared.events.Event.{Event};
 ghost use Rattle.litmus.specs.declared.litmus_test.TheConstants.{MAX_LOCATIONS};
-ghost use Rattle.shrink.specs.Shrinking.{IsShrunk, Refuses, RefusesRun};
+ghost use Rattle.shrink.specs.Shrinking.{IsShrunk, RefusesTest, RefusesRun};
 
 use crate::faults::ShrinkError;
 use crate::passes::leave_out;
@@ -69,7 +69,7 @@ pub fn shrink<const B: usize, const M: usize>(
     requires words { MAX_LOCATIONS ≤ M }
     requires size { M ≤ 65536 }
     ensures shrunk { IfOk result (λ answer. IsShrunk B M test.now events.now answer.items) }
-    ensures refused { IfErr result (λ why. Refuses B M test.now events.now why) }
+    ensures refused { IfErr result (λ why. RefusesTest B M test.now events.now why) }
 {
     laws_of_runs();
     let opening = test.opening(alloc)?;

@@ -22,8 +22,8 @@ use Rattle.step_machine.specs.Access.{nothing, load, store, access_of}
 use Rattle.step_machine.specs.Paths.{entry_of}
 use Rattle.spsc_queue.specs.RingBuffers.{Kind, RingBuffer, next, overlaps}
 use Rattle.spsc_queue.specs.Protocol.{ProtocolState, room_at, says_full, next_by}
-use Rattle.spsc_queue.specs.Listings.{Listed, words_of, lines_of}
-use Rattle.spsc_queue.specs.Calls.{Block, IsBlock, Party, the_sender, the_receiver, listing_of, ring_of, is_in_call_after, completed_at}
+use Rattle.rv_decode.specs.Listings.{Listed, words_of, lines_of}
+use Rattle.spsc_queue.specs.Calls.{Block, IsBlock, Party, the_sender, the_receiver, listing_of, ring_at, is_in_call_after, completed_at}
 use Rattle.spsc_queue.specs.CallEffects.{longest_send, longest, IsPlainNeed, sees_full, look_accesses, completed_word, take_accesses}
 use Rattle.step_machine.proofs.Lines.{Line, word-plus, at_line, add_line, return_line, loads, stores, goes_to, leaves_in}
 use Rattle.spsc_queue.proofs.Registers.{set-same, set-other, decoded, thirteen, code_line, code_room, next_line, line_on}
@@ -115,7 +115,7 @@ module _ {p : Party} {K : Kind} (g : Spot p K) where
   open g use {M, n, a, b, k, is, h, s, t, v, has, c, ws}
 
   abbrev pub r : RingBuffer
-  r = ring_of k a b
+  r = ring_at k a b
 
   abbrev pub x : List ℕ
   x = s.registers
@@ -124,11 +124,11 @@ module _ {p : Party} {K : Kind} (g : Spot p K) where
       → CourseStands n p K k r f ys (went c (access_of (entry_of h m v))) (after v) (part p (next_by K r (role p) t (access_of (entry_of h m v))))
       → Moves n p K k r f ys c h s t v
   by_line {f} {ys} m after line plain rule stands = record {
-    plain = subst IsPlainNeed (sym line.wants) plain;
-    rule = subst (λ q. Does p K r t (access_of (entry_of h q v))) (sym line.wants) rule;
+    plain = subst IsPlainNeed (sym line.needs) plain;
+    rule = subst (λ q. Does p K r t (access_of (entry_of h q v))) (sym line.needs) rule;
     after = subst (λ q. CourseStands n p K k r f ys (went c (access_of (entry_of h q v))) (advanced s v)
         (part p (next_by K r (role p) t (access_of (entry_of h q v)))))
-        (sym line.wants) (subst (λ z. CourseStands n p K k r f ys (went c (access_of (entry_of h m v))) z
+        (sym line.needs) (subst (λ z. CourseStands n p K k r f ys (went c (access_of (entry_of h m v))) z
         (part p (next_by K r (role p) t (access_of (entry_of h m v))))) (sym (line.leaves v)) stands);
   }
 

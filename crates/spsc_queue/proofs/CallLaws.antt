@@ -8,12 +8,12 @@ use Rattle.hart.specs.State.{HartState}
 use Rattle.step_machine.specs.declared.events.Entry.{Entry}
 use Rattle.step_machine.specs.History.{OpeningValue, history_of}
 use Rattle.step_machine.specs.Access.{load, access_of}
-use Rattle.step_machine.specs.Entries.{hart_of, stores, lands, pending, read_byte}
+use Rattle.step_machine.specs.Entries.{hart_of, own_stores, lands, pending, read_byte}
 use Rattle.step_machine.specs.Paths.{state_of}
 use Rattle.step_machine.specs.Legal.{Legal}
 use Rattle.spsc_queue.specs.RingBuffers.{Kind, lamport, fastforward, RingBuffer, capacity, writes_to}
 use Rattle.spsc_queue.specs.Protocol.{SenderState, resting, placed, renewing, roomy, filled, asked, ProtocolState}
-use Rattle.spsc_queue.specs.Protocol.{at_start, protocol_after, room_at, says_full, word_at}
+use Rattle.spsc_queue.specs.Protocol.{at_start, protocol_after, room_at, says_full, watched_address}
 use Rattle.spsc_queue.specs.Protocol.{says_empty}
 use Rattle.spsc_queue.specs.Laws.{IsPrefix, FollowsSpscProtocol, available_of, available_count, available_words}
 use Rattle.spsc_queue.specs.StoreBuffers.{IsOnlyWriter, AllLeaveByte}
@@ -24,8 +24,8 @@ use Rattle.spsc_queue.proofs.Runs.{known-of, delivered, length-firsts}
 use Rattle.spsc_queue.proofs.Publication.{published, returned}
 use Rattle.spsc_queue.proofs.MessagePassing.{handed_over}
 use Rattle.spsc_queue.proofs.Linearization.{empty_landed, full_landed}
-use Rattle.spsc_queue.proofs.Outline.{part, IsLevel, Level, Stands, Told}
-use Rattle.spsc_queue.proofs.Functions.{told_by}
+use Rattle.spsc_queue.proofs.Outline.{part, IsLevel, Level, Stands, WordsAre}
+use Rattle.spsc_queue.proofs.Functions.{words_are_by}
 use Rattle.spsc_queue.proofs.Parties.{is_busy, words}
 use Rattle.spsc_queue.proofs.Calls.{Stand, stands-at, calls_follow, here, was_here}
 
@@ -82,8 +82,8 @@ module _ (B M : ℕ) (o : OpeningValue) (q : SpscQueue) (before es : List Entry)
   stands : (p : Party) → Stands (party_line q p) p q.block.kind q.block r (is_busy M o q p before done) (words M o q p before done) (at p) (part p t)
   stands p = stand.stands p (at p) (was_here B M o q before es c.shares p done)
 
-  pub told : (p : Party) → Told (words M o q p before done) (at p) (part p t)
-  told p = told_by (party_line q p) p q.block.kind q.block r (is_busy M o q p before done) (words M o q p before done) (at p) (part p t) (stands p)
+  pub words_are : (p : Party) → WordsAre (words M o q p before done) (at p) (part p t)
+  words_are p = words_are_by (party_line q p) p q.block.kind q.block r (is_busy M o q p before done) (words M o q p before done) (at p) (part p t) (stands p)
 
   pub idle_words : (p : Party) → is_busy M o q p before done ≡ false → Level (part p t) × ((part p t).words ≡ words M o q p before done)
   idle_words p idle = subst (λ b. Stands (party_line q p) p q.block.kind q.block r b (words M o q p before done) (at p) (part p t)) idle (stands p)
@@ -100,26 +100,26 @@ module _ (B M : ℕ) (o : OpeningValue) (q : SpscQueue) (before es : List Entry)
 
   -- how many words its calls sent, and how many its calls returned
   pub sent_least : length A ≤ t.stored
-  sent_least = elim (told the_sender) [
+  sent_least = elim (words_are the_sender) [
     | inl l ↦ let same : length t.sent ≡ length A = ap length l.1 in omega (arith, same, stored_count)
     | inr l ↦ omega (arith, one_more A (slice_index (at the_sender).registers 11) t.sent l, stored_count)
   ]
 
   pub sent_available : length A ≤ available_count r t
-  sent_available = elim (told the_sender) [
+  sent_available = elim (words_are the_sender) [
     | inl l ↦ let same : length t.sent ≡ length A = ap length l.1 in omega (arith, same, stored_count, (level_counts l.0.sending).1)
     | inr l ↦ let most = most-available q.block.kind t facts.stored_published in
         omega (arith, one_more A (slice_index (at the_sender).registers 11) t.sent l, stored_count, most)
   ]
 
   pub received_least : length R ≤ t.taken
-  received_least = elim (told the_receiver) [
+  received_least = elim (words_are the_receiver) [
     | inl l ↦ let same : length t.received ≡ length R = ap length l.1 in omega (arith, same, taken_count)
     | inr l ↦ omega (arith, one_more R (slice_index (at the_receiver).registers 11) t.received l, taken_count)
   ]
 
   received_most : t.taken ≤ length R + 1
-  received_most = elim (told the_receiver) [
+  received_most = elim (words_are the_receiver) [
     | inl l ↦ let same : length t.received ≡ length R = ap length l.1 in omega (arith, same, taken_count)
     | inr l ↦ omega (arith, one_more R (slice_index (at the_receiver).registers 11) t.received l, taken_count)
   ]
@@ -150,7 +150,7 @@ module _ (B M : ℕ) (o : OpeningValue) (q : SpscQueue) (before es : List Entry)
   whole = sym (append-nil es)
 
   got_prefix : IsPrefix (received_words M o q before es) T.received
-  got_prefix = elim (told B M o q before es c es [] whole the_receiver) [
+  got_prefix = elim (words_are B M o q before es c es [] whole the_receiver) [
     | inl l ↦ ([], l.1 ∙ sym (append-nil (received_words M o q before es)))
     | inr l ↦ (slice_index (at B M o q before es c es [] whole the_receiver).registers 11 ∷ [], l)
   ]
@@ -176,7 +176,7 @@ module _ (B M : ℕ) (o : OpeningValue) (q : SpscQueue) (before es : List Entry)
       let all : IsPrefix (received_words M o q before es) T.sent = prefix-joined (received_words M o q before es) (available_words (buffer q) T) T.sent
       delivered_prefix (drop n T.sent, sym (take-append-drop n T.sent)) in
       prefix-joined (received_words M o q before es) T.sent (A ++ slice_index s.registers 11 ∷ []) all
-      (elim (told_by q.send_line the_sender q.block.kind q.block (buffer q) (is_sender_in_call M o q before es) A s (part the_sender T)
+      (elim (words_are_by q.send_line the_sender q.block.kind q.block (buffer q) (is_sender_in_call M o q before es) A s (part the_sender T)
       ((stand B M o q before es c es [] whole).stands the_sender s at)) [
         | inl l ↦ (slice_index s.registers 11 ∷ [], sym (ap (λ ws. ws ++ slice_index s.registers 11 ∷ []) l.1))
         | inr l ↦ ([], sym l ∙ sym (append-nil T.sent))
@@ -189,7 +189,7 @@ module _ (B M : ℕ) (o : OpeningValue) (q : SpscQueue) (before es fs : List Ent
   end = sym (append-nil (es ++ fs))
 
   pub publication : is_sender_in_call M o q before es ≡ false → length (sent_words M o q before es) < length (received_words M o q before (es ++ fs))
-      → length (stores q.sender (before ++ es)) < lands q.sender (before ++ (es ++ fs))
+      → length (own_stores q.sender (before ++ es)) < lands q.sender (before ++ (es ++ fs))
   publication idle more =
       let sent = idle_sent B M o q before (es ++ fs) c es fs refl idle in
       published B (buffer q) o before es fs (calls_follow B M o q before (es ++ fs) c)
@@ -197,17 +197,17 @@ module _ (B M : ℕ) (o : OpeningValue) (q : SpscQueue) (before es fs : List Ent
 
   pub reclamation : is_receiver_in_call M o q before es ≡ false
       → length (received_words M o q before es) + capacity (buffer q) < length (sent_words M o q before (es ++ fs))
-      → length (stores q.receiver (before ++ es)) < lands q.receiver (before ++ (es ++ fs))
+      → length (own_stores q.receiver (before ++ es)) < lands q.receiver (before ++ (es ++ fs))
   reclamation idle more = returned B (buffer q) o before es fs (calls_follow B M o q before (es ++ fs) c)
       (omega (arith, idle_received B M o q before (es ++ fs) c es fs refl idle, more, sent_least B M o q before (es ++ fs) c (es ++ fs) [] end))
 
   -- what a hart reads of a byte is what every hart reads of it later, once its stores have landed
-  handed : (a : ℕ) → length (stores a (before ++ es)) < lands a (before ++ (es ++ fs)) → (h x : ℕ) → IsOnlyWriter a x (before ++ es) → AllLeaveByte x fs
+  handed : (a : ℕ) → length (own_stores a (before ++ es)) < lands a (before ++ (es ++ fs)) → (h x : ℕ) → IsOnlyWriter a x (before ++ es) → AllLeaveByte x fs
       → read_byte o (before ++ (es ++ fs)) h x ≡ read_byte o (before ++ es) a x
   handed a landed h x only leave =
       subst (λ xs. read_byte o xs h x ≡ read_byte o (before ++ es) a x) (append_assoc before es fs)
       (handed_over B o a h x (before ++ es) fs (subst (λ xs. Legal B (history_of o xs)) (sym (append_assoc before es fs)) c.shares.run.legal)
-      (omega (arith, subst (λ xs. length (stores a (before ++ es)) < lands a xs) (sym (append_assoc before es fs)) landed)) only leave)
+      (omega (arith, subst (λ xs. length (own_stores a (before ++ es)) < lands a xs) (sym (append_assoc before es fs)) landed)) only leave)
 
   pub message_passing : is_sender_in_call M o q before es ≡ false → length (sent_words M o q before es) < length (received_words M o q before (es ++ fs))
       → (h x : ℕ) → IsOnlyWriter q.sender x (before ++ es) → AllLeaveByte x fs → read_byte o (before ++ (es ++ fs)) h x ≡ read_byte o (before ++ es) q.sender x
@@ -229,7 +229,7 @@ module _ (B M : ℕ) (o : OpeningValue) (q : SpscQueue) (before done : List Entr
   all : FollowsSpscProtocol B (buffer q) o before (done ++ e ∷ fs)
   all = calls_follow B M o q before (done ++ e ∷ fs) c
 
-  pub finds_empty : (u v : ℕ) → hart_of e ≡ q.receiver → access_of e ≡ load (word_at q.block.kind (buffer q) u) 4 v → says_empty q.block.kind u v ≡ true
+  pub finds_empty : (u v : ℕ) → hart_of e ≡ q.receiver → access_of e ≡ load (watched_address q.block.kind (buffer q) u) 4 v → says_empty q.block.kind u v ≡ true
       → now.receiving ≡ asked u → now.received ≡ received_words M o q before done
       → length (sent_words M o q before done) ≤ length (received_words M o q before done) + length (writes_to (buffer q) (pending q.sender (before ++ done)))
   finds_empty u v mine does says was same =

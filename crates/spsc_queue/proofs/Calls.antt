@@ -8,9 +8,10 @@ use Rattle.step_machine.specs.declared.events.Entry.{Entry}
 use Rattle.step_machine.specs.History.{OpeningValue, history_of}
 use Rattle.step_machine.specs.Access.{Access, land, access_of}
 use Rattle.step_machine.specs.Entries.{hart_of, is_land, is_own}
-use Rattle.step_machine.specs.Paths.{value_of, CanMake, state_of}
+use Rattle.step_machine.specs.Paths.{number_read, CanMake, state_of}
 use Rattle.step_machine.specs.Legal.{WellFormed, LegalAfter, IsOfHarts}
 use Rattle.step_machine.proofs.Appended.{LegalAfter-front}
+use Rattle.step_machine.proofs.Placing.{land_other, own_other}
 use Rattle.spsc_queue.specs.RingBuffers.{Kind, RingBuffer, IsRingBuffer}
 use Rattle.spsc_queue.specs.Protocol.{ProtocolState, at_start, role_of, next_by, protocol_next, protocol_after, KeepsProtocolBy, KeepsProtocol}
 use Rattle.spsc_queue.specs.Laws.{FollowsSpscProtocol}
@@ -22,7 +23,7 @@ use Rattle.spsc_queue.proofs.Courses.{moved, Course, went}
 use Rattle.spsc_queue.proofs.Outline.{Part, part, role, Level, Near, Inside, CourseStands, Stands, any_course, Does, Moves}
 use Rattle.spsc_queue.proofs.Parts.{ring_is, keeps-more, stays-keeps, does-keeps, land-leaves, other-leaves, level-next, near-of}
 use Rattle.spsc_queue.proofs.Functions.{moves_at, fresh_course, begins}
-use Rattle.spsc_queue.proofs.OwnEntries.{made_by, known_hart, same_state, next_state, own_land, own_other, land_is, own_is, state_here, is_here, equipped}
+use Rattle.spsc_queue.proofs.OwnEntries.{made_by, known_hart, same_state, next_state, land_is, own_is, state_here, is_here, equipped}
 use Rattle.spsc_queue.proofs.Completed.{is_in_call-last, completed-last, none_completed, same_call, own_completed, own_call}
 use Rattle.spsc_queue.proofs.Parties.{is_busy, words, has_of, owed_of, which, other_hart, Mine, Others, whose, not_mine}
 
@@ -96,7 +97,7 @@ module _ (B M : ℕ) (o : OpeningValue) (q : SpscQueue) (before es : List Entry)
     StandsNext p s t = Stands (party_line q p) p K k r (C_next p) (A_next p) s t
 
     does_by : (h : ℕ) → hart_of e ≡ h → is_land e ≡ false → (s : HartState) → state_of M (history_of o (before ++ done)) h ≡ Some s
-        → access_of e ≡ moved (hart_of e) s (value_of e)
+        → access_of e ≡ moved (hart_of e) s (number_read e)
     does_by h mine act s was =
         let can : CanMake s e = made_by B M o before done e more run act s known (ap (state_of M (history_of o (before ++ done))) mine ∙ was) in
         ap access_of can.made
@@ -109,11 +110,11 @@ module _ (B M : ℕ) (o : OpeningValue) (q : SpscQueue) (before es : List Entry)
       n = party_line q p
 
       abbrev z : HartState
-      z = advanced s (value_of e)
+      z = advanced s (number_read e)
 
-      moves : Moves n p K k r (is_in_call_after n k true s z) (A p ++ completed_at n true s) d (hart_of e) s T (value_of e)
+      moves : Moves n p K k r (is_in_call_after n k true s z) (A p ++ completed_at n true s) d (hart_of e) s T (number_read e)
           × (completed_at n true s ≡ (if is_in_call_after n k true s z then [] else completed_word z))
-      moves = moves_at M n q.sender q.receiver p K k c.block (hart_of e) s T (value_of e) refl
+      moves = moves_at M n q.sender q.receiver p K k c.block (hart_of e) s T (number_read e) refl
           (equipped M o (party_hart q p) n (listing_of K k.caches p) (has_of c p) (before ++ done) s was) (near p) d (A p) inside.line inside.place inside.row
 
       own_e : is_own (party_hart q p) e ≡ true
@@ -134,7 +135,7 @@ module _ (B M : ℕ) (o : OpeningValue) (q : SpscQueue) (before es : List Entry)
 
       pub course_stands : CourseStands n p K k r (C_next p) (A_next p) (went d (access_of e)) z (part p (next_by K r (role p) T (access_of e)))
       course_stands =
-          let X : Access = moved (hart_of e) s (value_of e) in
+          let X : Access = moved (hart_of e) s (number_read e) in
           subst (λ y. CourseStands n p K k r (C_next p) (A_next p) (went d y) z (part p (next_by K r (role p) T y)))
           (sym (does_by (party_hart q p) mine act s was))
           (subst (λ b. CourseStands n p K k r b (A_next p) (went d X) z (part p (next_by K r (role p) T X))) same
@@ -173,7 +174,7 @@ module _ (B M : ℕ) (o : OpeningValue) (q : SpscQueue) (before es : List Entry)
           let unchanged : U ≡ T = ap (next_by K r (role_of r (hart_of e)) T) does ∙ land-leaves K r (role_of r (hart_of e)) T in
           record {
             rule = subst (KeepsProtocolBy K r (role_of r (hart_of e)) T) (sym does) (stays-keeps K r (role_of r (hart_of e)) T land tt);
-            stands = λ p. rests p (own_land (party_hart q p) e land_e) (ap (part p) unchanged);
+            stands = λ p. rests p (land_other (party_hart q p) e land_e) (ap (part p) unchanged);
           }
 
       others : Others q (hart_of e) → Goes
@@ -194,7 +195,7 @@ module _ (B M : ℕ) (o : OpeningValue) (q : SpscQueue) (before es : List Entry)
         abbrev V : ProtocolState
         V = next_by K r (role own.party) T (access_of e)
 
-        goes_by : KeepsProtocolBy K r (role p) T (access_of e) → StandsNext p (advanced s (value_of e)) (part p V) → Goes
+        goes_by : KeepsProtocolBy K r (role p) T (access_of e) → StandsNext p (advanced s (number_read e)) (part p V) → Goes
         goes_by rule stands = record {
           rule = subst (λ b. KeepsProtocolBy K r b T (access_of e)) (sym own.role) rule;
           stands = λ p2. at p2 (which p p2);
@@ -208,18 +209,18 @@ module _ (B M : ℕ) (o : OpeningValue) (q : SpscQueue) (before es : List Entry)
             at p2 (inl same) = subst (λ g. (y : HartState) → state_of M (history_of o ((before ++ done) ++ e ∷ [])) (party_hart q g) ≡ Some y
                 → StandsNext g y (part g U)) same
                 (λ y there. subst (λ g. StandsNext p g (part p U)) (next_state M o (before ++ done) e (party_hart q p) own.hart act s y (was_here p done) there)
-                (subst (λ g. StandsNext p (advanced s (value_of e)) (part p g)) (sym next_is) stands))
+                (subst (λ g. StandsNext p (advanced s (number_read e)) (part p g)) (sym next_is) stands))
             at p2 (inr other) = rests p2 (own_other (party_hart q p2) e (λ same. other_hart q c.parties p p2 other (sym own.hart ∙ same)))
                 (ap (part p2) next_is ∙ other-leaves K r p2 p other T (access_of e))
 
         -- outside of a call, it may enter the function
-        enters_by : (b : Bool) → enters (party_line q p) k (advanced s (value_of e)) ≡ b
-            → (b ≡ true → HasArguments p (party_line q p) k (advanced s (value_of e))) → Level (part p V) × ((part p V).words ≡ A p)
-            → Stands (party_line q p) p K k r b (A p) (advanced s (value_of e)) (part p V)
+        enters_by : (b : Bool) → enters (party_line q p) k (advanced s (number_read e)) ≡ b
+            → (b ≡ true → HasArguments p (party_line q p) k (advanced s (number_read e))) → Level (part p V) × ((part p V).words ≡ A p)
+            → Stands (party_line q p) p K k r b (A p) (advanced s (number_read e)) (part p V)
         enters_by false off call level = level
         enters_by true on call level = (
-          fresh_course (advanced s (value_of e)),
-          begins (party_line q p) p K k r (A p) (advanced s (value_of e)) (part p V) on (call refl) level.0 level.1,
+          fresh_course (advanced s (number_read e)),
+          begins (party_line q p) p K k r (A p) (advanced s (number_read e)) (part p V) on (call refl) level.0 level.1,
         )
 
         acts : (b : Bool) → C p ≡ b → Stands (party_line q p) p K k r b (A p) s (part p T) → Goes
@@ -227,17 +228,17 @@ module _ (B M : ℕ) (o : OpeningValue) (q : SpscQueue) (before es : List Entry)
             let n : ℕ = party_line q p in
             let owed = owed_of w p own.hart act s (was_here p done) idle in
             let own_e : is_own (party_hart q p) e ≡ true = own_is (party_hart q p) e own.hart act in
-            let same : enters n k (advanced s (value_of e)) ≡ C_next p =
-            ap (λ b. is_in_call_after n k b s (advanced s (value_of e))) (sym idle)
+            let same : enters n k (advanced s (number_read e)) ≡ C_next p =
+            ap (λ b. is_in_call_after n k b s (advanced s (number_read e))) (sym idle)
             ∙ own_call M o (party_hart q p) n k (C p) (before ++ done) e s own_e (was_here p done) in
             let all : A p ≡ A_next p = sym (append-nil (A p)) ∙ ap (λ b. A p ++ completed_at n b s) (sym idle)
             ∙ ap (λ ws. A p ++ ws) (own_completed M o (party_hart q p) n (C p) (before ++ done) e s own_e (was_here p done)) in
             let level = level-next K r p T (access_of e) owed.0 stands.0 in
-            goes_by (stays-keeps K r (role p) T (access_of e) owed.0) (subst (λ b. Stands n p K k r b (A_next p) (advanced s (value_of e)) (part p V)) same
-            (subst (λ ws. Stands n p K k r (enters n k (advanced s (value_of e))) ws (advanced s (value_of e)) (part p V)) all
-            (enters_by (enters n k (advanced s (value_of e))) refl owed.1 (level.0, level.1 ∙ stands.1))))
+            goes_by (stays-keeps K r (role p) T (access_of e) owed.0) (subst (λ b. Stands n p K k r b (A_next p) (advanced s (number_read e)) (part p V)) same
+            (subst (λ ws. Stands n p K k r (enters n k (advanced s (number_read e))) ws (advanced s (number_read e)) (part p V)) all
+            (enters_by (enters n k (advanced s (number_read e))) refl owed.1 (level.0, level.1 ∙ stands.1))))
         acts true busy inside = goes_by (rule p own.hart act busy s (was_here p done) inside.0 inside.1)
-            (any_course (party_line q p) p K k r (C_next p) (A_next p) (went inside.0 (access_of e)) (advanced s (value_of e)) (part p V)
+            (any_course (party_line q p) p K k r (C_next p) (A_next p) (went inside.0 (access_of e)) (advanced s (number_read e)) (part p V)
             (course_stands p own.hart act busy s (was_here p done) inside.0 inside.1))
 
       goes : Goes

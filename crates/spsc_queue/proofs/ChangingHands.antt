@@ -6,10 +6,10 @@ use Rattle.memory.specs.declared.writes.Write.{Write}
 use Rattle.step_machine.specs.declared.events.Entry.{Entry}
 use Rattle.step_machine.specs.History.{OpeningValue}
 use Rattle.step_machine.specs.Entries.{pending, memory_word}
-use Rattle.spsc_queue.specs.RingBuffers.{Kind, lamport, fastforward, RingBuffer, IsRingBuffer, offset, slot, writes_to, IsEmptyAndQuiescent}
+use Rattle.spsc_queue.specs.RingBuffers.{Kind, lamport, fastforward, RingBuffer, IsRingBuffer, slot_offset, slot_address, writes_to, IsEmptyAndQuiescent}
 use Rattle.spsc_queue.specs.Protocol.{ReceiverState, idle, asked, waiting, holding, cleared, ProtocolState, at_start, protocol_after}
 use Rattle.spsc_queue.specs.Laws.{FollowsSpscProtocol, ready_by_state}
-use Rattle.spsc_queue.specs.Calls.{SpscQueue, the_receiver, moved_on, ring_of, buffer, is_sender_in_call, is_receiver_in_call, sent_words, received_words}
+use Rattle.spsc_queue.specs.Calls.{SpscQueue, the_receiver, moved_on, ring_at, buffer, is_sender_in_call, is_receiver_in_call, sent_words, received_words}
 use Rattle.spsc_queue.specs.Calls.{UsesAsSpscQueue}
 use Rattle.spsc_queue.proofs.Spread.{spread, sent_store}
 use Rattle.spsc_queue.proofs.Rows.{Earlier}
@@ -44,24 +44,25 @@ all_landed fastforward n m z t is level all =
 
 -- the words of the block where all words are taken and no store to it is pending
 record IsQuiet (k : Kind) (r : RingBuffer) (o : OpeningValue) (es : List Entry) (n : ℕ) : Type 0 where
-  head : memory_word o es r.head ≡ offset r n
-  tail : memory_word o es r.tail ≡ offset r n
-  slots : k ≡ fastforward → (j : ℕ) → j < r.size → memory_word o es (slot r (n + j)) ≡ 0
-  copy : (a : ℕ) → r.copy ≡ Some a → (j : ℕ) × (j < r.size) × (memory_word o es a ≡ offset r (n + j))
+  head : memory_word o es r.head ≡ slot_offset r n
+  tail : memory_word o es r.tail ≡ slot_offset r n
+  slots : k ≡ fastforward → (j : ℕ) → j < r.size → memory_word o es (slot_address r (n + j)) ≡ 0
+  copy : (a : ℕ) → r.copy ≡ Some a → (j : ℕ) × (j < r.size) × (memory_word o es a ≡ slot_offset r (n + j))
 
 -- the copy is the offset of some slot
 copy-quiet : (k : Kind) (r : RingBuffer) (is : IsRingBuffer r) (o : OpeningValue) (es : List Entry) (n m stored a : ℕ) → r.copy ≡ Some a → stored ≤ n
-    → m ≡ stored → writes_to r (pending r.sender es) ≡ [] → Copied k (Some a) r o es n m → (j : ℕ) × (j < r.size) × (memory_word o es a ≡ offset r (stored + j))
+    → m ≡ stored → writes_to r (pending r.sender es) ≡ [] → Copied k (Some a) r o es n m
+    → (j : ℕ) × (j < r.size) × (memory_word o es a ≡ slot_offset r (stored + j))
 copy-quiet fastforward r is o es n m stored a some le same none copy = absurd (cc)
 copy-quiet lamport r is o es n m stored a some le same none copy =
-    let reads : memory_word o es a ≡ offset r copy.place =
+    let reads : memory_word o es a ≡ slot_offset r copy.place =
     sym (quiet_read r o es r.sender a none (is.copy a some).above (is.copy a some).below) ∙ copy.reads in
     elim (cases_lt (copy.place - stored) r.size) [
-      | inl less ↦ (copy.place - stored, less, reads ∙ ap (offset r) (omega (arith, copy.low, le)))
+      | inl less ↦ (copy.place - stored, less, reads ∙ ap (slot_offset r) (omega (arith, copy.low, le)))
       | inr more ↦ (
         0,
         omega (arith, is.some_slots),
-        reads ∙ offset_again r is stored copy.place (omega (arith, more, copy.high, same)) ∙ ap (offset r) (omega arith),
+        reads ∙ offset_again r is stored copy.place (omega (arith, more, copy.high, same)) ∙ ap (slot_offset r) (omega arith),
       )
     ]
 
@@ -79,8 +80,9 @@ quiet k r is L c o es s inv level all whole none =
     (whole-counts k r L s.taken s.consumed (there k inv.landed.slots inv.landed.heads) s.receiving whole inv.receiving)
     (omega (arith, unread, inv.buffers.theirs_count)) in
     record {
-      head = inv.words.head ∙ ap (offset r) (omega (arith, unsent, level, inv.buffers.mine_count, inv.order.mine.slots_stored, inv.order.mine.heads_published));
-      tail = inv.words.tail ∙ ap (offset r) (omega (arith, landed.1, all));
+      head = inv.words.head ∙ ap (slot_offset r)
+          (omega (arith, unsent, level, inv.buffers.mine_count, inv.order.mine.slots_stored, inv.order.mine.heads_published));
+      tail = inv.words.tail ∙ ap (slot_offset r) (omega (arith, landed.1, all));
       slots = λ kind j below. inv.words.free kind (s.stored + j) (omega (arith, inv.order.mine.slots_stored)) (omega (arith, below, landed.0, all));
       copy = λ a some. copy-quiet k r is o es (s.stored + ready_by_state s.sending) (freed k z t) s.stored a some (omega arith) (omega (arith, landed.0, all))
           (none r.sender) (subst (λ q. Copied k q r o es (s.stored + ready_by_state s.sending) (freed k z t)) some inv.copy);
@@ -89,7 +91,7 @@ quiet k r is L c o es s inv level all whole none =
 pub changes_hands : (B M : ℕ) (o : OpeningValue) (q : SpscQueue) (before es : List Entry) → UsesAsSpscQueue B M o q before es
     → is_sender_in_call M o q before es ≡ false → is_receiver_in_call M o q before es ≡ false
     → length (received_words M o q before es) ≡ length (sent_words M o q before es) → ((h : ℕ) → writes_to (buffer q) (pending h (before ++ es)) ≡ [])
-    → (a b : ℕ) → IsEmptyAndQuiescent (ring_of (moved_on q.block (length (sent_words M o q before es))) a b) o (before ++ es)
+    → (a b : ℕ) → IsEmptyAndQuiescent (ring_at (moved_on q.block (length (sent_words M o q before es))) a b) o (before ++ es)
 changes_hands B M o q before es c idle_sender idle_receiver all none a b =
     let r : RingBuffer = buffer q in
     let n : ℕ = length (sent_words M o q before es) in

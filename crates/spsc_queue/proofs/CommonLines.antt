@@ -14,13 +14,13 @@ use Rattle.rv_decode.specs.declared.instruction.Instr.TheVariants.{Jalr, Branch,
 use Rattle.rv_decode.specs.declared.instruction.Instr.{Instr}
 use Rattle.memory.specs.declared.writes.Write.{Write}
 use Rattle.memory.specs.Writes.{write}
-use Rattle.hart.specs.Effects.{next_pc, address, read}
+use Rattle.hart.specs.Effects.{next_pc, address, register_value}
 use Rattle.hart.proofs.Instructions.{IsAt}
 use Rattle.step_machine.specs.Access.{nothing, load, store}
 use Rattle.spsc_queue.specs.RingBuffers.{Kind, lamport, fastforward, RingBuffer, IsWordIn, next, overlaps}
 use Rattle.spsc_queue.specs.Protocol.{roomy, filled, ProtocolState, sends, next_by, IsWordAt, IsSendable, IsSenderStore}
-use Rattle.spsc_queue.specs.Listings.{lines_of}
-use Rattle.spsc_queue.specs.Calls.{Block, Party, the_sender, the_receiver, copy_in, listing_of, ring_of}
+use Rattle.rv_decode.specs.Listings.{lines_of}
+use Rattle.spsc_queue.specs.Calls.{Block, Party, the_sender, the_receiver, copy_in, listing_of, ring_at}
 use Rattle.spsc_queue.specs.CallEffects.{sees_full, look_accesses, send_accesses}
 use Rattle.step_machine.proofs.Lines.{word-plus, add_line, load_line, store_line, other_jumps, same_goes_on, goes_to, leaves_in}
 use Rattle.spsc_queue.proofs.Courses.{At, at_00, at_04, at_24, at_28, at_2C, at_30, number, went, bytes_of}
@@ -37,12 +37,12 @@ abbrev pub gap : Party → ℕ
 gap the_sender = 0
 gap the_receiver = 64
 
-index_is : (k : Block) (a b : ℕ) (p : Party) → index_at p (ring_of k a b) ≡ k.base + gap p
+index_is : (k : Block) (a b : ℕ) (p : Party) → index_at p (ring_at k a b) ≡ k.base + gap p
 index_is k a b the_sender = omega arith
 index_is k a b the_receiver = refl
 
 off_index : (k : Block) (a b : ℕ) (p : Party) (c : ℕ) → copy_in k.kind k.caches k.base ≡ Some c
-    → (c + 4 ≤ index_at p (ring_of k a b)) ⊎ (index_at p (ring_of k a b) + 4 ≤ c)
+    → (c + 4 ≤ index_at p (ring_at k a b)) ⊎ (index_at p (ring_at k a b) + 4 ≤ c)
 off_index k a b the_sender c at = inr (omega (arith, copied k c at))
 off_index k a b the_receiver c at = inl (omega (arith, copied k c at))
 
@@ -54,7 +54,7 @@ module _ {p : Party} {K : Kind} (g : Spot p K) (near : Near g.k (part p g.t)) (j
   open g use {M, n, a, b, k, is, h, s, t, v, has, c, ws}
 
   abbrev r : RingBuffer
-  r = ring_of k a b
+  r = ring_at k a b
 
   abbrev x : List ℕ
   x = s.registers
@@ -107,7 +107,7 @@ module _ {p : Party} {K : Kind} (g : Spot p K) (near : Near g.k (part p g.t)) (j
     -- sw of register `from` to the slot, 128 bytes after what register `rs` holds
     pub slot_stores : {m : ℕ} (l : ℕ) → m + 1 ≤ l → (five seven : ℕ → ℕ) (rs from : Reg) (i : ℕ) → number to ≡ j + 1
         → IsAt s (Store store_op.Word rs from (pos 128))
-        → (row : Ready n p K k r c m ws x (part p t) five seven) → read x rs ≡ k.base + row.place → read x from ≡ put p (slice_index x 11)
+        → (row : Ready n p K k r c m ws x (part p t) five seven) → register_value x rs ≡ k.base + row.place → register_value x from ≡ put p (slice_index x 11)
         → slice_index x i ≡ next r row.place
         → ((made : Write) → overlaps r made ≡ true → made ≡ write (r.slots + row.place) 4 (put p (slice_index x 11)) → IsStore p K r t made
         × Stored p row.place (part p (next_by K r (role p) t (store made)))
@@ -117,9 +117,9 @@ module _ {p : Party} {K : Kind} (g : Spot p K) (near : Near g.k (part p g.t)) (j
     slot_stores l le five seven rs from i is_next here row base value after makes so =
         let u : ℕ = row.place in
         let bound : IsOffset k u = ready-offset k p u (slice_index x 11) (part p t) row.knows near in
-        let made : Write = write (read x rs + 128) 4 (read x from) in
+        let made : Write = write (register_value x rs + 128) 4 (register_value x from) in
         let is_made : made ≡ write (r.slots + u) 4 (put p (slice_index x 11)) =
-        ap (λ y. write y 4 (read x from)) (omega (arith, base)) ∙ ap (write (r.slots + u) 4) value in
+        ap (λ y. write y 4 (register_value x from)) (omega (arith, base)) ∙ ap (write (r.slots + u) 4) value in
         let inside : IsWordIn r (r.slots + u) = record {
           above = omega arith;
           below = omega (arith, bound.0);
@@ -128,22 +128,22 @@ module _ {p : Party} {K : Kind} (g : Spot p K) (near : Near g.k (part p g.t)) (j
         } in
         let hits : overlaps r made ≡ true = word_overlaps r made (r.slots + u) inside (record { place = omega (arith, base); width = refl }) in
         let made_so = makes made hits is_made in
-        stores_to g to (read x rs + 128) (read x from) (store_line here (omega (arith, base, is.aligned, bound.1)) refl
+        stores_to g to (register_value x rs + 128) (register_value x from) (store_line here (omega (arith, base, is.aligned, bound.1)) refl
         (omega (arith, base, bound.0, is.inside, has.words)) (omega (arith, has.words, is.small)))
         (ahead (number to) is_next) made_so.0 (so made (to_half g l le made i five seven row is_made after made_so.1 made_so.2))
 
   -- sw of register i to the index
   pub index_stores : {m i : ℕ} (from : Reg) → j ≡ 8 → m + 1 ≤ 9 + more p r → IsAt s (Store store_op.Word (reg_of 10) from (pos (gap p)))
-      → (row : Half n p K k r c m i ws x (part p t)) → read x from ≡ slice_index x i
+      → (row : Half n p K k r c m i ws x (part p t)) → register_value x from ≡ slice_index x i
       → ((made : Write) → IsWordAt made (index_at p r) → made.value ≡ next r row.place → IsStore p K r t made)
       → ready p K r row.place row.copy row.seen (slice_index x 11) ++ store (write (r.slots + row.place) 4 (put p (slice_index x 11))) ∷
       store (write (index_at p r) 4 (next r row.place)) ∷ [] ≡ all_accesses p K r (slice_index x 11) row.place row.copy row.seen
       → Moves n p K k r true ws c h s t v
   index_stores from is_8 le here row from_is rule whole =
       let bound : IsOffset k row.place = stored-offset k p row.place (part p t) row.knows near in
-      let made : Write = write (slice_index x 10 + gap p) 4 (read x from) in
+      let made : Write = write (slice_index x 10 + gap p) 4 (register_value x from) in
       let at : slice_index x 10 + gap p ≡ index_at p r = ap (λ y. y + gap p) row.frame.block ∙ sym (index_is k a b p) in
-      let value : read x from ≡ next r row.place = from_is ∙ row.after in
+      let value : register_value x from ≡ next r row.place = from_is ∙ row.after in
       let word : IsWordAt made (index_at p r) = record { place = at; width = refl } in
       let inside : IsWordIn r (index_at p r) = record {
         above = omega (arith, index_is k a b p);
@@ -151,10 +151,10 @@ module _ {p : Party} {K : Kind} (g : Spot p K) (near : Near g.k (part p g.t)) (j
         aligned = omega (arith, index_is k a b p, is.aligned, (gap_low p).1);
         no_copy = λ d at. off_index k a b p d at;
       } in
-      stores_to g at_24 (slice_index x 10 + gap p) (read x from) (store_line here (omega (arith, row.frame.block, is.aligned)) (gap_low p).1
+      stores_to g at_24 (slice_index x 10 + gap p) (register_value x from) (store_line here (omega (arith, row.frame.block, is.aligned)) (gap_low p).1
       (omega (arith, row.frame.block, is.inside, has.words, (gap_low p).0)) (omega (arith, has.words, is.small)))
       (ahead 9 (omega (arith, is_8))) (rule made word value) (to_finished g (9 + more p r) le made (word_overlaps r made (index_at p r) inside word) row
-      (ap (λ y. write y 4 (read x from)) at ∙ ap (write (index_at p r) 4) value) bound whole)
+      (ap (λ y. write y 4 (register_value x from)) at ∙ ap (write (index_at p r) 4) value) bound whole)
 
 -- ---- the lines that all functions have in the same place: the first loads a party's own index, the last ones answer and return
 
@@ -176,7 +176,7 @@ module _ {p : Party} {K : Kind} (g : Spot p K) where
   open g use {M, n, a, b, k, is, h, s, t, v, has, c, ws}
 
   abbrev Common : At → Type 0
-  Common line = s.pc ≡ 4 * (n + number line) → Row n p K k (ring_of k a b) c ws line s.registers (part p t) → Answered g
+  Common line = s.pc ≡ 4 * (n + number line) → Row n p K k (ring_at k a b) c ws line s.registers (part p t) → Answered g
 
   all_ends : Ends (gap p) (map Some (lines_of (listing_of K k.caches p)) ++ map meaning has.code.back)
   all_ends = ends K k.caches p (map meaning has.code.back)
@@ -191,13 +191,13 @@ module _ {p : Party} {K : Kind} (g : Spot p K) where
   common_24 place row = answers_1 g place (line_at g 9 place all_ends.1) row
 
   pub common_28 : Common at_28
-  common_28 place row = returns_1 g (short p (ring_of k a b)) place (line_at g 10 place all_ends.2) row
+  common_28 place row = returns_1 g (short p (ring_at k a b)) place (line_at g 10 place all_ends.2) row
 
   pub common_2C : Common at_2C
   common_2C place row = answers_0 g place (line_at g 11 place all_ends.3) row
 
   pub common_30 : Common at_30
-  common_30 place row = returns_0 g (omega (arith, short p (ring_of k a b))) place (line_at g 12 place all_ends.4) row
+  common_30 place row = returns_0 g (omega (arith, short p (ring_at k a b))) place (line_at g 12 place all_ends.4) row
 
 -- ---- the sender's stores, of each kind
 

@@ -8,7 +8,7 @@ use Rattle.hart.specs.Steps.{advanced}
 use Rattle.step_machine.specs.declared.events.Entry.{Entry}
 use Rattle.step_machine.specs.History.{OpeningValue, history_of}
 use Rattle.step_machine.specs.Entries.{is_own}
-use Rattle.step_machine.specs.Paths.{value_of, state_of}
+use Rattle.step_machine.specs.Paths.{number_read, state_of}
 use Rattle.spsc_queue.specs.Calls.{Block, enters, is_in_call_after, is_in_call_by, is_in_call_with, is_in_call_from, completed_at, completed_in}
 use Rattle.spsc_queue.specs.Calls.{completed_by_entry, completed_words_from}
 
@@ -39,16 +39,17 @@ none_completed M o h n b front e ws off = sym (ap (λ c. ws ++ (if c then comple
 
 pub same_call : (M : ℕ) (o : OpeningValue) (h n : ℕ) (k : Block) (b : Bool) (front : List Entry) (e : Entry) → is_own h e ≡ false
     → b ≡ is_in_call_with M o h n k b front e
-same_call M o h n k b front e off = sym (ap (λ c. if c then is_in_call_by n k b (state_of M (history_of o front) h) (value_of e) else b) off)
+same_call M o h n k b front e off = sym (ap (λ c. if c then is_in_call_by n k b (state_of M (history_of o front) h) (number_read e) else b) off)
 
 pub own_completed : (M : ℕ) (o : OpeningValue) (h n : ℕ) (b : Bool) (front : List Entry) (e : Entry) (s : HartState) → is_own h e ≡ true
     → state_of M (history_of o front) h ≡ Some s → completed_at n b s ≡ completed_by_entry M o h n b front e
 own_completed M o h n b front e s own at = sym (ap (λ c. if c then completed_in n b (state_of M (history_of o front) h) else []) own ∙ ap (completed_in n b) at)
 
 pub own_call : (M : ℕ) (o : OpeningValue) (h n : ℕ) (k : Block) (b : Bool) (front : List Entry) (e : Entry) (s : HartState) → is_own h e ≡ true
-    → state_of M (history_of o front) h ≡ Some s → is_in_call_after n k b s (advanced s (value_of e)) ≡ is_in_call_with M o h n k b front e
+    → state_of M (history_of o front) h ≡ Some s → is_in_call_after n k b s (advanced s (number_read e)) ≡ is_in_call_with M o h n k b front e
 own_call M o h n k b front e s own at =
-    sym (ap (λ c. if c then is_in_call_by n k b (state_of M (history_of o front) h) (value_of e) else b) own ∙ ap (λ x. is_in_call_by n k b x (value_of e)) at)
+    sym (ap (λ c. if c then is_in_call_by n k b (state_of M (history_of o front) h) (number_read e) else b) own
+    ∙ ap (λ x. is_in_call_by n k b x (number_read e)) at)
 
 -- where a hart enters
 pub entered : (n : ℕ) (k : Block) (s : HartState) → enters n k s ≡ true → (s.pc ≡ 4 * n) × (slice_index s.registers 10 ≡ k.base)

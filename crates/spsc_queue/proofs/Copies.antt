@@ -12,9 +12,9 @@ use Rattle.memory.proofs.Newest.{newest_of-append}
 use Rattle.step_machine.specs.declared.events.Entry.{Entry}
 use Rattle.step_machine.specs.History.{OpeningValue}
 use Rattle.step_machine.specs.Access.{access_of}
-use Rattle.step_machine.specs.Entries.{pending, memory_byte, memory_word, read_byte, read, stores, lands}
+use Rattle.step_machine.specs.Entries.{pending, memory_byte, memory_word, read_byte, read, own_stores, lands}
 use Rattle.step_machine.specs.Legal.{Allowed}
-use Rattle.spsc_queue.specs.RingBuffers.{Kind, lamport, fastforward, RingBuffer, IsWordIn, offset, overlaps, writes_to}
+use Rattle.spsc_queue.specs.RingBuffers.{Kind, lamport, fastforward, RingBuffer, IsWordIn, slot_offset, overlaps, writes_to}
 use Rattle.spsc_queue.specs.Protocol.{IsWordAt}
 use Rattle.spsc_queue.specs.StoreBuffers.{LeavesByte, LeavesByteBy, IsOnlyWriter}
 use Rattle.spsc_queue.proofs.Words.{is_copy, row_of, copy_at}
@@ -29,7 +29,7 @@ IsAlone r c es = (x : ℕ) → c ≤ x → x < c + 4 → IsOnlyWriter r.sender x
 -- which there is room
 pub record CopyIs (r : RingBuffer) (o : OpeningValue) (es : List Entry) (n m c : ℕ) : Type 0 where
   pub place : ℕ
-  pub reads : read o es r.sender c 4 ≡ offset r place
+  pub reads : read o es r.sender c 4 ≡ slot_offset r place
   pub low : n + 1 ≤ place
   pub high : place ≤ m + r.size
   pub alone : IsAlone r c es
@@ -52,7 +52,7 @@ copied-on lamport (Some c) r o es fs n m n2 m2 e stays le less is =
     record { place = is.place; reads = on.0 ∙ is.reads; low = omega (arith, is.low, le); high = omega (arith, is.high, less); alone = on.1 }
 
 -- an entry that leaves each byte of the copy
-pub copy-left : (B : ℕ) (r : RingBuffer) (o : OpeningValue) (es : List Entry) (e : Entry) → ((h : ℕ) → lands h es ≤ length (stores h es)) → Allowed B o es e
+pub copy-left : (B : ℕ) (r : RingBuffer) (o : OpeningValue) (es : List Entry) (e : Entry) → ((h : ℕ) → lands h es ≤ length (own_stores h es)) → Allowed B o es e
     → ((c x : ℕ) → r.copy ≡ Some c → c ≤ x → x < c + 4 → LeavesByteBy x (access_of e)) → CopyStays r o es (es ++ e ∷ [])
 copy-left B r o es e even allowed leaves c is alone = (
   joined-same (λ i. read_byte o (es ++ e ∷ []) r.sender (c + i)) (λ i. read_byte o es r.sender (c + i)) 4

@@ -9,7 +9,7 @@ use Rattle.hart.specs.Steps.{need_of}
 use Rattle.step_machine.specs.Access.{Access, access_of}
 use Rattle.step_machine.specs.Paths.{entry_of}
 use Rattle.spsc_queue.specs.Calls.{Block, Party, HasArguments, enters, is_in_call_after, completed_at, StandsIn}
-use Rattle.spsc_queue.specs.Listings.{Listed}
+use Rattle.rv_decode.specs.Listings.{Listed}
 use Rattle.spsc_queue.specs.CallEffects.{memory_access, KeepsOtherRegisters, Returns}
 use Rattle.spsc_queue.proofs.Registers.{set-other}
 

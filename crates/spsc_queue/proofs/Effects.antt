@@ -9,7 +9,7 @@ use Rattle.memory.specs.Writes.{byte_after, joined, IsWholeWord}
 use Rattle.memory.proofs.Bytes.{joined-same}
 use Rattle.step_machine.specs.declared.events.Entry.{Entry}
 use Rattle.step_machine.specs.History.{OpeningValue}
-use Rattle.step_machine.specs.Entries.{store_of, land_of, write_of, pending, memory_byte, memory_word, read, stores, lands}
+use Rattle.step_machine.specs.Entries.{own_store, land_of, write_of, pending, memory_byte, memory_word, read, own_stores, lands}
 use Rattle.step_machine.proofs.Appended.{pending-last}
 use Rattle.step_machine.proofs.Stays.{memory_byte-other, memory_byte-write}
 use Rattle.spsc_queue.specs.RingBuffers.{RingBuffer, IsWordIn}
@@ -63,14 +63,14 @@ pub reads-word : (r : RingBuffer) (o : OpeningValue) (es : List Entry) (h a : �
     → read o es h a 4 ≡ seen a (memory_word o es a) (row_of r (pending h es))
 reads-word r o es h a is all = read_through r a (memory_byte o es) (pending h es) is (tidy-from r (pending h es) all)
 
-module _ (es : List Entry) (e : Entry) (h : ℕ) (le : lands h es ≤ length (stores h es)) where
-  pub pending-quiet : store_of h e ≡ [] → land_of h e ≡ 0 → pending h (es ++ e ∷ []) ≡ pending h es
-  pending-quiet none still = pending-last h es e le ∙ ap (λ n. drop n (pending h es ++ store_of h e)) still
+module _ (es : List Entry) (e : Entry) (h : ℕ) (le : lands h es ≤ length (own_stores h es)) where
+  pub pending-quiet : own_store h e ≡ [] → land_of h e ≡ 0 → pending h (es ++ e ∷ []) ≡ pending h es
+  pending-quiet none still = pending-last h es e le ∙ ap (λ n. drop n (pending h es ++ own_store h e)) still
       ∙ ap (λ ws. pending h es ++ ws) none ∙ append-nil (pending h es)
 
-  pub pending-more : (w : Write) → store_of h e ≡ w ∷ [] → land_of h e ≡ 0 → pending h (es ++ e ∷ []) ≡ pending h es ++ w ∷ []
-  pending-more w one still = pending-last h es e le ∙ ap (λ n. drop n (pending h es ++ store_of h e)) still ∙ ap (λ ws. pending h es ++ ws) one
+  pub pending-more : (w : Write) → own_store h e ≡ w ∷ [] → land_of h e ≡ 0 → pending h (es ++ e ∷ []) ≡ pending h es ++ w ∷ []
+  pending-more w one still = pending-last h es e le ∙ ap (λ n. drop n (pending h es ++ own_store h e)) still ∙ ap (λ ws. pending h es ++ ws) one
 
-  pub pending-first : (w : Write) (rest : List Write) → pending h es ≡ w ∷ rest → store_of h e ≡ [] → land_of h e ≡ 1 → pending h (es ++ e ∷ []) ≡ rest
-  pending-first w rest is none one = pending-last h es e le ∙ ap (λ n. drop n (pending h es ++ store_of h e)) one
+  pub pending-first : (w : Write) (rest : List Write) → pending h es ≡ w ∷ rest → own_store h e ≡ [] → land_of h e ≡ 1 → pending h (es ++ e ∷ []) ≡ rest
+  pending-first w rest is none one = pending-last h es e le ∙ ap (λ n. drop n (pending h es ++ own_store h e)) one
       ∙ ap (λ ws. drop 1 (pending h es ++ ws)) none ∙ ap (drop 1) (append-nil (pending h es)) ∙ ap (drop 1) is

@@ -11,10 +11,10 @@ use Rattle.hart.specs.declared.status.Status.TheVariants as status
 use Rattle.step_machine.specs.declared.events.Entry.{Entry}
 use Rattle.step_machine.specs.History.{history_of}
 use Rattle.step_machine.specs.Entries.{hart_of, own, memory_word}
-use Rattle.step_machine.specs.Paths.{value_of, entry_of, CanMake, Makes, opens_as, Path, state_of}
+use Rattle.step_machine.specs.Paths.{number_read, entry_of, CanMake, MakesEntries, opens_as, Path, state_of}
 use Rattle.step_machine.specs.Legal.{Legal, IsOfHarts, WellFormed}
 use Rattle.spsc_queue.specs.RingBuffers.{Kind, lamport, fastforward}
-use Rattle.spsc_queue.specs.Listings.{words_of}
+use Rattle.rv_decode.specs.Listings.{words_of}
 use Rattle.spsc_queue.specs.Calls.{Party, the_sender, the_receiver, party_hart, copy_in, listing_of, enters, is_in_call, is_sender_in_call, is_receiver_in_call}
 use Rattle.spsc_queue.specs.Calls.{sent_words, received_words, HasFunction, UsesAsSpscQueue}
 use Rattle.spsc_queue.specs.CallEffects.{IsSend, IsReceive}
@@ -30,7 +30,7 @@ infixr 5 ◌&◌
 ◌&◌ : {A B : Type 0} → A → B → A × B
 a & b = (a, b)
 
-can : {s : HartState} {e : Entry} → s.status ≡ status.Running → e ≡ entry_of (hart_of e) (need_of s) (value_of e) → CanMake s e
+can : {s : HartState} {e : Entry} → s.status ≡ status.Running → e ≡ entry_of (hart_of e) (need_of s) (number_read e) → CanMake s e
 can running made = record { running = running; made = made }
 
 legal : (k : Kind) (c : Bool) → Legal 4 (history_of (opening k c) (entries k c))
@@ -45,7 +45,7 @@ legal fastforward c =
     tt & refl & tt & refl & tt & tt & tt & omega arith & omega arith & tt & tt & omega arith & omega arith & tt & refl & tt & refl & tt & tt & tt
     & omega arith & omega arith & tt & tt & omega arith & tt
 
-sender_path : (k : Kind) (c : Bool) → Makes (opens_as 64 (sender_hart k c)) (own 0 (entries k c))
+sender_path : (k : Kind) (c : Bool) → MakesEntries (opens_as 64 (sender_hart k c)) (own 0 (entries k c))
 unfolding need_of advanced meaning
 sender_path lamport false =
     can refl refl & can refl refl & can refl refl & can refl refl & can refl refl & can refl refl & can refl refl & can refl refl & can refl refl
@@ -58,7 +58,7 @@ sender_path fastforward c =
     can refl refl & can refl refl & can refl refl & can refl refl & can refl refl & can refl refl & can refl refl & can refl refl & can refl refl
     & can refl refl & can refl refl & tt
 
-receiver_path : (k : Kind) (c : Bool) → Makes (opens_as 64 (receiver_hart k c)) (own 1 (entries k c))
+receiver_path : (k : Kind) (c : Bool) → MakesEntries (opens_as 64 (receiver_hart k c)) (own 1 (entries k c))
 unfolding need_of advanced meaning
 receiver_path lamport false =
     can refl refl & can refl refl & can refl refl & can refl refl & can refl refl & can refl refl & can refl refl & can refl refl & can refl refl

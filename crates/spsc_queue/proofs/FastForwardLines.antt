@@ -16,7 +16,7 @@ use Rattle.step_machine.specs.Access.{load, store}
 use Rattle.spsc_queue.specs.RingBuffers.{fastforward, RingBuffer, next, overlaps}
 use Rattle.spsc_queue.specs.Protocol.{placed, roomy, asked, holding, ProtocolState, receives, next_by, IsSendable, IsReceiverStore}
 use Rattle.spsc_queue.specs.FastForward.{fastforward_send, fastforward_receive}
-use Rattle.spsc_queue.specs.Calls.{Block, IsBlock, Party, the_sender, the_receiver, copy_in, listing_of, ring_of}
+use Rattle.spsc_queue.specs.Calls.{Block, IsBlock, Party, the_sender, the_receiver, copy_in, listing_of, ring_at}
 use Rattle.spsc_queue.specs.CallEffects.{sees_full, take_accesses, receive_accesses}
 use Rattle.step_machine.proofs.Lines.{sum_line, load_line, same_jumps, other_goes_on, other_jumps, same_goes_on, goes_to, leaves_in}
 use Rattle.spsc_queue.proofs.Registers.{set-same, set-other}
@@ -34,7 +34,7 @@ use Rattle.spsc_queue.proofs.CommonLines.{send_whole}
 
 module _ (M n a b : ℕ) (k : Block) (is : IsBlock M k) (h : ℕ) (s : HartState) (t : ProtocolState) (v : ℕ) where
   abbrev r : RingBuffer
-  r = ring_of k a b
+  r = ring_at k a b
 
   abbrev x : List ℕ
   x = s.registers

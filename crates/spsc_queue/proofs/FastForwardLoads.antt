@@ -9,7 +9,7 @@ use Rattle.memory.specs.Writes.{write, IsWholeWord}
 use Rattle.step_machine.specs.declared.events.Entry.{Entry}
 use Rattle.step_machine.specs.History.{OpeningValue}
 use Rattle.step_machine.specs.Entries.{pending, memory_word, read}
-use Rattle.spsc_queue.specs.RingBuffers.{lamport, fastforward, RingBuffer, IsRingBuffer, offset, slot}
+use Rattle.spsc_queue.specs.RingBuffers.{lamport, fastforward, RingBuffer, IsRingBuffer, slot_offset, slot_address}
 use Rattle.spsc_queue.specs.Protocol.{SenderState, resting, placed, renewing, roomy, filled, ReceiverState, idle, asked}
 use Rattle.spsc_queue.specs.Protocol.{waiting, holding, cleared, ProtocolState}
 use Rattle.spsc_queue.specs.Protocol.{looks_at, send_look, send_load, receive_look, receive_load}
@@ -47,12 +47,13 @@ last-there a x v f i (suc n) q from below is after = at (cases_eq i q)
         ∙ none-there a x f (suc i) n (λ p from under. after p (omega (arith, same)) (omega arith))
 
 -- the addresses of a row: a slot's only where its number is near
-row_apart : (r : RingBuffer) (is : IsRingBuffer r) (L : ℕ → ℕ) (p J : ℕ) → (p % 2 ≡ 0 → (p / 2 < J) × (J < p / 2 + r.size)) → (sent_store r L p).addr ≢ slot r J
+row_apart : (r : RingBuffer) (is : IsRingBuffer r) (L : ℕ → ℕ) (p J : ℕ)
+    → (p % 2 ≡ 0 → (p / 2 < J) × (J < p / 2 + r.size)) → (sent_store r L p).addr ≢ slot_address r J
 row_apart r is L p J near = at (cases_eq (p % 2) 0)
   where
-    at : (p % 2 ≡ 0) ⊎ (p % 2 ≢ 0) → (sent_store r L p).addr ≢ slot r J
+    at : (p % 2 ≡ 0) ⊎ (p % 2 ≢ 0) → (sent_store r L p).addr ≢ slot_address r J
     at (inl even) = λ same.
-        let place : (sent_store r L p).addr ≡ slot r (p / 2) = ap (λ (w : Write). w.addr) (sent-slot r L p (p / 2) (omega (arith, even))) in
+        let place : (sent_store r L p).addr ≡ slot_address r (p / 2) = ap (λ (w : Write). w.addr) (sent-slot r L p (p / 2) (omega (arith, even))) in
         slot_apart r is (p / 2) J (near even).0 (near even).1 (sym place ∙ same)
     at (inr odd) = λ same.
         let place : (sent_store r L p).addr ≡ r.head = ap (λ (w : Write). w.addr) (sent-head r L p (p / 2) (omega (arith, odd))) in
@@ -76,82 +77,87 @@ module _ (r : RingBuffer) (is : IsRingBuffer r) (L : ℕ → ℕ) (small : (j : 
   theirs-whole = subst (All IsWholeWord) (sym inv.buffers.rows.theirs)
       (spread-all IsWholeWord (cleared_store r) (d.cleared + d.tails) inv.buffers.unread cleared-whole)
 
-  sender-head : read o es r.sender r.head 4 ≡ offset r s.published
+  sender-head : read o es r.sender r.head 4 ≡ slot_offset r s.published
   sender-head = reads-word r o es r.sender r.head is.head mine-whole ∙ ap (seen r.head (memory_word o es r.head)) inv.buffers.rows.mine
       ∙ ap (λ v. seen r.head v (spread (sent_store r L) (d.slots + d.heads) inv.buffers.unsent))
-      (inv.words.head ∙ ap (offset r) (omega (arith, inv.order.mine.heads_slots, inv.order.mine.slots_heads)))
+      (inv.words.head ∙ ap (slot_offset r) (omega (arith, inv.order.mine.heads_slots, inv.order.mine.slots_heads)))
       ∙ seen-heads r is L (d.slots + d.heads) inv.buffers.unsent
-      ∙ ap (offset r) (omega (arith, inv.buffers.mine_count, inv.order.mine.published_stored, inv.order.mine.stored_published))
+      ∙ ap (slot_offset r) (omega (arith, inv.buffers.mine_count, inv.order.mine.published_stored, inv.order.mine.stored_published))
 
-  receiver-tail : read o es r.receiver r.tail 4 ≡ offset r s.consumed
+  receiver-tail : read o es r.receiver r.tail 4 ≡ slot_offset r s.consumed
   receiver-tail = reads-word r o es r.receiver r.tail is.tail theirs-whole ∙ ap (seen r.tail (memory_word o es r.tail)) inv.buffers.rows.theirs
       ∙ ap (λ v. seen r.tail v (spread (cleared_store r) (d.cleared + d.tails) inv.buffers.unread))
-      (inv.words.tail ∙ ap (offset r) (omega (arith, inv.order.theirs.heads_slots, inv.order.theirs.slots_heads)))
+      (inv.words.tail ∙ ap (slot_offset r) (omega (arith, inv.order.theirs.heads_slots, inv.order.theirs.slots_heads)))
       ∙ seen-heads (turned r) (turned_is r is) zeros (d.cleared + d.tails) inv.buffers.unread
-      ∙ ap (offset r) (omega (arith, inv.buffers.theirs_count, inv.order.theirs.published_stored, inv.order.theirs.stored_published))
+      ∙ ap (slot_offset r) (omega (arith, inv.buffers.theirs_count, inv.order.theirs.published_stored, inv.order.theirs.stored_published))
 
   -- the sender finds a word in a slot whose word isn't cleared in memory
-  sender-full : s.stored ≡ s.published → s.stored ≡ d.cleared + r.size → read o es r.sender (slot r s.stored) 4 ≡ L d.cleared
+  sender-full : s.stored ≡ s.published → s.stored ≡ d.cleared + r.size → read o es r.sender (slot_address r s.stored) 4 ≡ L d.cleared
   sender-full level full =
-      reads-word r o es r.sender (slot r s.stored) (slot_word r is s.stored) mine-whole
-      ∙ ap (seen (slot r s.stored) (memory_word o es (slot r s.stored))) inv.buffers.rows.mine ∙ at (cases_lt d.cleared d.slots)
+      reads-word r o es r.sender (slot_address r s.stored) (slot_word r is s.stored) mine-whole
+      ∙ ap (seen (slot_address r s.stored) (memory_word o es (slot_address r s.stored))) inv.buffers.rows.mine ∙ at (cases_lt d.cleared d.slots)
     where
-      at : (d.cleared < d.slots) ⊎ (d.slots ≤ d.cleared) → seen (slot r s.stored) (memory_word o es (slot r s.stored))
+      at : (d.cleared < d.slots) ⊎ (d.slots ≤ d.cleared) → seen (slot_address r s.stored) (memory_word o es (slot_address r s.stored))
           (spread (sent_store r L) (d.slots + d.heads) inv.buffers.unsent) ≡ L d.cleared
       at (inl landed) =
-          none-there (slot r s.stored) (memory_word o es (slot r s.stored)) (sent_store r L) (d.slots + d.heads) inv.buffers.unsent
+          none-there (slot_address r s.stored) (memory_word o es (slot_address r s.stored)) (sent_store r L) (d.slots + d.heads) inv.buffers.unsent
           (λ p from below. row_apart r is L p s.stored (λ even. (
             omega (arith, below, even, level, inv.buffers.mine_count),
             omega (arith, from, even, full, landed, inv.order.mine.heads_slots, inv.order.mine.slots_heads),
           ))) ∙ ap (memory_word o es) (slot_again r is d.cleared s.stored full) ∙ inv.words.full d.cleared (omega arith) landed
       at (inr none) =
           let same : d.cleared ≡ d.slots = omega (arith, none, inv.order.theirs.slots_stored, inv.order.taken_there) in
-          last-there (slot r s.stored) (L d.cleared) (memory_word o es (slot r s.stored)) (sent_store r L) (d.slots + d.heads) inv.buffers.unsent
+          last-there (slot_address r s.stored) (L d.cleared) (memory_word o es (slot_address r s.stored))
+          (sent_store r L) (d.slots + d.heads) inv.buffers.unsent
           (2 * d.cleared) (omega (arith, same, inv.order.mine.heads_slots)) (omega (arith, same, level, full, is.some_slots, inv.buffers.mine_count))
           (sent-slot r L (2 * d.cleared) d.cleared refl ∙ ap (λ a. write a 4 (L d.cleared)) (sym (slot_again r is d.cleared s.stored full)))
           (λ p from below. row_apart r is L p s.stored (λ even. (omega (arith, below, even, level, inv.buffers.mine_count), omega (arith, from, even, full))))
 
   -- and 0 where the slot is free in memory
-  pub sender-free : s.stored ≡ s.published → s.stored < d.cleared + r.size → read o es r.sender (slot r s.stored) 4 ≡ 0
+  pub sender-free : s.stored ≡ s.published → s.stored < d.cleared + r.size → read o es r.sender (slot_address r s.stored) 4 ≡ 0
   sender-free level room =
-      reads-word r o es r.sender (slot r s.stored) (slot_word r is s.stored) mine-whole
-      ∙ ap (seen (slot r s.stored) (memory_word o es (slot r s.stored))) inv.buffers.rows.mine
-      ∙ none-there (slot r s.stored) (memory_word o es (slot r s.stored)) (sent_store r L) (d.slots + d.heads) inv.buffers.unsent
+      reads-word r o es r.sender (slot_address r s.stored) (slot_word r is s.stored) mine-whole
+      ∙ ap (seen (slot_address r s.stored) (memory_word o es (slot_address r s.stored))) inv.buffers.rows.mine
+      ∙ none-there (slot_address r s.stored) (memory_word o es (slot_address r s.stored)) (sent_store r L) (d.slots + d.heads) inv.buffers.unsent
       (λ p from below. row_apart r is L p s.stored (λ even. (
         omega (arith, below, even, level, inv.buffers.mine_count),
         omega (arith, from, even, room, inv.order.theirs.slots_stored, inv.order.taken_there, inv.order.mine.heads_slots, inv.order.mine.slots_heads),
       ))) ∙ inv.words.free refl s.stored inv.order.mine.slots_stored room
 
   -- what the receiver reads in its slot
-  slot-reads : read o es r.receiver (slot r s.taken) 4
-      ≡ seen (slot r s.taken) (memory_word o es (slot r s.taken)) (spread (cleared_store r) (d.cleared + d.tails) inv.buffers.unread)
-  slot-reads = reads-word r o es r.receiver (slot r s.taken) (slot_word r is s.taken) theirs-whole
-      ∙ ap (seen (slot r s.taken) (memory_word o es (slot r s.taken))) inv.buffers.rows.theirs
+  slot-reads : read o es r.receiver (slot_address r s.taken) 4
+      ≡ seen (slot_address r s.taken) (memory_word o es (slot_address r s.taken)) (spread (cleared_store r) (d.cleared + d.tails) inv.buffers.unread)
+  slot-reads = reads-word r o es r.receiver (slot_address r s.taken) (slot_word r is s.taken) theirs-whole
+      ∙ ap (seen (slot_address r s.taken) (memory_word o es (slot_address r s.taken))) inv.buffers.rows.theirs
 
-  slot-near : s.taken ≡ s.consumed → s.taken < d.cleared + r.size → read o es r.receiver (slot r s.taken) 4 ≡ memory_word o es (slot r s.taken)
-  slot-near level near = slot-reads ∙ none-there (slot r s.taken) (memory_word o es (slot r s.taken)) (cleared_store r) (d.cleared + d.tails) inv.buffers.unread
+  slot-near : s.taken ≡ s.consumed → s.taken < d.cleared + r.size → read o es r.receiver (slot_address r s.taken) 4 ≡ memory_word o es (slot_address r s.taken)
+  slot-near level near =
+      slot-reads ∙ none-there (slot_address r s.taken) (memory_word o es (slot_address r s.taken)) (cleared_store r)
+      (d.cleared + d.tails) inv.buffers.unread
       (λ p from below. row_apart (turned r) (turned_is r is) zeros p s.taken (λ even. (
         omega (arith, below, even, level, inv.buffers.theirs_count),
         omega (arith, from, even, near, inv.order.theirs.heads_slots, inv.order.theirs.slots_heads),
       )))
 
   -- it finds the word that landed there
-  pub receiver-word : s.taken ≡ s.consumed → s.taken < d.slots → read o es r.receiver (slot r s.taken) 4 ≡ L s.taken
+  pub receiver-word : s.taken ≡ s.consumed → s.taken < d.slots → read o es r.receiver (slot_address r s.taken) 4 ≡ L s.taken
   receiver-word level landed = slot-near level (omega (arith, landed, inv.order.mine.slots_stored, inv.order.room))
       ∙ inv.words.full s.taken inv.order.theirs.slots_stored landed
 
   -- what the receiver finds in its slot: 0, or the word that landed there
   receiver-slot : s.taken ≡ s.consumed
-      → (read o es r.receiver (slot r s.taken) 4 ≡ 0) ⊎ ((s.taken < d.slots) × (read o es r.receiver (slot r s.taken) 4 ≡ L s.taken))
+      → (read o es r.receiver (slot_address r s.taken) 4 ≡ 0) ⊎ ((s.taken < d.slots) × (read o es r.receiver (slot_address r s.taken) 4 ≡ L s.taken))
   receiver-slot level = at (cases_lt s.taken (d.cleared + r.size)) (cases_lt s.taken d.slots)
     where
       at : (s.taken < d.cleared + r.size) ⊎ (d.cleared + r.size ≤ s.taken) → (s.taken < d.slots) ⊎ (d.slots ≤ s.taken)
-          → (read o es r.receiver (slot r s.taken) 4 ≡ 0) ⊎ ((s.taken < d.slots) × (read o es r.receiver (slot r s.taken) 4 ≡ L s.taken))
+          → (read o es r.receiver (slot_address r s.taken) 4 ≡ 0) ⊎ ((s.taken < d.slots) × (read o es r.receiver (slot_address r s.taken) 4 ≡ L s.taken))
       at (inl near) (inl landed) = inr (landed, receiver-word level landed)
       at (inl near) (inr none) = inl (slot-near level near ∙ inv.words.free refl s.taken none near)
       at (inr far) c =
           let full : s.taken ≡ d.cleared + r.size = omega (arith, far, inv.order.taken_there, inv.order.mine.slots_stored, inv.order.room) in
-          inl (slot-reads ∙ last-there (slot r s.taken) 0 (memory_word o es (slot r s.taken)) (cleared_store r) (d.cleared + d.tails) inv.buffers.unread
+          inl (slot-reads
+          ∙ last-there (slot_address r s.taken) 0 (memory_word o es (slot_address r s.taken)) (cleared_store r)
+          (d.cleared + d.tails) inv.buffers.unread
           (2 * d.cleared) (omega (arith, inv.order.theirs.heads_slots)) (omega (arith, level, full, is.some_slots, inv.buffers.theirs_count))
           (sent-slot (turned r) zeros (2 * d.cleared) d.cleared refl ∙ ap (λ a. write a 4 0) (sym (slot_again r is d.cleared s.taken full)))
           (λ p from below. row_apart (turned r) (turned_is r is) zeros p s.taken (λ even.
@@ -168,8 +174,8 @@ module _ (r : RingBuffer) (is : IsRingBuffer r) (L : ℕ → ℕ) (small : (j : 
       by : (b : Bool) → (a == r.slots + u) ≡ b → (c : Bool) → (v == 0) ≡ c
           → SendingIs 0 r s.stored s.published d.cleared (if b then (if not c then placed u else roomy u) else placed u)
       by true here true zero_read =
-          let place : a ≡ slot r s.stored = eqb-true a (r.slots + u) here ∙ ap (λ x. r.slots + x) (holds.1 ∙ ap (offset r) (sym holds.0)) in
-          let none : read o es r.sender (slot r s.stored) 4 ≡ 0 = ap (λ x. read o es r.sender x 4) (sym place) ∙ sym is_read ∙ eqb-true v 0 zero_read in
+          let place : a ≡ slot_address r s.stored = eqb-true a (r.slots + u) here ∙ ap (λ x. r.slots + x) (holds.1 ∙ ap (slot_offset r) (sym holds.0)) in
+          let none : read o es r.sender (slot_address r s.stored) 4 ≡ 0 = ap (λ x. read o es r.sender x 4) (sym place) ∙ sym is_read ∙ eqb-true v 0 zero_read in
           let other : s.stored ≢ d.cleared + r.size =
           λ full. inv.nonzero refl d.cleared (omega (arith, full, is.some_slots)) (sym (sender-full holds.0 full) ∙ none) in
           (holds.0, holds.1, omega (arith, other, inv.order.room))
@@ -205,8 +211,8 @@ module _ (r : RingBuffer) (is : IsRingBuffer r) (L : ℕ → ℕ) (small : (j : 
           → ReceivingIs fastforward r L s.taken s.consumed d.slots (if b then (if c then asked u else holding u v) else asked u)
       by true here true zero_read = holds
       by true here false some =
-          let place : a ≡ slot r s.taken = eqb-true a (r.slots + u) here ∙ ap (λ x. r.slots + x) (holds.1 ∙ ap (offset r) (sym holds.0)) in
-          let found : v ≡ read o es r.receiver (slot r s.taken) 4 = is_read ∙ ap (λ x. read o es r.receiver x 4) place in
+          let place : a ≡ slot_address r s.taken = eqb-true a (r.slots + u) here ∙ ap (λ x. r.slots + x) (holds.1 ∙ ap (slot_offset r) (sym holds.0)) in
+          let found : v ≡ read o es r.receiver (slot_address r s.taken) 4 = is_read ∙ ap (λ x. read o es r.receiver x 4) place in
           elim (receiver-slot holds.0) [
             | inl none ↦ absurd (eqb-false v 0 some (found ∙ none))
             | inr word ↦ (holds.0, holds.1, word.0, found ∙ word.1)

@@ -4,7 +4,7 @@ use Rattle.memory.specs.declared.writes.Write.{Write}
 use Rattle.step_machine.specs.declared.events.Entry.{Entry}
 use Rattle.step_machine.specs.History.{OpeningValue}
 use Rattle.step_machine.specs.Entries.{memory_word}
-use Rattle.spsc_queue.specs.RingBuffers.{Kind, lamport, fastforward, RingBuffer, IsRingBuffer, offset, slot}
+use Rattle.spsc_queue.specs.RingBuffers.{Kind, lamport, fastforward, RingBuffer, IsRingBuffer, slot_offset, slot_address}
 use Rattle.spsc_queue.specs.Protocol.{SenderState, resting, placed, renewing, roomy, filled, ReceiverState, idle, asked}
 use Rattle.spsc_queue.specs.Protocol.{waiting, holding, cleared, ProtocolState}
 use Rattle.spsc_queue.specs.Laws.{ready_by_state}
@@ -91,27 +91,27 @@ pub record Order (K : Kind) (r : RingBuffer) (stored published taken consumed : 
 
 -- the words of the block: its slots hold the words that landed and that aren't freed in memory, and FastForward's else 0
 pub record Words (K : Kind) (r : RingBuffer) (L : ℕ → ℕ) (d : Landed) (word : ℕ → ℕ) : Type 0 where
-  pub head : word r.head ≡ offset r d.heads
-  pub tail : word r.tail ≡ offset r d.tails
-  pub full : (j : ℕ) → freed K d.cleared d.tails ≤ j → j < d.slots → word (slot r j) ≡ L j
-  pub free : K ≡ fastforward → (j : ℕ) → d.slots ≤ j → j < freed K d.cleared d.tails + r.size → word (slot r j) ≡ 0
+  pub head : word r.head ≡ slot_offset r d.heads
+  pub tail : word r.tail ≡ slot_offset r d.tails
+  pub full : (j : ℕ) → freed K d.cleared d.tails ≤ j → j < d.slots → word (slot_address r j) ≡ L j
+  pub free : K ≡ fastforward → (j : ℕ) → d.slots ≤ j → j < freed K d.cleared d.tails + r.size → word (slot_address r j) ≡ 0
 
 -- what the sender knows, where n slots have been freed in memory and this many stay free
 abbrev pub SendingIs : (spare : ℕ) → RingBuffer → (stored published n : ℕ) → SenderState → Type 0
 SendingIs spare r stored published n resting = stored ≡ published
-SendingIs spare r stored published n (placed u) = (stored ≡ published) × (u ≡ offset r published)
+SendingIs spare r stored published n (placed u) = (stored ≡ published) × (u ≡ slot_offset r published)
 SendingIs spare r stored published n (renewing u v) =
-    (stored ≡ published) × (u ≡ offset r published) × ((j : ℕ) × (v ≡ offset r j) × (stored + 1 + spare ≤ j) × (j ≤ n + r.size))
-SendingIs spare r stored published n (roomy u) = (stored ≡ published) × (u ≡ offset r published) × (stored + 1 + spare ≤ n + r.size)
-SendingIs spare r stored published n (filled u) = (stored ≡ published + 1) × (u ≡ offset r published)
+    (stored ≡ published) × (u ≡ slot_offset r published) × ((j : ℕ) × (v ≡ slot_offset r j) × (stored + 1 + spare ≤ j) × (j ≤ n + r.size))
+SendingIs spare r stored published n (roomy u) = (stored ≡ published) × (u ≡ slot_offset r published) × (stored + 1 + spare ≤ n + r.size)
+SendingIs spare r stored published n (filled u) = (stored ≡ published + 1) × (u ≡ slot_offset r published)
 
 -- what the receiver knows, where n words are there in memory
 abbrev pub ReceivingIs : Kind → RingBuffer → (ℕ → ℕ) → (taken consumed n : ℕ) → ReceiverState → Type 0
 ReceivingIs K r L taken consumed n idle = taken ≡ consumed
-ReceivingIs K r L taken consumed n (asked u) = (taken ≡ consumed) × (u ≡ offset r consumed)
-ReceivingIs K r L taken consumed n (waiting u) = (taken ≡ consumed) × (u ≡ offset r consumed) × (taken < n) × (K ≡ lamport)
-ReceivingIs K r L taken consumed n (holding u w) = (taken ≡ consumed) × (u ≡ offset r consumed) × (taken < n) × (w ≡ L taken)
-ReceivingIs K r L taken consumed n (cleared u) = (taken ≡ consumed + 1) × (u ≡ offset r consumed) × (K ≡ fastforward)
+ReceivingIs K r L taken consumed n (asked u) = (taken ≡ consumed) × (u ≡ slot_offset r consumed)
+ReceivingIs K r L taken consumed n (waiting u) = (taken ≡ consumed) × (u ≡ slot_offset r consumed) × (taken < n) × (K ≡ lamport)
+ReceivingIs K r L taken consumed n (holding u w) = (taken ≡ consumed) × (u ≡ slot_offset r consumed) × (taken < n) × (w ≡ L taken)
+ReceivingIs K r L taken consumed n (cleared u) = (taken ≡ consumed + 1) × (u ≡ slot_offset r consumed) × (K ≡ fastforward)
 
 -- the stores to the block: the sender's row and the receiver's, and how far each has come
 pub record Buffers (K : Kind) (r : RingBuffer) (L : ℕ → ℕ) (c : Earlier) (es : List Entry) (stored published taken consumed : ℕ) (d : Landed) : Type 0 where

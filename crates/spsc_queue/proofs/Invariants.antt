@@ -6,8 +6,8 @@ use Rattle.std.proofs.lemmas.Bool.{cases_eq}
 use Rattle.memory.specs.declared.writes.Write.{Write}
 use Rattle.step_machine.specs.declared.events.Entry.{Entry}
 use Rattle.step_machine.specs.History.{OpeningValue}
-use Rattle.step_machine.specs.Entries.{pending, read, stores, lands}
-use Rattle.spsc_queue.specs.RingBuffers.{Kind, lamport, fastforward, RingBuffer, IsRingBuffer, offset, capacity_of, writes_to, IsEmptyAndQuiescent}
+use Rattle.step_machine.specs.Entries.{pending, read, own_stores, lands}
+use Rattle.spsc_queue.specs.RingBuffers.{Kind, lamport, fastforward, RingBuffer, IsRingBuffer, slot_offset, capacity_of, writes_to, IsEmptyAndQuiescent}
 use Rattle.spsc_queue.specs.StoreBuffers.{LeavesByte}
 use Rattle.spsc_queue.specs.Protocol.{SenderState, resting, placed, renewing, roomy, filled, ReceiverState, idle, asked}
 use Rattle.spsc_queue.specs.Protocol.{waiting, holding, cleared, ProtocolState}
@@ -29,17 +29,17 @@ use Rattle.spsc_queue.proofs.Steps.{stays}
 -- the sender's place, and whether a word is half sent; the receiver's place
 abbrev pub IsPlaced : RingBuffer → (stored published : ℕ) → SenderState → Type 0
 IsPlaced r stored published resting = stored ≡ published
-IsPlaced r stored published (placed u) = (stored ≡ published) × (u ≡ offset r published)
-IsPlaced r stored published (renewing u v) = (stored ≡ published) × (u ≡ offset r published)
-IsPlaced r stored published (roomy u) = (stored ≡ published) × (u ≡ offset r published)
-IsPlaced r stored published (filled u) = (stored ≡ published + 1) × (u ≡ offset r published)
+IsPlaced r stored published (placed u) = (stored ≡ published) × (u ≡ slot_offset r published)
+IsPlaced r stored published (renewing u v) = (stored ≡ published) × (u ≡ slot_offset r published)
+IsPlaced r stored published (roomy u) = (stored ≡ published) × (u ≡ slot_offset r published)
+IsPlaced r stored published (filled u) = (stored ≡ published + 1) × (u ≡ slot_offset r published)
 
 abbrev pub IsAsked : RingBuffer → (consumed : ℕ) → ReceiverState → Type 0
 IsAsked r consumed idle = Unit {0}
-IsAsked r consumed (asked u) = u ≡ offset r consumed
-IsAsked r consumed (waiting u) = u ≡ offset r consumed
-IsAsked r consumed (holding u w) = u ≡ offset r consumed
-IsAsked r consumed (cleared u) = u ≡ offset r consumed
+IsAsked r consumed (asked u) = u ≡ slot_offset r consumed
+IsAsked r consumed (waiting u) = u ≡ slot_offset r consumed
+IsAsked r consumed (holding u w) = u ≡ slot_offset r consumed
+IsAsked r consumed (cleared u) = u ≡ slot_offset r consumed
 
 pub record Known (k : Kind) (r : RingBuffer) (L : ℕ → ℕ) (s : ProtocolState) : Type 0 where
   pub sent : s.sent ≡ firsts L s.stored
@@ -98,7 +98,7 @@ module _ (r : RingBuffer) (is : IsRingBuffer r) (L : ℕ → ℕ) (c : Earlier) 
 
   -- ---- a load of each party
 
-  module _ (e : Entry) (even : (h : ℕ) → lands h es ≤ length (stores h es)) (small : (j : ℕ) → L j < 2 ^ 32)
+  module _ (e : Entry) (even : (h : ℕ) → lands h es ≤ length (own_stores h es)) (small : (j : ℕ) → L j < 2 ^ 32)
       (copied : CopyStays r o es (es ++ e ∷ [])) where
     pub sender-loads : (k : Kind) → Invariant k r L c o es s → Stays r o es (es ++ e ∷ []) → (a v : ℕ) → v ≡ read o es r.sender a 4
         → Invariant k r L c o (es ++ e ∷ []) (record s { sending = send_load k r a v s.sending })
@@ -193,13 +193,13 @@ at_rest k r is L o es quiet kind =
     copy_at_rest lamport (Some a) some kind =
         let at = quiet.copy a some in
         let in_block = is.copy a some in
-        let found : read o es r.sender a 4 ≡ offset r at.0 = quiet_read r o es r.sender a (quiet.pending r.sender) in_block.above in_block.below ∙ at.2 in
+        let found : read o es r.sender a 4 ≡ slot_offset r at.0 = quiet_read r o es r.sender a (quiet.pending r.sender) in_block.above in_block.below ∙ at.2 in
         let alone : (x : ℕ) → a ≤ x → x < a + 4 → (h : ℕ) → h ≢ r.sender → All (LeavesByte x) (pending h es) =
         λ x from below h other. none_leave r x (pending h es) (quiet.pending h) (omega (arith, from, in_block.above)) (omega (arith, below, in_block.below)) in
         elim (cases_eq at.0 0) [
           | inl zero ↦ record {
             place = r.size;
-            reads = found ∙ ap (offset r) zero ∙ sym (offset_again r is 0 r.size (omega arith));
+            reads = found ∙ ap (slot_offset r) zero ∙ sym (offset_again r is 0 r.size (omega arith));
             low = omega (arith, is.some_slots);
             high = omega arith;
             alone = alone;

@@ -24,9 +24,10 @@ use Rattle.spsc_queue.specs.RingBuffers.{Kind, lamport, fastforward, RingBuffer,
 use Rattle.spsc_queue.specs.Protocol.{SenderState, placed, renewing, roomy, asked, waiting, holding, ProtocolState}
 use Rattle.spsc_queue.specs.Protocol.{says_full, looks_past_copy, IsWordAt, IsCopyStore}
 use Rattle.spsc_queue.specs.Protocol.{IsSenderStore, IsReceiverStore}
-use Rattle.spsc_queue.specs.Listings.{try_send, try_receive, lines_of}
+use Rattle.rv_decode.specs.Listings.{lines_of}
+use Rattle.spsc_queue.specs.Listings.{try_send, try_receive}
 use Rattle.spsc_queue.specs.Cached.{cached_send}
-use Rattle.spsc_queue.specs.Calls.{Block, IsBlock, the_sender, the_receiver, copy_in, listing_of, ring_of}
+use Rattle.spsc_queue.specs.Calls.{Block, IsBlock, the_sender, the_receiver, copy_in, listing_of, ring_at}
 use Rattle.spsc_queue.specs.CallEffects.{sees_full, look_accesses, take_accesses}
 use Rattle.step_machine.proofs.Lines.{word-plus, add_line, sum_line, load_line, store_line, jump_line, same_jumps, other_goes_on, other_jumps, same_goes_on}
 use Rattle.step_machine.proofs.Lines.{goes_to, leaves_in}
@@ -55,7 +56,7 @@ without_copy fastforward base = refl
 
 module _ (M n a b : ℕ) (k : Block) (is : IsBlock M k) (h : ℕ) (s : HartState) (t : ProtocolState) (v : ℕ) where
   abbrev r : RingBuffer
-  r = ring_of k a b
+  r = ring_at k a b
 
   abbrev x : List ℕ
   x = s.registers

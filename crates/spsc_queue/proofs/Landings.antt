@@ -7,8 +7,8 @@ use Rattle.memory.specs.Writes.{write, IsWholeWord}
 use Rattle.step_machine.specs.declared.events.Entry.{Entry}
 use Rattle.step_machine.specs.History.{OpeningValue}
 use Rattle.step_machine.specs.Access.{land, access_of}
-use Rattle.step_machine.specs.Entries.{hart_of, pending, memory_word, stores, lands}
-use Rattle.spsc_queue.specs.RingBuffers.{Kind, lamport, fastforward, RingBuffer, IsRingBuffer, IsWordIn, offset, slot}
+use Rattle.step_machine.specs.Entries.{hart_of, pending, memory_word, own_stores, lands}
+use Rattle.spsc_queue.specs.RingBuffers.{Kind, lamport, fastforward, RingBuffer, IsRingBuffer, IsWordIn, slot_offset, slot_address}
 use Rattle.spsc_queue.specs.Protocol.{ProtocolState, sends, receives, passes, role_of}
 use Rattle.spsc_queue.specs.Laws.{ready_by_state}
 use Rattle.spsc_queue.proofs.Spread.{slot_apart, sent_store, sent-slot, sent-head, slot_not_head, slot_not_tail, offset_low}
@@ -94,12 +94,12 @@ module _ (K : Kind) (r : RingBuffer) (is : IsRingBuffer r) (L : ℕ → ℕ) (sm
         copy = copy-stays n_freed (omega arith);
       }
 
-      slot-lands : d.slots ≡ d.heads → w ≡ write (slot r d.slots) 4 (L d.slots) → Invariant K r L c o after s
+      slot-lands : d.slots ≡ d.heads → w ≡ write (slot_address r d.slots) 4 (L d.slots) → Invariant K r L c o after s
       slot-lands level is_slot = mine-land (suc d.slots) d.heads (omega arith) (omega arith) (omega arith) (slot-landed inv.order.mine level some) (record {
         head = same_at r.head is.head whole (λ e. slot_not_head r is d.slots (sym place ∙ e)) ∙ inv.words.head;
         tail = same_at r.tail is.tail whole (λ e. slot_not_tail r is d.slots (sym place ∙ e)) ∙ inv.words.tail;
         full = full;
-        free = λ kind j from below. same_at (slot r j) (slot_word r is j) whole
+        free = λ kind j from below. same_at (slot_address r j) (slot_word r is j) whole
             (λ same. slot_apart r is d.slots j (omega arith) (omega (arith, below, freed_slots)) (sym place ∙ same))
             ∙ inv.words.free kind j (omega arith) below;
       })
@@ -107,27 +107,28 @@ module _ (K : Kind) (r : RingBuffer) (is : IsRingBuffer r) (L : ℕ → ℕ) (sm
           some : d.slots < s.stored
           some = omega (arith, inv.buffers.mine_count, count, level, inv.order.mine.published_stored)
 
-          place : w.addr ≡ slot r d.slots
+          place : w.addr ≡ slot_address r d.slots
           place = ap (λ (x : Write). x.addr) is_slot
 
           whole : IsWholeWord w
           whole = subst IsWholeWord (sym is_slot) (record { whole = refl; aligned = (slot_word r is d.slots).aligned; small = small d.slots })
 
-          full : (j : ℕ) → n_freed ≤ j → j < suc d.slots → memory_word o after (slot r j) ≡ L j
+          full : (j : ℕ) → n_freed ≤ j → j < suc d.slots → memory_word o after (slot_address r j) ≡ L j
           full j from below = elim (cases_eq j d.slots) [
-            | inl same ↦ hit r o es after w (slot r j) written (slot_word r is j) whole (place ∙ ap (slot r) (sym same))
+            | inl same ↦ hit r o es after w (slot_address r j) written (slot_word r is j) whole (place ∙ ap (slot_address r) (sym same))
                 ∙ ap (λ (x : Write). x.value) is_slot ∙ ap L (sym same)
-            | inr other ↦ same_at (slot r j) (slot_word r is j) whole
+            | inr other ↦ same_at (slot_address r j) (slot_word r is j) whole
                 (λ same. slot_apart r is j d.slots (omega arith) (omega (arith, some, from, inv.order.room)) (sym same ∙ place))
                 ∙ inv.words.full j from (omega arith)
           ]
 
-      head-lands : d.slots ≡ d.heads + 1 → w ≡ write r.head 4 (offset r (d.heads + 1)) → Invariant K r L c o after s
+      head-lands : d.slots ≡ d.heads + 1 → w ≡ write r.head 4 (slot_offset r (d.heads + 1)) → Invariant K r L c o after s
       head-lands odd is_head = mine-land d.slots (suc d.heads) (omega arith) (omega arith) (omega arith) (head-landed inv.order.mine odd some) (record {
-        head = hit r o es after w r.head written is.head whole place ∙ ap (λ (x : Write). x.value) is_head ∙ ap (offset r) (omega arith);
+        head = hit r o es after w r.head written is.head whole place ∙ ap (λ (x : Write). x.value) is_head ∙ ap (slot_offset r) (omega arith);
         tail = same_at r.tail is.tail whole (λ e. is.apart (sym place ∙ e)) ∙ inv.words.tail;
-        full = λ j from below. same_at (slot r j) (slot_word r is j) whole (λ e. slot_not_head r is j (sym e ∙ place)) ∙ inv.words.full j from below;
-        free = λ kind j from below. same_at (slot r j) (slot_word r is j) whole (λ e. slot_not_head r is j (sym e ∙ place)) ∙ inv.words.free kind j from below;
+        full = λ j from below. same_at (slot_address r j) (slot_word r is j) whole (λ e. slot_not_head r is j (sym e ∙ place)) ∙ inv.words.full j from below;
+        free = λ kind j from below. same_at (slot_address r j) (slot_word r is j) whole
+            (λ e. slot_not_head r is j (sym e ∙ place)) ∙ inv.words.free kind j from below;
       })
         where
           some : d.heads < s.published
@@ -174,10 +175,10 @@ module _ (K : Kind) (r : RingBuffer) (is : IsRingBuffer r) (L : ℕ → ℕ) (sm
 
       pub tail-lands : their_landed K d.cleared (suc d.tails) ≡ suc (their_landed K d.cleared d.tails) → n_freed ≤ freed K d.cleared (suc d.tails)
           → (K ≡ fastforward → freed K d.cleared (suc d.tails) ≡ n_freed) → Theirs K s.taken s.consumed d.cleared (suc d.tails)
-          → w ≡ write r.tail 4 (offset r (d.tails + 1)) → Invariant K r L c o after s
+          → w ≡ write r.tail 4 (slot_offset r (d.tails + 1)) → Invariant K r L c o after s
       tail-lands one more same_freed theirs is_tail = theirs-land d.cleared (suc d.tails) one more theirs (record {
         head = same_at r.head is.head whole (λ e. is.apart (sym e ∙ place)) ∙ inv.words.head;
-        tail = hit r o es after w r.tail written is.tail whole place ∙ ap (λ (x : Write). x.value) is_tail ∙ ap (offset r) (omega arith);
+        tail = hit r o es after w r.tail written is.tail whole place ∙ ap (λ (x : Write). x.value) is_tail ∙ ap (slot_offset r) (omega arith);
         full = λ j from below. stays_at j ∙ inv.words.full j (omega (arith, from, more)) below;
         free = λ kind j from below. stays_at j ∙ inv.words.free kind j from (omega (arith, below, same_freed kind));
       })
@@ -189,8 +190,8 @@ module _ (K : Kind) (r : RingBuffer) (is : IsRingBuffer r) (L : ℕ → ℕ) (sm
           whole = subst IsWholeWord (sym is_tail)
               (record { whole = refl; aligned = is.tail.aligned; small = omega (arith, offset_low r is (d.tails + 1), is.small) })
 
-          stays_at : (j : ℕ) → memory_word o after (slot r j) ≡ memory_word o es (slot r j)
-          stays_at j = same_at (slot r j) (slot_word r is j) whole (λ e. slot_not_tail r is j (sym e ∙ place))
+          stays_at : (j : ℕ) → memory_word o after (slot_address r j) ≡ memory_word o es (slot_address r j)
+          stays_at j = same_at (slot_address r j) (slot_word r is j) whole (λ e. slot_not_tail r is j (sym e ∙ place))
 
 -- a 0 of FastForward's receiver
 module _ (r : RingBuffer) (is : IsRingBuffer r) (L : ℕ → ℕ) (small : (j : ℕ) → L j < 2 ^ 32) (c : Earlier) (o : OpeningValue) (es : List Entry)
@@ -198,7 +199,7 @@ module _ (r : RingBuffer) (is : IsRingBuffer r) (L : ℕ → ℕ) (small : (j : 
     (copied : CopyStays r o es (es ++ e ∷ [])) (w : Write) (written : Lands r o es (es ++ e ∷ []) w) (m : ℕ) (count : inv.buffers.unread ≡ suc m)
     (rows : Rows r c (sent_store r L) (their_store fastforward r) (es ++ e ∷ []) (inv.landed.slots + inv.landed.heads) inv.buffers.unsent
     (suc (inv.landed.cleared + inv.landed.tails)) m) where
-  zero-lands : inv.landed.cleared ≡ inv.landed.tails → w ≡ write (slot r inv.landed.cleared) 4 0 → Invariant fastforward r L c o (es ++ e ∷ []) s
+  zero-lands : inv.landed.cleared ≡ inv.landed.tails → w ≡ write (slot_address r inv.landed.cleared) 4 0 → Invariant fastforward r L c o (es ++ e ∷ []) s
   zero-lands level is_zero = theirs-land fastforward r is L small c o es s inv e copied w written m count rows
       (suc z) inv.landed.tails (omega arith) (omega arith) (slot-landed inv.order.theirs level some) (record {
         head = same_at fastforward r is L small c o es s inv e copied w written r.head is.head whole
@@ -216,19 +217,20 @@ module _ (r : RingBuffer) (is : IsRingBuffer r) (L : ℕ → ℕ) (small : (j : 
       some : inv.landed.cleared < s.taken
       some = omega (arith, inv.buffers.theirs_count, count, level, inv.order.theirs.published_stored)
 
-      place : w.addr ≡ slot r inv.landed.cleared
+      place : w.addr ≡ slot_address r inv.landed.cleared
       place = ap (λ (x : Write). x.addr) is_zero
 
       whole : IsWholeWord w
       whole = subst IsWholeWord (sym is_zero) (record { whole = refl; aligned = (slot_word r is inv.landed.cleared).aligned; small = omega arith })
 
-      apart-from : (j : ℕ) → inv.landed.cleared < j → j < inv.landed.cleared + r.size → memory_word o (es ++ e ∷ []) (slot r j) ≡ memory_word o es (slot r j)
-      apart-from j from below = same_at fastforward r is L small c o es s inv e copied w written (slot r j) (slot_word r is j) whole
+      apart-from : (j : ℕ) → inv.landed.cleared < j → j < inv.landed.cleared + r.size
+          → memory_word o (es ++ e ∷ []) (slot_address r j) ≡ memory_word o es (slot_address r j)
+      apart-from j from below = same_at fastforward r is L small c o es s inv e copied w written (slot_address r j) (slot_word r is j) whole
           (λ same. slot_apart r is inv.landed.cleared j from below (sym place ∙ same))
 
-      free : (j : ℕ) → inv.landed.slots ≤ j → j < suc inv.landed.cleared + r.size → memory_word o (es ++ e ∷ []) (slot r j) ≡ 0
+      free : (j : ℕ) → inv.landed.slots ≤ j → j < suc inv.landed.cleared + r.size → memory_word o (es ++ e ∷ []) (slot_address r j) ≡ 0
       free j from below = elim (cases_eq j (inv.landed.cleared + r.size)) [
-        | inl same ↦ hit r o es (es ++ e ∷ []) w (slot r j) written (slot_word r is j) whole (place ∙ sym (slot_again r is inv.landed.cleared j same))
+        | inl same ↦ hit r o es (es ++ e ∷ []) w (slot_address r j) written (slot_word r is j) whole (place ∙ sym (slot_again r is inv.landed.cleared j same))
             ∙ ap (λ (x : Write). x.value) is_zero
         | inr other ↦ apart-from j (omega (arith, from, some, inv.order.taken_there)) (omega arith) ∙ inv.words.free refl j from (omega arith)
       ]
@@ -254,7 +256,7 @@ theirs-lands fastforward r is L small c o es s inv e copied w written m count ro
 
 -- the oldest pending store of the entry's hart lands
 pub lands-store : (K : Kind) (r : RingBuffer) (is : IsRingBuffer r) (L : ℕ → ℕ) (small : (j : ℕ) → L j < 2 ^ 32) (c : Earlier) (o : OpeningValue)
-    (es : List Entry) (s : ProtocolState) (inv : Invariant K r L c o es s) (e : Entry) → ((h : ℕ) → lands h es ≤ length (stores h es))
+    (es : List Entry) (s : ProtocolState) (inv : Invariant K r L c o es s) (e : Entry) → ((h : ℕ) → lands h es ≤ length (own_stores h es))
     → CopyStays r o es (es ++ e ∷ []) → access_of e ≡ land → 0 < length (pending (hart_of e) es) → Invariant K r L c o (es ++ e ∷ []) s
 lands-store K r is L small c o es s inv e even copied does some =
     elim (landing r is o es e even c (sent_store r L) (their_store K r) (inv.landed.slots + inv.landed.heads) inv.buffers.unsent

@@ -11,8 +11,9 @@ use Rattle.step_machine.specs.Access.{load, access_of}
 use Rattle.step_machine.specs.Entries.{hart_of, pending, read}
 use Rattle.step_machine.specs.Legal.{AllowedBy}
 use Rattle.step_machine.proofs.Appended.{LegalAfter-back}
-use Rattle.spsc_queue.specs.RingBuffers.{Kind, lamport, fastforward, RingBuffer, IsRingBuffer, offset, slot, next, capacity_of, capacity, writes_to}
-use Rattle.spsc_queue.specs.Protocol.{placed, asked, ProtocolState, at_start, protocol_after, room_at, says_full, word_at, says_empty, KeepsProtocol}
+use Rattle.spsc_queue.specs.RingBuffers.{Kind, lamport, fastforward, RingBuffer, IsRingBuffer, slot_offset}
+use Rattle.spsc_queue.specs.RingBuffers.{slot_address, next, capacity_of, capacity, writes_to}
+use Rattle.spsc_queue.specs.Protocol.{placed, asked, ProtocolState, at_start, protocol_after, room_at, says_full, watched_address, says_empty, KeepsProtocol}
 use Rattle.spsc_queue.specs.Laws.{FollowsSpscProtocol, available_of, available_count, ready_by_state}
 use Rattle.spsc_queue.specs.StoreBuffers.{LeavesByte}
 use Rattle.spsc_queue.proofs.Words.{row_of, row_shorter}
@@ -32,11 +33,13 @@ least r ws n is = omega (arith, is, row_shorter r ws)
 module _ (r : RingBuffer) (is : IsRingBuffer r) (L : ℕ → ℕ) (small : (j : ℕ) → L j < 2 ^ 32) (c : Earlier) (o : OpeningValue) (es : List Entry)
     (T : ProtocolState) where
   -- the receiver sees no word: each that has landed and may be taken was received
-  empty : (k : Kind) → Invariant k r L c o es T → (u v : ℕ) → v ≡ read o es r.receiver (word_at k r u) 4 → says_empty k u v ≡ true → T.receiving ≡ asked u
+  empty : (k : Kind) → Invariant k r L c o es T → (u v : ℕ) → v ≡ read o es r.receiver (watched_address k r u) 4
+      → says_empty k u v ≡ true → T.receiving ≡ asked u
       → available_of k T ≤ T.taken + length (writes_to r (pending r.sender es))
   empty lamport inv u v found says was =
       let known = subst (ReceivingIs lamport r L T.taken T.consumed inv.landed.heads) was inv.receiving in
-      let head : v ≡ offset r inv.landed.heads = found ∙ receiver-other r is L small c o es T inv r.head is.head (λ q. is.apart (sym q)) ∙ inv.words.head in
+      let head : v ≡ slot_offset r inv.landed.heads =
+      found ∙ receiver-other r is L small c o es T inv r.head is.head (λ q. is.apart (sym q)) ∙ inv.words.head in
       let same : T.consumed ≡ inv.landed.heads = elim (cases_lt T.consumed inv.landed.heads) [
         | inl less ↦ absurd (offset_apart r is T.consumed inv.landed.heads less
             (omega (arith, inv.order.mine.heads_slots, inv.order.mine.slots_stored, inv.order.room, inv.order.theirs.1))
@@ -49,8 +52,8 @@ module _ (r : RingBuffer) (is : IsRingBuffer r) (L : ℕ → ℕ) (small : (j : 
       omega (arith, same, left, known.0, inv.buffers.mine_count, inv.order.mine.slots_stored, inv.order.mine.heads_published)
   empty fastforward inv u v found says was =
       let known = subst (ReceivingIs fastforward r L T.taken T.consumed inv.landed.slots) was inv.receiving in
-      let place : r.slots + u ≡ slot r T.taken = ap (λ x. r.slots + x) (known.1 ∙ ap (offset r) (sym known.0)) in
-      let zero_read : 0 ≡ read o es r.receiver (slot r T.taken) 4 = sym (eqb-true v 0 says) ∙ found ∙ ap (λ a. read o es r.receiver a 4) place in
+      let place : r.slots + u ≡ slot_address r T.taken = ap (λ x. r.slots + x) (known.1 ∙ ap (slot_offset r) (sym known.0)) in
+      let zero_read : 0 ≡ read o es r.receiver (slot_address r T.taken) 4 = sym (eqb-true v 0 says) ∙ found ∙ ap (λ a. read o es r.receiver a 4) place in
       let left : inv.buffers.unsent ≤ length (writes_to r (pending r.sender es)) =
       least r (pending r.sender es) inv.buffers.unsent (ap length inv.buffers.rows.mine
       ∙ length-spread (sent_store r L) (inv.landed.slots + inv.landed.heads) inv.buffers.unsent) in
@@ -65,9 +68,9 @@ module _ (r : RingBuffer) (is : IsRingBuffer r) (L : ℕ → ℕ) (small : (j : 
   full : (k : Kind) → Invariant k r L c o es T → (u v : ℕ) → v ≡ read o es r.sender (room_at k r u) 4 → says_full k r u v ≡ true → T.sending ≡ placed u
       → T.taken + capacity_of k r.size ≤ T.stored + length (writes_to r (pending r.receiver es))
   full lamport inv u v found says was =
-      let known : (T.stored ≡ T.published) × (u ≡ offset r T.published) = subst (SendingIs 1 r T.stored T.published inv.landed.tails) was inv.sending in
-      let tail : next r u ≡ offset r inv.landed.tails = sym (eqb-true v (next r u) says) ∙ found ∙ sender-tail r is L small c o es T inv in
-      let one : offset r inv.landed.tails ≡ offset r (T.published + 1) = sym tail ∙ next_offset r is u T.published known.1 in
+      let known : (T.stored ≡ T.published) × (u ≡ slot_offset r T.published) = subst (SendingIs 1 r T.stored T.published inv.landed.tails) was inv.sending in
+      let tail : next r u ≡ slot_offset r inv.landed.tails = sym (eqb-true v (next r u) says) ∙ found ∙ sender-tail r is L small c o es T inv in
+      let one : slot_offset r inv.landed.tails ≡ slot_offset r (T.published + 1) = sym tail ∙ next_offset r is u T.published known.1 in
       let over : inv.landed.tails < T.published + 1 =
       omega (arith, inv.order.theirs.0, inv.order.theirs.1, inv.order.taken_there, inv.order.mine.heads_published) in
       let far : inv.landed.tails + r.size ≤ T.published + 1 = elim (cases_lt (T.published + 1) (inv.landed.tails + r.size)) [
@@ -80,7 +83,7 @@ module _ (r : RingBuffer) (is : IsRingBuffer r) (L : ℕ → ℕ) (small : (j : 
       omega (arith, far, left, known.0, inv.order.theirs.0, inv.buffers.theirs_count, is.some_slots)
   full fastforward inv u v found says was =
       let known = subst (SendingIs 0 r T.stored T.published inv.landed.cleared) was inv.sending in
-      let place : r.slots + u ≡ slot r T.stored = ap (λ x. r.slots + x) (known.1 ∙ ap (offset r) (sym known.0)) in
+      let place : r.slots + u ≡ slot_address r T.stored = ap (λ x. r.slots + x) (known.1 ∙ ap (slot_offset r) (sym known.0)) in
       let some : v ≢ 0 = λ none. (let no : false ≡ true = sym (ap not (eq-eqb v 0 none)) ∙ says in cc) in
       let left : inv.buffers.unread ≤ length (writes_to r (pending r.receiver es)) =
       least r (pending r.receiver es) inv.buffers.unread (ap length inv.buffers.rows.theirs
@@ -126,10 +129,10 @@ module _ (B : ℕ) (r : RingBuffer) (o : OpeningValue) (before es : List Entry) 
   loaded h a v mine does = subst (AllowedBy B (pending (hart_of e) (before ++ es)) (read o (before ++ es) (hart_of e))) does
       (LegalAfter-back B o before es (e ∷ fs) (LegalAfter-back B o [] before (es ++ e ∷ fs) t.legal)).0 ∙ ap (λ g. read o (before ++ es) g a 4) mine
 
-  pub empty_landed : (u v : ℕ) → hart_of e ≡ r.receiver → access_of e ≡ load (word_at r.kind r u) 4 v → says_empty r.kind u v ≡ true
+  pub empty_landed : (u v : ℕ) → hart_of e ≡ r.receiver → access_of e ≡ load (watched_address r.kind r u) 4 v → says_empty r.kind u v ≡ true
       → T.receiving ≡ asked u → available_count r T ≤ T.taken + length (writes_to r (pending r.sender (before ++ es)))
   empty_landed u v mine does says was = empty r t.ring L small (earlier r before) o (before ++ es) T r.kind inv u v
-      (loaded r.receiver (word_at r.kind r u) v mine does) says was
+      (loaded r.receiver (watched_address r.kind r u) v mine does) says was
 
   pub full_landed : (u v : ℕ) → hart_of e ≡ r.sender → access_of e ≡ load (room_at r.kind r u) 4 v → says_full r.kind r u v ≡ true
       → T.sending ≡ placed u → T.taken + capacity r ≤ T.stored + length (writes_to r (pending r.receiver (before ++ es)))

@@ -13,7 +13,7 @@ use Rattle.spsc_queue.specs.RingBuffers.{Kind, lamport, fastforward, RingBuffer,
 use Rattle.spsc_queue.specs.Protocol.{SenderState, resting, placed, renewing, roomy, filled, ReceiverState, idle, asked}
 use Rattle.spsc_queue.specs.Protocol.{waiting, holding, cleared, ProtocolState}
 use Rattle.spsc_queue.specs.Protocol.{at_start, protocol_after, WritesNothingTo, IsCopyStore, IsSenderStore, IsTaking, IsReceiverStore}
-use Rattle.spsc_queue.specs.Calls.{Block, SpscQueue, Party, the_sender, the_receiver, party_hart, copy_in, ring_of}
+use Rattle.spsc_queue.specs.Calls.{Block, SpscQueue, Party, the_sender, the_receiver, party_hart, copy_in, ring_at}
 use Rattle.spsc_queue.specs.Calls.{buffer, is_sender_in_call, is_receiver_in_call}
 use Rattle.spsc_queue.specs.Calls.{CallerObligation, UsesAsSpscQueue}
 use Rattle.spsc_queue.specs.ManyQueues.{IsIdle, UsesManyQueues}
@@ -32,7 +32,7 @@ elsewhere k r w (inl below) from upto = grind (arith, nat_tests)
 elsewhere k r w (inr above) from upto = grind (arith, nat_tests)
 
 module _ (K : Kind) (k : Block) (a b : ℕ) (r : RingBuffer) (apart : IsApart k r) where
-  sent_off : (w : Write) (p : SenderState) → IsNear k p → IsSenderStore K (ring_of k a b) p w → overlaps r w ≡ false
+  sent_off : (w : Write) (p : SenderState) → IsNear k p → IsSenderStore K (ring_at k a b) p w → overlaps r w ≡ false
   sent_off w resting near does = absurd does
   sent_off w (placed u) near does = absurd does
   sent_off w (renewing u v) near does = at (copy_in k.kind k.caches k.base) refl does
@@ -45,18 +45,18 @@ module _ (K : Kind) (k : Block) (a b : ℕ) (r : RingBuffer) (apart : IsApart k 
   sent_off w (roomy u) near does = elsewhere k r w apart (omega (arith, does.0.place)) (omega (arith, does.0.place, does.0.width, near.0))
   sent_off w (filled u) near does = elsewhere k r w apart (omega (arith, does.0.place)) (omega (arith, does.0.place, does.0.width))
 
-  taken_off : (K : Kind) (w : Write) (u : ℕ) → IsOffset k u → IsTaking K (ring_of k a b) u w → overlaps r w ≡ false
+  taken_off : (K : Kind) (w : Write) (u : ℕ) → IsOffset k u → IsTaking K (ring_at k a b) u w → overlaps r w ≡ false
   taken_off lamport w u near does = elsewhere k r w apart (omega (arith, does.0.place)) (omega (arith, does.0.place, does.0.width))
   taken_off fastforward w u near does = elsewhere k r w apart (omega (arith, does.0.place)) (omega (arith, does.0.place, does.0.width, near.0))
 
-  freed_off : (w : Write) (p : ReceiverState) → IsFit k p → IsReceiverStore K (ring_of k a b) p w → overlaps r w ≡ false
+  freed_off : (w : Write) (p : ReceiverState) → IsFit k p → IsReceiverStore K (ring_at k a b) p w → overlaps r w ≡ false
   freed_off w idle near does = absurd does
   freed_off w (asked u) near does = absurd does
   freed_off w (waiting u) near does = absurd does
   freed_off w (holding u v) near does = taken_off K w u near does
   freed_off w (cleared u) near does = elsewhere k r w apart (omega (arith, does.0.place)) (omega (arith, does.0.place, does.0.width))
 
-  call_off : (p : Party) (t : ProtocolState) (x : Access) → Does p K (ring_of k a b) t x × Near k (part p t) → WritesNothingTo r x
+  call_off : (p : Party) (t : ProtocolState) (x : Access) → Does p K (ring_at k a b) t x × Near k (part p t) → WritesNothingTo r x
   call_off the_sender t (store w) does = sent_off w t.sending does.1.sending does.0
   call_off the_receiver t (store w) does = freed_off w t.receiving does.1.receiving does.0
   call_off p t (exchange c old new) does = absurd does.0

@@ -11,7 +11,8 @@ use Rattle.memory.proofs.Newest.{newest_of-append}
 use Rattle.step_machine.specs.declared.events.Entry.{Entry}
 use Rattle.step_machine.specs.History.{OpeningValue, history_of}
 use Rattle.step_machine.specs.Access.{Access, nothing, load, store, exchange, fence, land, access_of}
-use Rattle.step_machine.specs.Entries.{hart_of, stored_by, landed_by, written_by, store_of, land_of, stores, lands, pending, write_of, landed, opening_byte}
+use Rattle.step_machine.specs.Entries.{hart_of, stored_by, landed_by, written_by, own_store, land_of}
+use Rattle.step_machine.specs.Entries.{own_stores, lands, pending, write_of, landed, opening_byte}
 use Rattle.step_machine.specs.Entries.{memory_byte, read_byte}
 use Rattle.step_machine.specs.Legal.{AllowedBy, Allowed, LegalAfter, Legal}
 use Rattle.step_machine.proofs.Appended.{stores-append, landed-last, pending-last, LegalAfter-back, LegalAfter-front}
@@ -67,7 +68,7 @@ core x f [] theirs true land leaves same other some = absurd (let none : length 
 core x f (w ∷ ws) theirs true land leaves same other some =
     ap (λ ts. newest_of x (newest_of x f (take 1 ts)) (ws ++ [])) (same refl) ∙ ap (newest_of x (newest_of x f (w ∷ []))) (append-nil ws)
 
-step : (B : ℕ) (o : OpeningValue) (a x : ℕ) (es : List Entry) (e : Entry) → lands a es ≤ length (stores a es) → Allowed B o es e → IsOnlyWriter a x es
+step : (B : ℕ) (o : OpeningValue) (a x : ℕ) (es : List Entry) (e : Entry) → lands a es ≤ length (own_stores a es) → Allowed B o es e → IsOnlyWriter a x es
     → LeavesByteBy x (access_of e) → read_byte o (es ++ e ∷ []) a x ≡ read_byte o es a x
 step B o a x es e le allowed alone leaves =
     view o (es ++ e ∷ []) a x ∙ ap (λ g. unwrap_or g (opening_byte o x)) same ∙ sym (view o es a x)
@@ -95,13 +96,13 @@ stored-off x true (store w) leaves = All-cons (LeavesByte x) w [] leaves (All-ni
 stored-off x false (store w) leaves = All-nil (LeavesByte x)
 stored-off x b y leaves = All-nil (LeavesByte x)
 
-stays : (a x : ℕ) (es : List Entry) (e : Entry) → ((g : ℕ) → lands g es ≤ length (stores g es)) → IsOnlyWriter a x es → LeavesByteBy x (access_of e)
+stays : (a x : ℕ) (es : List Entry) (e : Entry) → ((g : ℕ) → lands g es ≤ length (own_stores g es)) → IsOnlyWriter a x es → LeavesByteBy x (access_of e)
     → IsOnlyWriter a x (es ++ e ∷ [])
 stays a x es e le alone leaves g other = subst (All (LeavesByte x)) (sym (pending-last g es e (le g)))
-    (All-drop (LeavesByte x) (land_of g e) (pending g es ++ store_of g e)
-    (All-append (LeavesByte x) (pending g es) (store_of g e) (alone g other) (stored-off x (hart_of e == g) (access_of e) leaves)))
+    (All-drop (LeavesByte x) (land_of g e) (pending g es ++ own_store g e)
+    (All-append (LeavesByte x) (pending g es) (own_store g e) (alone g other) (stored-off x (hart_of e == g) (access_of e) leaves)))
 
-pub kept : (B : ℕ) (o : OpeningValue) (a x : ℕ) (es fs : List Entry) → ((g : ℕ) → lands g es ≤ length (stores g es)) → LegalAfter B o es fs
+pub kept : (B : ℕ) (o : OpeningValue) (a x : ℕ) (es fs : List Entry) → ((g : ℕ) → lands g es ≤ length (own_stores g es)) → LegalAfter B o es fs
     → IsOnlyWriter a x es → AllLeaveByte x fs → (read_byte o (es ++ fs) a x ≡ read_byte o es a x) × IsOnlyWriter a x (es ++ fs)
 kept B o a x es [] le legal alone leave = subst (λ zs. (read_byte o zs a x ≡ read_byte o es a x) × IsOnlyWriter a x zs) (sym (append-nil es)) (refl, alone)
 kept B o a x es (e ∷ fs) le legal alone leave =
@@ -109,10 +110,10 @@ kept B o a x es (e ∷ fs) le legal alone leave =
     subst (λ zs. (read_byte o zs a x ≡ read_byte o es a x) × IsOnlyWriter a x zs) (append_assoc es (e ∷ []) fs)
     (more.0 ∙ step B o a x es e (le a) legal.0 alone leave.0, more.1)
 
-stores-off : (x h : ℕ) (fs : List Entry) → AllLeaveByte x fs → All (LeavesByte x) (stores h fs)
+stores-off : (x h : ℕ) (fs : List Entry) → AllLeaveByte x fs → All (LeavesByte x) (own_stores h fs)
 stores-off x h [] leave = All-nil (LeavesByte x)
 stores-off x h (e ∷ fs) leave =
-    All-append (LeavesByte x) (store_of h e) (stores h fs) (stored-off x (hart_of e == h) (access_of e) leave.0) (stores-off x h fs leave.1)
+    All-append (LeavesByte x) (own_store h e) (own_stores h fs) (stored-off x (hart_of e == h) (access_of e) leave.0) (stores-off x h fs leave.1)
 
 dropped-off : (x n : ℕ) (ws vs : List Write) → length ws ≤ n → All (LeavesByte x) vs → All (LeavesByte x) (drop n (ws ++ vs))
 dropped-off x n [] vs le all = All-drop (LeavesByte x) n vs all
@@ -121,11 +122,11 @@ dropped-off x (suc n) (w ∷ ws) vs le all = dropped-off x n ws vs (omega (arith
 
 -- hart a's view of a byte, once all that it had stored has landed, is every hart's
 pub handed_over : (B : ℕ) (o : OpeningValue) (a h x : ℕ) (es fs : List Entry) → Legal B (history_of o (es ++ fs))
-    → length (stores a es) ≤ lands a (es ++ fs) → IsOnlyWriter a x es → AllLeaveByte x fs → read_byte o (es ++ fs) h x ≡ read_byte o es a x
+    → length (own_stores a es) ≤ lands a (es ++ fs) → IsOnlyWriter a x es → AllLeaveByte x fs → read_byte o (es ++ fs) h x ≡ read_byte o es a x
 handed_over B o a h x es fs legal landed alone leave =
     let all = kept B o a x es fs (λ g. balanced B (history_of o es) g (LegalAfter-front B o [] es fs legal)) (LegalAfter-back B o [] es fs legal) alone leave in
     let own : All (LeavesByte x) (pending a (es ++ fs)) = subst (λ ws. All (LeavesByte x) (drop (lands a (es ++ fs)) ws)) (sym (stores-append a es fs))
-    (dropped-off x (lands a (es ++ fs)) (stores a es) (stores a fs) landed (stores-off x a fs leave)) in
+    (dropped-off x (lands a (es ++ fs)) (own_stores a es) (own_stores a fs) landed (stores-off x a fs leave)) in
     ap (λ g. unwrap_or g (memory_byte o (es ++ fs) x)) (passed_over x None (pending h (es ++ fs)) (at (cases_eq h a) own all.1))
     ∙ sym (ap (λ g. unwrap_or g (memory_byte o (es ++ fs) x)) (passed_over x None (pending a (es ++ fs)) own)) ∙ all.0
   where

@@ -8,11 +8,11 @@ use Rattle.step_machine.specs.declared.events.Entry.{Entry}
 use Rattle.step_machine.specs.Access.{Access, store, exchange, access_of}
 use Rattle.step_machine.specs.History.{OpeningValue, history_of}
 use Rattle.step_machine.specs.Entries.{hart_of}
-use Rattle.step_machine.specs.Paths.{value_of, state_of}
+use Rattle.step_machine.specs.Paths.{number_read, state_of}
 use Rattle.spsc_queue.specs.RingBuffers.{Kind, lamport, fastforward, RingBuffer}
 use Rattle.spsc_queue.specs.Protocol.{WritesNothingTo}
 use Rattle.spsc_queue.specs.Calls.{Block, SpscQueue, Party, the_sender, the_receiver, party_hart, party_line, buffer, enters, is_in_call_with, is_in_call_from}
-use Rattle.spsc_queue.specs.Calls.{MayPass, HasArguments, PartyOwes, CallerObligation}
+use Rattle.spsc_queue.specs.Calls.{MayPass, HasArguments, PartyObligation, CallerObligation}
 use Rattle.spsc_queue.specs.Obligations.{writes_nothing_to, may_pass, has_arguments, party_keeps_in, party_keeps, others_keep, obligation_kept}
 use Rattle.spsc_queue.specs.Obligations.{obligations_kept_from, obligations_kept}
 use Rattle.spsc_queue.proofs.Words.{both}
@@ -32,10 +32,10 @@ passes_is the_receiver K w is = tt
 pub arguments_are : (p : Party) (n : ℕ) (k : Block) (s : HartState) → has_arguments p n k s ≡ true → HasArguments p n k s
 arguments_are p n k s is = grind (arith, is, passes_is)
 
-party_owes : (M : ℕ) (o : OpeningValue) (q : SpscQueue) (p : Party) (before done : List Entry) (e : Entry)
-    → party_keeps M o q p (is_busy M o q p before done) (before ++ done) e ≡ true → PartyOwes M o q p before done e
-party_owes M o q p before done e keeps mine act s at idle =
-    let z : HartState = advanced s (value_of e) in
+party_obligation : (M : ℕ) (o : OpeningValue) (q : SpscQueue) (p : Party) (before done : List Entry) (e : Entry)
+    → party_keeps M o q p (is_busy M o q p before done) (before ++ done) e ≡ true → PartyObligation M o q p before done e
+party_obligation M o q p before done e keeps mine act s at idle =
+    let z : HartState = advanced s (number_read e) in
     let h : ℕ = party_hart q p in
     let n : ℕ = party_line q p in
     let here : party_keeps_in q p (is_busy M o q p before done) (state_of M (history_of o (before ++ done)) h) e ≡ true =
@@ -77,7 +77,7 @@ obligations_decided M o q before es kept done e more is =
     let sender = both (party_keeps M o q the_sender c (before ++ done) e) (party_keeps M o q the_receiver d (before ++ done) e && others_keep q e) one in
     let receiver = both (party_keeps M o q the_receiver d (before ++ done) e) (others_keep q e) sender.1 in
     record {
-      sender = party_owes M o q the_sender before done e sender.0;
-      receiver = party_owes M o q the_receiver before done e receiver.0;
+      sender = party_obligation M o q the_sender before done e sender.0;
+      receiver = party_obligation M o q the_receiver before done e receiver.0;
       others = others_owe q e receiver.1;
     }

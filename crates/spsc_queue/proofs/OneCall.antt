@@ -10,14 +10,15 @@ use Rattle.step_machine.specs.History.{OpeningValue, history_of}
 use Rattle.memory.specs.Writes.{write}
 use Rattle.step_machine.specs.Access.{Access, load, store, access_of}
 use Rattle.step_machine.specs.Entries.{hart_of, is_own, own}
-use Rattle.step_machine.specs.Paths.{value_of, state_of}
+use Rattle.step_machine.specs.Paths.{number_read, state_of}
 use Rattle.spsc_queue.specs.RingBuffers.{Kind, RingBuffer, IsRingBuffer, next}
 use Rattle.spsc_queue.specs.Protocol.{placed, roomy, ProtocolState, at_start, role_of, next_by, protocol_next}
-use Rattle.spsc_queue.specs.Protocol.{protocol_after, room_at, says_full, word_at, says_empty}
+use Rattle.spsc_queue.specs.Protocol.{protocol_after, room_at, says_full, watched_address, says_empty}
 use Rattle.spsc_queue.specs.Calls.{Block, SpscQueue, Party, the_sender, the_receiver, party_hart, party_line}
 use Rattle.spsc_queue.specs.Calls.{listing_of, buffer, is_in_call, is_in_call_with, enters}
 use Rattle.spsc_queue.specs.Calls.{completed_by_entry, UsesAsSpscQueue}
-use Rattle.spsc_queue.specs.CallEffects.{longest, sees_full, look_accesses, IsWholeCall, IsCallUnderWay, IsPlainNeed, GoesOn, IsSend, IsReceive, accesses}
+use Rattle.spsc_queue.specs.CallEffects.{longest, sees_full, look_accesses, IsWholeCall, IsCallUnderWay, IsPlainNeed}
+use Rattle.spsc_queue.specs.CallEffects.{ContinuesCall, IsSend, IsReceive, accesses}
 use Rattle.spsc_queue.specs.CallEffects.{completed_word, take_accesses, FoundFull, FoundEmpty}
 use Rattle.spsc_queue.specs.Laws.{FollowsSpscProtocol}
 use Rattle.spsc_queue.proofs.Words.{both}
@@ -67,7 +68,7 @@ part_begun {M} {o} {h} {n} {k} {before} {done} {part} {s} w = record {
 -- where a party looks for room, or for a word, and whether it sees none there
 abbrev place_of : Party → Kind → RingBuffer → (u : ℕ) → ℕ
 place_of the_sender K r u = room_at K r u
-place_of the_receiver K r u = word_at K r u
+place_of the_receiver K r u = watched_address K r u
 
 abbrev sees_none : Party → Kind → RingBuffer → (u v : ℕ) → Bool
 sees_none the_sender K r u v = says_full K r u v
@@ -141,7 +142,7 @@ looks_of the_receiver K r is s z count did f none =
       index = f.tail;
       seen = f.seen;
       first = [];
-      did = f.accesses ∙ ap (λ b. load r.tail 4 f.tail ∷ load (word_at K r f.tail) 4 f.seen ∷
+      did = f.accesses ∙ ap (λ b. load r.tail 4 f.tail ∷ load (watched_address K r f.tail) 4 f.seen ∷
           (if b then [] else take_accesses K r (slice_index z.registers 11) f.tail)) test;
       says = test;
       copy = inl refl;
@@ -256,12 +257,12 @@ module _ (B M : ℕ) (o : OpeningValue) (q : SpscQueue) (before es : List Entry)
         let was : state_of M (history_of o (before ++ now)) h ≡ Some (state now) = was_here B M o q before es c.shares p now in
         let inside : Inside n p K k r (words_at now) (course h s part_done) (state now) (part p (protocol now)) =
         subst (λ b. CourseStands n p K k r b (words_at now) (course h s part_done) (state now) (part p (protocol now))) busy so.stands in
-        let after : advanced (state now) (value_of e) ≡ state (now ++ e ∷ []) =
+        let after : advanced (state now) (number_read e) ≡ state (now ++ e ∷ []) =
         here_next M o h n (listing_of K k.caches p) (has_of c.shares p) (before ++ now) e own.0 own.1 ∙ placed_on in
         let last : List ℕ = if busy_at (now ++ e ∷ []) then [] else completed_word (state (now ++ e ∷ [])) in
         let ends : completed_by_entry M o h n (busy_at now) (before ++ now) e ≡ last =
         completes B M o q before es c.shares now e more there stand_here p own.0 own.1 busy (state now) was (course h s part_done) inside
-        ∙ ap (λ b. if b then [] else completed_word (advanced (state now) (value_of e))) called
+        ∙ ap (λ b. if b then [] else completed_word (advanced (state now) (number_read e))) called
         ∙ ap (λ y. if busy_at (now ++ e ∷ []) then [] else completed_word y) after in
         let all : words_at (now ++ e ∷ []) ≡ words_at done ++ last =
         sym worded ∙ ap (λ ws. words_at now ++ ws) ends ∙ ap (λ ws. ws ++ last) (so.words busy) in
@@ -434,7 +435,8 @@ module _ (B M : ℕ) (o : OpeningValue) (q : SpscQueue) (before done call : List
 
   -- a party in a call, at the end of the run: what it wants, and how many entries it has made
   pub goes_on : (p : Party) → IsCallUnderWay M o (party_hart q p) (party_line q p) q.block before done call s
-      → state_of M (history_of o (before ++ (done ++ call))) (party_hart q p) ≡ Some z → GoesOn (longest p (buffer q)) z (length (own (party_hart q p) call))
+      → state_of M (history_of o (before ++ (done ++ call))) (party_hart q p) ≡ Some z
+      → ContinuesCall (longest p (buffer q)) z (length (own (party_hart q p) call))
   goes_on p w at =
       let es : List Entry = done ++ call in
       let h : ℕ = party_hart q p in
@@ -456,7 +458,7 @@ module _ (B M : ℕ) (o : OpeningValue) (q : SpscQueue) (before done call : List
       record {
         runs = ap (λ (x : HartState). x.status) (sym same)
             ∙ runs_here B M o h n (listing_of k.kind k.caches p) (has_of c.shares p) (before ++ es) c.shares.run moves.0.plain;
-        wants = subst (λ x. IsPlainNeed (need_of x)) same moves.0.plain;
+        needs = subst (λ x. IsPlainNeed (need_of x)) same moves.0.plain;
         short = made_few B M o q before es c done call [] whole p s (part_begun w) busy;
       }
 

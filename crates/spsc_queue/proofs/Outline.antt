@@ -9,7 +9,8 @@ use Rattle.step_machine.specs.Access.{Access, load, store, exchange}
 use Rattle.spsc_queue.specs.RingBuffers.{Kind, lamport, fastforward, RingBuffer, next}
 use Rattle.spsc_queue.specs.Protocol.{SenderState, resting, placed, renewing, roomy, filled, ReceiverState, idle, asked}
 use Rattle.spsc_queue.specs.Protocol.{waiting, holding, cleared, ProtocolState, Role}
-use Rattle.spsc_queue.specs.Protocol.{sends, receives, room_at, says_full, word_at, says_empty, looks_for_room, looks_past_copy, looks_for_word, next_by}
+use Rattle.spsc_queue.specs.Protocol.{sends, receives, room_at, says_full, watched_address}
+use Rattle.spsc_queue.specs.Protocol.{says_empty, looks_for_room, looks_past_copy, looks_for_word, next_by}
 use Rattle.spsc_queue.specs.Protocol.{IsSenderStore, IsReceiverStore}
 use Rattle.spsc_queue.specs.Calls.{Block, Party, the_sender, the_receiver}
 use Rattle.spsc_queue.specs.CallEffects.{IsPlainNeed, sees_full, look_accesses, send_accesses, receive_accesses, IsFound, SendEffect, ReceiveEffect}
@@ -79,7 +80,7 @@ first_look (Some c) room = c
 
 abbrev pub look_at : Party → Kind → RingBuffer → (u : ℕ) → ℕ
 look_at the_sender K r u = first_look r.copy (room_at K r u)
-look_at the_receiver K r u = word_at K r u
+look_at the_receiver K r u = watched_address K r u
 
 abbrev pub says_no : Party → Kind → RingBuffer → (u c v : ℕ) → Bool
 says_no the_sender K r u c v = sees_full r.copy K r u c v
@@ -344,5 +345,5 @@ pub record Moves (n : ℕ) (p : Party) (K : Kind) (k : Block) (r : RingBuffer) (
   pub after : CourseStands n p K k r b ws (went c (moved h s v)) (advanced s v) (part p (next_by K r (role p) t (moved h s v)))
 
 -- what a party's words are, by those that its calls completed: these, or besides the word in a1, of a call that is to return 1
-abbrev pub Told : (ws : List ℕ) → HartState → Part → Type 0
-Told ws s t = (Level t × (t.words ≡ ws)) ⊎ (t.words ≡ ws ++ slice_index s.registers 11 ∷ [])
+abbrev pub WordsAre : (ws : List ℕ) → HartState → Part → Type 0
+WordsAre ws s t = (Level t × (t.words ≡ ws)) ⊎ (t.words ≡ ws ++ slice_index s.registers 11 ∷ [])

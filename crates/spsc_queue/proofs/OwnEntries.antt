@@ -5,31 +5,28 @@ use Rattle.std.specs.Prelude.{All, option_map}
 use Rattle.std.specs.List.{slice_get}
 use Rattle.std.proofs.Math.Seq.{drop-append_seam}
 use Rattle.std.proofs.lemmas.List.Elements.{All-head, All-drop}
-use Rattle.std.proofs.lemmas.Bool.{eq-eqb, ne_eqb, eqb-true}
+use Rattle.std.proofs.lemmas.Bool.{eq-eqb, eqb-true}
 use Rattle.hart.specs.State.{HartState}
 use Rattle.hart.specs.Steps.{advanced}
 use Rattle.step_machine.specs.declared.events.Entry.{Entry}
 use Rattle.step_machine.specs.History.{HartOpeningValue, OpeningValue, history_of}
 use Rattle.step_machine.specs.Access.{Access, land}
 use Rattle.step_machine.specs.Entries.{hart_of, is_landing, is_land, is_own, own}
-use Rattle.step_machine.specs.Paths.{value_of, CanMake, opens_as, state_of, PathOf, Path}
+use Rattle.step_machine.specs.Paths.{number_read, CanMake, state_of, PathOf, Path}
 use Rattle.step_machine.specs.Legal.{WellFormed, IsOfHarts}
-use Rattle.step_machine.proofs.Appended.{own-append, Makes-front}
+use Rattle.step_machine.proofs.Appended.{own-append}
 use Rattle.step_machine.proofs.Follows.{state_after, advance_by, state_of-mine, state_of-other, Path-last}
+use Rattle.step_machine.proofs.OwnRuns.{path_front}
 use Rattle.step_machine.proofs.States.{state_keeps}
-use Rattle.spsc_queue.specs.Listings.{Listed}
+use Rattle.rv_decode.specs.Listings.{Listed}
 use Rattle.spsc_queue.specs.Calls.{StandsIn, HasFunction}
 use Rattle.spsc_queue.proofs.Courses.{Equipped}
 
 pub joined_on : (before done : List Entry) (e : Entry) (more : List Entry) → before ++ (done ++ e ∷ more) ≡ ((before ++ done) ++ e ∷ []) ++ more
 joined_on before done e more = sym (append_assoc before done (e ∷ more)) ∙ sym (append_assoc (before ++ done) (e ∷ []) more)
 
-path-part : (M : ℕ) (so : Option HartOpeningValue) (es fs : List Entry) → PathOf M so (es ++ fs) → PathOf M so es
-path-part M None es fs p = p
-path-part M (Some o) es fs p = Makes-front (opens_as M o) es fs p
-
 pub path_upto : (M : ℕ) (o : OpeningValue) (h : ℕ) (es fs : List Entry) → Path M (history_of o (es ++ fs)) h → Path M (history_of o es) h
-path_upto M o h es fs p = path-part M (slice_get o.harts h) (own h es) (own h fs) (subst (PathOf M (slice_get o.harts h)) (own-append h es fs) p)
+path_upto M o h es fs p = path_front M (slice_get o.harts h) (own h es) (own h fs) (subst (PathOf M (slice_get o.harts h)) (own-append h es fs) p)
 
 -- a hart's own entry is what its state makes
 pub made_by : (B M : ℕ) (o : OpeningValue) (before done : List Entry) (e : Entry) (more : List Entry)
@@ -68,9 +65,9 @@ module _ (M : ℕ) (o : OpeningValue) (es : List Entry) (e : Entry) (h : ℕ) wh
   same_state off s is = sym (state_of-other M (history_of o es) h e off) ∙ is
 
   pub next_state : hart_of e ≡ h → is_land e ≡ false → (s z : HartState) → state_of M (history_of o es) h ≡ Some s
-      → state_of M (history_of o (es ++ e ∷ [])) h ≡ Some z → advanced s (value_of e) ≡ z
+      → state_of M (history_of o (es ++ e ∷ [])) h ≡ Some z → advanced s (number_read e) ≡ z
   next_state mine act s z before after =
-      let goes : Some (advanced s (value_of e)) ≡ Some z = sym (ap (option_map (advance_by e)) before) ∙ sym (state_of-mine M (history_of o es) h e mine act)
+      let goes : Some (advanced s (number_read e)) ≡ Some z = sym (ap (option_map (advance_by e)) before) ∙ sym (state_of-mine M (history_of o es) h e mine act)
       ∙ after in cc
 
 -- the same of the state of a hart that opens with a function
@@ -80,7 +77,8 @@ module _ (M : ℕ) (o : OpeningValue) (h n : ℕ) (listing : List Listed) (has :
       let one : Some (state_here M o h n listing has es) ≡ Some (state_here M o h n listing has (es ++ e ∷ [])) = sym (is_here M o h n listing has es)
       ∙ same_state M o es e h off (state_here M o h n listing has (es ++ e ∷ [])) (is_here M o h n listing has (es ++ e ∷ [])) in cc
 
-  pub here_next : hart_of e ≡ h → is_land e ≡ false → advanced (state_here M o h n listing has es) (value_of e) ≡ state_here M o h n listing has (es ++ e ∷ [])
+  pub here_next : hart_of e ≡ h → is_land e ≡ false
+      → advanced (state_here M o h n listing has es) (number_read e) ≡ state_here M o h n listing has (es ++ e ∷ [])
   here_next mine act = next_state M o es e h mine act (state_here M o h n listing has es) (state_here M o h n listing has (es ++ e ∷ []))
       (is_here M o h n listing has es) (is_here M o h n listing has (es ++ e ∷ []))
 
@@ -91,16 +89,6 @@ own_parts h e on = at (hart_of e == h) refl (is_land e) refl
     at true same false act = (eqb-true (hart_of e) h same, act)
     at true same true land_e = let no : false ≡ true = sym (ap (λ b. b && not true) same) ∙ sym (ap (λ l. (hart_of e == h) && not l) land_e) ∙ on in cc
     at false other l act = let no : false ≡ true = sym (ap (λ b. b && not (is_land e)) other) ∙ on in cc
-
-pub own_land : (h : ℕ) (e : Entry) → is_land e ≡ true → is_own h e ≡ false
-own_land h e lands = ap (λ b. (hart_of e == h) && not b) lands ∙ off (hart_of e == h)
-  where
-    off : (b : Bool) → b && not true ≡ false
-    off true = refl
-    off false = refl
-
-pub own_other : (h : ℕ) (e : Entry) → hart_of e ≢ h → is_own h e ≡ false
-own_other h e other = ap (λ b. b && not (is_land e)) (ne_eqb (hart_of e) h other)
 
 pub land_is : (x : Access) → is_landing x ≡ true → x ≡ land
 land_is land is = refl

@@ -4,7 +4,7 @@ use Rattle.step_machine.specs.declared.events.Entry.{Entry}
 use Rattle.step_machine.specs.History.{OpeningValue}
 use Rattle.spsc_queue.specs.Protocol.{passes, role_of}
 use Rattle.spsc_queue.specs.Calls.{SpscQueue, Party, the_sender, the_receiver, party_hart, party_line, listing_of, buffer, is_in_call, completed_words}
-use Rattle.spsc_queue.specs.Calls.{HasFunction, PartyOwes, CallerObligation, SharesQueue}
+use Rattle.spsc_queue.specs.Calls.{HasFunction, PartyObligation, CallerObligation, SharesQueue}
 use Rattle.spsc_queue.proofs.Landings.{role-cases}
 use Rattle.spsc_queue.proofs.Outline.{role}
 
@@ -21,7 +21,7 @@ has_of c the_sender = c.sends
 has_of c the_receiver = c.receives
 
 pub owed_of : {M : ℕ} {o : OpeningValue} {q : SpscQueue} {before done : List Entry} {e : Entry} → CallerObligation M o q before done e → (p : Party)
-    → PartyOwes M o q p before done e
+    → PartyObligation M o q p before done e
 owed_of w the_sender = w.sender
 owed_of w the_receiver = w.receiver
 

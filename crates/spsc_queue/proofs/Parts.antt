@@ -13,7 +13,7 @@ use Rattle.spsc_queue.specs.Protocol.{sends, receives, passes, role_of, looks_fo
 use Rattle.spsc_queue.specs.Protocol.{looks_for_word, send_look, send_load, send_store, receive_look}
 use Rattle.spsc_queue.specs.Protocol.{receive_load, receive_store, room_at, says_full, says_empty, next_by, protocol_next, protocol_after, WritesNothingTo}
 use Rattle.spsc_queue.specs.Protocol.{KeepsProtocolBy, KeepsProtocol}
-use Rattle.spsc_queue.specs.Calls.{Block, IsBlock, Party, the_sender, the_receiver, copy_in, ring_of}
+use Rattle.spsc_queue.specs.Calls.{Block, IsBlock, Party, the_sender, the_receiver, copy_in, ring_at}
 use Rattle.spsc_queue.proofs.Spread.{offset_low}
 use Rattle.spsc_queue.proofs.Invariants.{IsPlaced, IsAsked, Known}
 use Rattle.spsc_queue.proofs.Outline.{Part, part, role, IsLevel, IsWhole, Level, IsOffset, IsNear, IsFit, Near}
@@ -33,7 +33,7 @@ cached_kind : (k : Block) (c : ℕ) → copy_in k.kind k.caches k.base ≡ Some 
 cached_kind k c at = (copied_in k.kind k.caches k.base c at).1
 
 -- the ring buffer of a block
-pub ring_is : (M : ℕ) (k : Block) (a b : ℕ) → IsBlock M k → a ≢ b → IsRingBuffer (ring_of k a b)
+pub ring_is : (M : ℕ) (k : Block) (a b : ℕ) → IsBlock M k → a ≢ b → IsRingBuffer (ring_at k a b)
 ring_is M k a b is parties = record {
   parties = parties;
   some_slots = is.some_slots;
@@ -279,22 +279,22 @@ module _ (K : Kind) (r : RingBuffer) where
 
 -- ---- offsets that the invariant knows are among the slots
 
-module _ (k : Block) (a b : ℕ) (is : IsRingBuffer (ring_of k a b)) where
-  placed-near : (stored published : ℕ) (p : SenderState) → IsPlaced (ring_of k a b) stored published p → IsNear k p
+module _ (k : Block) (a b : ℕ) (is : IsRingBuffer (ring_at k a b)) where
+  placed-near : (stored published : ℕ) (p : SenderState) → IsPlaced (ring_at k a b) stored published p → IsNear k p
   placed-near stored published resting h = tt
-  placed-near stored published (placed u) h = (omega (arith, h.1, offset_low (ring_of k a b) is published), omega (arith, h.1))
-  placed-near stored published (renewing u v) h = (omega (arith, h.1, offset_low (ring_of k a b) is published), omega (arith, h.1))
-  placed-near stored published (roomy u) h = (omega (arith, h.1, offset_low (ring_of k a b) is published), omega (arith, h.1))
-  placed-near stored published (filled u) h = (omega (arith, h.1, offset_low (ring_of k a b) is published), omega (arith, h.1))
+  placed-near stored published (placed u) h = (omega (arith, h.1, offset_low (ring_at k a b) is published), omega (arith, h.1))
+  placed-near stored published (renewing u v) h = (omega (arith, h.1, offset_low (ring_at k a b) is published), omega (arith, h.1))
+  placed-near stored published (roomy u) h = (omega (arith, h.1, offset_low (ring_at k a b) is published), omega (arith, h.1))
+  placed-near stored published (filled u) h = (omega (arith, h.1, offset_low (ring_at k a b) is published), omega (arith, h.1))
 
-  asked-fit : (consumed : ℕ) (p : ReceiverState) → IsAsked (ring_of k a b) consumed p → IsFit k p
+  asked-fit : (consumed : ℕ) (p : ReceiverState) → IsAsked (ring_at k a b) consumed p → IsFit k p
   asked-fit consumed idle h = tt
-  asked-fit consumed (asked u) h = (omega (arith, h, offset_low (ring_of k a b) is consumed), omega (arith, h))
-  asked-fit consumed (waiting u) h = (omega (arith, h, offset_low (ring_of k a b) is consumed), omega (arith, h))
-  asked-fit consumed (holding u w) h = (omega (arith, h, offset_low (ring_of k a b) is consumed), omega (arith, h))
-  asked-fit consumed (cleared u) h = (omega (arith, h, offset_low (ring_of k a b) is consumed), omega (arith, h))
+  asked-fit consumed (asked u) h = (omega (arith, h, offset_low (ring_at k a b) is consumed), omega (arith, h))
+  asked-fit consumed (waiting u) h = (omega (arith, h, offset_low (ring_at k a b) is consumed), omega (arith, h))
+  asked-fit consumed (holding u w) h = (omega (arith, h, offset_low (ring_at k a b) is consumed), omega (arith, h))
+  asked-fit consumed (cleared u) h = (omega (arith, h, offset_low (ring_at k a b) is consumed), omega (arith, h))
 
-  pub near-of : (p : Party) (K : Kind) (L : ℕ → ℕ) (t : ProtocolState) → Known K (ring_of k a b) L t → Near k (part p t)
+  pub near-of : (p : Party) (K : Kind) (L : ℕ → ℕ) (t : ProtocolState) → Known K (ring_at k a b) L t → Near k (part p t)
   near-of the_sender K L t known = record { sending = placed-near t.stored t.published t.sending known.sending; receiving = tt }
   near-of the_receiver K L t known = record { sending = tt; receiving = asked-fit t.consumed t.receiving known.receiving }
 

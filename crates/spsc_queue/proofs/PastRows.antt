@@ -5,7 +5,7 @@ use Rattle.std.proofs.lemmas.Bool.{cases_lt}
 use Rattle.std.proofs.lemmas.List.{take-append-drop, take-append-le}
 use Rattle.memory.specs.declared.writes.Write.{Write}
 use Rattle.step_machine.specs.declared.events.Entry.{Entry}
-use Rattle.step_machine.specs.Entries.{pending, stores, lands}
+use Rattle.step_machine.specs.Entries.{pending, own_stores, lands}
 use Rattle.step_machine.proofs.Appended.{stores-append}
 use Rattle.spsc_queue.specs.RingBuffers.{RingBuffer}
 use Rattle.spsc_queue.proofs.Words.{row_of}
@@ -30,9 +30,9 @@ beyond r front back n more = elim (cases_lt (length front) n) [
 
 -- of hart h, whose pending stores to the block are m in number: how many of its stores to the block landed
 landed-on : (r : RingBuffer) (h : ℕ) (es : List Entry)
-    → length (row_of r (take (lands h es) (stores h es))) + length (row_of r (pending h es)) ≡ length (row_of r (stores h es))
-landed-on r h es = sym (count-append r (take (lands h es) (stores h es)) (drop (lands h es) (stores h es)))
-    ∙ ap (λ ws. length (row_of r ws)) (take-append-drop (lands h es) (stores h es))
+    → length (row_of r (take (lands h es) (own_stores h es))) + length (row_of r (pending h es)) ≡ length (row_of r (own_stores h es))
+landed-on r h es = sym (count-append r (take (lands h es) (own_stores h es)) (drop (lands h es) (own_stores h es)))
+    ∙ ap (λ ws. length (row_of r ws)) (take-append-drop (lands h es) (own_stores h es))
 
 -- how many stores a row has
 pub length-spread : (f : ℕ → Write) (i n : ℕ) → length (spread f i n) ≡ n
@@ -41,21 +41,21 @@ length-spread f i (suc n) = let more : length (spread f (suc i) n) ≡ n = lengt
 
 -- a hart made x stores to the block up to a point, besides a that it had made before, and later i of them have landed
 past : (r : RingBuffer) (h : ℕ) (es fs whole : List Entry) (f : ℕ → Write) (a x i n : ℕ) → whole ≡ es ++ fs → on_count r h es ≡ a + x
-    → on_count r h whole ≡ a + (i + n) → row_of r (pending h whole) ≡ spread f i n → x < i → length (stores h es) < lands h whole
-past r h es fs whole f a x i n is before after left more = beyond r (stores h es) (stores h fs) (lands h whole)
-    (subst (λ ws. length (row_of r (stores h es)) < length (row_of r (take (lands h whole) ws))) (ap (stores h) is ∙ stores-append h es fs) counted)
+    → on_count r h whole ≡ a + (i + n) → row_of r (pending h whole) ≡ spread f i n → x < i → length (own_stores h es) < lands h whole
+past r h es fs whole f a x i n is before after left more = beyond r (own_stores h es) (own_stores h fs) (lands h whole)
+    (subst (λ ws. length (row_of r (own_stores h es)) < length (row_of r (take (lands h whole) ws))) (ap (own_stores h) is ∙ stores-append h es fs) counted)
   where
     left_count : length (row_of r (pending h whole)) ≡ n
     left_count = ap length left ∙ length-spread f i n
 
-    counted : length (row_of r (stores h es)) < length (row_of r (take (lands h whole) (stores h whole)))
+    counted : length (row_of r (own_stores h es)) < length (row_of r (take (lands h whole) (own_stores h whole)))
     counted = omega (arith, landed-on r h whole, left_count, before, after, more)
 
 -- once more of a row has landed than a party had stored at a point, all that its hart had stored there has landed
 module _ (r : RingBuffer) (c : Earlier) (f g p q : ℕ → Write) (es fs whole : List Entry) (i n j m i2 n2 j2 m2 : ℕ) (is : whole ≡ es ++ fs)
     (rows : Rows r c f g es i n j m) (later : Rows r c p q whole i2 n2 j2 m2) where
-  pub sender-past : i + n < i2 → length (stores r.sender es) < lands r.sender whole
+  pub sender-past : i + n < i2 → length (own_stores r.sender es) < lands r.sender whole
   sender-past more = past r r.sender es fs whole p c.sender (i + n) i2 n2 is rows.mine_made later.mine_made later.mine more
 
-  pub receiver-past : j + m < j2 → length (stores r.receiver es) < lands r.receiver whole
+  pub receiver-past : j + m < j2 → length (own_stores r.receiver es) < lands r.receiver whole
   receiver-past more = past r r.receiver es fs whole q c.receiver (j + m) j2 m2 is rows.theirs_made later.theirs_made later.theirs more

@@ -8,13 +8,13 @@ use Rattle.memory.specs.declared.writes.Write.{Write}
 use Rattle.step_machine.specs.declared.events.Entry.{Entry}
 use Rattle.step_machine.specs.History.{OpeningValue, history_of}
 use Rattle.step_machine.specs.Access.{Access, land, access_of}
-use Rattle.step_machine.specs.Entries.{hart_of, landed_by, written_by, land_of, stores, lands, landed_after, write_by_count, landed_by_count_after}
+use Rattle.step_machine.specs.Entries.{hart_of, landed_by, written_by, land_of, own_stores, lands, landed_after, write_by_count, landed_by_count_after}
 use Rattle.step_machine.specs.Legal.{Legal}
 use Rattle.step_machine.proofs.Appended.{lands-append, landed_after-append}
 use Rattle.step_machine.proofs.Landings.{landed-counted}
 use Rattle.spsc_queue.specs.StoreBuffers.{IsGloballyPerformed}
 
-reached_after : (whole : List Entry) (h n : ℕ) (w : Write) (before es : List Entry) → slice_get (stores h whole) n ≡ Some w
+reached_after : (whole : List Entry) (h n : ℕ) (w : Write) (before es : List Entry) → slice_get (own_stores h whole) n ≡ Some w
     → lands h before ≤ n → n < lands h (before ++ es) → (xs : List Write) × (ys : List Write) × (landed_by_count_after whole before es ≡ xs ++ w ∷ ys)
 reached_after whole h n w before [] is from below =
     absurd (let none : lands h (before ++ []) ≡ lands h before = ap (lands h) (append-nil before) in omega arith)
@@ -51,14 +51,14 @@ reached_after whole h n w before (e ∷ es) is from below =
     at land does true mine (inl here) on =
         let hart : hart_of e ≡ h = eqb-true (hart_of e) h mine in
         let written : write_by_count whole before e ≡ w ∷ [] =
-        ap (written_by (option_to_list (slice_get (stores (hart_of e) whole) (lands (hart_of e) before)))) does
-        ∙ ap (λ g. option_to_list (slice_get (stores g whole) (lands g before))) hart
-        ∙ ap (λ k. option_to_list (slice_get (stores h whole) k)) here ∙ ap option_to_list is in
+        ap (written_by (option_to_list (slice_get (own_stores (hart_of e) whole) (lands (hart_of e) before)))) does
+        ∙ ap (λ g. option_to_list (slice_get (own_stores g whole) (lands g before))) hart
+        ∙ ap (λ k. option_to_list (slice_get (own_stores h whole) k)) here ∙ ap option_to_list is in
         ([], landed_by_count_after whole (before ++ e ∷ []) es, ap (λ ws. ws ++ landed_by_count_after whole (before ++ e ∷ []) es) written)
     at x does b mine c on = more (on (passed x does b mine refl))
 
 pub reached : (B : ℕ) (o : OpeningValue) (es : List Entry) (h n : ℕ) (w : Write) → Legal B (history_of o es)
-    → slice_get (stores h es) n ≡ Some w → n < lands h es → IsGloballyPerformed es w
+    → slice_get (own_stores h es) n ≡ Some w → n < lands h es → IsGloballyPerformed es w
 reached B o es h n w legal is below =
     let found = reached_after es h n w [] es is (omega arith) below in
     record { earlier = found.0; later = found.1; is = landed-counted B (history_of o es) legal ∙ found.2 }

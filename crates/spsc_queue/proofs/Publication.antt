@@ -3,7 +3,7 @@ use Rattle.std.proofs.Common.{ℕ, ◌+◌, ◌<◌, ◌≤◌, List, [], ◌++�
 use Rattle.std.specs.Prelude.{slice_index}
 use Rattle.step_machine.specs.declared.events.Entry.{Entry}
 use Rattle.step_machine.specs.History.{OpeningValue}
-use Rattle.step_machine.specs.Entries.{stores, lands}
+use Rattle.step_machine.specs.Entries.{own_stores, lands}
 use Rattle.spsc_queue.specs.RingBuffers.{Kind, lamport, fastforward, RingBuffer, IsRingBuffer, capacity_of, capacity}
 use Rattle.spsc_queue.specs.Protocol.{SenderState, roomy, ReceiverState}
 use Rattle.spsc_queue.specs.Protocol.{waiting, holding, ProtocolState}
@@ -40,7 +40,7 @@ more_freed fastforward n m z t n2 m2 z2 t2 is later more = omega (arith, is.publ
 module _ (k : Kind) (r : RingBuffer) (is : IsRingBuffer r) (L M : ℕ → ℕ) (c : Earlier) (o : OpeningValue) (before es fs : List Entry) (s z : ProtocolState)
     (inv : Invariant k r L c o (before ++ es) s) (later : Invariant k r M c o (before ++ (es ++ fs)) z) where
   -- once the receiver knows of a word, all that the sender's hart stored before it made that word available has reached memory
-  sender-passed : available_of k s < known_count z → length (stores r.sender (before ++ es)) < lands r.sender (before ++ (es ++ fs))
+  sender-passed : available_of k s < known_count z → length (own_stores r.sender (before ++ es)) < lands r.sender (before ++ (es ++ fs))
   sender-passed heard =
       let n : ℕ = there k later.landed.slots later.landed.heads in
       let more = more_landed k s (known_count z) later.landed.slots later.landed.heads inv.order.mine.published_stored inv.order.mine.stored_published heard
@@ -52,7 +52,7 @@ module _ (k : Kind) (r : RingBuffer) (is : IsRingBuffer r) (L M : ℕ → ℕ) (
 
   -- once the sender has used a slot again, or is about to, all that the receiver's hart stored before it freed that slot has
   -- reached memory
-  receiver-passed : s.taken + capacity_of k r.size < ready_count z → length (stores r.receiver (before ++ es)) < lands r.receiver (before ++ (es ++ fs))
+  receiver-passed : s.taken + capacity_of k r.size < ready_count z → length (own_stores r.receiver (before ++ es)) < lands r.receiver (before ++ (es ++ fs))
   receiver-passed again =
       let n : ℕ = freed k later.landed.cleared later.landed.tails in
       let ready : ready_count z + spare k ≤ n + r.size = ready_freed (spare k) r z.stored z.published n z.sending later.order.room later.sending in
@@ -77,11 +77,11 @@ module _ (B : ℕ) (r : RingBuffer) (o : OpeningValue) (before es fs : List Entr
   later = invariant-of B r o before (es ++ fs) [] (subst (FollowsSpscProtocol B r o before) (sym (append-nil (es ++ fs))) t)
 
   pub published : available_count r (protocol_after r at_start es) < known_count (protocol_after r at_start (es ++ fs))
-      → length (stores r.sender (before ++ es)) < lands r.sender (before ++ (es ++ fs))
+      → length (own_stores r.sender (before ++ es)) < lands r.sender (before ++ (es ++ fs))
   published heard = sender-passed r.kind r t.ring L M (earlier r before) o before es fs (protocol_after r at_start es) (protocol_after r at_start (es ++ fs))
       inv later heard
 
   pub returned : (protocol_after r at_start es).taken + capacity r < ready_count (protocol_after r at_start (es ++ fs))
-      → length (stores r.receiver (before ++ es)) < lands r.receiver (before ++ (es ++ fs))
+      → length (own_stores r.receiver (before ++ es)) < lands r.receiver (before ++ (es ++ fs))
   returned again = receiver-passed r.kind r t.ring L M (earlier r before) o before es fs (protocol_after r at_start es) (protocol_after r at_start (es ++ fs))
       inv later again

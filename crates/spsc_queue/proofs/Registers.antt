@@ -8,7 +8,7 @@ use Rattle.std.proofs.lemmas.List.{get_or-set_same, get_or-set_other}
 use Rattle.rv_decode.specs.Meaning.{meaning}
 use Rattle.hart.specs.Effects.{next_pc, address, word}
 use Rattle.spsc_queue.specs.RingBuffers.{Kind, lamport, fastforward}
-use Rattle.spsc_queue.specs.Listings.{Listed, words_of, lines_of}
+use Rattle.rv_decode.specs.Listings.{Listed, words_of, lines_of}
 use Rattle.spsc_queue.specs.Calls.{Party, the_sender, the_receiver, listing_of, StandsIn}
 use Rattle.step_machine.proofs.Lines.{word-plus}
 

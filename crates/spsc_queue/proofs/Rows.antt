@@ -8,7 +8,7 @@ use Rattle.memory.specs.Writes.{write, IsWholeWord}
 use Rattle.step_machine.specs.declared.events.Entry.{Entry}
 use Rattle.step_machine.specs.History.{OpeningValue}
 use Rattle.step_machine.specs.Access.{Access, nothing, load, store, exchange, fence, land, access_of}
-use Rattle.step_machine.specs.Entries.{hart_of, stored_by, landed_by, written_by, store_of, land_of, write_of, pending, memory_word, stores, lands}
+use Rattle.step_machine.specs.Entries.{hart_of, stored_by, landed_by, written_by, own_store, land_of, write_of, pending, memory_word, own_stores, lands}
 use Rattle.step_machine.proofs.Appended.{stores-append}
 use Rattle.step_machine.proofs.Lists.{some_first}
 use Rattle.spsc_queue.specs.RingBuffers.{RingBuffer, IsRingBuffer, IsWordIn}
@@ -34,7 +34,7 @@ pub record Earlier : Type 0 where
   pub receiver : ℕ
 
 abbrev pub on_count : RingBuffer → (h : ℕ) → List Entry → ℕ
-on_count r h es = length (row_of r (stores h es))
+on_count r h es = length (row_of r (own_stores h es))
 
 -- the sender's row is f and the receiver's g: i and j of their stores have landed, and the next n and m are pending
 pub record Rows (r : RingBuffer) (c : Earlier) (f g : ℕ → Write) (es : List Entry) (i n j m : ℕ) : Type 0 where
@@ -135,21 +135,21 @@ stored_none : (x : Access) → stored_by false x ≡ []
 stored_none nothing = refl
 stored_none x = refl
 
-module _ (r : RingBuffer) (is : IsRingBuffer r) (o : OpeningValue) (es : List Entry) (e : Entry) (even : (h : ℕ) → lands h es ≤ length (stores h es)) where
+module _ (r : RingBuffer) (is : IsRingBuffer r) (o : OpeningValue) (es : List Entry) (e : Entry) (even : (h : ℕ) → lands h es ≤ length (own_stores h es)) where
   abbrev after : List Entry
   after = es ++ e ∷ []
 
   -- how many stores to the block a hart has made then
-  made-of : (h : ℕ) (ws : List Write) → store_of h e ≡ ws → on_count r h after ≡ on_count r h es + length (row_of r ws)
+  made-of : (h : ℕ) (ws : List Write) → own_store h e ≡ ws → on_count r h after ≡ on_count r h es + length (row_of r ws)
   made-of h ws is_stored =
-      ap (λ vs. length (row_of r vs)) (stores-append h es (e ∷ []) ∙ ap (λ vs. stores h es ++ vs) (append-nil (store_of h e) ∙ is_stored))
-      ∙ ap length (on-append r (stores h es) ws) ∙ length-append (row_of r (stores h es)) (row_of r ws)
+      ap (λ vs. length (row_of r vs)) (stores-append h es (e ∷ []) ∙ ap (λ vs. own_stores h es ++ vs) (append-nil (own_store h e) ∙ is_stored))
+      ∙ ap length (on-append r (own_stores h es) ws) ∙ length-append (row_of r (own_stores h es)) (row_of r ws)
 
-  made-none : (h : ℕ) → store_of h e ≡ [] → on_count r h after ≡ on_count r h es
+  made-none : (h : ℕ) → own_store h e ≡ [] → on_count r h after ≡ on_count r h es
   made-none h none = made-of h [] none ∙ (let same : on_count r h es + 0 ≡ on_count r h es = omega arith in same)
 
   -- an entry that stores nothing and lands nothing, and writes at most off the block
-  stays-if : ((h : ℕ) → store_of h e ≡ []) → ((h : ℕ) → land_of h e ≡ 0)
+  stays-if : ((h : ℕ) → own_store h e ≡ []) → ((h : ℕ) → land_of h e ≡ 0)
       → ((a : ℕ) → IsWordIn r a → memory_word o after a ≡ memory_word o es a) → Stays r o es after
   stays-if none still words = record {
     words = words;
@@ -159,7 +159,7 @@ module _ (r : RingBuffer) (is : IsRingBuffer r) (o : OpeningValue) (es : List En
 
   -- what each kind of access does, read off the entry
   module _ (x : Access) (does : access_of e ≡ x) where
-    stores-by : (h : ℕ) → store_of h e ≡ stored_by (hart_of e == h) x
+    stores-by : (h : ℕ) → own_store h e ≡ stored_by (hart_of e == h) x
     stores-by h = ap (stored_by (hart_of e == h)) does
 
     lands-by : (h : ℕ) → land_of h e ≡ landed_by (hart_of e == h) x
@@ -169,7 +169,7 @@ module _ (r : RingBuffer) (is : IsRingBuffer r) (o : OpeningValue) (es : List En
     writes-by = ap (written_by (take 1 (pending (hart_of e) es))) does
 
     -- another hart's entry stores nothing of this hart's
-    no-store-of : (h : ℕ) → hart_of e ≢ h → store_of h e ≡ []
+    no-store-of : (h : ℕ) → hart_of e ≢ h → own_store h e ≡ []
     no-store-of h other = stores-by h ∙ ap (λ b. stored_by b x) (ne_eqb (hart_of e) h other) ∙ stored_none x
 
   pub nothing-stays : access_of e ≡ nothing → Stays r o es after
@@ -190,7 +190,7 @@ module _ (r : RingBuffer) (is : IsRingBuffer r) (o : OpeningValue) (es : List En
 
   -- a store, by which the entry's hart gets one more pending store and each other keeps its own
   module _ (w : Write) (does : access_of e ≡ store w) where
-    stored-of : store_of (hart_of e) e ≡ w ∷ []
+    stored-of : own_store (hart_of e) e ≡ w ∷ []
     stored-of = stores-by (store w) does (hart_of e) ∙ ap (λ b. if b then w ∷ [] else []) (eq-eqb (hart_of e) (hart_of e) refl)
 
     pub more-of : pending (hart_of e) after ≡ pending (hart_of e) es ++ w ∷ []
@@ -265,7 +265,7 @@ module _ (r : RingBuffer) (is : IsRingBuffer r) (o : OpeningValue) (es : List En
         ⊎ ((k : ℕ) × (m ≡ suc k) × Rows r c f g after i n (suc j) k × Lands r o es after (g j)))
 
     module _ (does : access_of e ≡ land) (w : Write) (rest : List Write) (first : pending (hart_of e) es ≡ w ∷ rest) where
-      none-stored : (h : ℕ) → store_of h e ≡ []
+      none-stored : (h : ℕ) → own_store h e ≡ []
       none-stored h = stores-by land does h
 
       left-of : pending (hart_of e) after ≡ rest

@@ -16,9 +16,9 @@ use Rattle.hart.specs.declared.need.Need.TheVariants as need
 use Rattle.step_machine.specs.declared.events.Entry.{Entry}
 use Rattle.step_machine.specs.History.{OpeningValue, history_of}
 use Rattle.step_machine.specs.Entries.{own}
-use Rattle.step_machine.specs.Paths.{value_of, after_entries, Makes, opens_as, PathOf}
+use Rattle.step_machine.specs.Paths.{number_read, after_entries, MakesEntries, opens_as, PathOf}
 use Rattle.step_machine.specs.Legal.{WellFormed}
-use Rattle.spsc_queue.specs.Listings.{Listed}
+use Rattle.rv_decode.specs.Listings.{Listed}
 use Rattle.spsc_queue.specs.Calls.{HasFunction}
 use Rattle.spsc_queue.specs.CallEffects.{IsPlainNeed}
 use Rattle.spsc_queue.proofs.OwnEntries.{state_here}
@@ -65,9 +65,9 @@ goes : (s : HartState) (v : ℕ) → s.status ≡ status.Running → RunsOrHalts
 unfolding advanced
 goes s v runs = by_need s v (need_of s) refl runs
 
-goes_by : (s : HartState) (es : List Entry) → RunsOrHalts s → Makes s es → RunsOrHalts (after_entries s es)
+goes_by : (s : HartState) (es : List Entry) → RunsOrHalts s → MakesEntries s es → RunsOrHalts (after_entries s es)
 goes_by s [] so makes = so
-goes_by s (e ∷ es) so makes = goes_by (advanced s (value_of e)) es (goes s (value_of e) makes.0.running) makes.1
+goes_by s (e ∷ es) so makes = goes_by (advanced s (number_read e)) es (goes s (number_read e) makes.0.running) makes.1
 
 plain_runs : (s : HartState) → RunsOrHalts s → IsPlainNeed (need_of s) → s.status ≡ status.Running
 plain_runs s (inl runs) plain = runs
@@ -82,6 +82,6 @@ plain_runs s (inr halts) plain = absurd (no (need_of s) halts plain)
 pub runs_here : (B M : ℕ) (o : OpeningValue) (h n : ℕ) (listing : List Listed) (has : HasFunction o h n listing) (es : List Entry)
     → WellFormed B M (history_of o es) → IsPlainNeed (need_of (state_here M o h n listing has es)) → (state_here M o h n listing has es).status ≡ status.Running
 runs_here B M o h n listing has es run plain =
-    let makes : Makes (opens_as M has.opens) (own h es) =
+    let makes : MakesEntries (opens_as M has.opens) (own h es) =
     subst (λ so. PathOf M so (own h es)) has.is (run.paths h (slice_get_within o.harts h has.opens has.is)) in
     plain_runs (state_here M o h n listing has es) (goes_by (opens_as M has.opens) (own h es) (settles _ refl) makes) plain

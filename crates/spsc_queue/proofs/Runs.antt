@@ -10,11 +10,11 @@ use Rattle.memory.specs.Writes.{write}
 use Rattle.step_machine.specs.declared.events.Entry.{Entry}
 use Rattle.step_machine.specs.History.{OpeningValue, history_of}
 use Rattle.step_machine.specs.Access.{Access, nothing, load, store, exchange, fence, land, access_of}
-use Rattle.step_machine.specs.Entries.{hart_of, pending, read, stores, lands}
+use Rattle.step_machine.specs.Entries.{hart_of, pending, read, own_stores, lands}
 use Rattle.step_machine.specs.Legal.{AllowedBy, Allowed, LegalAfter, Legal}
 use Rattle.step_machine.proofs.Appended.{LegalAfter-front, LegalAfter-back, LegalAfter-append}
 use Rattle.step_machine.proofs.Balanced.{balanced}
-use Rattle.spsc_queue.specs.RingBuffers.{Kind, lamport, fastforward, RingBuffer, IsRingBuffer, IsWordIn, slot, overlaps}
+use Rattle.spsc_queue.specs.RingBuffers.{Kind, lamport, fastforward, RingBuffer, IsRingBuffer, IsWordIn, slot_address, overlaps}
 use Rattle.spsc_queue.specs.Protocol.{SenderState, resting, placed, renewing, roomy, filled, ReceiverState, idle, asked}
 use Rattle.spsc_queue.specs.Protocol.{waiting, holding, cleared, ProtocolState}
 use Rattle.spsc_queue.specs.Protocol.{at_start, Role, sends, receives, passes, role_of, send_load, send_store, receive_load, receive_store, next_by}
@@ -164,7 +164,8 @@ word_ahead F sent more v n size is =
     sym (ap (slice_index F) (sym size) ∙ ap (λ xs. slice_index xs (length sent)) (is ∙ append_assoc sent (v ∷ []) more) ∙ get_or-append_seam sent v more 0)
 
 module _ (B : ℕ) (r : RingBuffer) (is : IsRingBuffer r) (F : List ℕ) (small : AreSmall F) (c : Earlier) (o : OpeningValue) (es : List Entry) (s : ProtocolState)
-    (k : Kind) (inv : Invariant k r (slice_index F) c o es s) (e : Entry) (even : (h : ℕ) → lands h es ≤ length (stores h es)) (can : Allowed B o es e) where
+    (k : Kind) (inv : Invariant k r (slice_index F) c o es s) (e : Entry)
+    (even : (h : ℕ) → lands h es ≤ length (own_stores h es)) (can : Allowed B o es e) where
   abbrev L : ℕ → ℕ
   L = slice_index F
 
@@ -201,16 +202,16 @@ module _ (B : ℕ) (r : RingBuffer) (is : IsRingBuffer r) (F : List ℕ) (small 
   sender-stores w (roomy u) does mine at keeps ahead =
       subst (λ b. Invariant k r L c o after (if b then send_store w (roomy u) s else s)) (sym (shared_on r w on))
       (sends-word k r is L c o es s inv e even w does on
-      (word_leave w (slot r s.published) does (slot_word r is s.published) word) mine u at keeps.0 value keeps.2)
+      (word_leave w (slot_address r s.published) does (slot_word r is s.published) word) mine u at keeps.0 value keeps.2)
     where
       place : IsPlaced r s.stored s.published (roomy u)
       place = subst (IsPlaced r s.stored s.published) at facts.sending
 
-      word : IsWordAt w (slot r s.published)
+      word : IsWordAt w (slot_address r s.published)
       word = record { place = keeps.0.place ∙ ap (λ x. r.slots + x) place.1; width = keeps.0.width }
 
       on : shared r w ≡ true
-      on = word_on r w (slot r s.published) (slot_word r is s.published) word
+      on = word_on r w (slot_address r s.published) (slot_word r is s.published) word
 
       value : w.value ≡ L s.stored
       value = word_ahead F s.sent ahead.0 w.value s.stored (ap length facts.sent ∙ length-firsts L s.stored)
@@ -224,7 +225,7 @@ module _ (B : ℕ) (r : RingBuffer) (is : IsRingBuffer r) (F : List ℕ) (small 
       → (p : ℕ) × IsWordIn r p × IsWordAt w p
   taking lamport u v w known keeps = (r.tail, is.tail, keeps.0)
   taking fastforward u v w known keeps = (
-    slot r s.consumed,
+    slot_address r s.consumed,
     slot_word r is s.consumed,
     record { place = keeps.0.place ∙ ap (λ x. r.slots + x) known.1; width = keeps.0.width },
   )

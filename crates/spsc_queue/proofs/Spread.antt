@@ -9,7 +9,7 @@ use Rattle.std.proofs.lemmas.List.Elements.{All-nil, All-cons}
 use Rattle.memory.specs.declared.writes.Write.{Write}
 use Rattle.memory.specs.Writes.{write, IsWholeWord}
 use Rattle.step_machine.proofs.Modulo.{mod_apart}
-use Rattle.spsc_queue.specs.RingBuffers.{RingBuffer, IsRingBuffer, offset, slot}
+use Rattle.spsc_queue.specs.RingBuffers.{RingBuffer, IsRingBuffer, slot_offset, slot_address}
 use Rattle.spsc_queue.proofs.Words.{seen}
 
 -- n of the stores of a row, from the i-th on
@@ -30,23 +30,25 @@ spread-all P f i (suc n) each = All-cons P (f i) (spread f (suc i) n) (each i) (
 
 -- the sender's row, of the words L: word j into its slot, then the head after it
 abbrev pub sent_store : RingBuffer → (ℕ → ℕ) → ℕ → Write
-sent_store r L p = if p % 2 == 0 then write (slot r (p / 2)) 4 (L (p / 2)) else write r.head 4 (offset r (p / 2 + 1))
+sent_store r L p = if p % 2 == 0 then write (slot_address r (p / 2)) 4 (L (p / 2)) else write r.head 4 (slot_offset r (p / 2 + 1))
 
 -- the receiver's: the tail after word j
 abbrev pub freed_store : RingBuffer → ℕ → Write
-freed_store r p = write r.tail 4 (offset r (p + 1))
+freed_store r p = write r.tail 4 (slot_offset r (p + 1))
 
-pub sent-slot : (r : RingBuffer) (L : ℕ → ℕ) (p j : ℕ) → p ≡ 2 * j → sent_store r L p ≡ write (slot r j) 4 (L j)
+pub sent-slot : (r : RingBuffer) (L : ℕ → ℕ) (p j : ℕ) → p ≡ 2 * j → sent_store r L p ≡ write (slot_address r j) 4 (L j)
 sent-slot r L p j is =
     let even : (p % 2 == 0) ≡ true = grind (arith, nat_tests) in
     let half : p / 2 ≡ j = omega arith in
-    ap (λ b. if b then write (slot r (p / 2)) 4 (L (p / 2)) else write r.head 4 (offset r (p / 2 + 1))) even ∙ ap (λ k. write (slot r k) 4 (L k)) half
+    ap (λ b. if b then write (slot_address r (p / 2)) 4 (L (p / 2)) else write r.head 4 (slot_offset r (p / 2 + 1)))
+    even ∙ ap (λ k. write (slot_address r k) 4 (L k)) half
 
-pub sent-head : (r : RingBuffer) (L : ℕ → ℕ) (p j : ℕ) → p ≡ 2 * j + 1 → sent_store r L p ≡ write r.head 4 (offset r (j + 1))
+pub sent-head : (r : RingBuffer) (L : ℕ → ℕ) (p j : ℕ) → p ≡ 2 * j + 1 → sent_store r L p ≡ write r.head 4 (slot_offset r (j + 1))
 sent-head r L p j is =
     let odd : (p % 2 == 0) ≡ false = grind (arith, nat_tests) in
     let half : p / 2 ≡ j = omega arith in
-    ap (λ b. if b then write (slot r (p / 2)) 4 (L (p / 2)) else write r.head 4 (offset r (p / 2 + 1))) odd ∙ ap (λ k. write r.head 4 (offset r (k + 1))) half
+    ap (λ b. if b then write (slot_address r (p / 2)) 4 (L (p / 2)) else write r.head 4 (slot_offset r (p / 2 + 1)))
+    odd ∙ ap (λ k. write r.head 4 (slot_offset r (k + 1))) half
 
 -- none goes to this word
 pub seen-none : (a v : ℕ) (f : ℕ → Write) (i n : ℕ) → ((p : ℕ) → (f p).addr ≢ a) → seen a v (spread f i n) ≡ v
@@ -56,32 +58,32 @@ seen-none a v f i (suc n) other =
     ap (λ b. seen a (if b then (f i).value else v) (spread f (suc i) n)) off ∙ seen-none a v f (suc i) n other
 
 -- each goes to this word
-pub seen-tails : (r : RingBuffer) (i n : ℕ) → seen r.tail (offset r i) (spread (freed_store r) i n) ≡ offset r (i + n)
-seen-tails r i zero = ap (offset r) (omega arith)
+pub seen-tails : (r : RingBuffer) (i n : ℕ) → seen r.tail (slot_offset r i) (spread (freed_store r) i n) ≡ slot_offset r (i + n)
+seen-tails r i zero = ap (slot_offset r) (omega arith)
 seen-tails r i (suc n) =
     let on : (r.tail == r.tail) ≡ true = grind (arith, nat_tests) in
-    ap (λ b. seen r.tail (if b then offset r (i + 1) else offset r i) (spread (freed_store r) (suc i) n)) on
-    ∙ ap (λ j. seen r.tail (offset r j) (spread (freed_store r) (suc i) n)) (omega arith) ∙ seen-tails r (suc i) n ∙ ap (offset r) (omega arith)
+    ap (λ b. seen r.tail (if b then slot_offset r (i + 1) else slot_offset r i) (spread (freed_store r) (suc i) n)) on
+    ∙ ap (λ j. seen r.tail (slot_offset r j) (spread (freed_store r) (suc i) n)) (omega arith) ∙ seen-tails r (suc i) n ∙ ap (slot_offset r) (omega arith)
 
 module _ (r : RingBuffer) (is : IsRingBuffer r) where
-  pub offset_low : (j : ℕ) → offset r j + 4 ≤ 4 * r.size
+  pub offset_low : (j : ℕ) → slot_offset r j + 4 ≤ 4 * r.size
   offset_low j = let below : (r.start + j) % r.size < r.size = mod_below (r.start + j) r.size (omega (arith, is.some_slots)) in omega arith
 
   -- the slots of words that are near are apart
-  pub offset_apart : (j k : ℕ) → j < k → k < j + r.size → offset r j ≢ offset r k
+  pub offset_apart : (j k : ℕ) → j < k → k < j + r.size → slot_offset r j ≢ slot_offset r k
   offset_apart j k less near same = mod_apart r.size (r.start + j) (r.start + k) (omega (arith, is.some_slots)) (omega (arith, less)) (omega (arith, near))
       (omega (arith, same))
 
-  pub slot_apart : (j k : ℕ) → j < k → k < j + r.size → slot r j ≢ slot r k
+  pub slot_apart : (j k : ℕ) → j < k → k < j + r.size → slot_address r j ≢ slot_address r k
   slot_apart j k less near same = offset_apart j k less near (omega (arith, same))
 
-  pub slot_not_head : (j : ℕ) → slot r j ≢ r.head
+  pub slot_not_head : (j : ℕ) → slot_address r j ≢ r.head
   slot_not_head j same = elim is.head_apart [
     | inl below ↦ omega (arith, below, same, offset_low j)
     | inr above ↦ omega (arith, above, same, offset_low j)
   ]
 
-  pub slot_not_tail : (j : ℕ) → slot r j ≢ r.tail
+  pub slot_not_tail : (j : ℕ) → slot_address r j ≢ r.tail
   slot_not_tail j same = elim is.tail_apart [
     | inl below ↦ omega (arith, below, same, offset_low j)
     | inr above ↦ omega (arith, above, same, offset_low j)
@@ -89,11 +91,11 @@ module _ (r : RingBuffer) (is : IsRingBuffer r) where
 
   module _ (L : ℕ → ℕ) where
     -- each store of the sender's row is one of these
-    pub sent-cases : (P : Write → Type 0) (p : ℕ) → ((j : ℕ) → P (write (slot r j) 4 (L j))) → ((j : ℕ) → P (write r.head 4 (offset r j)))
+    pub sent-cases : (P : Write → Type 0) (p : ℕ) → ((j : ℕ) → P (write (slot_address r j) 4 (L j))) → ((j : ℕ) → P (write r.head 4 (slot_offset r j)))
         → P (sent_store r L p)
     sent-cases P p one two = at (p % 2 == 0)
       where
-        at : (b : Bool) → P (if b then write (slot r (p / 2)) 4 (L (p / 2)) else write r.head 4 (offset r (p / 2 + 1)))
+        at : (b : Bool) → P (if b then write (slot_address r (p / 2)) 4 (L (p / 2)) else write r.head 4 (slot_offset r (p / 2 + 1)))
         at true = one (p / 2)
         at false = two (p / 2 + 1)
 
@@ -105,23 +107,24 @@ module _ (r : RingBuffer) (is : IsRingBuffer r) where
         (λ j. record { whole = refl; aligned = is.head.aligned; small = omega (arith, offset_low j, is.small) })
 
     -- the sender finds the head after its last store of one
-    pub seen-heads : (p n : ℕ) → seen r.head (offset r (p / 2)) (spread (sent_store r L) p n) ≡ offset r ((p + n) / 2)
-    seen-heads p zero = ap (offset r) (omega arith)
+    pub seen-heads : (p n : ℕ) → seen r.head (slot_offset r (p / 2)) (spread (sent_store r L) p n) ≡ slot_offset r ((p + n) / 2)
+    seen-heads p zero = ap (slot_offset r) (omega arith)
     seen-heads p (suc n) =
-        ap (λ v. seen r.head v (spread (sent_store r L) (suc p) n)) (one (cases_eq (p % 2) 0)) ∙ seen-heads (suc p) n ∙ ap (offset r) (omega arith)
+        ap (λ v. seen r.head v (spread (sent_store r L) (suc p) n)) (one (cases_eq (p % 2) 0)) ∙ seen-heads (suc p) n ∙ ap (slot_offset r) (omega arith)
       where
         w : Write
         w = sent_store r L p
 
-        one : (p % 2 ≡ 0) ⊎ (p % 2 ≢ 0) → (if w.addr == r.head then w.value else offset r (p / 2)) ≡ offset r (suc p / 2)
+        one : (p % 2 ≡ 0) ⊎ (p % 2 ≢ 0) → (if w.addr == r.head then w.value else slot_offset r (p / 2)) ≡ slot_offset r (suc p / 2)
         one (inl even) =
-            let is : sent_store r L p ≡ write (slot r (p / 2)) 4 (L (p / 2)) = sent-slot r L p (p / 2) (omega arith) in
-            let apart : slot r (p / 2) ≢ r.head = slot_not_head (p / 2) in
-            let off : (slot r (p / 2) == r.head) ≡ false = grind (arith, nat_tests) in
-            ap (λ (x : Write). if x.addr == r.head then x.value else offset r (p / 2)) is ∙ ap (λ b. if b then L (p / 2) else offset r (p / 2)) off
-            ∙ ap (offset r) (omega arith)
+            let is : sent_store r L p ≡ write (slot_address r (p / 2)) 4 (L (p / 2)) = sent-slot r L p (p / 2) (omega arith) in
+            let apart : slot_address r (p / 2) ≢ r.head = slot_not_head (p / 2) in
+            let off : (slot_address r (p / 2) == r.head) ≡ false = grind (arith, nat_tests) in
+            ap (λ (x : Write). if x.addr == r.head then x.value else slot_offset r (p / 2)) is ∙ ap (λ b. if b then L (p / 2) else slot_offset r (p / 2)) off
+            ∙ ap (slot_offset r) (omega arith)
         one (inr odd) =
-            let is : sent_store r L p ≡ write r.head 4 (offset r (p / 2 + 1)) = sent-head r L p (p / 2) (omega arith) in
+            let is : sent_store r L p ≡ write r.head 4 (slot_offset r (p / 2 + 1)) = sent-head r L p (p / 2) (omega arith) in
             let on : (r.head == r.head) ≡ true = grind (arith, nat_tests) in
-            ap (λ (x : Write). if x.addr == r.head then x.value else offset r (p / 2)) is ∙ ap (λ b. if b then offset r (p / 2 + 1) else offset r (p / 2)) on
-            ∙ ap (offset r) (omega arith)
+            ap (λ (x : Write). if x.addr == r.head then x.value else slot_offset r (p / 2)) is
+            ∙ ap (λ b. if b then slot_offset r (p / 2 + 1) else slot_offset r (p / 2)) on
+            ∙ ap (slot_offset r) (omega arith)

@@ -8,8 +8,8 @@ use Rattle.memory.specs.Writes.{write}
 use Rattle.step_machine.specs.declared.events.Entry.{Entry}
 use Rattle.step_machine.specs.History.{OpeningValue}
 use Rattle.step_machine.specs.Access.{store, access_of}
-use Rattle.step_machine.specs.Entries.{hart_of, pending, memory_word, stores, lands}
-use Rattle.spsc_queue.specs.RingBuffers.{Kind, lamport, fastforward, RingBuffer, IsRingBuffer, IsWordIn, offset, slot, next, overlaps}
+use Rattle.step_machine.specs.Entries.{hart_of, pending, memory_word, own_stores, lands}
+use Rattle.spsc_queue.specs.RingBuffers.{Kind, lamport, fastforward, RingBuffer, IsRingBuffer, IsWordIn, slot_offset, slot_address, next, overlaps}
 use Rattle.spsc_queue.specs.StoreBuffers.{LeavesByte}
 use Rattle.spsc_queue.specs.Protocol.{SenderState, resting, renewing, roomy, filled, ReceiverState, idle, holding}
 use Rattle.spsc_queue.specs.Protocol.{cleared, ProtocolState, send_store, receive_store}
@@ -34,7 +34,7 @@ some_word lamport w some is = cc
 some_word fastforward w some is = some
 
 module _ (K : Kind) (r : RingBuffer) (is : IsRingBuffer r) (L : ℕ → ℕ) (c : Earlier) (o : OpeningValue) (es : List Entry) (s : ProtocolState)
-    (inv : Invariant K r L c o es s) (e : Entry) (even : (h : ℕ) → lands h es ≤ length (stores h es)) where
+    (inv : Invariant K r L c o es s) (e : Entry) (even : (h : ℕ) → lands h es ≤ length (own_stores h es)) where
   abbrev d : Landed
   d = inv.landed
 
@@ -46,8 +46,8 @@ module _ (K : Kind) (r : RingBuffer) (is : IsRingBuffer r) (L : ℕ → ℕ) (c 
   words-same same = record {
     head = same r.head is.head ∙ inv.words.head;
     tail = same r.tail is.tail ∙ inv.words.tail;
-    full = λ j from below. same (slot r j) (slot_word r is j) ∙ inv.words.full j from below;
-    free = λ kind j from below. same (slot r j) (slot_word r is j) ∙ inv.words.free kind j from below;
+    full = λ j from below. same (slot_address r j) (slot_word r is j) ∙ inv.words.full j from below;
+    free = λ kind j from below. same (slot_address r j) (slot_word r is j) ∙ inv.words.free kind j from below;
   }
 
   -- the block stays, and so do the stores to it: what a party knows may change
@@ -132,8 +132,8 @@ module _ (K : Kind) (r : RingBuffer) (is : IsRingBuffer r) (L : ℕ → ℕ) (c 
         ]
 
         is_next : w ≡ sent_store r L ((d.slots + d.heads) + inv.buffers.unsent)
-        is_next = write-is w (slot r s.stored) (L s.stored)
-            (record { place = word.place ∙ ap (λ x. r.slots + x) (known.1 ∙ ap (offset r) (sym known.0)); width = word.width }) value
+        is_next = write-is w (slot_address r s.stored) (L s.stored)
+            (record { place = word.place ∙ ap (λ x. r.slots + x) (known.1 ∙ ap (slot_offset r) (sym known.0)); width = word.width }) value
             ∙ sym (sent-slot r L ((d.slots + d.heads) + inv.buffers.unsent) s.stored (omega (arith, inv.buffers.mine_count, known.0)))
 
     pub sends-head : hart_of e ≡ r.sender → (u : ℕ) → s.sending ≡ filled u → IsWordAt w r.head → w.value ≡ next r u
@@ -145,7 +145,7 @@ module _ (K : Kind) (r : RingBuffer) (is : IsRingBuffer r) (L : ℕ → ℕ) (c 
         known = subst (SendingIs (spare K) r s.stored s.published (freed K d.cleared d.tails)) at inv.sending
 
         is_next : w ≡ sent_store r L ((d.slots + d.heads) + inv.buffers.unsent)
-        is_next = write-is w r.head (offset r (s.published + 1)) word (value ∙ next_offset r is u s.published known.1)
+        is_next = write-is w r.head (slot_offset r (s.published + 1)) word (value ∙ next_offset r is u s.published known.1)
             ∙ sym (sent-head r L ((d.slots + d.heads) + inv.buffers.unsent) s.published (omega (arith, inv.buffers.mine_count, known.0)))
 
     -- the receiver's next store, after which it took n words and stored m tails
@@ -182,15 +182,15 @@ module _ (K : Kind) (r : RingBuffer) (is : IsRingBuffer r) (L : ℕ → ℕ) (c 
 -- ---- what a receiver that holds a word stores first: Lamport's the tail, FastForward's a 0 into the slot
 
 pub takes-word : (K : Kind) (r : RingBuffer) (is : IsRingBuffer r) (L : ℕ → ℕ) (c : Earlier) (o : OpeningValue) (es : List Entry) (s : ProtocolState)
-    (inv : Invariant K r L c o es s) (e : Entry) (even : (h : ℕ) → lands h es ≤ length (stores h es)) (w : Write) → access_of e ≡ store w
+    (inv : Invariant K r L c o es s) (e : Entry) (even : (h : ℕ) → lands h es ≤ length (own_stores h es)) (w : Write) → access_of e ≡ store w
     → CopyStays r o es (es ++ e ∷ []) → hart_of e ≡ r.receiver → (u v : ℕ) → s.receiving ≡ holding u v → IsTaking K r u w
     → (shared r w ≡ true) × Invariant K r L c o (es ++ e ∷ []) (receive_store K (holding u v) s)
 takes-word lamport r is L c o es s inv e even w does copied mine u v at keeps =
     let known = subst (ReceivingIs lamport r L s.taken s.consumed inv.landed.heads) at inv.receiving in
     let on : shared r w ≡ true = word_on r w r.tail is.tail keeps.0 in
     let is_next : w ≡ freed_store r (inv.landed.tails + inv.buffers.unread) =
-    write-is w r.tail (offset r (s.consumed + 1)) keeps.0 (keeps.1 ∙ next_offset r is u s.consumed known.1)
-    ∙ ap (λ j. write r.tail 4 (offset r (j + 1))) (omega (arith, inv.buffers.theirs_count)) in (
+    write-is w r.tail (slot_offset r (s.consumed + 1)) keeps.0 (keeps.1 ∙ next_offset r is u s.consumed known.1)
+    ∙ ap (λ j. write r.tail 4 (slot_offset r (j + 1))) (omega (arith, inv.buffers.theirs_count)) in (
       on,
       takes-one lamport r is L c o es s inv e even w does on copied mine is_next idle (s.taken + 1) (s.consumed + 1) (s.received ++ v ∷ []) (omega arith)
           (omega (arith, known.0), omega (arith, inv.order.theirs.1)) (omega (arith, known.2)) (omega (arith, known.0))
@@ -198,10 +198,10 @@ takes-word lamport r is L c o es s inv e even w does copied mine u v at keeps =
     )
 takes-word fastforward r is L c o es s inv e even w does copied mine u v at keeps =
     let known = subst (ReceivingIs fastforward r L s.taken s.consumed inv.landed.slots) at inv.receiving in
-    let word : IsWordAt w (slot r s.consumed) = record { place = keeps.0.place ∙ ap (λ x. r.slots + x) known.1; width = keeps.0.width } in
-    let on : shared r w ≡ true = word_on r w (slot r s.consumed) (slot_word r is s.consumed) word in
+    let word : IsWordAt w (slot_address r s.consumed) = record { place = keeps.0.place ∙ ap (λ x. r.slots + x) known.1; width = keeps.0.width } in
+    let on : shared r w ≡ true = word_on r w (slot_address r s.consumed) (slot_word r is s.consumed) word in
     let is_next : w ≡ cleared_store r ((inv.landed.cleared + inv.landed.tails) + inv.buffers.unread) =
-    write-is w (slot r s.consumed) 0 word keeps.1 ∙ ap (λ j. write (slot r j) 4 0) (sym known.0)
+    write-is w (slot_address r s.consumed) 0 word keeps.1 ∙ ap (λ j. write (slot_address r j) 4 0) (sym known.0)
     ∙ sym (sent-slot (turned r) zeros ((inv.landed.cleared + inv.landed.tails) + inv.buffers.unread) s.taken
     (omega (arith, inv.buffers.theirs_count, known.0))) in (
       on,
@@ -212,7 +212,7 @@ takes-word fastforward r is L c o es s inv e even w does copied mine u v at keep
 
 -- and then FastForward's the tail
 pub frees : (K : Kind) (r : RingBuffer) (is : IsRingBuffer r) (L : ℕ → ℕ) (c : Earlier) (o : OpeningValue) (es : List Entry) (s : ProtocolState)
-    (inv : Invariant K r L c o es s) (e : Entry) (even : (h : ℕ) → lands h es ≤ length (stores h es)) (w : Write) → access_of e ≡ store w
+    (inv : Invariant K r L c o es s) (e : Entry) (even : (h : ℕ) → lands h es ≤ length (own_stores h es)) (w : Write) → access_of e ≡ store w
     → shared r w ≡ true → CopyStays r o es (es ++ e ∷ []) → hart_of e ≡ r.receiver → (u : ℕ) → s.receiving ≡ cleared u → IsWordAt w r.tail → w.value ≡ next r u
     → Invariant K r L c o (es ++ e ∷ []) (receive_store K (cleared u) s)
 frees lamport r is L c o es s inv e even w does on copied mine u at word value =
@@ -221,7 +221,7 @@ frees lamport r is L c o es s inv e even w does on copied mine u at word value =
 frees fastforward r is L c o es s inv e even w does on copied mine u at word value =
     let known = subst (ReceivingIs fastforward r L s.taken s.consumed inv.landed.slots) at inv.receiving in
     let is_next : w ≡ cleared_store r ((inv.landed.cleared + inv.landed.tails) + inv.buffers.unread) =
-    write-is w r.tail (offset r (s.consumed + 1)) word (value ∙ next_offset r is u s.consumed known.1)
+    write-is w r.tail (slot_offset r (s.consumed + 1)) word (value ∙ next_offset r is u s.consumed known.1)
     ∙ sym (sent-head (turned r) zeros ((inv.landed.cleared + inv.landed.tails) + inv.buffers.unread) s.consumed
     (omega (arith, inv.buffers.theirs_count, known.0))) in
     takes-one fastforward r is L c o es s inv e even w does on copied mine is_next idle s.taken (s.consumed + 1) s.received (omega arith)
@@ -229,7 +229,7 @@ frees fastforward r is L c o es s inv e even w does on copied mine u at word val
 
 -- the sender makes what it read its copy of the tail
 pub copies : (K : Kind) (r : RingBuffer) (is : IsRingBuffer r) (L : ℕ → ℕ) (c : Earlier) (o : OpeningValue) (es : List Entry) (s : ProtocolState)
-    (inv : Invariant K r L c o es s) (e : Entry) (even : (h : ℕ) → lands h es ≤ length (stores h es)) (w : Write) → access_of e ≡ store w
+    (inv : Invariant K r L c o es s) (e : Entry) (even : (h : ℕ) → lands h es ≤ length (own_stores h es)) (w : Write) → access_of e ≡ store w
     → hart_of e ≡ r.sender → (u v : ℕ) → s.sending ≡ renewing u v → (q : Option ℕ) → r.copy ≡ q → IsCopyStore q v w
     → Invariant K r L c o (es ++ e ∷ []) (record s { sending = roomy u })
 copies K r is L c o es s inv e even w does mine u v at None none keeps = absurd keeps

@@ -13,7 +13,7 @@ use Rattle.step_machine.specs.History.{OpeningValue, history_of}
 use Rattle.step_machine.specs.Entries.{hart_of, is_own, pending}
 use Rattle.step_machine.specs.Paths.{state_of}
 use Rattle.spsc_queue.specs.RingBuffers.{Kind, lamport, fastforward, RingBuffer, next, capacity, writes_to}
-use Rattle.spsc_queue.specs.Protocol.{room_at, says_full, word_at, says_empty}
+use Rattle.spsc_queue.specs.Protocol.{room_at, says_full, watched_address, says_empty}
 use Rattle.spsc_queue.specs.Calls.{Block, SpscQueue, Party, the_sender, the_receiver, buffer, enters, is_in_call, sent_words, received_words}
 
 -- hart h calls the function at line n for this block by the entries `call`, which come after `done`: s is its state as it
@@ -52,9 +52,9 @@ longest the_receiver r = 11
 
 -- a hart that is in a call which makes at most `most` entries, in state z, after this many of them: it runs, it only computes, loads
 -- or stores next, and there is one more to come
-pub record GoesOn (most : ℕ) (z : HartState) (count : ℕ) : Type 0 where
+pub record ContinuesCall (most : ℕ) (z : HartState) (count : ℕ) : Type 0 where
   pub runs : z.status ≡ status.Running
-  pub wants : IsPlainNeed (need_of z)
+  pub needs : IsPlainNeed (need_of z)
   pub short : count < most
 
 -- `call` is a whole call of the sender's function
@@ -100,7 +100,7 @@ take_accesses lamport r w u = load (r.slots + u) 4 w ∷ store (write r.tail 4 (
 take_accesses fastforward r w u = store (write (r.slots + u) 4 0) ∷ store (write r.tail 4 (next r u)) ∷ []
 
 abbrev pub receive_accesses : Kind → RingBuffer → (w u v : ℕ) → List Access
-receive_accesses k r w u v = load r.tail 4 u ∷ load (word_at k r u) 4 v ∷ (if says_empty k u v then [] else take_accesses k r w u)
+receive_accesses k r w u v = load r.tail 4 u ∷ load (watched_address k r u) 4 v ∷ (if says_empty k u v then [] else take_accesses k r w u)
 
 -- FastForward's receiver finds the word itself where it looks for one
 abbrev pub IsFound : Kind → (v w : ℕ) → Type 0
@@ -171,7 +171,7 @@ pub record FoundEmpty (M : ℕ) (o : OpeningValue) (q : SpscQueue) (before done 
   pub value : ℕ
   pub is : call ≡ part ++ entry ∷ rest
   pub mine : hart_of entry ≡ q.receiver
-  pub loads : access_of entry ≡ load (word_at q.block.kind (buffer q) offset) 4 value
+  pub loads : access_of entry ≡ load (watched_address q.block.kind (buffer q) offset) 4 value
   pub says : says_empty q.block.kind offset value ≡ true
   pub empty : length (sent_words M o q before (done ++ part))
       ≤ length (received_words M o q before (done ++ part)) + length (writes_to (buffer q) (pending q.sender (before ++ (done ++ part))))

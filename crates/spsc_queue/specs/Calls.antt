@@ -9,11 +9,12 @@ use Rattle.step_machine.specs.declared.events.Entry.{Entry}
 use Rattle.step_machine.specs.Access.{access_of}
 use Rattle.step_machine.specs.History.{HartOpeningValue, OpeningValue, history_of}
 use Rattle.step_machine.specs.Entries.{hart_of, is_land, is_own}
-use Rattle.step_machine.specs.Paths.{value_of, state_of}
+use Rattle.step_machine.specs.Paths.{number_read, state_of}
 use Rattle.step_machine.specs.Legal.{WellFormed}
 use Rattle.spsc_queue.specs.RingBuffers.{Kind, lamport, fastforward, RingBuffer, IsEmptyAndQuiescent}
 use Rattle.spsc_queue.specs.Protocol.{WritesNothingTo, IsSendable}
-use Rattle.spsc_queue.specs.Listings.{Listed, words_of, try_send, try_receive}
+use Rattle.rv_decode.specs.Listings.{Listed, words_of}
+use Rattle.spsc_queue.specs.Listings.{try_send, try_receive}
 use Rattle.spsc_queue.specs.Cached.{cached_send}
 use Rattle.spsc_queue.specs.FastForward.{fastforward_send, fastforward_receive}
 
@@ -48,8 +49,8 @@ copy_in lamport true base = Some (base + 4)
 copy_in lamport false base = None
 copy_in fastforward caches base = None
 
-abbrev pub ring_of : Block → (sender receiver : ℕ) → RingBuffer
-ring_of k sender receiver = record {
+abbrev pub ring_at : Block → (sender receiver : ℕ) → RingBuffer
+ring_at k sender receiver = record {
   kind = k.kind;
   start = k.start;
   sender = sender;
@@ -64,7 +65,7 @@ ring_of k sender receiver = record {
 }
 
 abbrev pub buffer : SpscQueue → RingBuffer
-buffer q = ring_of q.block q.sender q.receiver
+buffer q = ring_at q.block q.sender q.receiver
 
 -- this block after n words went through it
 abbrev pub moved_on : Block → (n : ℕ) → Block
@@ -131,7 +132,7 @@ is_in_call_by n k b None v = b
 is_in_call_by n k b (Some s) v = is_in_call_after n k b s (advanced s v)
 
 abbrev pub is_in_call_with : (M : ℕ) → OpeningValue → (h n : ℕ) → Block → Bool → List Entry → Entry → Bool
-is_in_call_with M o h n k b front e = if is_own h e then is_in_call_by n k b (state_of M (history_of o front) h) (value_of e) else b
+is_in_call_with M o h n k b front e = if is_own h e then is_in_call_by n k b (state_of M (history_of o front) h) (number_read e) else b
 
 abbrev pub is_in_call_from : (M : ℕ) → OpeningValue → (h n : ℕ) → Block → Bool → (front es : List Entry) → Bool
 is_in_call_from M o h n k b front [] = b
@@ -195,17 +196,17 @@ pub record HasArguments (p : Party) (n : ℕ) (k : Block) (s : HartState) : Type
 -- what a party owes at an entry e of its own hart, which comes after done, where it is in no call: it writes nothing to the
 -- block, and if it enters the function for this block it does so with arguments. What it loads is free, and so is where it
 -- jumps
-abbrev pub PartyOwes : (M : ℕ) → OpeningValue → SpscQueue → Party → (before done : List Entry) → Entry → Type 0
-PartyOwes M o q p before done e = hart_of e ≡ party_hart q p → is_land e ≡ false
+abbrev pub PartyObligation : (M : ℕ) → OpeningValue → SpscQueue → Party → (before done : List Entry) → Entry → Type 0
+PartyObligation M o q p before done e = hart_of e ≡ party_hart q p → is_land e ≡ false
     → (s : HartState) → state_of M (history_of o (before ++ done)) (party_hart q p) ≡ Some s
     → is_in_call M o (party_hart q p) (party_line q p) q.block before done ≡ false
     → WritesNothingTo (buffer q) (access_of e)
-    × (enters (party_line q p) q.block (advanced s (value_of e)) ≡ true → HasArguments p (party_line q p) q.block (advanced s (value_of e)))
+    × (enters (party_line q p) q.block (advanced s (number_read e)) ≡ true → HasArguments p (party_line q p) q.block (advanced s (number_read e)))
 
 -- all that is owed at an entry e, which comes after done. Other harts write nothing to the block
 pub record CallerObligation (M : ℕ) (o : OpeningValue) (q : SpscQueue) (before done : List Entry) (e : Entry) : Type 0 where
-  pub sender : PartyOwes M o q the_sender before done e
-  pub receiver : PartyOwes M o q the_receiver before done e
+  pub sender : PartyObligation M o q the_sender before done e
+  pub receiver : PartyObligation M o q the_receiver before done e
   pub others : hart_of e ≢ q.sender → hart_of e ≢ q.receiver → WritesNothingTo (buffer q) (access_of e)
 
 -- a run of two harts that have the functions in their codes, from where the block is empty and at rest

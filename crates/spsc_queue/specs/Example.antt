@@ -8,7 +8,7 @@ use Rattle.step_machine.specs.History.{HartOpeningValue, OpeningValue}
 use Rattle.step_machine.specs.Entries.{own}
 use Rattle.step_machine.specs.Paths.{opens_as, after_entries}
 use Rattle.spsc_queue.specs.RingBuffers.{Kind, lamport, fastforward}
-use Rattle.spsc_queue.specs.Listings.{Listed, words_of}
+use Rattle.rv_decode.specs.Listings.{Listed, words_of}
 use Rattle.spsc_queue.specs.Calls.{SpscQueue, the_sender, the_receiver, listing_of}
 
 abbrev pub queue : Kind → (caches : Bool) → SpscQueue

@@ -8,7 +8,7 @@ use Rattle.rv_decode.specs.declared.instruction.RegisterOp.TheVariants as regist
 use Rattle.rv_decode.specs.declared.instruction.LoadOp.TheVariants as load
 use Rattle.rv_decode.specs.declared.instruction.StoreOp.TheVariants as store
 use Rattle.rv_decode.specs.declared.instruction.Instr.TheVariants.{Jalr, Branch, Load, Store, Immediate, Register}
-use Rattle.spsc_queue.specs.Listings.{Listed, line}
+use Rattle.rv_decode.specs.Listings.{Listed, line}
 
 -- it takes the registers of try_send, and its word isn't 0; it returns a0 = 1, or a0 = 0 if the queue is full
 abbrev pub fastforward_send : List Listed

@@ -1,30 +1,14 @@
 -- The two functions of Lamport's queue, line by line: each word, and the instruction that it means. The tables are
 -- their words.
-use Rattle.std.specs.Prelude.{ℕ, pos, List, [], ◌∷◌}
+use Rattle.std.specs.Prelude.{pos, List, [], ◌∷◌}
+use Rattle.rv_decode.specs.Listings.{Listed, line}
 use Rattle.rv_decode.specs.Meaning.{reg_of}
 use Rattle.rv_decode.specs.declared.instruction.BranchOp.TheVariants as branch
 use Rattle.rv_decode.specs.declared.instruction.ImmediateOp.TheVariants as immediate
 use Rattle.rv_decode.specs.declared.instruction.RegisterOp.TheVariants as register
 use Rattle.rv_decode.specs.declared.instruction.LoadOp.TheVariants as load
 use Rattle.rv_decode.specs.declared.instruction.StoreOp.TheVariants as store
-use Rattle.rv_decode.specs.declared.instruction.Instr.{Instr}
 use Rattle.rv_decode.specs.declared.instruction.Instr.TheVariants.{Jalr, Branch, Load, Store, Immediate, Register}
-
--- a line: its word, and the instruction that the word means
-pub record Listed : Type 0 where
-  pub word : ℕ
-  pub means : Instr
-
-abbrev pub line : ℕ → Instr → Listed
-line word means = record { word = word; means = means }
-
-abbrev pub words_of : List Listed → List ℕ
-words_of [] = []
-words_of (l ∷ ls) = l.word ∷ words_of ls
-
-abbrev pub lines_of : List Listed → List Instr
-lines_of [] = []
-lines_of (l ∷ ls) = l.means ∷ lines_of ls
 
 -- try_send: a0 is the block, a1 the word, a2 the bytes of the slots; it returns a0 = 1, or a0 = 0 if the queue is full
 abbrev pub try_send : List Listed

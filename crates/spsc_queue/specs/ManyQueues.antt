@@ -6,7 +6,7 @@ use Rattle.step_machine.specs.declared.events.Entry.{Entry}
 use Rattle.step_machine.specs.Access.{access_of}
 use Rattle.step_machine.specs.History.{OpeningValue, history_of}
 use Rattle.step_machine.specs.Entries.{hart_of, is_land}
-use Rattle.step_machine.specs.Paths.{value_of, state_of}
+use Rattle.step_machine.specs.Paths.{number_read, state_of}
 use Rattle.spsc_queue.specs.Protocol.{WritesNothingTo}
 use Rattle.spsc_queue.specs.Calls.{SpscQueue, Party, the_sender, the_receiver, party_hart, party_line, buffer, enters, is_in_call, is_sender_in_call}
 use Rattle.spsc_queue.specs.Calls.{is_receiver_in_call, HasArguments, SharesQueue}
@@ -21,7 +21,7 @@ abbrev pub PassesArguments : (M : ℕ) → OpeningValue → SpscQueue → Party 
 PassesArguments M o q p before done e = hart_of e ≡ party_hart q p → is_land e ≡ false
     → (s : HartState) → state_of M (history_of o (before ++ done)) (party_hart q p) ≡ Some s
     → is_in_call M o (party_hart q p) (party_line q p) q.block before done ≡ false
-    → enters (party_line q p) q.block (advanced s (value_of e)) ≡ true → HasArguments p (party_line q p) q.block (advanced s (value_of e))
+    → enters (party_line q p) q.block (advanced s (number_read e)) ≡ true → HasArguments p (party_line q p) q.block (advanced s (number_read e))
 
 -- what is owed at entry e: a hart that is in no call at all writes to none of the blocks. Of calls only arguments are asked
 pub record CallersObligation (M : ℕ) (o : OpeningValue) (count : ℕ) (queues : ℕ → SpscQueue) (before done : List Entry) (e : Entry) : Type 0 where

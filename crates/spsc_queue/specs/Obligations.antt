@@ -8,7 +8,7 @@ use Rattle.step_machine.specs.declared.events.Entry.{Entry}
 use Rattle.step_machine.specs.Access.{Access, store, exchange, access_of}
 use Rattle.step_machine.specs.History.{OpeningValue, history_of}
 use Rattle.step_machine.specs.Entries.{hart_of, is_own}
-use Rattle.step_machine.specs.Paths.{value_of, state_of}
+use Rattle.step_machine.specs.Paths.{number_read, state_of}
 use Rattle.spsc_queue.specs.RingBuffers.{Kind, lamport, fastforward, RingBuffer, overlaps}
 use Rattle.spsc_queue.specs.Calls.{Block, SpscQueue, Party, the_sender, the_receiver, party_hart, party_line, buffer, enters, is_in_call_with}
 
@@ -36,8 +36,8 @@ abbrev pub party_keeps_in : SpscQueue → Party → Bool → Option HartState �
 party_keeps_in q p true s e = true
 party_keeps_in q p false None e = true
 party_keeps_in q p false (Some s) e =
-    writes_nothing_to (buffer q) (access_of e) && (if enters (party_line q p) q.block (advanced s (value_of e))
-    then has_arguments p (party_line q p) q.block (advanced s (value_of e)) else true)
+    writes_nothing_to (buffer q) (access_of e) && (if enters (party_line q p) q.block (advanced s (number_read e))
+    then has_arguments p (party_line q p) q.block (advanced s (number_read e)) else true)
 
 abbrev pub party_keeps : (M : ℕ) → OpeningValue → SpscQueue → Party → Bool → (front : List Entry) → Entry → Bool
 party_keeps M o q p c front e = if is_own (party_hart q p) e then party_keeps_in q p c (state_of M (history_of o front) (party_hart q p)) e else true

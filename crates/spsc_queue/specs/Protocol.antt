@@ -63,9 +63,9 @@ says_full lamport r u v = v == next r u
 says_full fastforward r u v = not (v == 0)
 
 -- where the receiver sees whether a word waits in the slot at offset u: Lamport's head, FastForward's slot
-abbrev pub word_at : Kind → RingBuffer → (u : ℕ) → ℕ
-word_at lamport r u = r.head
-word_at fastforward r u = r.slots + u
+abbrev pub watched_address : Kind → RingBuffer → (u : ℕ) → ℕ
+watched_address lamport r u = r.head
+watched_address fastforward r u = r.slots + u
 
 -- whether v there says that none does: the head is this offset, or the slot holds 0
 abbrev pub says_empty : Kind → (u v : ℕ) → Bool
@@ -115,7 +115,7 @@ looks_for_word k u v = if says_empty k u v then asked u else finds k u v
 
 abbrev pub receive_look : Kind → RingBuffer → (a v : ℕ) → ReceiverState → ReceiverState
 receive_look k r a v idle = idle
-receive_look k r a v (asked u) = if a == word_at k r u then looks_for_word k u v else asked u
+receive_look k r a v (asked u) = if a == watched_address k r u then looks_for_word k u v else asked u
 receive_look k r a v (waiting u) = if a == r.slots + u then holding u v else waiting u
 receive_look k r a v (holding u w) = holding u w
 receive_look k r a v (cleared u) = cleared u

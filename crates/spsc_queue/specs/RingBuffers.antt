@@ -58,11 +58,11 @@ pub record IsRingBuffer (r : RingBuffer) : Type 0 where
   pub copy : (c : ℕ) → r.copy ≡ Some c → IsCopyIn r c
 
 -- the offset of word j of a run among the slots, its slot, and the offset after one
-abbrev pub offset : RingBuffer → ℕ → ℕ
-offset r j = 4 * ((r.start + j) % r.size)
+abbrev pub slot_offset : RingBuffer → ℕ → ℕ
+slot_offset r j = 4 * ((r.start + j) % r.size)
 
-abbrev pub slot : RingBuffer → ℕ → ℕ
-slot r j = r.slots + offset r j
+abbrev pub slot_address : RingBuffer → ℕ → ℕ
+slot_address r j = r.slots + slot_offset r j
 
 abbrev pub next : RingBuffer → ℕ → ℕ
 next r u = if u + 4 == 4 * r.size then 0 else u + 4
@@ -88,8 +88,8 @@ writes_to r ws = filter (overlaps r) ws
 -- each slot of FastForward's holds 0, and a copy of the tail is the offset of some slot, which need not be the tail's. So a
 -- machine may open, with zeros, or a program may leave it so at any point of its run
 pub record IsEmptyAndQuiescent (r : RingBuffer) (o : OpeningValue) (es : List Entry) : Type 0 where
-  pub head : memory_word o es r.head ≡ offset r 0
-  pub tail : memory_word o es r.tail ≡ offset r 0
+  pub head : memory_word o es r.head ≡ slot_offset r 0
+  pub tail : memory_word o es r.tail ≡ slot_offset r 0
   pub pending : (h : ℕ) → writes_to r (pending h es) ≡ []
-  pub slots : r.kind ≡ fastforward → (j : ℕ) → j < r.size → memory_word o es (slot r j) ≡ 0
-  pub copy : (c : ℕ) → r.copy ≡ Some c → (j : ℕ) × (j < r.size) × (memory_word o es c ≡ offset r j)
+  pub slots : r.kind ≡ fastforward → (j : ℕ) → j < r.size → memory_word o es (slot_address r j) ≡ 0
+  pub copy : (c : ℕ) → r.copy ≡ Some c → (j : ℕ) × (j < r.size) × (memory_word o es c ≡ slot_offset r j)

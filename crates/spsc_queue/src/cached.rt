@@ -2,7 +2,7 @@
 //! the tail only where its copy says that the queue is full; `try_receive` receives.
 
 ghost use Rattle.std.specs.Prelude.{◌≡◌};
-ghost use Rattle.spsc_queue.specs.Listings.{words_of};
+ghost use Rattle.rv_decode.specs.Listings.{words_of};
 ghost use Rattle.spsc_queue.specs.Cached.{cached_send};
 
 /// The words of `cached_send`: the registers of `try_send`.

@@ -2,7 +2,7 @@
 //! the other one.
 
 ghost use Rattle.std.specs.Prelude.{◌≡◌};
-ghost use Rattle.spsc_queue.specs.Listings.{words_of};
+ghost use Rattle.rv_decode.specs.Listings.{words_of};
 ghost use Rattle.spsc_queue.specs.FastForward.{fastforward_send, fastforward_receive};
 
 /// The words of `fastforward_send`: the registers of `try_send`, and a1 isn't 0.

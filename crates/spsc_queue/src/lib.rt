@@ -23,19 +23,20 @@ ghost use Rattle.rv_decode.specs.Meaning.{meaning};
 ghost use Rattle.hart.specs.State.{HartState};
 ghost use Rattle.step_machine.specs.declared.events.Entry.{Entry};
 ghost use Rattle.step_machine.specs.History.{OpeningValue, history_of};
-ghost use Rattle.step_machine.specs.Entries.{hart_of, own, stores, lands, pending, read_byte};
+ghost use Rattle.step_machine.specs.Entries.{hart_of, own, own_stores, lands, pending, read_byte};
 ghost use Rattle.step_machine.specs.Access.{access_of, load};
 ghost use Rattle.step_machine.specs.Paths.{state_of};
 ghost use Rattle.step_machine.specs.Legal.{Legal, WellFormed};
 ghost use Rattle.spsc_queue.specs.RingBuffers.{Kind, RingBuffer, lamport, capacity, writes_to, IsEmptyAndQuiescent};
-ghost use Rattle.spsc_queue.specs.Protocol.{at_start, protocol_after, asked, placed, room_at, says_full, word_at, says_empty};
+ghost use Rattle.spsc_queue.specs.Protocol.{at_start, protocol_after, asked, placed, room_at, says_full, watched_address, says_empty};
 ghost use Rattle.spsc_queue.specs.StoreBuffers.{IsGloballyPerformed, LeavesByte, AllLeaveByte, IsOnlyWriter};
 ghost use Rattle.spsc_queue.specs.Laws.{IsPrefix, FollowsSpscProtocol, available_words, available_count, known_count, ready_count};
-ghost use Rattle.spsc_queue.specs.Listings.{try_send, try_receive, words_of, lines_of};
-ghost use Rattle.spsc_queue.specs.Calls.{SpscQueue, Party, the_sender, the_receiver, listing_of, moved_on, ring_of};
+ghost use Rattle.rv_decode.specs.Listings.{words_of, lines_of};
+ghost use Rattle.spsc_queue.specs.Listings.{try_send, try_receive};
+ghost use Rattle.spsc_queue.specs.Calls.{SpscQueue, Party, the_sender, the_receiver, listing_of, moved_on, ring_at};
 ghost use Rattle.spsc_queue.specs.Calls.{buffer, is_sender_in_call, is_receiver_in_call, sent_words, received_words};
 ghost use Rattle.spsc_queue.specs.Calls.{CallerObligation, UsesAsSpscQueue};
-ghost use Rattle.spsc_queue.specs.CallEffects.{IsCallUnderWay, longest, GoesOn, IsSend, IsReceive, accesses, completed_word, SendEffect, ReceiveEffect};
+ghost use Rattle.spsc_queue.specs.CallEffects.{IsCallUnderWay, longest, ContinuesCall, IsSend, IsReceive, accesses, completed_word, SendEffect, ReceiveEffect};
 ghost use Rattle.spsc_queue.specs.CallEffects.{FoundFull, FoundEmpty};
 ghost use Rattle.spsc_queue.specs.Obligations.{obligations_kept};
 ghost use Rattle.spsc_queue.specs.ManyQueues.{UsesManyQueues};
@@ -83,12 +84,12 @@ pub fn tables_mean()
 /// over the byte and none of the entries in between writes it. It does nothing.
 pub fn laws_of_store_buffers()
     ensures performed { (B : ℕ) (o : OpeningValue) (es : List Entry) (h n : ℕ) (w : Write) → Legal B (history_of o es)
-        → slice_get (stores h es) n ≡ Some w → n < lands h es → IsGloballyPerformed es w }
+        → slice_get (own_stores h es) n ≡ Some w → n < lands h es → IsGloballyPerformed es w }
     ensures later { (es fs : List Entry) (w : Write) → IsGloballyPerformed es w → IsGloballyPerformed (es ++ fs) w }
     ensures read { (o : OpeningValue) (es : List Entry) (w : Write) (p : IsGloballyPerformed es w) (h x : ℕ) → covers w x ≡ true
         → All (LeavesByte x) p.later → All (LeavesByte x) (pending h es) → read_byte o es h x ≡ byte_at (x - w.addr) w.value }
     ensures handed_over { (B : ℕ) (o : OpeningValue) (a h x : ℕ) (es fs : List Entry) → Legal B (history_of o (es ++ fs))
-        → length (stores a es) ≤ lands a (es ++ fs) → IsOnlyWriter a x es → AllLeaveByte x fs
+        → length (own_stores a es) ≤ lands a (es ++ fs) → IsOnlyWriter a x es → AllLeaveByte x fs
         → read_byte o (es ++ fs) h x ≡ read_byte o es a x }
 {}
 
@@ -111,12 +112,12 @@ pub fn laws_of_protocol()
         → IsPrefix (protocol_after r at_start es).received (available_words r (protocol_after r at_start es)) }
     ensures publication { (B : ℕ) (r : RingBuffer) (o : OpeningValue) (before es fs : List Entry) → FollowsSpscProtocol B r o before (es ++ fs)
         → available_count r (protocol_after r at_start es) < known_count (protocol_after r at_start (es ++ fs))
-        → length (stores r.sender (before ++ es)) < lands r.sender (before ++ (es ++ fs)) }
+        → length (own_stores r.sender (before ++ es)) < lands r.sender (before ++ (es ++ fs)) }
     ensures reclamation { (B : ℕ) (r : RingBuffer) (o : OpeningValue) (before es fs : List Entry) → FollowsSpscProtocol B r o before (es ++ fs)
         → (protocol_after r at_start es).taken + capacity r < ready_count (protocol_after r at_start (es ++ fs))
-        → length (stores r.receiver (before ++ es)) < lands r.receiver (before ++ (es ++ fs)) }
+        → length (own_stores r.receiver (before ++ es)) < lands r.receiver (before ++ (es ++ fs)) }
     ensures linearization_of_empty { (B : ℕ) (r : RingBuffer) (o : OpeningValue) (before es : List Entry) (e : Entry) (fs : List Entry)
-        → FollowsSpscProtocol B r o before (es ++ e ∷ fs) → (u v : ℕ) → hart_of e ≡ r.receiver → access_of e ≡ load (word_at r.kind r u) 4 v
+        → FollowsSpscProtocol B r o before (es ++ e ∷ fs) → (u v : ℕ) → hart_of e ≡ r.receiver → access_of e ≡ load (watched_address r.kind r u) 4 v
         → says_empty r.kind u v ≡ true → (protocol_after r at_start es).receiving ≡ asked u
         → available_count r (protocol_after r at_start es)
         ≤ (protocol_after r at_start es).taken + length (writes_to r (pending r.sender (before ++ es))) }
@@ -165,7 +166,7 @@ pub fn laws_of_calls()
     ensures publication { (B M : ℕ) (o : OpeningValue) (q : SpscQueue) (before es fs : List Entry) → UsesAsSpscQueue B M o q before (es ++ fs)
         → is_sender_in_call M o q before es ≡ false
         → length (sent_words M o q before es) < length (received_words M o q before (es ++ fs))
-        → length (stores q.sender (before ++ es)) < lands q.sender (before ++ (es ++ fs)) }
+        → length (own_stores q.sender (before ++ es)) < lands q.sender (before ++ (es ++ fs)) }
     ensures message_passing { (B M : ℕ) (o : OpeningValue) (q : SpscQueue) (before es fs : List Entry) → UsesAsSpscQueue B M o q before (es ++ fs)
         → is_sender_in_call M o q before es ≡ false
         → length (sent_words M o q before es) < length (received_words M o q before (es ++ fs))
@@ -174,7 +175,7 @@ pub fn laws_of_calls()
     ensures reclamation { (B M : ℕ) (o : OpeningValue) (q : SpscQueue) (before es fs : List Entry) → UsesAsSpscQueue B M o q before (es ++ fs)
         → is_receiver_in_call M o q before es ≡ false
         → length (received_words M o q before es) + capacity (buffer q) < length (sent_words M o q before (es ++ fs))
-        → length (stores q.receiver (before ++ es)) < lands q.receiver (before ++ (es ++ fs)) }
+        → length (own_stores q.receiver (before ++ es)) < lands q.receiver (before ++ (es ++ fs)) }
     ensures handing_back { (B M : ℕ) (o : OpeningValue) (q : SpscQueue) (before es fs : List Entry) → UsesAsSpscQueue B M o q before (es ++ fs)
         → is_receiver_in_call M o q before es ≡ false
         → length (received_words M o q before es) + capacity (buffer q) < length (sent_words M o q before (es ++ fs))
@@ -187,7 +188,7 @@ pub fn laws_of_calls()
         → is_sender_in_call M o q before es ≡ false → is_receiver_in_call M o q before es ≡ false
         → length (received_words M o q before es) ≡ length (sent_words M o q before es)
         → ((h : ℕ) → writes_to (buffer q) (pending h (before ++ es)) ≡ [])
-        → (a b : ℕ) → IsEmptyAndQuiescent (ring_of (moved_on q.block (length (sent_words M o q before es))) a b) o (before ++ es) }
+        → (a b : ℕ) → IsEmptyAndQuiescent (ring_at (moved_on q.block (length (sent_words M o q before es))) a b) o (before ++ es) }
     ensures fronts { (B M : ℕ) (o : OpeningValue) (q : SpscQueue) (before es fs : List Entry) → UsesAsSpscQueue B M o q before (es ++ fs)
         → UsesAsSpscQueue B M o q before es }
 {}
@@ -226,10 +227,12 @@ pub fn laws_of_one_call()
         → ReceiveEffect q.block.kind (buffer q) s z (length (own q.receiver call)) (accesses q.receiver call) }
     ensures send_goes_on { (B M : ℕ) (o : OpeningValue) (q : SpscQueue) (before done part : List Entry) (s z : HartState)
         → UsesAsSpscQueue B M o q before (done ++ part) → IsCallUnderWay M o q.sender q.send_line q.block before done part s
-        → state_of M (history_of o (before ++ (done ++ part))) q.sender ≡ Some z → GoesOn (longest the_sender (buffer q)) z (length (own q.sender part)) }
+        → state_of M (history_of o (before ++ (done ++ part))) q.sender ≡ Some z
+        → ContinuesCall (longest the_sender (buffer q)) z (length (own q.sender part)) }
     ensures receive_goes_on { (B M : ℕ) (o : OpeningValue) (q : SpscQueue) (before done part : List Entry) (s z : HartState)
         → UsesAsSpscQueue B M o q before (done ++ part) → IsCallUnderWay M o q.receiver q.receive_line q.block before done part s
-        → state_of M (history_of o (before ++ (done ++ part))) q.receiver ≡ Some z → GoesOn (longest the_receiver (buffer q)) z (length (own q.receiver part)) }
+        → state_of M (history_of o (before ++ (done ++ part))) q.receiver ≡ Some z
+        → ContinuesCall (longest the_receiver (buffer q)) z (length (own q.receiver part)) }
     ensures sends { (B M : ℕ) (o : OpeningValue) (q : SpscQueue) (before done call : List Entry) (s z : HartState)
         → UsesAsSpscQueue B M o q before (done ++ call) → IsSend M o q before done call s z
         → sent_words M o q before (done ++ call) ≡ sent_words M o q before done ++ completed_word z }

@@ -5,19 +5,19 @@ use Rattle.std.proofs.Common.{arith}
 use Rattle.std.specs.Prelude.{All, nat_lt}
 use Rattle.std.proofs.lemmas.List.{drop_all}
 use Rattle.std.proofs.lemmas.List.Elements.{All-head, All-tail}
-use Rattle.states.specs.inner.Compact.{bytes_of, joined, wide_bytes, word_bytes, words_from, words_in}
+use Rattle.states.specs.inner.Compact.{bytes_of, with_seven_bits, wide_bytes, word_bytes, words_from, words_in}
 use Rattle.rv_decode.specs.Word.{IsWord}
 
 -- seven bits more
-pub joined-is : (w v b : ℕ) → w < 33554432 → v < 128 → b % 128 ≡ v → joined w b ≡ w * 128 + v
-unfolding joined
+pub joined-is : (w v b : ℕ) → w < 33554432 → v < 128 → b % 128 ≡ v → with_seven_bits w b ≡ w * 128 + v
+unfolding with_seven_bits
 joined-is w v b small seven is = grind (arith)
 
-pub read_small : (w b : ℕ) (bs : List ℕ) → b < 128 → words_from w (b ∷ bs) ≡ joined w b ∷ words_from 0 bs
+pub read_small : (w b : ℕ) (bs : List ℕ) → b < 128 → words_from w (b ∷ bs) ≡ with_seven_bits w b ∷ words_from 0 bs
 unfolding words_from
 read_small w b bs small = grind (arith)
 
-pub read_large : (w b : ℕ) (bs : List ℕ) → 128 ≤ b → words_from w (b ∷ bs) ≡ words_from (joined w b) bs
+pub read_large : (w b : ℕ) (bs : List ℕ) → 128 ≤ b → words_from w (b ∷ bs) ≡ words_from (with_seven_bits w b) bs
 unfolding words_from
 read_large w b bs large = grind (arith)
 
@@ -82,26 +82,26 @@ words-back (w ∷ ws) all =
 -- ---- a loop over bytes
 
 small_next : (w i : ℕ) (bs : List ℕ) → i < length bs → get_or bs i 0 < 128
-    → words_from w (drop i bs) ≡ joined w (get_or bs i 0) ∷ words_from 0 (drop (i + 1) bs)
+    → words_from w (drop i bs) ≡ with_seven_bits w (get_or bs i 0) ∷ words_from 0 (drop (i + 1) bs)
 small_next w i bs within small =
     ap (words_from w) (drop-cons bs i 0 within) ∙ read_small w (get_or bs i 0) (drop (suc i) bs) small
-    ∙ ap (λ (n : ℕ). joined w (get_or bs i 0) ∷ words_from 0 (drop n bs)) (sym (add-one i))
+    ∙ ap (λ (n : ℕ). with_seven_bits w (get_or bs i 0) ∷ words_from 0 (drop n bs)) (sym (add-one i))
 
 large_next : (w i : ℕ) (bs : List ℕ) → i < length bs → 128 ≤ get_or bs i 0
-    → words_from w (drop i bs) ≡ words_from (joined w (get_or bs i 0)) (drop (i + 1) bs)
+    → words_from w (drop i bs) ≡ words_from (with_seven_bits w (get_or bs i 0)) (drop (i + 1) bs)
 large_next w i bs within large =
     ap (words_from w) (drop-cons bs i 0 within) ∙ read_large w (get_or bs i 0) (drop (suc i) bs) large
-    ∙ ap (λ (n : ℕ). words_from (joined w (get_or bs i 0)) (drop n bs)) (sym (add-one i))
+    ∙ ap (λ (n : ℕ). words_from (with_seven_bits w (get_or bs i 0)) (drop n bs)) (sym (add-one i))
 
-pub small_more : (w i : ℕ) (bs out new : List ℕ) → i < length bs → get_or bs i 0 < 128 → new ≡ out ++ joined w (get_or bs i 0) ∷ []
+pub small_more : (w i : ℕ) (bs out new : List ℕ) → i < length bs → get_or bs i 0 < 128 → new ≡ out ++ with_seven_bits w (get_or bs i 0) ∷ []
     → new ++ words_from 0 (drop (i + 1) bs) ≡ out ++ words_from w (drop i bs)
 small_more w i bs out new within small pushed =
     ap (λ (ws : List ℕ). ws ++ words_from 0 (drop (i + 1) bs)) pushed
-    ∙ append_assoc out (joined w (get_or bs i 0) ∷ []) (words_from 0 (drop (i + 1) bs))
+    ∙ append_assoc out (with_seven_bits w (get_or bs i 0) ∷ []) (words_from 0 (drop (i + 1) bs))
     ∙ ap (λ (ws : List ℕ). out ++ ws) (sym (small_next w i bs within small))
 
 pub large_more : (w i : ℕ) (bs out : List ℕ) → i < length bs → 128 ≤ get_or bs i 0
-    → out ++ words_from (joined w (get_or bs i 0)) (drop (i + 1) bs) ≡ out ++ words_from w (drop i bs)
+    → out ++ words_from (with_seven_bits w (get_or bs i 0)) (drop (i + 1) bs) ≡ out ++ words_from w (drop i bs)
 large_more w i bs out within large = ap (λ (ws : List ℕ). out ++ ws) (sym (large_next w i bs within large))
 
 pub none_left : (w i : ℕ) (bs out : List ℕ) → length bs ≤ i → out ++ words_from w (drop i bs) ≡ out

@@ -2,20 +2,20 @@
 use Rattle.std.proofs.Common.{◌≡◌, ℕ, ◌+◌, ◌-◌, ◌*◌, ◌/◌, ◌%◌, ◌^◌, ◌<◌, ◌≤◌, sym, ◌∙◌, ap, arith}
 use Rattle.std.proofs.Math.Nat.{add-mul-div_right, add-mul-mod_self_right, div-div-eq-div-mul, mod-lt, mul_assoc, mul_comm, add_comm}
 use Rattle.std.proofs.Math.Nat.{add-zero, add-mul, mul-div_cancel, mul-mod_left, mul-lt-mul_of_pos_left, div-lt_iff_lt-mul, mod-eq_of_lt, pow-le-pow_right}
-use Rattle.states.specs.Fields.{field, with_field}
+use Rattle.states.specs.Fields.{digits_in, with_field}
 use Rattle.std.proofs.lemmas.Nat.{div-add-mod', div-mul-add, mod-mul-add, mod-pow-add, mul-add-lt, pow-add, pow_pos}
 
 shifted : (word low size number : ℕ) → 0 < low → with_field word low size number / low ≡ word / low / size * size + number
 shifted word low size number some = div-mul-add (word / low / size * size + number) low (word % low) (mod-lt word some)
 
 -- it is there
-pub field_set : (word low size number : ℕ) → 0 < low → number < size → field (with_field word low size number) low size ≡ number
+pub field_set : (word low size number : ℕ) → 0 < low → number < size → digits_in (with_field word low size number) low size ≡ number
 field_set word low size number some small =
     ap (λ (n : ℕ). n % size) (shifted word low size number some) ∙ mod-mul-add (word / low / size) size number small
 
 -- a field above has what it had
 field_above : (word low size number more other : ℕ) → 0 < low → number < size
-    → field (with_field word low size number) (low * size * more) other ≡ field word (low * size * more) other
+    → digits_in (with_field word low size number) (low * size * more) other ≡ digits_in word (low * size * more) other
 field_above word low size number more other some small =
     let parted = λ (n : ℕ). sym (div-div-eq-div-mul n (low * size) more) ∙ ap (λ (m : ℕ). m / more) (sym (div-div-eq-div-mul n low size)) in
     let same : with_field word low size number / low / size ≡ word / low / size =
@@ -23,7 +23,7 @@ field_above word low size number more other some small =
     ap (λ (n : ℕ). n % other) (parted (with_field word low size number) ∙ ap (λ (n : ℕ). n / more) same ∙ sym (parted word))
 
 -- what stands above a field is no part of it
-below : (high lowest low size more : ℕ) → 0 < low → field (high * (low * size * more) + lowest) low size ≡ field lowest low size
+below : (high lowest low size more : ℕ) → 0 < low → digits_in (high * (low * size * more) + lowest) low size ≡ digits_in lowest low size
 below high lowest low size more some =
     let round : low * size * more ≡ more * size * low =
     mul_comm (low * size) more ∙ ap (λ (n : ℕ). more * n) (mul_comm low size) ∙ sym (mul_assoc more size low) in
@@ -35,16 +35,16 @@ below high lowest low size more some =
 
 -- a field below has what it had
 field_below : (word low size number more other : ℕ) → 0 < low
-    → field (with_field word (low * size * more) other number) low size ≡ field word low size
+    → digits_in (with_field word (low * size * more) other number) low size ≡ digits_in word low size
 field_below word low size number more other some =
     let high = low * size * more in
     below (word / high / other * other + number) (word % high) low size more some
-    ∙ sym (below (word / high) (word % high) low size more some) ∙ ap (λ (n : ℕ). field n low size) (div-add-mod' word high)
+    ∙ sym (below (word / high) (word % high) low size more some) ∙ ap (λ (n : ℕ). digits_in n low size) (div-add-mod' word high)
 
 -- ---- digits of base 2, as shifts read and write them
 
 -- `shift` digits stand below these `width`, and `above` above them
-read_field : (word shift width above : ℕ) → word * 2 ^ above % 2 ^ (width + shift + above) / 2 ^ (above + shift) ≡ field word (2 ^ shift) (2 ^ width)
+read_field : (word shift width above : ℕ) → word * 2 ^ above % 2 ^ (width + shift + above) / 2 ^ (above + shift) ≡ digits_in word (2 ^ shift) (2 ^ width)
 read_field word shift width above =
     let up : word * 2 ^ above % 2 ^ (width + shift + above) ≡ word % 2 ^ (width + shift) * 2 ^ above =
     mod-pow-add (word * 2 ^ above) (width + shift) above
@@ -61,23 +61,23 @@ replaced : (all high old new low : ℕ) → all ≡ high + old + low → all - o
 replaced all high old new low is = omega (arith, is)
 
 -- the number is taken out, and another put there
-write_field : (word low size number : ℕ) → word - field word low size * low + number * low ≡ with_field word low size number
+write_field : (word low size number : ℕ) → word - digits_in word low size * low + number * low ≡ with_field word low size number
 write_field word low size number =
     let high = word / low / size * size in
-    let parted : word ≡ high * low + field word low size * low + word % low =
+    let parted : word ≡ high * low + digits_in word low size * low + word % low =
     sym (div-add-mod' word low) ∙ ap (λ (n : ℕ). n * low + word % low) (sym (div-add-mod' (word / low) size))
-    ∙ ap (λ (n : ℕ). n + word % low) (add-mul high (field word low size) low) in
-    replaced word (high * low) (field word low size * low) (number * low) (word % low) parted
+    ∙ ap (λ (n : ℕ). n + word % low) (add-mul high (digits_in word low size) low) in
+    replaced word (high * low) (digits_in word low size * low) (number * low) (word % low) parted
     ∙ ap (λ (n : ℕ). n + word % low) (sym (add-mul high number low))
 
 -- what is taken out is no more than the word
-field_few : (word low size : ℕ) → field word low size * low ≤ word
+field_few : (word low size : ℕ) → digits_in word low size * low ≤ word
 field_few word low size = omega (arith, parted)
   where
-    parted : word ≡ word / low / size * size * low + field word low size * low + word % low
+    parted : word ≡ word / low / size * size * low + digits_in word low size * low + word % low
     parted =
         sym (div-add-mod' word low) ∙ ap (λ (n : ℕ). n * low + word % low) (sym (div-add-mod' (word / low) size))
-        ∙ ap (λ (n : ℕ). n + word % low) (add-mul (word / low / size * size) (field word low size) low)
+        ∙ ap (λ (n : ℕ). n + word % low) (add-mul (word / low / size * size) (digits_in word low size) low)
 
 pub small_pow : (n : ℕ) → 0 < 2 ^ n
 small_pow n = pow_pos n
@@ -90,19 +90,19 @@ power shift width higher apart =
 
 -- digits above
 pub digits_above : (word shift width number higher other : ℕ) → shift + width ≤ higher → number < 2 ^ width
-    → field (with_field word (2 ^ shift) (2 ^ width) number) (2 ^ higher) other ≡ field word (2 ^ higher) other
+    → digits_in (with_field word (2 ^ shift) (2 ^ width) number) (2 ^ higher) other ≡ digits_in word (2 ^ higher) other
 digits_above word shift width number higher other apart small =
     let parted : 2 ^ higher ≡ 2 ^ shift * 2 ^ width * 2 ^ (higher - (shift + width)) = power shift width higher apart in
-    ap (λ (n : ℕ). field (with_field word (2 ^ shift) (2 ^ width) number) n other) parted
+    ap (λ (n : ℕ). digits_in (with_field word (2 ^ shift) (2 ^ width) number) n other) parted
     ∙ field_above word (2 ^ shift) (2 ^ width) number (2 ^ (higher - (shift + width))) other (pow_pos shift) small
-    ∙ ap (λ (n : ℕ). field word n other) (sym parted)
+    ∙ ap (λ (n : ℕ). digits_in word n other) (sym parted)
 
 -- digits below
 pub digits_below : (word shift width number lower few : ℕ) → lower + few ≤ shift
-    → field (with_field word (2 ^ shift) (2 ^ width) number) (2 ^ lower) (2 ^ few) ≡ field word (2 ^ lower) (2 ^ few)
+    → digits_in (with_field word (2 ^ shift) (2 ^ width) number) (2 ^ lower) (2 ^ few) ≡ digits_in word (2 ^ lower) (2 ^ few)
 digits_below word shift width number lower few apart =
     let parted : 2 ^ shift ≡ 2 ^ lower * 2 ^ few * 2 ^ (shift - (lower + few)) = power lower few shift apart in
-    ap (λ (n : ℕ). field (with_field word n (2 ^ width) number) (2 ^ lower) (2 ^ few)) parted
+    ap (λ (n : ℕ). digits_in (with_field word n (2 ^ width) number) (2 ^ lower) (2 ^ few)) parted
     ∙ field_below word (2 ^ lower) (2 ^ few) number (2 ^ (shift - (lower + few))) (2 ^ width) (pow_pos lower)
 
 -- a word with another number has no more digits
@@ -122,13 +122,13 @@ field_small word low size number more some_low some_size small few =
 -- ---- the same of words of 64 digits, as they are shifted
 
 pub number_read : (word shift width : ℕ) → shift + width ≤ 64 → width ≤ 32
-    → word * 2 ^ (64 - width - shift) % 18446744073709551616 / 2 ^ (64 - width) % 4294967296 ≡ field word (2 ^ shift) (2 ^ width)
+    → word * 2 ^ (64 - width - shift) % 18446744073709551616 / 2 ^ (64 - width) % 4294967296 ≡ digits_in word (2 ^ shift) (2 ^ width)
 number_read word shift width within few =
     let above : ℕ = 64 - width - shift in
     let all : width + shift + above ≡ 64 = omega (arith, within) in
     let rest : above + shift ≡ 64 - width = omega (arith, within) in
     let size : 2 ^ (width + shift + above) ≡ 18446744073709551616 = ap (λ (n : ℕ). 2 ^ n) all in
-    let read : word * 2 ^ above % 18446744073709551616 / 2 ^ (64 - width) ≡ field word (2 ^ shift) (2 ^ width) =
+    let read : word * 2 ^ above % 18446744073709551616 / 2 ^ (64 - width) ≡ digits_in word (2 ^ shift) (2 ^ width) =
     ap (λ (n : ℕ). word * 2 ^ above % n / 2 ^ (64 - width)) (sym size)
     ∙ ap (λ (n : ℕ). word * 2 ^ above % 2 ^ (width + shift + above) / 2 ^ n) (sym rest) ∙ read_field word shift width above in
     let most : 2 ^ width ≤ 2 ^ 32 = pow-le-pow_right (pow_pos 1) few in
@@ -139,7 +139,7 @@ wrapped : (word old new result : ℕ) → word < 18446744073709551616 → old �
     → ((word + (18446744073709551616 - old % 18446744073709551616)) % 18446744073709551616 + new % 18446744073709551616) % 18446744073709551616 ≡ result
 wrapped word old new result fits some small is few = omega (arith, fits, some, small, is, few)
 
-pub number_written : (word shift width old number : ℕ) → shift + width ≤ 64 → word < 18446744073709551616 → old ≡ field word (2 ^ shift) (2 ^ width)
+pub number_written : (word shift width old number : ℕ) → shift + width ≤ 64 → word < 18446744073709551616 → old ≡ digits_in word (2 ^ shift) (2 ^ width)
     → number < 2 ^ width
     → ((word + (18446744073709551616 - old * 2 ^ shift % 18446744073709551616)) % 18446744073709551616 + number * 2 ^ shift % 18446744073709551616)
     % 18446744073709551616 ≡ with_field word (2 ^ shift) (2 ^ width) number

@@ -21,7 +21,7 @@ use Rattle.step_machine.specs.declared.events.Entry.TheVariants as entry
 use Rattle.step_machine.specs.declared.events.Outcome.{Outcome}
 use Rattle.step_machine.specs.declared.events.Outcome.TheVariants as outcome
 use Rattle.step_machine.specs.Entries.{hart_of}
-use Rattle.step_machine.specs.Paths.{value_of}
+use Rattle.step_machine.specs.Paths.{number_read}
 use Rattle.step_machine.specs.Banks.{is_over}
 use Rattle.step_machine.specs.Ranges.{IsInRange}
 use Rattle.step_machine.specs.inner.Stored.{Stored, buffer_of, word_at, if_waits, outcome_for, land_in, write_first}
@@ -78,14 +78,14 @@ land_fits M s h (p ∷ ps) over fit within = record {
 
 -- ---- and harts
 
-buffers_kept : (s : Stored) (e : Entry) → length (stored_after s e).buffers ≡ length s.buffers
+pub buffers_kept : (s : Stored) (e : Entry) → length (stored_after s e).buffers ≡ length s.buffers
 buffers_kept s e = grind (arith, length-set)
 
 outcome_fits : (M : ℕ) (c : Config) (o : Outcome) → Fit M c → FitStored M (stored_after_outcome c.stored o) → Fit M (after_outcome c o)
 outcome_fits M c (outcome.Did (entry.Land h)) fit stored =
     record { buffers = buffers_kept c.stored (entry.Land h) ∙ fit.buffers; harts = fit.harts; firsts = fit.firsts; stored = stored }
 outcome_fits M c (outcome.Did e) fit stored =
-    let moved = fit_step M c (hart_of e) (value_of e) fit in
+    let moved = fit_step M c (hart_of e) (number_read e) fit in
     record { buffers = buffers_kept c.stored e ∙ moved.buffers; harts = moved.harts; firsts = moved.firsts; stored = stored }
 outcome_fits M c o fit stored = fit
 

@@ -1,7 +1,7 @@
 -- Numbers in digits of the words of a key.
 use Rattle.std.specs.Prelude.{ℕ, ◌≡◌, ◌+◌, ◌^◌, ◌<◌, ◌≤◌, ◌⊎◌, All, List, map, slice_index, slice_set}
 use Rattle.std.specs.List.{AllPairs, AllZip}
-use Rattle.states.specs.Fields.{field, with_field}
+use Rattle.states.specs.Fields.{digits_in, with_field}
 use Rattle.states.specs.declared.layout.Field.{Field}
 
 -- binary digits of one word of a key: how many stand below them, and how many they are
@@ -11,7 +11,7 @@ pub record Digits : Type 0 where
   pub width : ℕ
 
 abbrev pub number_in : Digits → (key : List ℕ) → ℕ
-number_in digits key = field (slice_index key digits.word) (2 ^ digits.shift) (2 ^ digits.width)
+number_in digits key = digits_in (slice_index key digits.word) (2 ^ digits.shift) (2 ^ digits.width)
 
 abbrev pub with_number : Digits → (key : List ℕ) → (number : ℕ) → List ℕ
 with_number digits key number = slice_set key digits.word (with_field (slice_index key digits.word) (2 ^ digits.shift) (2 ^ digits.width) number)
@@ -26,8 +26,8 @@ pub record AreOfWords (N : ℕ) (layout : List Digits) : Type 0 where
   pub within : All (λ digits. digits.word < N) layout
 
 -- the numbers in all these digits of a key
-abbrev pub row_of : List Digits → (key : List ℕ) → List ℕ
-row_of layout key = map (λ digits. number_in digits key) layout
+abbrev pub numbers_of_key : List Digits → (key : List ℕ) → List ℕ
+numbers_of_key layout key = map (λ digits. number_in digits key) layout
 
 -- the digits of a field
 abbrev pub digits_of : Field → Digits

@@ -2,8 +2,8 @@
 use Rattle.std.specs.Prelude.{ℕ, ◌+◌, ◌*◌, ◌/◌, ◌%◌}
 
 -- the number in some digits of a word: `low` is how many numbers the digits below them have, `size` how many these have
-abbrev pub field : (word low size : ℕ) → ℕ
-field word low size = word / low % size
+abbrev pub digits_in : (word low size : ℕ) → ℕ
+digits_in word low size = word / low % size
 
 -- the word with another number there
 abbrev pub with_field : (word low size number : ℕ) → ℕ

@@ -1,7 +1,7 @@
 //! Words as bytes: a byte for a small word, five for any other.
 
 ghost use Rattle.std.specs.Prelude.{◌≡◌, ◌++◌, All, OnOk};
-ghost use Rattle.states.specs.inner.Compact.{bytes_of, joined, word_bytes, words_in};
+ghost use Rattle.states.specs.inner.Compact.{bytes_of, with_seven_bits, word_bytes, words_in};
 ghost use Rattle.rv_decode.specs.Word.{IsWord};
 
 use std::alloc::AllocError;
@@ -39,9 +39,9 @@ pub fn push_bytes(out: &mut Vec<u8>, words: &[u32]) -> Result<(), AllocError>
     Ok(())
 }
 
-#[tactic(auto, unfolding(crate::specs::inner::Compact::joined))]
+#[tactic(auto, unfolding(crate::specs::inner::Compact::with_seven_bits))]
 fn joined(word: u32, byte: u8) -> u32
-    ensures { result ≡ joined word byte }
+    ensures { result ≡ with_seven_bits word byte }
 {
     word % 33554432 * 128 + u32::from(byte % 128)
 }

@@ -3,7 +3,7 @@
 ghost use Rattle.std.specs.Prelude.{◌≡◌, ◌↔◌, ◌≤◌, ◌<◌, ◌++◌, ◌*◌, ◌/◌, ◌^◌, ◌≢◌, max, All, [], ◌∷◌, Some, false, map, length, replicate, slice_get, IsTrue};
 ghost use Rattle.std.specs.Prelude.{IfOk, IfSome, OnOk, OnErr, if◌then◌else◌};
 ghost use Rattle.std.specs.List.{AllZip, Contains, slice_index_or};
-ghost use Rattle.states.specs.Digits.{HasRoomFor, row_of};
+ghost use Rattle.states.specs.Digits.{HasRoomFor, numbers_of_key};
 
 use crate::layout::Layout;
 use std::alloc::{AllocError, Global};
@@ -253,7 +253,8 @@ impl<const N: usize> Keys<N> {
     /// Writes each key by another layout, which must hold the numbers of all. After an error the keys are written all the same.
     pub fn move_to(&mut self, old: &Layout<N>, new: &Layout<N>) -> Result<(), AllocError>
         ensures count { length self.new ≡ length self.old }
-        ensures rows { All (λ key. HasRoomFor new.now (row_of old.now key)) self.old → map (row_of new.now) self.new ≡ map (row_of old.now) self.old }
+        ensures rows { All (λ key. HasRoomFor new.now (numbers_of_key old.now key)) self.old
+            → map (numbers_of_key new.now) self.new ≡ map (numbers_of_key old.now) self.old }
     {
         let size = self.slots.len();
         for index in 0..self.keys.len() {

@@ -2,7 +2,7 @@
 
 ghost use Rattle.std.specs.Prelude.{◌≡◌, ◌↔◌, ℕ, ◌≤◌, ◌<◌, ◌+◌, ◌*◌, ◌/◌, ◌%◌, ◌^◌, ◌-◌, All, length};
 ghost use Rattle.std.specs.Prelude.{IfOk, IfSome, OnOk, IsTrue};
-ghost use Rattle.states.specs.Fields.{field, with_field};
+ghost use Rattle.states.specs.Fields.{digits_in, with_field};
 
 use std::alloc::{AllocError, Global};
 use std::marker::Model;
@@ -22,7 +22,7 @@ impl Field {
     /// The number that it holds in this word.
     #[inline(always)]
     fn number_in(self, word: u64) -> u32
-        ensures { result ≡ field word (2 ^ self.shift) (2 ^ self.width) }
+        ensures { result ≡ digits_in word (2 ^ self.shift) (2 ^ self.width) }
     {
         let above = 64 - self.width - self.shift;
         let number = (word << above) >> (64 - self.width);
@@ -81,7 +81,7 @@ fn width_for(count: usize) -> u32
 
 impl<const N: usize> Layout<N> {
     ghost use Rattle.std.specs.Prelude.{Ok, None, slice_get, slice_index, slice_set};
-    ghost use Rattle.states.specs.Digits.{HasRoomBelow, HasRoomFor, row_of};
+    ghost use Rattle.states.specs.Digits.{HasRoomBelow, HasRoomFor, numbers_of_key};
 
     /// Fields for the numbers below these counts, and a quarter more. It is `None` where `N` words have no room, of which
     /// each has room for two numbers at least, and for counts of more than 32 bits.
@@ -132,7 +132,7 @@ impl<const N: usize> Layout<N> {
     /// The number that a key has at a place, and 0 at a place beyond.
     #[inline(always)]
     pub fn number(&self, key: &[u64; N], place: usize) -> u32
-        ensures { result ≡ slice_index (row_of self.now key.now) place }
+        ensures { result ≡ slice_index (numbers_of_key self.now key.now) place }
     {
         match self.fields.get(place) {
             Some(field) => match key.get(field.word as usize) {
@@ -148,7 +148,7 @@ impl<const N: usize> Layout<N> {
     #[inline(always)]
     pub fn set(&self, key: &mut [u64; N], place: usize, number: u32)
         ensures { IfSome (slice_get self.now place) (λ digits. number < 2 ^ digits.width)
-            → row_of self.now key.new ≡ slice_set (row_of self.now key.old) place number }
+            → numbers_of_key self.now key.new ≡ slice_set (numbers_of_key self.now key.old) place number }
     {
         if let Some(field) = self.fields.get(place) {
             let at = field.word as usize;
@@ -161,7 +161,7 @@ impl<const N: usize> Layout<N> {
     /// Writes the number at each place in the place of what `row` holds.
     #[inline(always)]
     pub fn row_into(&self, key: &[u64; N], row: &mut Vec<u32>) -> Result<(), AllocError>
-        ensures { OnOk result (row.new.items ≡ row_of self.now key.now) }
+        ensures { OnOk result (row.new.items ≡ numbers_of_key self.now key.now) }
     {
         row.clear();
         for place in 0..self.fields.len() {
@@ -172,7 +172,7 @@ impl<const N: usize> Layout<N> {
 
     /// The key that has the same numbers by another layout, which must hold them.
     pub fn moved(&self, key: &[u64; N], other: &Layout<N>) -> [u64; N]
-        ensures { HasRoomFor other.now (row_of self.now key.now) → row_of other.now result ≡ row_of self.now key.now }
+        ensures { HasRoomFor other.now (numbers_of_key self.now key.now) → numbers_of_key other.now result ≡ numbers_of_key self.now key.now }
     {
         let mut new = [0; N];
         for place in 0..self.fields.len() {

@@ -21,11 +21,11 @@ pub struct Parts {
 
 impl Model for Parts {
     ghost use Rattle.std.specs.Prelude.{ℕ, List, map};
-    ghost use Rattle.states.specs.Numbered.{words_of};
+    ghost use Rattle.states.specs.Numbered.{position_words};
 
     ghost Value = { List (List ℕ) };
 
-    ghost view = { λ s. map words_of s.parts.keys };
+    ghost view = { λ s. map position_words s.parts.keys };
 }
 
 impl Parts {

@@ -24,7 +24,7 @@ use Rattle.step_machine.specs.declared.events.Outcome.{Outcome}
 use Rattle.step_machine.specs.declared.events.Outcome.TheVariants as outcome
 use Rattle.step_machine.specs.History.{OpeningValue, History, at_opening, with_entry}
 use Rattle.step_machine.specs.Entries.{hart_of, is_land, pending, read}
-use Rattle.step_machine.specs.Paths.{entry_of, value_of, CanMake, state_of}
+use Rattle.step_machine.specs.Paths.{entry_of, number_read, CanMake, state_of}
 use Rattle.step_machine.specs.Legal.{Allowed, WellFormed}
 use Rattle.step_machine.specs.Runs.{CanFollow, Happens, RunFrom, Run, idle_of, idle_in}
 use Rattle.step_machine.proofs.Follows.{act_only, follows}
@@ -36,7 +36,7 @@ use Rattle.step_machine.proofs.OwnRuns.{only_act}
 
 -- the entry by which hart h does what it needs is its own, and holds what it read
 pub own_entry : (h : ℕ) (n : Need) (v : ℕ) → (hart_of (entry_of h n v) ≡ h) × (is_land (entry_of h n v) ≡ false)
-    × (entry_of h n v ≡ entry_of h n (value_of (entry_of h n v)))
+    × (entry_of h n v ≡ entry_of h n (number_read (entry_of h n v)))
 own_entry h n v = grind arith
 
 -- where this is pending of its hart, such a need has to wait: a store for room, an AMO and a full
@@ -73,11 +73,11 @@ module _ (B M : ℕ) (t : History) (h : ℕ) (s : HartState) (kept : WellFormed 
   does n v needs allowed =
       let within : h < length t.opening.harts = state_of-hart M t h s is in
       let its : (hart_of (entry_of h n v) ≡ h) × (is_land (entry_of h n v) ≡ false)
-      × (entry_of h n v ≡ entry_of h n (value_of (entry_of h n v))) =
+      × (entry_of h n v ≡ entry_of h n (number_read (entry_of h n v))) =
       own_entry h n v in
-      let made : entry_of h n v ≡ entry_of (hart_of (entry_of h n v)) (need_of s) (value_of (entry_of h n v)) =
-      its.2 ∙ ap (λ k. entry_of k n (value_of (entry_of h n v))) (sym its.0)
-      ∙ ap (λ m. entry_of (hart_of (entry_of h n v)) m (value_of (entry_of h n v))) (sym needs) in
+      let made : entry_of h n v ≡ entry_of (hart_of (entry_of h n v)) (need_of s) (number_read (entry_of h n v)) =
+      its.2 ∙ ap (λ k. entry_of k n (number_read (entry_of h n v))) (sym its.0)
+      ∙ ap (λ m. entry_of (hart_of (entry_of h n v)) m (number_read (entry_of h n v))) (sym needs) in
       let can : CanMake s (entry_of h n v) = record { running = running; made = made } in
       let f : CanFollow B M t (entry_of h n v) = follows B M t h s (entry_of h n v) its.0 its.1 kept.legal (kept.paths h within) is can allowed in
       record {
@@ -90,9 +90,9 @@ module _ (B M : ℕ) (t : History) (h : ℕ) (s : HartState) (kept : WellFormed 
   pub waits : (n : Need) → need_of s ≡ n → HasToWait B (pending h t.entries) n → Happens B M t (event.Act h) outcome.Waited t
   waits n needs wait = record {
     none = λ d for_d f. (let one : CanMake s d × Allowed B t.opening t.entries d = act_only B M t h s d for_d.0 for_d.1 is f in
-        waiting B t.opening t.entries h n wait (value_of d) (subst (Allowed B t.opening t.entries)
-        (one.0.made ∙ ap (λ k. entry_of k (need_of s) (value_of d)) for_d.0
-        ∙ ap (λ m. entry_of h m (value_of d)) needs) one.1));
+        waiting B t.opening t.entries h n wait (number_read d) (subst (Allowed B t.opening t.entries)
+        (one.0.made ∙ ap (λ k. entry_of k (need_of s) (number_read d)) for_d.0
+        ∙ ap (λ m. entry_of h m (number_read d)) needs) one.1));
     why = sym (ap (λ so. idle_of so outcome.Waited) is ∙ ap (λ st. idle_in st outcome.Waited) running);
     after = refl;
   }

@@ -8,8 +8,8 @@ use Rattle.hart.specs.State.{HartState}
 use Rattle.hart.specs.Steps.{advanced}
 use Rattle.step_machine.specs.declared.events.Entry.{Entry}
 use Rattle.step_machine.specs.History.{OpeningValue}
-use Rattle.step_machine.specs.Entries.{own, store_of, stores, land_of, lands, pending, write_of, landed_after, landed, report_of, reported}
-use Rattle.step_machine.specs.Paths.{value_of, after_entries, Makes}
+use Rattle.step_machine.specs.Entries.{own, own_store, own_stores, land_of, lands, pending, write_of, landed_after, landed, report_of, reported}
+use Rattle.step_machine.specs.Paths.{number_read, after_entries, MakesEntries}
 use Rattle.step_machine.specs.Legal.{LegalAfter}
 
 -- the entry after others is at the place of their number
@@ -21,9 +21,9 @@ pub own-append : (h : ℕ) (es fs : List Entry) → own h (es ++ fs) ≡ own h e
 own-append h [] fs = refl
 own-append h (e ∷ es) fs = grind (arith, own-append h es fs)
 
-pub stores-append : (h : ℕ) (es fs : List Entry) → stores h (es ++ fs) ≡ stores h es ++ stores h fs
+pub stores-append : (h : ℕ) (es fs : List Entry) → own_stores h (es ++ fs) ≡ own_stores h es ++ own_stores h fs
 stores-append h [] fs = refl
-stores-append h (e ∷ es) fs = ap (λ t. store_of h e ++ t) (stores-append h es fs) ∙ sym (append_assoc (store_of h e) (stores h es) (stores h fs))
+stores-append h (e ∷ es) fs = ap (λ t. own_store h e ++ t) (stores-append h es fs) ∙ sym (append_assoc (own_store h e) (own_stores h es) (own_stores h fs))
 
 pub lands-append : (h : ℕ) (es fs : List Entry) → lands h (es ++ fs) ≡ lands h es + lands h fs
 lands-append h [] fs = sym (zero-add (lands h fs))
@@ -45,20 +45,20 @@ landed-last es e = landed_after-append [] es (e ∷ []) ∙ ap (λ t. landed es 
 
 pub after_entries-append : (s : HartState) (es fs : List Entry) → after_entries s (es ++ fs) ≡ after_entries (after_entries s es) fs
 after_entries-append s [] fs = refl
-after_entries-append s (e ∷ es) fs = after_entries-append (advanced s (value_of e)) es fs
+after_entries-append s (e ∷ es) fs = after_entries-append (advanced s (number_read e)) es fs
 
 -- a path goes on by entries that the state after it makes
-pub Makes-append : (s : HartState) (es fs : List Entry) → Makes s es → Makes (after_entries s es) fs → Makes s (es ++ fs)
+pub Makes-append : (s : HartState) (es fs : List Entry) → MakesEntries s es → MakesEntries (after_entries s es) fs → MakesEntries s (es ++ fs)
 Makes-append s [] fs m n = n
-Makes-append s (e ∷ es) fs m n = (m.0, Makes-append (advanced s (value_of e)) es fs m.1 n)
+Makes-append s (e ∷ es) fs m n = (m.0, Makes-append (advanced s (number_read e)) es fs m.1 n)
 
-pub Makes-front : (s : HartState) (es fs : List Entry) → Makes s (es ++ fs) → Makes s es
+pub Makes-front : (s : HartState) (es fs : List Entry) → MakesEntries s (es ++ fs) → MakesEntries s es
 Makes-front s [] fs m = tt
-Makes-front s (e ∷ es) fs m = (m.0, Makes-front (advanced s (value_of e)) es fs m.1)
+Makes-front s (e ∷ es) fs m = (m.0, Makes-front (advanced s (number_read e)) es fs m.1)
 
-pub Makes-back : (s : HartState) (es fs : List Entry) → Makes s (es ++ fs) → Makes (after_entries s es) fs
+pub Makes-back : (s : HartState) (es fs : List Entry) → MakesEntries s (es ++ fs) → MakesEntries (after_entries s es) fs
 Makes-back s [] fs m = m
-Makes-back s (e ∷ es) fs m = Makes-back (advanced s (value_of e)) es fs m.1
+Makes-back s (e ∷ es) fs m = Makes-back (advanced s (number_read e)) es fs m.1
 
 pub LegalAfter-append : (B : ℕ) (o : OpeningValue) (before es fs : List Entry) → LegalAfter B o before es
     → LegalAfter B o (before ++ es) fs → LegalAfter B o before (es ++ fs)
@@ -74,6 +74,6 @@ LegalAfter-back B o before [] fs l = rw append-nil l
 LegalAfter-back B o before (e ∷ es) fs l = rw (← append_assoc before (e ∷ []) es) (LegalAfter-back B o (before ++ e ∷ []) es fs l.1)
 
 -- the hart's pending stores after one more entry
-pub pending-last : (h : ℕ) (es : List Entry) (e : Entry) → lands h es ≤ length (stores h es)
-    → pending h (es ++ e ∷ []) ≡ drop (land_of h e) (pending h es ++ store_of h e)
+pub pending-last : (h : ℕ) (es : List Entry) (e : Entry) → lands h es ≤ length (own_stores h es)
+    → pending h (es ++ e ∷ []) ≡ drop (land_of h e) (pending h es ++ own_store h e)
 pending-last h es e le = grind (arith, stores-append, append-nil, lands-append, drop-drop, drop-append-le)

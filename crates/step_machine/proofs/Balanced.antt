@@ -4,7 +4,7 @@ use Rattle.std.proofs.Common.{length-append, length-drop, append-nil, append_ass
 use Rattle.std.proofs.lemmas.Bool.{eqb-true}
 use Rattle.step_machine.specs.declared.events.Entry.{Entry}
 use Rattle.step_machine.specs.History.{OpeningValue, History}
-use Rattle.step_machine.specs.Entries.{stores, land_of, lands, pending}
+use Rattle.step_machine.specs.Entries.{own_stores, land_of, lands, pending}
 use Rattle.step_machine.specs.Legal.{Allowed, LegalAfter, Legal}
 use Rattle.step_machine.proofs.Appended.{stores-append, lands-append}
 
@@ -17,16 +17,16 @@ pub land_of-allowed : (B : ℕ) (o : OpeningValue) (before : List Entry) (h : �
 land_of-allowed B o before h e a = grind (arith, land_of_allowed)
 
 pub balanced-last : (B : ℕ) (o : OpeningValue) (before : List Entry) (h : ℕ) (e : Entry) → Allowed B o before e
-    → lands h before ≤ length (stores h before) → lands h (before ++ e ∷ []) ≤ length (stores h (before ++ e ∷ []))
+    → lands h before ≤ length (own_stores h before) → lands h (before ++ e ∷ []) ≤ length (own_stores h (before ++ e ∷ []))
 balanced-last B o before h e a le = grind (arith, land_of-allowed, length-drop, lands-append, stores-append, length-append)
 
 pub balanced-after : (B : ℕ) (o : OpeningValue) (before es : List Entry) (h : ℕ) → LegalAfter B o before es
-    → lands h before ≤ length (stores h before) → lands h (before ++ es) ≤ length (stores h (before ++ es))
+    → lands h before ≤ length (own_stores h before) → lands h (before ++ es) ≤ length (own_stores h (before ++ es))
 balanced-after B o before [] h l le = rw append-nil le
 balanced-after B o before (e ∷ es) h l le =
     rw (← append_assoc before (e ∷ []) es) (balanced-after B o (before ++ e ∷ []) es h l.1 (balanced-last B o before h e l.0 le))
 
-pub balanced : (B : ℕ) (t : History) (h : ℕ) → Legal B t → lands h t.entries ≤ length (stores h t.entries)
+pub balanced : (B : ℕ) (t : History) (h : ℕ) → Legal B t → lands h t.entries ≤ length (own_stores h t.entries)
 balanced B t h l = balanced-after B t.opening [] t.entries h l (omega arith)
 
 -- and at most B of its stores are pending

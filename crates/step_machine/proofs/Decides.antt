@@ -19,7 +19,7 @@ use Rattle.step_machine.specs.declared.events.Outcome.{Outcome}
 use Rattle.step_machine.specs.declared.events.Outcome.TheVariants as outcome
 use Rattle.step_machine.specs.History.{OpeningValue, History}
 use Rattle.step_machine.specs.Entries.{hart_of, is_land, pending, memory_byte, memory_word, read_byte, read}
-use Rattle.step_machine.specs.Paths.{entry_of, value_of}
+use Rattle.step_machine.specs.Paths.{entry_of, number_read}
 use Rattle.step_machine.specs.Legal.{Allowed}
 use Rattle.step_machine.specs.Banks.{Does}
 use Rattle.step_machine.specs.Ranges.{IsPlace, IsInRange}
@@ -65,8 +65,8 @@ read-empty o es h a e = ap (λ ws. joined (λ i. unwrap_or (newest_of (a + i) No
 
 -- an entry that is the only one, whatever it read
 alone : (B : ℕ) (t : History) (h : ℕ) (n : Need) (e : Entry) → hart_of e ≡ h → is_land e ≡ false
-    → e ≡ entry_of h n (value_of e) → Allowed B t.opening t.entries e
-    → ((d : Entry) → d ≡ entry_of h n (value_of d) → d ≡ e) → Decided B t h n (outcome.Did e)
+    → e ≡ entry_of h n (number_read e) → Allowed B t.opening t.entries e
+    → ((d : Entry) → d ≡ entry_of h n (number_read d) → d ≡ e) → Decided B t h n (outcome.Did e)
 alone B t h n e mine act made allowed only = (mine, act, record { made = made; allowed = allowed }, λ d does. only d does.made)
 
 decided_load : (B M : ℕ) (t : History) (c : Stored) (h a width : ℕ) → Sees M t c h → IsPlace M width a

@@ -8,10 +8,14 @@ use Rattle.step_machine.specs.declared.events.Entry.{Entry}
 use Rattle.step_machine.specs.declared.events.Entry.TheVariants as entry
 use Rattle.step_machine.specs.History.{HartOpeningValue, History, with_entry}
 use Rattle.step_machine.specs.Entries.{hart_of, is_land, is_own, own}
-use Rattle.step_machine.specs.Paths.{value_of, CanMake, after_entries, opens_as, state_of, PathOf, Path}
+use Rattle.step_machine.specs.Paths.{number_read, CanMake, after_entries, opens_as, state_of, PathOf, Path}
 use Rattle.step_machine.specs.Legal.{Allowed, Legal}
-use Rattle.step_machine.specs.Runs.{CanFollow}
+use Rattle.step_machine.specs.declared.events.Event.{Event}
+use Rattle.step_machine.specs.Runs.{CanFollow, IsFor, event_of}
 use Rattle.step_machine.proofs.Appended.{own-append, after_entries-append, Makes-append, Makes-front, Makes-back, LegalAfter-append, LegalAfter-back}
+
+pub event_of-for : (ev : Event) (e : Entry) → IsFor ev e → event_of e ≡ ev
+event_of-for ev e for_it = grind arith
 
 -- an entry of the hart's own at the end
 pub own-mine : (h : ℕ) (es : List Entry) (e : Entry) → hart_of e ≡ h → is_land e ≡ false → own h (es ++ e ∷ []) ≡ own h es ++ e ∷ []
@@ -25,7 +29,7 @@ abbrev pub state_after : ℕ → List Entry → HartOpeningValue → HartState
 state_after M es o = after_entries (opens_as M o) es
 
 abbrev pub advance_by : Entry → HartState → HartState
-advance_by e s = advanced s (value_of e)
+advance_by e s = advanced s (number_read e)
 
 state_after-last : (M : ℕ) (so : Option HartOpeningValue) (es : List Entry) (e : Entry)
     → option_map (state_after M (es ++ e ∷ [])) so ≡ option_map (advance_by e) (option_map (state_after M es) so)

@@ -17,7 +17,7 @@ use Rattle.rv_decode.specs.declared.instruction.Instr.TheVariants.{Jal, Jalr, Br
 use Rattle.hart.specs.State.{HartState}
 use Rattle.hart.specs.declared.need.Need.{Need}
 use Rattle.hart.specs.declared.need.Need.TheVariants as need
-use Rattle.hart.specs.Effects.{read, written, next_pc, address, word}
+use Rattle.hart.specs.Effects.{register_value, register_written, next_pc, address, word}
 use Rattle.hart.specs.Steps.{need_of, advanced, settled, jump_need}
 use Rattle.hart.proofs.Instructions.{IsAt, load_need, load_after, store_need, store_after, immediate_need}
 use Rattle.hart.proofs.Instructions.{immediate_after, branch_on_need, branch_on_after, branch_taken_need}
@@ -25,7 +25,7 @@ use Rattle.hart.proofs.Instructions.{branch_taken_after, register_need, register
 
 -- a state, what it wants, and the state that it leaves when it reads v
 pub record Line (s : HartState) (n : Need) (next : ℕ → HartState) : Type 0 where
-  pub wants : need_of s ≡ n
+  pub needs : need_of s ≡ n
   pub leaves : (v : ℕ) → advanced s v ≡ next v
 
 -- a load and a store of a word
@@ -57,52 +57,54 @@ abbrev pub goes_to : HartState → ℕ → HartState
 goes_to s pc = settled (record s { pc = pc })
 
 abbrev pub leaves_in : HartState → Reg → ℕ → HartState
-leaves_in s rd n = settled (record s { registers = written s.registers rd n; pc = next_pc s.pc })
+leaves_in s rd n = settled (record s { registers = register_written s.registers rd n; pc = next_pc s.pc })
 
 pub add_line : {s : HartState} {rd rs : Reg} {k : ℤ} {n : ℕ} → IsAt s (Immediate immediate.Add rd rs k)
-    → word (pos (read s.registers rs) +ℤ k) ≡ n → Line s need.Inner (λ v. leaves_in s rd n)
-add_line {s} {rd} {rs} {k} {n} at is = record { wants = immediate_need at; leaves = λ v. immediate_after at v ∙ ap (leaves_in s rd) is }
+    → word (pos (register_value s.registers rs) +ℤ k) ≡ n → Line s need.Inner (λ v. leaves_in s rd n)
+add_line {s} {rd} {rs} {k} {n} at is = record { needs = immediate_need at; leaves = λ v. immediate_after at v ∙ ap (leaves_in s rd) is }
 
 pub sum_line : {s : HartState} {rd a b : Reg} → IsAt s (Register register.Add rd a b)
-    → read s.registers a + read s.registers b < 2 ^ 32
-    → Line s need.Inner (λ v. leaves_in s rd (read s.registers a + read s.registers b))
+    → register_value s.registers a + register_value s.registers b < 2 ^ 32
+    → Line s need.Inner (λ v. leaves_in s rd (register_value s.registers a + register_value s.registers b))
 sum_line {s} {rd} {a} {b} at small = grind (arith, register_need at, register_after at)
 
 pub load_line : {s : HartState} {rd rs : Reg} {k : ℕ} → IsAt s (Load load.Word rd rs (pos k))
-    → read s.registers rs % 4 ≡ 0 → k % 4 ≡ 0 → read s.registers rs + k < 4 * s.words → 4 * s.words ≤ 2 ^ 32
-    → Line s (loads (read s.registers rs + k)) (λ v. leaves_in s rd v)
-load_line {s} {rd} {rs} {k} at even whole below small = grind (arith, word-plus (read s.registers rs) k, load_need at, load_after at)
+    → register_value s.registers rs % 4 ≡ 0 → k % 4 ≡ 0 → register_value s.registers rs + k < 4 * s.words → 4 * s.words ≤ 2 ^ 32
+    → Line s (loads (register_value s.registers rs + k)) (λ v. leaves_in s rd v)
+load_line {s} {rd} {rs} {k} at even whole below small = grind (arith, word-plus (register_value s.registers rs) k, load_need at, load_after at)
 
 pub store_line : {s : HartState} {rs from : Reg} {k : ℕ} → IsAt s (Store store.Word rs from (pos k))
-    → read s.registers rs % 4 ≡ 0 → k % 4 ≡ 0 → read s.registers rs + k < 4 * s.words → 4 * s.words ≤ 2 ^ 32
-    → Line s (stores (read s.registers rs + k) (read s.registers from)) (λ v. goes_to s (next_pc s.pc))
-store_line {s} {rs} {from} {k} at even whole below small = grind (arith, word-plus (read s.registers rs) k, store_need at, store_after at)
+    → register_value s.registers rs % 4 ≡ 0 → k % 4 ≡ 0 → register_value s.registers rs + k < 4 * s.words → 4 * s.words ≤ 2 ^ 32
+    → Line s (stores (register_value s.registers rs + k) (register_value s.registers from)) (λ v. goes_to s (next_pc s.pc))
+store_line {s} {rs} {from} {k} at even whole below small = grind (arith, word-plus (register_value s.registers rs) k, store_need at, store_after at)
 
 pub jump_line : {s : HartState} {k : ℤ} → IsAt s (Jal (reg_of 0) k) → address s.pc k % 4 ≡ 0 → Line s need.Inner (λ v. goes_to s (address s.pc k))
-jump_line at aligned = record { wants = jal_need at aligned; leaves = λ v. jal_after at aligned v }
+jump_line at aligned = record { needs = jal_need at aligned; leaves = λ v. jal_after at aligned v }
 
 module _ {s : HartState} {a b : Reg} {k : ℤ} where
-  pub same_jumps : IsAt s (Branch branch.Equal a b k) → read s.registers a ≡ read s.registers b
+  pub same_jumps : IsAt s (Branch branch.Equal a b k) → register_value s.registers a ≡ register_value s.registers b
       → address s.pc k % 4 ≡ 0 → Line s need.Inner (λ v. goes_to s (address s.pc k))
   same_jumps at known aligned =
-      let test : (read s.registers a == read s.registers b) ≡ true = grind (arith, nat_tests) in
-      record { wants = branch_taken_need at test aligned; leaves = λ v. branch_taken_after at test aligned v ∙ rw test refl }
+      let test : (register_value s.registers a == register_value s.registers b) ≡ true = grind (arith, nat_tests) in
+      record { needs = branch_taken_need at test aligned; leaves = λ v. branch_taken_after at test aligned v ∙ rw test refl }
 
-  pub other_goes_on : IsAt s (Branch branch.Equal a b k) → read s.registers a ≢ read s.registers b → Line s need.Inner (λ v. goes_to s (next_pc s.pc))
+  pub other_goes_on : IsAt s (Branch branch.Equal a b k)
+      → register_value s.registers a ≢ register_value s.registers b → Line s need.Inner (λ v. goes_to s (next_pc s.pc))
   other_goes_on at known =
-      let test : (read s.registers a == read s.registers b) ≡ false = grind (arith, nat_tests) in
-      record { wants = branch_on_need at test; leaves = λ v. branch_on_after at test v ∙ rw test refl }
+      let test : (register_value s.registers a == register_value s.registers b) ≡ false = grind (arith, nat_tests) in
+      record { needs = branch_on_need at test; leaves = λ v. branch_on_after at test v ∙ rw test refl }
 
-  pub other_jumps : IsAt s (Branch branch.NotEqual a b k) → read s.registers a ≢ read s.registers b
+  pub other_jumps : IsAt s (Branch branch.NotEqual a b k) → register_value s.registers a ≢ register_value s.registers b
       → address s.pc k % 4 ≡ 0 → Line s need.Inner (λ v. goes_to s (address s.pc k))
   other_jumps at known aligned =
-      let test : (read s.registers a == read s.registers b) ≡ false = grind (arith, nat_tests) in
-      record { wants = branch_taken_need at (ap not test) aligned; leaves = λ v. branch_taken_after at (ap not test) aligned v ∙ rw test refl }
+      let test : (register_value s.registers a == register_value s.registers b) ≡ false = grind (arith, nat_tests) in
+      record { needs = branch_taken_need at (ap not test) aligned; leaves = λ v. branch_taken_after at (ap not test) aligned v ∙ rw test refl }
 
-  pub same_goes_on : IsAt s (Branch branch.NotEqual a b k) → read s.registers a ≡ read s.registers b → Line s need.Inner (λ v. goes_to s (next_pc s.pc))
+  pub same_goes_on : IsAt s (Branch branch.NotEqual a b k)
+      → register_value s.registers a ≡ register_value s.registers b → Line s need.Inner (λ v. goes_to s (next_pc s.pc))
   same_goes_on at known =
-      let test : (read s.registers a == read s.registers b) ≡ true = grind (arith, nat_tests) in
-      record { wants = branch_on_need at (ap not test); leaves = λ v. branch_on_after at (ap not test) v ∙ rw test refl }
+      let test : (register_value s.registers a == register_value s.registers b) ≡ true = grind (arith, nat_tests) in
+      record { needs = branch_on_need at (ap not test); leaves = λ v. branch_on_after at (ap not test) v ∙ rw test refl }
 
 -- a return: x0 stays, and the pc is x1, rounded down to a multiple of 2. A return to no multiple of 4 stops the hart
 -- where it is
@@ -112,5 +114,5 @@ return_line {s} at small aligned =
     let plus : word (pos (slice_index s.registers 1) +ℤ pos 0) ≡ slice_index s.registers 1 =
     word-plus (slice_index s.registers 1) 0 (omega (arith, small)) ∙ add-zero (slice_index s.registers 1) in
     let test : (slice_index s.registers 1 / 2 * 2 % 4 == 0) ≡ true = grind (arith, nat_tests) in
-    let wants : need_of s ≡ need.Inner = need_at at ∙ ap (λ a. jump_need (a / 2 * 2)) plus ∙ rw test refl in
-    record { wants = wants; leaves = λ v. after-at at need.Inner wants tt v ∙ ap (λ a. goes_to s (a / 2 * 2)) plus }
+    let needs : need_of s ≡ need.Inner = need_at at ∙ ap (λ a. jump_need (a / 2 * 2)) plus ∙ rw test refl in
+    record { needs = needs; leaves = λ v. after-at at need.Inner needs tt v ∙ ap (λ a. goes_to s (a / 2 * 2)) plus }

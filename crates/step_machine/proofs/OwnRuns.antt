@@ -13,7 +13,7 @@ use Rattle.step_machine.specs.declared.events.Entry.TheVariants as entry
 use Rattle.step_machine.specs.declared.events.Outcome.TheVariants as outcome
 use Rattle.step_machine.specs.History.{HartOpeningValue, OpeningValue, History, history_of, HistoryWithRoom, with_entry}
 use Rattle.step_machine.specs.Entries.{hart_of, is_land, own}
-use Rattle.step_machine.specs.Paths.{entry_of, value_of, CanMake, after_entries, opens_as, state_of, PathOf}
+use Rattle.step_machine.specs.Paths.{entry_of, number_read, CanMake, after_entries, opens_as, state_of, PathOf}
 use Rattle.step_machine.specs.Legal.{Allowed, IsOfHarts, WellFormed}
 use Rattle.step_machine.specs.Runs.{CanFollow, Adds, RunFrom, event_of, IsOwnRun}
 use Rattle.step_machine.specs.inner.Config.{Config}
@@ -22,7 +22,7 @@ use Rattle.step_machine.proofs.Appended.{own-append, Makes-front, LegalAfter-fro
 use Rattle.step_machine.proofs.Follows.{act_only}
 use Rattle.step_machine.proofs.Running.{hart_follows}
 
-path_front : (M : ℕ) (so : Option HartOpeningValue) (es fs : List Entry) → PathOf M so (es ++ fs) → PathOf M so es
+pub path_front : (M : ℕ) (so : Option HartOpeningValue) (es fs : List Entry) → PathOf M so (es ++ fs) → PathOf M so es
 path_front M so es fs p = grind (arith, Makes-front)
 
 of_harts_front : (o : OpeningValue) (es fs : List Entry) → All (IsOfHarts o) (es ++ fs) → All (IsOfHarts o) es
@@ -61,9 +61,9 @@ only_act B M t h e d within mine act f his does g =
   where
     at : (s : HartState) → CanMake s e × Allowed B t.opening t.entries e → CanMake s d × Allowed B t.opening t.entries d → d ≡ e
     at s one two =
-        let is : e ≡ entry_of h (need_of s) (value_of e) = one.0.made ∙ ap (λ k. entry_of k (need_of s) (value_of e)) mine in
-        let be : d ≡ entry_of h (need_of s) (value_of d) = two.0.made ∙ ap (λ k. entry_of k (need_of s) (value_of d)) his in
-        be ∙ same_done B t.opening t.entries h (need_of s) (value_of d) (value_of e)
+        let is : e ≡ entry_of h (need_of s) (number_read e) = one.0.made ∙ ap (λ k. entry_of k (need_of s) (number_read e)) mine in
+        let be : d ≡ entry_of h (need_of s) (number_read d) = two.0.made ∙ ap (λ k. entry_of k (need_of s) (number_read d)) his in
+        be ∙ same_done B t.opening t.entries h (need_of s) (number_read d) (number_read e)
         (subst (Allowed B t.opening t.entries) be two.1) (subst (Allowed B t.opening t.entries) is one.1) ∙ sym is
 
 landing : (e : Entry) → is_land e ≡ true → e ≡ entry.Land (hart_of e)

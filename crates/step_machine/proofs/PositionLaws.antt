@@ -15,7 +15,7 @@ use Rattle.step_machine.specs.History.{History}
 use Rattle.step_machine.specs.Standing.{RepresentsHistory}
 use Rattle.step_machine.specs.inner.Representation.{StoresRepresent}
 use Rattle.step_machine.specs.Entries.{hart_of, memory_byte, memory_word}
-use Rattle.step_machine.specs.Paths.{value_of}
+use Rattle.step_machine.specs.Paths.{number_read}
 use Rattle.step_machine.specs.declared.events.Event.{Event}
 use Rattle.step_machine.specs.declared.events.Entry.{Entry}
 use Rattle.step_machine.specs.declared.events.Entry.TheVariants as entry
@@ -55,9 +55,9 @@ position_is_next B c d e ev o same is after =
 
 firsts_after : (c : Config) (e : Entry) → map beginning (harts_after c e) ≡ map beginning c.harts
 firsts_after c (entry.Land h) = refl
-firsts_after c e = firsts_step_at c.harts (hart_of e) (value_of e) (slice_get c.harts (hart_of e)) refl
+firsts_after c e = firsts_step_at c.harts (hart_of e) (number_read e) (slice_get c.harts (hart_of e)) refl
 
-first_after : (s : Stored) (e : Entry) → (stored_after s e).first ≡ s.first
+pub first_after : (s : Stored) (e : Entry) → (stored_after s e).first ≡ s.first
 first_after s (entry.Store h a width v) = refl
 first_after s (entry.Amo h a old new) = refl
 first_after s (entry.Land h) = refl

@@ -10,7 +10,7 @@ use Rattle.hart.proofs.Advances.{advanced-code, advanced-words, registers-are_ke
 use Rattle.step_machine.specs.declared.events.Entry.{Entry}
 use Rattle.step_machine.specs.History.{HartOpeningValue, History}
 use Rattle.step_machine.specs.Entries.{own}
-use Rattle.step_machine.specs.Paths.{value_of, after_entries, opens_as, state_of}
+use Rattle.step_machine.specs.Paths.{number_read, after_entries, opens_as, state_of}
 use Rattle.step_machine.proofs.Follows.{state_after}
 
 -- its code, the number of words of memory, how many registers it has, and that x0 is 0
@@ -29,7 +29,8 @@ opens_keeps M o = record { code = refl; words = refl; registers = length-set o.r
 
 after_entries-keep : (M : ℕ) (o : HartOpeningValue) (s : HartState) (es : List Entry) → KeepsOpening M o s → KeepsOpening M o (after_entries s es)
 after_entries-keep M o s [] keeps = keeps
-after_entries-keep M o s (e ∷ es) keeps = grind (arith, advanced-code, advanced-words, registers-are_kept, after_entries-keep M o (advanced s (value_of e)) es)
+after_entries-keep M o s (e ∷ es) keeps =
+    grind (arith, advanced-code, advanced-words, registers-are_kept, after_entries-keep M o (advanced s (number_read e)) es)
 
 pub state_keeps : (M : ℕ) (t : History) (h : ℕ) (o : HartOpeningValue) (s : HartState)
     → slice_get t.opening.harts h ≡ Some o → state_of M t h ≡ Some s → KeepsOpening M o s

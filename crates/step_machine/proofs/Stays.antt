@@ -17,8 +17,8 @@ use Rattle.hart.specs.declared.need.Report.{Report}
 use Rattle.step_machine.specs.declared.events.Entry.{Entry}
 use Rattle.step_machine.specs.declared.events.Entry.TheVariants as entry
 use Rattle.step_machine.specs.History.{OpeningValue, History, with_entry}
-use Rattle.step_machine.specs.Entries.{hart_of, is_land, is_own, store_of, land_of, report_of, reported, pending, write_of, landed, opening_byte, memory_byte}
-use Rattle.step_machine.specs.Paths.{entry_of, value_of, opens_as, state_of}
+use Rattle.step_machine.specs.Entries.{hart_of, is_land, is_own, own_store, land_of, report_of, reported, pending, write_of, landed, opening_byte, memory_byte}
+use Rattle.step_machine.specs.Paths.{entry_of, number_read, opens_as, state_of}
 use Rattle.step_machine.specs.Legal.{Legal}
 use Rattle.step_machine.specs.inner.Stored.{Stored, HasAddress, written}
 use Rattle.step_machine.specs.inner.Config.{Config, beginning, step_at, step_hart, view_state}
@@ -60,7 +60,7 @@ own_is h k e b mine is = let at : (hart_of e == k) ≡ b = subst (λ (g : ℕ). 
 -- the states after hart h made an entry e of its own and its list of harts stepped at h by what e read
 pub states_stay : (M : ℕ) (t : History) (c : Config) (h : ℕ) (e : Entry) → Represents M t c → hart_of e ≡ h
     → is_land e ≡ false → (k : ℕ)
-    → option_map view_state (slice_get (step_hart c h (value_of e)) k) ≡ state_of M (with_entry t e) k
+    → option_map view_state (slice_get (step_hart c h (number_read e)) k) ≡ state_of M (with_entry t e) k
 states_stay M t c h e tied mine act k =
     grind (arith, eqb-true, step_at-same, map_stepped, advance_by, state_of-mine, eqb-false, own_is, ne_eqb, step_at-other, state_of-other)
 
@@ -100,15 +100,15 @@ report_of-other k e ne = grind arith
 
 -- the reports after hart h, in state s, made e
 pub reports_stay : (M : ℕ) (t : History) (c : Config) (h : ℕ) (e : Entry) (s : HartState) → Represents M t c
-    → hart_of e ≡ h → state_of M t h ≡ Some s → e ≡ entry_of h (need_of s) (value_of e) → (k : ℕ) (w : HartView)
-    → slice_get (step_hart c h (value_of e)) k ≡ Some w → w.reports ≡ reported k (with_entry t e).entries
+    → hart_of e ≡ h → state_of M t h ≡ Some s → e ≡ entry_of h (need_of s) (number_read e) → (k : ℕ) (w : HartView)
+    → slice_get (step_hart c h (number_read e)) k ≡ Some w → w.reports ≡ reported k (with_entry t e).entries
 reports_stay M t c h e s tied mine is made k w here =
     grind (arith, step_at-same, reports_after-entry, reported-last, eqb-true, eqb-false, report_of-other, ne_eqb, step_at-other, append-nil)
 
 -- buffers
 
 -- an entry that neither stores nor lands leaves what is pending
-pub pending-other : (B : ℕ) (t : History) (k : ℕ) (e : Entry) → Legal B t → store_of k e ≡ [] → land_of k e ≡ 0
+pub pending-other : (B : ℕ) (t : History) (k : ℕ) (e : Entry) → Legal B t → own_store k e ≡ [] → land_of k e ≡ 0
     → pending k (t.entries ++ e ∷ []) ≡ pending k t.entries
 pending-other B t k e legal no_store no_land = grind (arith, pending-last, balanced, append-nil)
 
@@ -122,7 +122,7 @@ pending-store B t h a width v legal = pending-last h t.entries (entry.Store h a 
 pub pending-land : (B : ℕ) (t : History) (h : ℕ) → Legal B t → pending h (t.entries ++ entry.Land h ∷ []) ≡ drop 1 (pending h t.entries)
 pending-land B t h legal = grind (arith, pending-last, balanced, if_self, append-nil)
 
-pub store_of-other : (h k a width v : ℕ) → (k ≡ h → ⊥) → store_of k (entry.Store h a width v) ≡ []
+pub store_of-other : (h k a width v : ℕ) → (k ≡ h → ⊥) → own_store k (entry.Store h a width v) ≡ []
 store_of-other h k a width v ne = ap (λ b. if b then write a width v ∷ [] else []) (ne_eqb h k (λ q. ne (sym q)))
 
 pub land_of-other : (h k : ℕ) → (k ≡ h → ⊥) → land_of k (entry.Land h) ≡ 0

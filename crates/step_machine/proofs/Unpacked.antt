@@ -6,7 +6,7 @@ use Rattle.std.proofs.lemmas.List.{length-take-le, drop-append-le, take-append-d
 use Rattle.std.proofs.lemmas.List.Sums.{sum_by-cons, sum_by_push}
 use Rattle.step_machine.specs.declared.events.Entry.{Entry}
 use Rattle.step_machine.specs.declared.packed.Head.{Head}
-use Rattle.step_machine.specs.inner.Packed.{IsBalanced, IsSingle, IsLonger, numbers_of, plain_of, further_of, entry_of, row_of, unpacked}
+use Rattle.step_machine.specs.inner.Packed.{IsBalanced, IsSingle, IsLonger, numbers_of, plain_of, further_of, entry_of, packed_entries, unpacked}
 
 -- a head's entry stays where more numbers and plain entries come after its own
 entry_stays : (h : Head) (ns ms : List ℕ) (ps qs : List Entry) → numbers_of h ≤ length ns → plain_of h ≤ length ps
@@ -14,7 +14,7 @@ entry_stays : (h : Head) (ns ms : List ℕ) (ps qs : List Entry) → numbers_of 
 entry_stays h ns ms ps qs n p = grind (arith, get_or-append)
 
 unpacked-push : (hs : List Head) (ns ms : List ℕ) (ps qs : List Entry) (h : Head) → IsBalanced hs ns ps
-    → unpacked (hs ++ h ∷ []) (ns ++ ms) (ps ++ qs) ≡ unpacked hs ns ps ++ row_of h ms qs
+    → unpacked (hs ++ h ∷ []) (ns ++ ms) (ps ++ qs) ≡ unpacked hs ns ps ++ packed_entries h ms qs
 unpacked-push [] ns ms ps qs h b = grind (arith, nil_from_length, append-nil)
 unpacked-push (g ∷ hs) ns ms ps qs h b = grind (
   arith,
@@ -25,7 +25,7 @@ unpacked-push (g ∷ hs) ns ms ps qs h b = grind (
   entry_stays g ns ms ps qs,
   drop-append-le (numbers_of g) ns ms,
   drop-append-le (plain_of g) ps qs,
-  append_assoc (row_of g ns ps) (unpacked hs (drop (numbers_of g) ns) (drop (plain_of g) ps)) (row_of h ms qs),
+  append_assoc (packed_entries g ns ps) (unpacked hs (drop (numbers_of g) ns) (drop (plain_of g) ps)) (packed_entries h ms qs),
   unpacked-push hs (drop (numbers_of g) ns) ms (drop (plain_of g) ps) qs h,
 )
 
@@ -64,7 +64,7 @@ dropped_to {hs} {ns} {ps} h n p b ha nm pm single ln lp =
     rw (nm, pm) (added_to (drop n ns) (drop p ps) before ha (sym (take-append-drop n ns)) (sym (take-append-drop p ps)) is)
 
 longer_row : (h : Head) (e : Entry) (l : Head) (ns : List ℕ) (ps : List Entry) → IsLonger h e l
-    → row_of l ns ps ≡ row_of h ns ps ++ e ∷ []
+    → packed_entries l ns ps ≡ packed_entries h ns ps ++ e ∷ []
 longer_row h e l ns ps is = grind (arith, ap₂, replicate_more)
 
 longer_last : (hs : List Head) (h : Head) (e : Entry) (l : Head) (ns : List ℕ) (ps : List Entry) → IsLonger h e l

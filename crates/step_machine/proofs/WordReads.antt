@@ -12,7 +12,7 @@ use Rattle.memory.proofs.WholeWords.{word_reads}
 use Rattle.step_machine.specs.declared.events.Entry.{Entry}
 use Rattle.step_machine.specs.Access.{Access, access_of}
 use Rattle.step_machine.specs.History.{OpeningValue}
-use Rattle.step_machine.specs.Entries.{hart_of, stored_by, written_by, store_of, stores, lands, pending, write_of}
+use Rattle.step_machine.specs.Entries.{hart_of, stored_by, written_by, own_store, own_stores, lands, pending, write_of}
 use Rattle.step_machine.specs.Entries.{landed_after, landed, opening_byte, memory_byte, memory_word, read}
 use Rattle.step_machine.proofs.Appended.{landed-last}
 use Rattle.step_machine.specs.WordReads.{WritesWord, AllWriteWords, OpensWithWords, word_in_memory, word_read}
@@ -20,12 +20,13 @@ use Rattle.step_machine.specs.WordReads.{WritesWord, AllWriteWords, OpensWithWor
 store_whole : (b : Bool) (x : Access) → WritesWord x → All IsWholeWord (stored_by b x)
 store_whole b x is = grind (arith, All-cons, All-nil)
 
-pub stores-whole : (h : ℕ) (es : List Entry) → AllWriteWords es → All IsWholeWord (stores h es)
+pub stores-whole : (h : ℕ) (es : List Entry) → AllWriteWords es → All IsWholeWord (own_stores h es)
 stores-whole h [] all = All-nil IsWholeWord
-stores-whole h (e ∷ es) all = All-append IsWholeWord (store_of h e) (stores h es) (store_whole (hart_of e == h) (access_of e) all.0) (stores-whole h es all.1)
+stores-whole h (e ∷ es) all = All-append IsWholeWord (own_store h e) (own_stores h es)
+    (store_whole (hart_of e == h) (access_of e) all.0) (stores-whole h es all.1)
 
 pub pending-whole : (h : ℕ) (es : List Entry) → AllWriteWords es → All IsWholeWord (pending h es)
-pending-whole h es all = All-drop IsWholeWord (lands h es) (stores h es) (stores-whole h es all)
+pending-whole h es all = All-drop IsWholeWord (lands h es) (own_stores h es) (stores-whole h es all)
 
 write_whole : (oldest : List Write) (x : Access) → All IsWholeWord oldest → WritesWord x → All IsWholeWord (written_by oldest x)
 write_whole oldest x all is = grind (arith, All-cons, All-nil)

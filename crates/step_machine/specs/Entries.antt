@@ -46,13 +46,13 @@ stored_by counts (store w) = if counts then w ∷ [] else []
 stored_by counts other = []
 
 -- what the hart stores by this entry, if it is its store
-abbrev pub store_of : ℕ → Entry → List Write
-store_of h e = stored_by (hart_of e == h) (access_of e)
+abbrev pub own_store : ℕ → Entry → List Write
+own_store h e = stored_by (hart_of e == h) (access_of e)
 
 -- what the hart stored, in program order
-abbrev pub stores : ℕ → List Entry → List Write
-stores h [] = []
-stores h (e ∷ es) = store_of h e ++ stores h es
+abbrev pub own_stores : ℕ → List Entry → List Write
+own_stores h [] = []
+own_stores h (e ∷ es) = own_store h e ++ own_stores h es
 
 abbrev pub landed_by : Bool → Access → ℕ
 landed_by counts land = if counts then 1 else 0
@@ -69,7 +69,7 @@ lands h (e ∷ es) = land_of h e + lands h es
 
 -- the hart's stores that have not landed, oldest first
 abbrev pub pending : ℕ → List Entry → List Write
-pending h es = drop (lands h es) (stores h es)
+pending h es = drop (lands h es) (own_stores h es)
 
 -- what an access writes to memory: a landing this, an AMO its new word, and nothing else writes
 abbrev pub written_by : List Write → Access → List Write
@@ -92,7 +92,7 @@ landed es = landed_after [] es
 -- The same by counting over the whole list: the k-th landing of a hart writes its k-th store. A law
 -- says that the two agree on every legal list.
 abbrev pub write_by_count : List Entry → List Entry → Entry → List Write
-write_by_count whole before e = written_by (option_to_list (slice_get (stores (hart_of e) whole) (lands (hart_of e) before))) (access_of e)
+write_by_count whole before e = written_by (option_to_list (slice_get (own_stores (hart_of e) whole) (lands (hart_of e) before))) (access_of e)
 
 abbrev pub landed_by_count_after : List Entry → List Entry → List Entry → List Write
 landed_by_count_after whole before [] = []

@@ -30,10 +30,10 @@ entry_of h need.Exit v = entry.Ended h
 entry_of h (need.Stop why) v = entry.Stopped h why
 
 -- the number that an entry read, and 0 where it read none
-abbrev pub value_of : Entry → ℕ
-value_of (entry.Load h a width v) = v
-value_of (entry.Amo h a old new) = old
-value_of other = 0
+abbrev pub number_read : Entry → ℕ
+number_read (entry.Load h a width v) = v
+number_read (entry.Amo h a old new) = old
+number_read other = 0
 
 -- the number that an entry read, if it read one
 abbrev pub read_of : Entry → Option ℕ
@@ -44,17 +44,17 @@ read_of other = None
 -- a running hart in this state can make this entry
 pub record CanMake (s : HartState) (e : Entry) : Type 0 where
   pub running : s.status ≡ status.Running
-  pub made : e ≡ entry_of (hart_of e) (need_of s) (value_of e)
+  pub made : e ≡ entry_of (hart_of e) (need_of s) (number_read e)
 
 -- the state after these entries of the hart's own
 abbrev pub after_entries : HartState → List Entry → HartState
 after_entries s [] = s
-after_entries s (e ∷ es) = after_entries (advanced s (value_of e)) es
+after_entries s (e ∷ es) = after_entries (advanced s (number_read e)) es
 
 -- each of these entries is the one that the state before it makes
-abbrev pub Makes : HartState → List Entry → Type 0
-Makes s [] = Unit {0}
-Makes s (e ∷ es) = CanMake s e × Makes (advanced s (value_of e)) es
+abbrev pub MakesEntries : HartState → List Entry → Type 0
+MakesEntries s [] = Unit {0}
+MakesEntries s (e ∷ es) = CanMake s e × MakesEntries (advanced s (number_read e)) es
 
 abbrev pub opens_as : ℕ → HartOpeningValue → HartState
 opens_as M o = first_state o.code o.registers o.inbox M
@@ -75,7 +75,7 @@ IsRegister M t h number word = option_map (λ s. slice_index s.registers number)
 
 abbrev pub PathOf : ℕ → Option HartOpeningValue → List Entry → Type 0
 PathOf M None es = ⊥
-PathOf M (Some o) es = Makes (opens_as M o) es
+PathOf M (Some o) es = MakesEntries (opens_as M o) es
 
 -- h is a hart, and its own entries are a path from its opening
 abbrev pub Path : ℕ → History → ℕ → Type 0

@@ -7,7 +7,7 @@ ghost use Rattle.step_machine.specs.Entries.{landed, landed_by_count, memory_wor
 ghost use Rattle.step_machine.specs.Legal.{IsOfHarts, WellFormed, Legal};
 ghost use Rattle.step_machine.specs.Paths.{PathOf};
 ghost use Rattle.step_machine.specs.MemoryEntries.{memory_of};
-ghost use Rattle.step_machine.specs.Placing.{diary_of, placed, IsMemory, Parts};
+ghost use Rattle.step_machine.specs.Placing.{diary_of, placed, IsMemoryEntry, Parts};
 ghost use Rattle.step_machine.specs.Positions.{IsSoundMachine, AreOfOneOpening, IsPositionOf, position_of, outcome_at, next_position, packed, put_at};
 ghost use Rattle.step_machine.specs.Standing.{RepresentsHistory};
 ghost use Rattle.step_machine.specs.inner.Config.{Config, outcome_of, after_outcome};
@@ -51,9 +51,9 @@ pub fn laws_of_placing()
     ensures legal { (B : ℕ) (o : OpeningValue) (es : List Entry) → Legal B (history_of o (memory_of es)) ↔ Legal B (history_of o es) }
     ensures words { (B : ℕ) (o p : OpeningValue) (es : List Entry) → o.words ≡ p.words → Legal B (history_of o es) → Legal B (history_of p es) }
     ensures own { (ds : List (List Entry)) (us : List Entry) → Parts ds us → (h : ℕ) → own h (placed ds us) ≡ diary_of ds h }
-    ensures memory { (ds : List (List Entry)) (us : List Entry) → All IsMemory us → Parts ds us → memory_of (placed ds us) ≡ us }
+    ensures memory { (ds : List (List Entry)) (us : List Entry) → All IsMemoryEntry us → Parts ds us → memory_of (placed ds us) ≡ us }
     ensures kept { (B M : ℕ) (o : OpeningValue) (ds : List (List Entry)) (us : List Entry)
-        → length ds ≡ length o.harts → All IsMemory us → Legal B (history_of o us) → Parts ds us
+        → length ds ≡ length o.harts → All IsMemoryEntry us → Legal B (history_of o us) → Parts ds us
         → ((h : ℕ) → h < length o.harts → PathOf M (slice_get o.harts h) (diary_of ds h))
         → WellFormed B M (history_of o (placed ds us)) }
 {}

@@ -3,8 +3,8 @@
 use crate::devices::{Reader, Writer};
 use callers::{Queue, QueueKind, callers_engine};
 use channel_engines::channel::channel_engine;
-use channel_engines::own_channel::own_channel_engine;
 use channel_engines::ring::ring_engine;
+use channel_engines::user_channel::user_channel_engine;
 use checking::check_engine;
 use code_engines::asm::asm_engine;
 use code_engines::dis::dis_engine;
@@ -46,7 +46,7 @@ pub enum Engine {
     Find,
     Move,
     /// A ring of 2 slots with a user's programs.
-    Own,
+    UserChannel,
     Replay,
     Run,
     /// As a table.
@@ -117,7 +117,7 @@ impl Progress for Nobody {
 impl SearchProgress for Nobody {
     fn report(&mut self, _states: u32, _depth: u32) {}
 
-    fn wants_stops(&self) -> bool {
+    fn shows_stops(&self) -> bool {
         false
     }
 
@@ -188,8 +188,8 @@ pub fn answer(
             find_engine::<4, 4096, _, _, _>(alloc, first, 1000, &mut Nobody, writer).map(|_| ())
         }
         Engine::Move => move_engine::<4, 4096, _, _, _>(alloc, first, second, writer),
-        Engine::Own => {
-            own_channel_engine::<4, 4096, _, _, _, _, _>(
+        Engine::UserChannel => {
+            user_channel_engine::<4, 4096, _, _, _, _, _>(
                 alloc, RING, first, second, third, fourth, writer,
             )
         }

@@ -179,7 +179,7 @@ condition exists (0:x7=0 /\\ 1:x7=0)
     },
     // nobody sends, and the receiver reports a word that it didn't take
     Row {
-        engine: Engine::Own,
+        engine: Engine::UserChannel,
         texts: [
             b"wait: j wait\n",
             b"addi x17,x0,2\naddi x11,x0,9\necall\n",

@@ -1,6 +1,6 @@
 //! The crate `callers`.
 
-use callers::{Queue, QueueKind, told};
+use callers::{Queue, QueueKind, check_callers};
 use hart::Stop;
 use jumping::Runs;
 use jumping::progress::Progress;
@@ -104,7 +104,7 @@ fn answer<T: Threads + Sync>(
         jobs,
     };
     let generator = Pcg32::seed_from_u64(1);
-    told::<4, 1024, _, _, _>(rt, alloc, test, queue, &generator, runs, &mut NoProgress)
+    check_callers::<4, 1024, _, _, _>(rt, alloc, test, queue, &generator, runs, &mut NoProgress)
 }
 
 #[test]

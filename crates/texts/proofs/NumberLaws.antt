@@ -10,7 +10,8 @@ use Rattle.std.proofs.lemmas.Bool.{cases_Bool, ltb-true, lt-ltb, le-ltb, cases_l
 use Rattle.std.proofs.lemmas.List.Folds.{list_all_more, list_all_at}
 use Rattle.std.proofs.lemmas.Int.Digits.{digits_value_more, digits_value-lt}
 use Rattle.std.proofs.Math.Nat.{mul-le-mul_left, mul-le-mul_right}
-use Rattle.texts.specs.Numbers.{Says, SaysInHex, IsMagnitude, IsHexWord, capped, is_numeral, capped_value, number_of, hex_number_of, below_cap_of, word_of}
+use Rattle.texts.specs.Numbers.{SaysDecimal, SaysInHex, IsMagnitude, IsHexWord, capped, is_numeral}
+use Rattle.texts.specs.Numbers.{capped_value, number_of, hex_number_of, below_cap_of, word_of}
 use Rattle.texts.specs.Numbers.{hex_word_of, is_hex, magnitude_of, is_negative}
 use Rattle.texts.specs.Numbers.IsMagnitude.{decimal, hex}
 
@@ -76,10 +77,10 @@ pub capped_value-of_IsNumeral : (radix : ℕ) (digits : List ℕ) → IsNumeral 
 unfolding capped_value
 capped_value-of_IsNumeral radix digits h = rw (is_numeral-from_IsNumeral radix digits h) refl
 
-pub number_said : (digits : List ℕ) (n : ℕ) → number_of digits ≡ Some n → n < 2 ^ 32 → Says digits n
+pub number_said : (digits : List ℕ) (n : ℕ) → number_of digits ≡ Some n → n < 2 ^ 32 → SaysDecimal digits n
 number_said digits n e lt = let said = capped_value-said 10 digits n e in (said.0, omega (arith, said.1))
 
-pub says_number : (digits : List ℕ) (n : ℕ) → Says digits n → number_of digits ≡ Some (capped n)
+pub says_number : (digits : List ℕ) (n : ℕ) → SaysDecimal digits n → number_of digits ≡ Some (capped n)
 says_number digits n h = subst (λ (m : ℕ). number_of digits ≡ Some (capped m)) h.1 (capped_value-of_IsNumeral 10 digits h.0)
 
 pub hex_number_said : (digits : List ℕ) (n : ℕ) → hex_number_of digits ≡ Some n → n < 2 ^ 32 → SaysInHex digits n
@@ -89,8 +90,8 @@ pub says_hex_number : (digits : List ℕ) (n : ℕ) → SaysInHex digits n → h
 says_hex_number digits n h = subst (λ (m : ℕ). hex_number_of digits ≡ Some (capped m)) h.1 (capped_value-of_IsNumeral 16 digits h.0)
 
 -- digits say one number
-pub one_said : (digits : List ℕ) (m n : ℕ) → Says digits m → Says digits n → m ≡ n
-one_said digits m n h k = sym h.1 ∙ k.1
+pub one_decimal : (digits : List ℕ) (m n : ℕ) → SaysDecimal digits m → SaysDecimal digits n → m ≡ n
+one_decimal digits m n h k = sym h.1 ∙ k.1
 
 -- what a digit's reader says of the byte that it read
 pub other_digit : (radix byte read : ℕ) → read ≡ byte → (digit_value read < radix → ⊥) → radix ≤ digit_value byte
@@ -110,11 +111,11 @@ pub number_below_cap : (digits : List ℕ) → below_cap_of (number_of digits) �
 unfolding capped_value word_of
 number_below_cap digits = grind (arith, below_cap_of-capped)
 
-pub word_said : (digits : List ℕ) (n : ℕ) → word_of digits ≡ Some n → Says digits n × (n < 2 ^ 32)
+pub word_said : (digits : List ℕ) (n : ℕ) → word_of digits ≡ Some n → SaysDecimal digits n × (n < 2 ^ 32)
 unfolding word_of
 word_said digits n e = grind (arith, IsNumeral-from_test, ltb-true)
 
-pub says_word : (digits : List ℕ) (n : ℕ) → Says digits n → n < 2 ^ 32 → word_of digits ≡ Some n
+pub says_word : (digits : List ℕ) (n : ℕ) → SaysDecimal digits n → n < 2 ^ 32 → word_of digits ≡ Some n
 unfolding word_of
 says_word digits n h small = rw (is_numeral-from_IsNumeral 10 digits h.0, h.1, lt-ltb n (2 ^ 32) small) refl
 
@@ -145,7 +146,7 @@ unfolding hex_word_of
 is_hex_word digits n h = rw (h.0, is_numeral-from_IsNumeral 16 digits h.1.0, h.1.1) refl
 
 -- what a reader answered, from the function that it computes
-pub found_word : (digits : List ℕ) (o : Option ℕ) → o ≡ word_of digits → IfSome o (Says digits)
+pub found_word : (digits : List ℕ) (o : Option ℕ) → o ≡ word_of digits → IfSome o (SaysDecimal digits)
 found_word digits o e = grind (arith, word_said)
 
 pub found_hex_word : (digits : List ℕ) (o : Option ℕ) → o ≡ hex_word_of digits → IfSome o (IsHexWord digits)

@@ -7,8 +7,8 @@ use Rattle.std.specs.Fmt.{digits}
 use Rattle.std.specs.Str.Parse.{IsNumeral, digits_value}
 
 -- One or more decimal digits say n.
-abbrev pub Says : List ℕ → ℕ → Type 0
-Says digits n = IsNumeral 10 digits × (digits_value 10 digits ≡ n)
+abbrev pub SaysDecimal : List ℕ → ℕ → Type 0
+SaysDecimal digits n = IsNumeral 10 digits × (digits_value 10 digits ≡ n)
 
 -- One or more hex digits of either case say n.
 abbrev pub SaysInHex : List ℕ → ℕ → Type 0
@@ -16,7 +16,7 @@ SaysInHex digits n = IsNumeral 16 digits × (digits_value 16 digits ≡ n)
 
 -- Decimal digits, or `0x` (48 and 120) and hex digits, say n.
 pub data IsMagnitude : List ℕ → ℕ → Type 0 where
-  decimal : (digits : List ℕ) (n : ℕ) → Says digits n → IsMagnitude digits n
+  decimal : (digits : List ℕ) (n : ℕ) → SaysDecimal digits n → IsMagnitude digits n
   hex : (digits : List ℕ) (n : ℕ) → SaysInHex digits n → IsMagnitude (48 ∷ 120 ∷ digits) n
 
 -- Eight hex digits say the word n.
@@ -33,11 +33,11 @@ capped n = min n (2 ^ 32)
 
 -- One or more decimal digits say a number that counts as n.
 abbrev pub SaysCapped : List ℕ → ℕ → Type 0
-SaysCapped digits n = (said : ℕ) × Says digits said × (n ≡ capped said)
+SaysCapped digits n = (said : ℕ) × SaysDecimal digits said × (n ≡ capped said)
 
 -- One or more decimal digits say a number n below 2^32.
 abbrev pub SaysWord : List ℕ → ℕ → Type 0
-SaysWord digits n = Says digits n × (n < 2 ^ 32)
+SaysWord digits n = SaysDecimal digits n × (n < 2 ^ 32)
 
 -- the test of `IsNumeral`
 abbrev pub is_numeral : ℕ → List ℕ → Bool

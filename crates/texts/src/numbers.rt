@@ -3,7 +3,7 @@
 ghost use Rattle.std.specs.Prelude.{◌≡◌, ◌++◌, ◌≤◌, ◌<◌, ◌^◌, ℕ, pos, option_map, Some, IfSome, OnOk, OnErr};
 ghost use Rattle.std.specs.String.{string_bytes};
 ghost use Rattle.std.specs.Fmt.{decimal};
-ghost use Rattle.texts.specs.Numbers.{capped_value, number_of, hex_number_of, below_cap_of, word_of, hex_word_of, Says};
+ghost use Rattle.texts.specs.Numbers.{capped_value, number_of, hex_number_of, below_cap_of, word_of, hex_word_of, SaysDecimal};
 ghost use Rattle.texts.specs.Numbers.{IsHexWord, is_hex, is_negative, magnitude_of, integer_of};
 
 use std::alloc::AllocError;
@@ -60,8 +60,8 @@ fn below_cap(number: Option<u64>) -> Option<u32>
 /// The number below 2^32 that one or more decimal digits say; `None` for a larger one and for other
 /// bytes.
 pub fn word(bytes: &[u8]) -> Option<u32>
-    ensures found { IfSome result (Says bytes.now) }
-    ensures only { (n : ℕ) → Says bytes.now n → n < 2 ^ 32 → result ≡ Some n }
+    ensures found { IfSome result (SaysDecimal bytes.now) }
+    ensures only { (n : ℕ) → SaysDecimal bytes.now n → n < 2 ^ 32 → result ≡ Some n }
     ensures exact { result ≡ word_of bytes.now }
 {
     below_cap(number(bytes))

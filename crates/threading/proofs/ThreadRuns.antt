@@ -8,17 +8,17 @@ use Rattle.step_machine.specs.History.{OpeningValue}
 use Rattle.step_machine.specs.Entries as entries
 use Rattle.step_machine.specs.Legal.{IsOfHarts}
 use Rattle.step_machine.specs.Runs.{event_of}
-use Rattle.recorder.specs.Schedule.{OfHarts, hart_of}
+use Rattle.recorder.specs.Schedule.{OfHarts, hart_of_event}
 
-event_hart : (e : Entry) → hart_of (event_of e) ≡ entries.hart_of e
+event_hart : (e : Entry) → hart_of_event (event_of e) ≡ entries.hart_of e
 event_hart e = grind arith
 
 pub of_64 : (o : OpeningValue) (evs : List Event) (es : List Entry) → evs ≡ map event_of es → All (IsOfHarts o) es → length o.harts ≤ 64 → OfHarts evs
 of_64 o evs es each of few =
     subst OfHarts (sym each)
-    (All-map (λ (ev : Event). hart_of ev < 64) event_of es
-    (All-weaker (IsOfHarts o) (λ (e : Entry). hart_of (event_of e) < 64)
-    (λ e lt. (let same : hart_of (event_of e) ≡ entries.hart_of e = event_hart e in omega arith)) es of))
+    (All-map (λ (ev : Event). hart_of_event ev < 64) event_of es
+    (All-weaker (IsOfHarts o) (λ (e : Entry). hart_of_event (event_of e) < 64)
+    (λ e lt. (let same : hart_of_event (event_of e) ≡ entries.hart_of e = event_hart e in omega arith)) es of))
 
 pub joined : (all text more a b : List ℕ) → all ≡ text ++ more → text ≡ a → more ≡ b → all ≡ a ++ b
 joined all text more a b p q r = cc

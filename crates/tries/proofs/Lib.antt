@@ -4,6 +4,6 @@ pub mod TallyMerging
 pub mod OutcomeLaws
 pub mod OneText
 pub mod EndVerdicts
-pub mod WalkLaws
-pub mod GrownWalks
+pub mod TransitionLaws
+pub mod GrownTransitions
 pub mod StopLaws

@@ -19,7 +19,7 @@ use Rattle.engine_support.proofs.InputLaws.{alike_after, one_litmus_text, one_ma
 use Rattle.engine_support.proofs.OneInput.{equal_alike}
 use Rattle.engine_support.proofs.OutcomeTables.{one_outcomes}
 use Rattle.tries.specs.Trials.{Trial, IsTrial, are_good, gave}
-use Rattle.tries.specs.Outcomes.{outcome_line, unfinished, IsTried, IsTryAnswer}
+use Rattle.tries.specs.Outcomes.{outcome_with_count, unfinished, IsTried, IsTryAnswer}
 
 -- ---- one run of each schedule
 
@@ -58,8 +58,8 @@ one_text B M stream runs size q a b is other =
     let outcomes : is.outcomes ≡ other.outcomes = one_outcomes gave is.trials is.outcomes other.outcomes is.shown
     (subst (λ (ts : List Trial). AreOutcomes gave ts other.outcomes) (sym trials) other.shown) in
     let texts : a.0 ≡ b.0 = is.text
-    ∙ ap (λ (ts : List Trial). flat_map (outcome_line q ts) is.outcomes ++ unfinished_line (unfinished ts)) trials
-    ∙ ap (λ (xs : List (List ℕ)). flat_map (outcome_line q other.trials) xs ++ unfinished_line (unfinished other.trials)) outcomes
+    ∙ ap (λ (ts : List Trial). flat_map (outcome_with_count q ts) is.outcomes ++ unfinished_line (unfinished ts)) trials
+    ∙ ap (λ (xs : List (List ℕ)). flat_map (outcome_with_count q other.trials) xs ++ unfinished_line (unfinished other.trials)) outcomes
     ∙ sym other.text in
     let goods : a.1 ≡ b.1 = is.good ∙ ap (are_good q.quantifier) trials ∙ sym other.good in
     λ i. (texts i, goods i)

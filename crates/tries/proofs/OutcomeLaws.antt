@@ -5,7 +5,7 @@ use Rattle.rand_core.specs.Stream.{Stream}
 use Rattle.litmus.specs.LitmusTests.{LitmusTest}
 use Rattle.litmus.specs.declared.verdict.Quantifier.{Quantifier}
 use Rattle.engine_support.specs.Outcomes.{unfinished_line}
-use Rattle.engine_support.specs.Counting.{AreLines, counted}
+use Rattle.engine_support.specs.Counting.{AreCountedLines, counted}
 use Rattle.engine_support.proofs.OutcomeTables.{are_outcomes, table_is}
 use Rattle.tries.specs.declared.trials.tally.Tally.{Tally}
 use Rattle.tries.specs.Trials.{Trial, AreTrials, is_holds, is_fails, gave, are_good}
@@ -19,7 +19,7 @@ good_is quantifier trials = grind arith
 
 pub tried : (B M : ℕ) (stream : Stream) (runs size : ℕ) (test : LitmusTest) (trials : List Trial) (tally : Tally) (lines text : List ℕ) (good : Bool)
     → AreTrials B M test stream runs size trials → IsTallyOf trials tally
-    → AreLines test (counted tally.outcomes) lines → text ≡ lines ++ unfinished_line tally.unfinished
+    → AreCountedLines test (counted tally.outcomes) lines → text ≡ lines ++ unfinished_line tally.unfinished
     → good ≡ good_by test.quantifier tally.some_hold tally.some_fail → IsTried B M stream runs size test (text, good)
 tried B M stream runs size test trials tally lines text good are is made written judged = record {
   trials = trials;

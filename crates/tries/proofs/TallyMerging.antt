@@ -18,7 +18,7 @@ use Rattle.engine_support.proofs.OutcomeTables.{seen_both, seen_few}
 use Rattle.tries.specs.Trials.{Trial, IsTrial, AreTrials, gave, is_finished, is_holds, is_fails}
 use Rattle.tries.specs.Outcomes.{first_schedule}
 use Rattle.tries.specs.inner.Tallies.{IsTallyOf}
-use Rattle.tries.specs.inner.Merging.{AreRunsFrom, IsTallyFrom, Merges, Source}
+use Rattle.tries.specs.inner.Merging.{AreRunsFrom, IsTallyFrom, Merges, TestSource}
 use Rattle.tries.proofs.TrialLaws.{no_trials}
 use Rattle.tries.proofs.TallyLaws.{first_of_both, first_of_later}
 
@@ -74,7 +74,7 @@ at_start : (size : ℕ) (stream : Stream) → left_after (0 * size) stream ≡ s
 unfolding left_after
 at_start size stream = let none : 0 * size ≡ 0 = omega arith in ap (λ (n : ℕ). left_after n stream) none
 
-module _ (source : Source) where
+module _ (source : TestSource) where
   -- all runs, from the first on
   abbrev AreRuns : (runs : ℕ) → List Trial → Type 0
   AreRuns runs trials = AreTrials source.B source.M source.test source.stream runs source.size trials

@@ -5,7 +5,7 @@ use Rattle.std.specs.Prelude.{IsOkAnd, Option, Some, None, Result, codes}
 use Rattle.rand_core.specs.Stream.{Stream}
 use Rattle.step_machine.specs.declared.events.Event.{Event}
 use Rattle.litmus.specs.LitmusTests.{LitmusTest}
-use Rattle.recorder.specs.Writing.{tokens_of}
+use Rattle.recorder.specs.Writing.{schedule_tokens}
 use Rattle.engine_support.specs.declared.fault.Refusal.{Refusal}
 use Rattle.engine_support.specs.Outcomes.{AreOutcomes, line_of, unfinished_line}
 use Rattle.engine_support.specs.Inputs.{After}
@@ -14,7 +14,7 @@ use Rattle.tries.specs.Trials.{Trial, AreTrials, is_finished, gave, are_good}
 
 -- a schedule's tokens after a space, where it has any
 abbrev pub schedule_text : List Event → List ℕ
-schedule_text events = if length events == 0 then [] else (codes " " ++ tokens_of events)
+schedule_text events = if length events == 0 then [] else (codes " " ++ schedule_tokens events)
 
 -- of the first of these runs, which there is for every outcome
 abbrev pub first_schedule_text : Option Trial → List ℕ
@@ -26,8 +26,8 @@ abbrev pub first_schedule : (outcome : List ℕ) → List Trial → List ℕ
 first_schedule outcome trials = first_schedule_text (find (gave outcome) trials)
 
 -- the line of an outcome, with how many runs gave it and the schedule of the first run that did
-abbrev pub outcome_line : LitmusTest → List Trial → (outcome : List ℕ) → List ℕ
-outcome_line test trials outcome = line_of test outcome (count_by (gave outcome) trials) (first_schedule outcome trials)
+abbrev pub outcome_with_count : LitmusTest → List Trial → (outcome : List ℕ) → List ℕ
+outcome_with_count test trials outcome = line_of test outcome (count_by (gave outcome) trials) (first_schedule outcome trials)
 
 -- how many runs did not finish
 abbrev pub unfinished : List Trial → ℕ
@@ -40,7 +40,7 @@ pub record IsTried (B M : ℕ) (stream : Stream) (runs size : ℕ) (test : Litmu
   pub are : AreTrials B M test stream runs size trials
   pub outcomes : List (List ℕ)
   pub shown : AreOutcomes gave trials outcomes
-  pub text : answer.0 ≡ flat_map (outcome_line test trials) outcomes ++ unfinished_line (unfinished trials)
+  pub text : answer.0 ≡ flat_map (outcome_with_count test trials) outcomes ++ unfinished_line (unfinished trials)
   pub good : answer.1 ≡ are_good test.quantifier trials
 
 -- What answers a litmus text, where the generator gives this stream.

@@ -1,5 +1,5 @@
 -- What serves the proofs alone, where a private contract names it.
 pub mod Tallies
 pub mod Merging
-pub mod Walks
+pub mod Transitions
 pub mod Stops

@@ -2,7 +2,7 @@
 
 ghost use Rattle.std.specs.Prelude.{◌≡◌, ◌+◌, ◌<◌, false, min, length, IfSome, None, OnOk, replicate, slice_index, slice_set};
 ghost use Rattle.step_machine.specs.Positions.{position_of};
-ghost use Rattle.tries.specs.inner.Stops.{MOST_TIMES, NotesStops, TakesStops, first_stopped, place_of};
+ghost use Rattle.tries.specs.inner.Stops.{MOST_TIMES, NotesStops, TakesStops, first_stopped, stop_place};
 ghost use Rattle.tries.specs.declared.stops.TheConstants.{PLACES};
 
 use hart::{Status, Stop};
@@ -41,7 +41,7 @@ impl Model for Stops {
 
 /// Where a hart's reason stands.
 fn place_of(stopped: Stopped) -> usize
-    ensures { result ≡ place_of stopped }
+    ensures { result ≡ stop_place stopped }
 {
     let reason = match stopped.why {
         Stop::Illegal => 0,
@@ -59,7 +59,7 @@ fn place_of(stopped: Stopped) -> usize
 /// The hart and the reason that stand at a place.
 fn stopped_at(place: usize) -> Stopped
     requires { place < PLACES }
-    ensures { place_of result ≡ place }
+    ensures { stop_place result ≡ place }
 {
     let why = match place % REASONS {
         0 => Stop::Illegal,
@@ -105,7 +105,7 @@ impl Stops {
 
     /// Adds runs to those that end with the hart stopped.
     pub fn note(&mut self, stopped: Stopped, more: u32)
-        ensures { self.new ≡ slice_set self.old (place_of stopped) (min (slice_index self.old (place_of stopped) + more) MOST_TIMES) }
+        ensures { self.new ≡ slice_set self.old (stop_place stopped) (min (slice_index self.old (stop_place stopped) + more) MOST_TIMES) }
     {
         let place = place_of(stopped);
         let times = time_at(&self.times, place).saturating_add(more);
@@ -138,7 +138,7 @@ impl Stops {
     /// The hart and the reason that stand at a place of [`PLACES`], and how often that hart is stopped for it, if it is.
     pub fn counted(&self, place: usize) -> Option<(Stopped, u32)>
         requires { place < PLACES }
-        ensures some { IfSome result (λ counted. (place_of counted.0 ≡ place) × (counted.1 ≡ slice_index self.now place)) }
+        ensures some { IfSome result (λ counted. (stop_place counted.0 ≡ place) × (counted.1 ≡ slice_index self.now place)) }
         ensures none { result ≡ None → slice_index self.now place ≡ 0 }
     {
         let times = self.times[place];

@@ -9,7 +9,7 @@ ghost use Rattle.recorder.specs.Drawing.{left_after};
 ghost use Rattle.litmus.specs.declared.litmus_test.TheConstants.{MAX_LOCATIONS};
 
 use crate::trials::outcomes::end_with_tally;
-use crate::trials::spreading::tally_in_rounds;
+use crate::trials::parallel::tally_in_rounds;
 use crate::trials::tally::Tally;
 use engine_support::fault::Fault;
 use engine_support::litmus_text::read_test;
@@ -23,10 +23,10 @@ use std::thread::Threads;
 
 mod drawing;
 mod outcomes;
-mod spreading;
+mod parallel;
 mod tally;
+mod transitions;
 mod walking;
-mod walks;
 
 /// The tally of a test's runs.
 fn drawn<const B: usize, const M: usize, G: Jump + Sync + Drop, T: Threads + Sync, P: Progress>(

@@ -9,9 +9,9 @@ use Rattle.engine_support.specs.Tests.{tests_with}
 use Rattle.engine_support.proofs.TextInputs.{some_bytes}
 
 -- two things that hold of a result
-pub both_said : {X E : Type 0} (result : Result X E) (P Q : X → Type 0) → IfOk result P → IfOk result Q → IfOk result (λ x. P x × Q x)
-both_said (Ok x) P Q is other = (is, other)
-both_said (Err e) P Q is other = tt
+pub both_hold : {X E : Type 0} (result : Result X E) (P Q : X → Type 0) → IfOk result P → IfOk result Q → IfOk result (λ x. P x × Q x)
+both_hold (Ok x) P Q is other = (is, other)
+both_hold (Err e) P Q is other = tt
 
 -- a test has a word for each of its locations
 pub words-there : (text : List ℕ) (test : LitmusTest) → IsTestOf text test → length test.opening.words ≡ length test.names

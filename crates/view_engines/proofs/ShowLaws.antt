@@ -6,7 +6,7 @@ use Rattle.litmus.specs.LitmusTests.{LitmusTest}
 use Rattle.litmus_reader.specs.Grammar.{IsTestOf}
 use Rattle.litmus_reader.specs.Reading.{Content}
 use Rattle.litmus_reader.specs.Headings.{HeadingOf}
-use Rattle.litmus_reader.specs.Listings.{RowOf}
+use Rattle.litmus_reader.specs.Listings.{ListedRowOf}
 use Rattle.litmus_reader.specs.declared.faults.LitmusFault.{LitmusFault}
 use Rattle.litmus_reader.proofs.HeadingLaws.{one_heading}
 use Rattle.texts.proofs.ResultLaws.{ok_is}
@@ -54,7 +54,7 @@ shown_once : (form : Form) (file : List ℕ) (q : LitmusTest) (a b : Result Outp
 shown_once Table file q (Ok a) (Ok b) (heading, rows, is, listed, out) (also, others, is_also, again, other) =
     let headings : heading ≡ also = one_heading file heading also is is_also in
     let listings : rows ≡ others = ok_is LitmusFault rows others (sym listed ∙ again) in
-    same_output a b (out ∙ ap₂ (λ (h : HeadingOf) (rs : List RowOf). test_lines h rs q) headings listings ∙ sym other)
+    same_output a b (out ∙ ap₂ (λ (h : HeadingOf) (rs : List ListedRowOf). test_lines h rs q) headings listings ∙ sym other)
 shown_once Table file q (Ok a) (Err s) is other = absurd other
 shown_once Table file q (Err r) b is other = absurd is
 shown_once Steps file q (Ok a) (Ok b) is other = same_output a b (is.0 ∙ sym other.0)

@@ -4,7 +4,7 @@ use Rattle.step_machine.specs.History.{History, at_opening}
 use Rattle.step_machine.proofs.Running.{run-one}
 use Rattle.litmus.specs.LitmusTests.{LitmusTest}
 use Rattle.litmus.specs.Verdicts.{IsFinished}
-use Rattle.recorder.specs.Versions.{ScheduleValue, events_said}
+use Rattle.recorder.specs.Versions.{ScheduleValue, events_of_schedule}
 use Rattle.shrink.specs.Shrinking.{RefusesRun}
 use Rattle.shrink.specs.declared.faults.ShrinkError.{ShrinkError}
 use Rattle.shrink.specs.declared.faults.ShrinkError.TheVariants as error
@@ -16,32 +16,33 @@ use Rattle.engine_support.specs.Runs.{Runs}
 use Rattle.engine_support.proofs.RunLaws.{one_difference, runs_events, runs_or_differs}
 use Rattle.view_engines.specs.Shrink.{AreOfOneKind, IsNotShrunk, IsShrink, IsShrinkOf, differs, fault_of_shrink, unfinished}
 
-module _ (B M : ℕ) (q : LitmusTest) (said : ScheduleValue) where
+module _ (B M : ℕ) (q : LitmusTest) (parsed : ScheduleValue) where
   -- why the run isn't shrunk is why the schedule isn't
-  pub not_shrunk : {X : Type 0} (view : X → Output) (t : History) (why : ShrinkError) (fault : Fault) → Runs B M q.opening said (Ok t)
-      → RefusesRun M t why → fault ≡ fault_of_shrink why → AnswersAs (IsShrink B M q said) view (Err fault)
+  pub not_shrunk : {X : Type 0} (view : X → Output) (t : History) (why : ShrinkError) (fault : Fault) → Runs B M q.opening parsed (Ok t)
+      → RefusesRun M t why → fault ≡ fault_of_shrink why → AnswersAs (IsShrink B M q parsed) view (Err fault)
   not_shrunk view t error.NoMemory fault ran unended is = rw is tt
   not_shrunk view t error.NotFinished fault ran unended is = rw is (unfinished t ran unended)
 
   -- what is shrunk isn't refused, since its run is finished
-  shrunk_or_not : (answer : Output) (r : Refusal) → IsShrinkOf B M q said answer → IsNotShrunk B M q said r → ⊥
-  shrunk_or_not answer r is (differs s differ) = runs_or_differs B M q.opening said is.history s is.ran differ
+  shrunk_or_not : (answer : Output) (r : Refusal) → IsShrinkOf B M q parsed answer → IsNotShrunk B M q parsed r → ⊥
+  shrunk_or_not answer r is (differs s differ) = runs_or_differs B M q.opening parsed is.history s is.ran differ
   shrunk_or_not answer r is (unfinished t ran unended) =
       let ends = is.shrunk.given_ends in
-      let same = run-one B M (at_opening q.opening) (events_said said) ends.history t ends.run (runs_events B M q.opening said t ran) in
+      let same = run-one B M (at_opening q.opening) (events_of_schedule parsed) ends.history t ends.run (runs_events B M q.opening parsed t ran) in
       unended (subst (IsFinished M) same ends.finished)
 
-  one_reason : (r s : Refusal) → IsNotShrunk B M q said r → IsNotShrunk B M q said s → r ≡ s
-  one_reason r s (differs x differ) (differs y other) = one_difference B M q.opening said x y differ other
-  one_reason r s (differs x differ) (unfinished t ran unended) = absurd (runs_or_differs B M q.opening said t x ran differ)
-  one_reason r s (unfinished t ran unended) (differs y other) = absurd (runs_or_differs B M q.opening said t y ran other)
+  one_reason : (r s : Refusal) → IsNotShrunk B M q parsed r → IsNotShrunk B M q parsed s → r ≡ s
+  one_reason r s (differs x differ) (differs y other) = one_difference B M q.opening parsed x y differ other
+  one_reason r s (differs x differ) (unfinished t ran unended) = absurd (runs_or_differs B M q.opening parsed t x ran differ)
+  one_reason r s (unfinished t ran unended) (differs y other) = absurd (runs_or_differs B M q.opening parsed t y ran other)
   one_reason r s (unfinished t ran unended) (unfinished u also never) = refl
 
-pub alike_run : (B M : ℕ) (q : LitmusTest) (said : ScheduleValue) (a b : Result Output Refusal) → IsShrink B M q said a → IsShrink B M q said b → AreAlike a b
-alike_run B M q said (Ok a) (Ok b) is other = tt
-alike_run B M q said (Ok a) (Err s) is refusal = absurd (shrunk_or_not B M q said a s is refusal)
-alike_run B M q said (Err r) (Ok b) refusal is = absurd (shrunk_or_not B M q said b r is refusal)
-alike_run B M q said (Err r) (Err s) first other = one_reason B M q said r s first other
+pub alike_run : (B M : ℕ) (q : LitmusTest) (parsed : ScheduleValue) (a b : Result Output Refusal)
+    → IsShrink B M q parsed a → IsShrink B M q parsed b → AreAlike a b
+alike_run B M q parsed (Ok a) (Ok b) is other = tt
+alike_run B M q parsed (Ok a) (Err s) is refusal = absurd (shrunk_or_not B M q parsed a s is refusal)
+alike_run B M q parsed (Err r) (Ok b) refusal is = absurd (shrunk_or_not B M q parsed b r is refusal)
+alike_run B M q parsed (Err r) (Err s) first other = one_reason B M q parsed r s first other
 
 -- what is alike is of one kind
 pub of_one_kind : {A : Type 0} (a b : Result A Refusal) → AreAlike a b → AreOfOneKind a b

@@ -30,24 +30,24 @@ drawing Text selection = chart_text selection
 drawing Svg selection = chart_svg selection
 
 -- the output is the picture of the schedule's run, which has at most MAX_ROWS entries
-pub record IsChartOf (B M : ℕ) (draws : Drawing) (heading : HeadingOf) (test : LitmusTest) (said : ScheduleValue) (answer : Output) : Type 0 where
+pub record IsChartOf (B M : ℕ) (draws : Drawing) (heading : HeadingOf) (test : LitmusTest) (parsed : ScheduleValue) (answer : Output) : Type 0 where
   pub history : History
-  pub ran : Runs B M test.opening said (Ok history)
+  pub ran : Runs B M test.opening parsed (Ok history)
   pub few : length history.entries ≤ MAX_ROWS
   pub about : AboutOf
   pub is_about : IsAbout M test heading history about
   pub drawn : answer.0 ≡ draws about history.entries
 
 -- Why a run isn't drawn: a record differs from it, or it has too many entries.
-pub data IsNotCharted (B M : ℕ) (test : LitmusTest) (said : ScheduleValue) : Refusal → Type 0 where
-  differs : (refusal : Refusal) → Runs B M test.opening said (Err refusal) → IsNotCharted B M test said refusal
-  too_long : (history : History) → Runs B M test.opening said (Ok history) → MAX_ROWS < length history.entries
-      → IsNotCharted B M test said too_large
+pub data IsNotCharted (B M : ℕ) (test : LitmusTest) (parsed : ScheduleValue) : Refusal → Type 0 where
+  differs : (refusal : Refusal) → Runs B M test.opening parsed (Err refusal) → IsNotCharted B M test parsed refusal
+  too_long : (history : History) → Runs B M test.opening parsed (Ok history) → MAX_ROWS < length history.entries
+      → IsNotCharted B M test parsed too_large
 
 -- what answers a test with this heading and what a schedule says
 abbrev pub IsChart : (B M : ℕ) → Drawing → HeadingOf → LitmusTest → ScheduleValue → Result Output Refusal → Type 0
-IsChart B M draws heading test said (Ok answer) = IsChartOf B M draws heading test said answer
-IsChart B M draws heading test said (Err refusal) = IsNotCharted B M test said refusal
+IsChart B M draws heading test parsed (Ok answer) = IsChartOf B M draws heading test parsed answer
+IsChart B M draws heading test parsed (Err refusal) = IsNotCharted B M test parsed refusal
 
 -- what answers a litmus text, whose heading the picture has, and a schedule
 abbrev pub IsChartAnswer : (B M : ℕ) → Drawing → (file schedule : Option (List ℕ)) → Result Output Refusal → Type 0

@@ -45,8 +45,8 @@ is_store_instruction other = false
 
 -- ---- a word of code, which may mean no instruction
 
-abbrev pub said_of_word : (name number word : ℕ) → ℕ
-said_of_word name number word = unwrap_or (option_map (row_cells name number) (meaning word)) 0
+abbrev pub label_of_word : (name number word : ℕ) → ℕ
+label_of_word name number word = unwrap_or (option_map (row_cells name number) (meaning word)) 0
 
 abbrev pub brief_of_word : (name number word : ℕ) → ℕ
 brief_of_word name number word = unwrap_or (option_map (effect_cells name number) (meaning word)) 0
@@ -80,7 +80,7 @@ number_cells words = length (decimal (length words + store_count words))
 
 abbrev pub widths_with : (name number lanes : ℕ) → (words : List ℕ) → LeastWidths
 widths_with name number lanes words = record {
-  said = min (most (said_of_word name number) words) 255;
+  label = min (most (label_of_word name number) words) 255;
   brief = min (most (brief_of_word name number) words) 255;
   kept = min (most (kept_of_word name number) words) 255;
   lanes = lanes;

@@ -2,7 +2,7 @@
 use Rattle.std.specs.Prelude.{ℕ, ◌≡◌, ◌<◌, ◌≤◌, List, length, Option, Result, Ok, Err}
 use Rattle.litmus.specs.LitmusTests.{LitmusTest}
 use Rattle.litmus_reader.specs.Headings.{HeadingOf, IsHeading}
-use Rattle.litmus_reader.specs.Listings.{RowOf, listing_at}
+use Rattle.litmus_reader.specs.Listings.{ListedRowOf, listing_at}
 use Rattle.engine_support.specs.declared.fault.Refusal.{Refusal}
 use Rattle.engine_support.specs.declared.input.TheConstants.{INPUT_BYTES}
 use Rattle.engine_support.specs.Engines.{Output}
@@ -16,7 +16,7 @@ use Rattle.view_engines.specs.declared.showing.Form.TheVariants.{Table, Steps}
 
 -- the lines of the text's test
 abbrev pub IsShown : (file : List ℕ) → LitmusTest → (out : List ℕ) → Type 0
-IsShown file test out = (heading : HeadingOf) × (rows : List RowOf) × IsHeading file heading
+IsShown file test out = (heading : HeadingOf) × (rows : List ListedRowOf) × IsHeading file heading
     × (listing_at file ≡ Ok rows) × (out ≡ test_lines heading rows test)
 
 -- The steps text of where the test opens. It is refused as too large where it is longer than an input may be, so that

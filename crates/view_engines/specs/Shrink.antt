@@ -4,7 +4,7 @@ use Rattle.step_machine.specs.History.{History}
 use Rattle.step_machine.specs.declared.events.Event.{Event}
 use Rattle.litmus.specs.LitmusTests.{LitmusTest}
 use Rattle.litmus.specs.Verdicts.{IsFinished}
-use Rattle.recorder.specs.Versions.{ScheduleValue, events_said}
+use Rattle.recorder.specs.Versions.{ScheduleValue, events_of_schedule}
 use Rattle.recorder.specs.Writing.{canon}
 use Rattle.shrink.specs.Shrinking.{IsShrunk}
 use Rattle.shrink.specs.declared.faults.ShrinkError.{ShrinkError}
@@ -28,24 +28,24 @@ fault_of_shrink error.NotFinished = Refused not_finished
 
 -- The output is the canonical text of a part of the schedule's events, which ends as they do and from
 -- which no single event can be left out. Of a record each outcome is the run's.
-pub record IsShrinkOf (B M : ℕ) (test : LitmusTest) (said : ScheduleValue) (answer : Output) : Type 0 where
+pub record IsShrinkOf (B M : ℕ) (test : LitmusTest) (parsed : ScheduleValue) (answer : Output) : Type 0 where
   pub history : History
-  pub ran : Runs B M test.opening said (Ok history)
+  pub ran : Runs B M test.opening parsed (Ok history)
   pub events : List Event
-  pub shrunk : IsShrunk B M test (events_said said) events
+  pub shrunk : IsShrunk B M test (events_of_schedule parsed) events
   pub written : answer.0 ≡ canon events
 
 -- Why a schedule isn't shrunk: a record differs from its run, or at the end of the run a hart hasn't ended
 -- or a store is pending.
-pub data IsNotShrunk (B M : ℕ) (test : LitmusTest) (said : ScheduleValue) : Refusal → Type 0 where
-  differs : (refusal : Refusal) → Runs B M test.opening said (Err refusal) → IsNotShrunk B M test said refusal
-  unfinished : (history : History) → Runs B M test.opening said (Ok history) → (IsFinished M history → ⊥)
-      → IsNotShrunk B M test said not_finished
+pub data IsNotShrunk (B M : ℕ) (test : LitmusTest) (parsed : ScheduleValue) : Refusal → Type 0 where
+  differs : (refusal : Refusal) → Runs B M test.opening parsed (Err refusal) → IsNotShrunk B M test parsed refusal
+  unfinished : (history : History) → Runs B M test.opening parsed (Ok history) → (IsFinished M history → ⊥)
+      → IsNotShrunk B M test parsed not_finished
 
 -- what answers a test and what a schedule says
 abbrev pub IsShrink : (B M : ℕ) → LitmusTest → ScheduleValue → Result Output Refusal → Type 0
-IsShrink B M test said (Ok answer) = IsShrinkOf B M test said answer
-IsShrink B M test said (Err refusal) = IsNotShrunk B M test said refusal
+IsShrink B M test parsed (Ok answer) = IsShrinkOf B M test parsed answer
+IsShrink B M test parsed (Err refusal) = IsNotShrunk B M test parsed refusal
 
 -- what answers a litmus text and a schedule
 abbrev pub IsShrinkAnswer : (B M : ℕ) → (file schedule : Option (List ℕ)) → Result Output Refusal → Type 0

@@ -8,7 +8,7 @@ use Rattle.step_machine.specs.History.{HartOpeningValue}
 use Rattle.litmus.specs.declared.symbols.Place.{Place}
 use Rattle.litmus.specs.LitmusTests.{LitmusTest, left_sides}
 use Rattle.litmus_reader.specs.Headings.{HeadingOf}
-use Rattle.litmus_reader.specs.Listings.{CellOf, RowOf}
+use Rattle.litmus_reader.specs.Listings.{CellOf, ListedRowOf}
 use Rattle.chart.specs.Pictures.{shown_byte}
 use Rattle.engine_support.specs.Places.{place_text}
 use Rattle.view_engines.specs.About.{meant}
@@ -34,7 +34,7 @@ code_word_lines hart pc line [] = []
 code_word_lines hart pc line (word ∷ words) = code_word_line hart pc line word ++ code_word_lines hart (pc + 4) line words
 
 -- the cell of a hart in a row, which defines and makes nothing where it is missing
-abbrev pub cell_in : RowOf → (hart : ℕ) → CellOf
+abbrev pub cell_in : ListedRowOf → (hart : ℕ) → CellOf
 cell_in row hart = unwrap_or (slice_get row.cells hart) (record { label = None; words = 0 })
 
 -- the lines of a cell, whose words are the first of these
@@ -42,7 +42,7 @@ abbrev pub cell_lines : (hart pc line : ℕ) → CellOf → (words : List ℕ) �
 cell_lines hart pc line cell words = label_line hart pc line cell.label ++ code_word_lines hart pc line (take cell.words words)
 
 -- the lines of a hart's cells in these rows, of whose words the first one stands at this pc
-abbrev pub column_lines : (hart pc : ℕ) → (words : List ℕ) → List RowOf → List ℕ
+abbrev pub column_lines : (hart pc : ℕ) → (words : List ℕ) → List ListedRowOf → List ℕ
 column_lines hart pc words [] = []
 column_lines hart pc words (row ∷ rows) =
     cell_lines hart pc row.line (cell_in row hart) words
@@ -53,7 +53,7 @@ column_lines hart pc words (row ∷ rows) =
 abbrev pub hart_head : (hart : ℕ) → List ℕ
 hart_head hart = codes "hart " ++ decimal hart ++ 10 ∷ []
 
-abbrev pub hart_lines : List RowOf → (hart : ℕ) → HartOpeningValue → List ℕ
+abbrev pub hart_lines : List ListedRowOf → (hart : ℕ) → HartOpeningValue → List ℕ
 hart_lines rows hart start = hart_head hart ++ column_lines hart 0 start.code rows ++ registers_text hart start.registers
 
 -- ---- locations and the condition
@@ -70,7 +70,7 @@ text_line word bytes = word ++ map shown_byte bytes ++ 10 ∷ []
 
 -- ---- all of it
 
-unfoldable pub test_lines : HeadingOf → List RowOf → LitmusTest → List ℕ
+unfoldable pub test_lines : HeadingOf → List ListedRowOf → LitmusTest → List ℕ
 test_lines heading rows test =
     text_line (codes "test ") heading.name
     ++ numbered (hart_lines rows) 0 test.opening.harts

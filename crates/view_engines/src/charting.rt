@@ -2,7 +2,7 @@
 
 ghost use Rattle.std.specs.Prelude.{◌≡◌, ◌≤◌, IfOk, Ok, length};
 ghost use Rattle.std.specs.String.{string_bytes};
-ghost use Rattle.recorder.specs.Versions.{ScheduleValue, said_of};
+ghost use Rattle.recorder.specs.Versions.{ScheduleValue, schedule_value};
 ghost use Rattle.litmus_reader.specs.Headings.{heading_of};
 ghost use Rattle.engine_support.specs.Engines.{Ends};
 ghost use Rattle.engine_support.specs.Faults.{AnswersAs};
@@ -61,8 +61,8 @@ fn picture_of_run<const B: usize, const M: usize>(
     requires opening { machine.old.history.opening ≡ test.now.opening }
     requires locations { length test.now.opening.words ≡ length test.now.names }
     requires names { length test.now.names ≤ M }
-    ensures { (said : ScheduleValue) → Runs B M test.now.opening said (Ok machine.old.history)
-        → AnswersAs (IsChart B M (drawing style selection) (heading_of heading.now) test.now said) text_and_value
+    ensures { (parsed : ScheduleValue) → Runs B M test.now.opening parsed (Ok machine.old.history)
+        → AnswersAs (IsChart B M (drawing style selection) (heading_of heading.now) test.now parsed) text_and_value
         result }
 {
     let entries = machine.entries().into_vec(alloc)?;
@@ -88,7 +88,7 @@ fn picture<const B: usize, const M: usize>(
     requires words { MAX_LOCATIONS ≤ M }
     requires size { M ≤ 65536 }
     requires locations { length test.now.opening.words ≡ length test.now.names }
-    ensures { AnswersAs (IsChart B M (drawing style selection) (heading_of heading.now) test.now (said_of schedule)) text_and_value result }
+    ensures { AnswersAs (IsChart B M (drawing style selection) (heading_of heading.now) test.now (schedule_value schedule)) text_and_value result }
 {
     let mut machine = machine_of_schedule::<B, M>(alloc, test, schedule)?;
     picture_of_run(alloc, style, selection, test, heading, &mut machine)
@@ -111,8 +111,8 @@ fn made<const B: usize, const M: usize, F: Read, S: Read>(
     ensures unread { IsRefused tests (F.remaining file.old) → schedule.new ≡ schedule.old }
 {
     let (test, heading) = read_headed(alloc, file)?;
-    let said = read_schedule(alloc, schedule)?;
-    picture::<B, M>(alloc, style, selection, &test, &heading, said)
+    let parsed = read_schedule(alloc, schedule)?;
+    picture::<B, M>(alloc, style, selection, &test, &heading, parsed)
 }
 
 /// Reads a litmus text and then a schedule of either version, each to its end, runs the schedule from the

@@ -21,8 +21,8 @@ ghost use Rattle.view_engines.specs.Shrink.{AreOfOneKind, IsShrink, IsShrinkAnsw
 /// is written, isn't said. Of a test and a schedule that are read the refusal is one with its place; of a
 /// refused litmus text it isn't said on which line its first fault stands. It does nothing.
 pub fn shrinks_alike()
-    ensures run { (B M : ℕ) (test : LitmusTest) (said : ScheduleValue) (a b : Result Output Refusal)
-        → IsShrink B M test said a → IsShrink B M test said b → AreAlike a b }
+    ensures run { (B M : ℕ) (test : LitmusTest) (parsed : ScheduleValue) (a b : Result Output Refusal)
+        → IsShrink B M test parsed a → IsShrink B M test parsed b → AreAlike a b }
     ensures inputs { (B M : ℕ) (file schedule : List ℕ) (a b : Result Output Refusal)
         → IsShrinkAnswer B M (Some file) (Some schedule) a → IsShrinkAnswer B M (Some file) (Some schedule) b → AreOfOneKind a b }
 {}
@@ -39,8 +39,8 @@ pub fn one_chart()
 /// line, and no head of a column on another head. It does nothing.
 pub fn charts_are_clear()
     ensures { (selection : Selection) (B M : ℕ) (draws : Drawing) (file : List ℕ) (heading : HeadingOf)
-        (test : LitmusTest) (said : ScheduleValue) (answer : Output) → IsTestOf file test
-        → (chart : IsChartOf B M draws heading test said answer)
+        (test : LitmusTest) (parsed : ScheduleValue) (answer : Output) → IsTestOf file test
+        → (chart : IsChartOf B M draws heading test parsed answer)
         → All IsClear (layout selection chart.about chart.history.entries).body
         × IsClear (layout selection chart.about chart.history.entries).heads }
 {}
@@ -49,7 +49,7 @@ pub fn charts_are_clear()
 /// where no row of either takes more than columns have whatever the run. It does nothing.
 pub fn columns_stand_still()
     ensures { (s t : Selection) (B M : ℕ) (draws also_draws : Drawing) (heading : HeadingOf) (test : LitmusTest)
-        (said more : ScheduleValue) (answer other : Output) → (chart : IsChartOf B M draws heading test said answer)
+        (parsed more : ScheduleValue) (answer other : Output) → (chart : IsChartOf B M draws heading test parsed answer)
         → (next : IsChartOf B M also_draws heading test more other)
         → ((form : ChartForm) → FitsColumns (scene_of_run s chart.about chart.history.entries) form)
         → ((form : ChartForm) → FitsColumns (scene_of_run t next.about next.history.entries) form)

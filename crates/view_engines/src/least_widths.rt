@@ -5,7 +5,7 @@ ghost use Rattle.std.specs.List.{count_by, range_with_len};
 ghost use Rattle.std.specs.String.{string_bytes};
 ghost use Rattle.hart.specs.Effects.{load_width, store_width};
 ghost use Rattle.chart.specs.Names.{word_name as text_of_word};
-ghost use Rattle.view_engines.specs.LeastWidths.{offset_cells, effect_cells, said_of_word, memory_column_cells, is_store_instruction};
+ghost use Rattle.view_engines.specs.LeastWidths.{offset_cells, effect_cells, label_of_word, memory_column_cells, is_store_instruction};
 ghost use Rattle.view_engines.specs.LeastWidths.{brief_of_word, kept_of_word, is_store_word, most};
 ghost use Rattle.view_engines.specs.LeastWidths.{name_cells as cells_of_names, store_count};
 ghost use Rattle.view_engines.specs.LeastWidths.{number_cells as cells_of_numbers, widths_with};
@@ -67,8 +67,8 @@ fn kept_cells(name: u8, number: u8, instr: &Instr) -> usize
     }
 }
 
-fn said_of_word(alloc: Global, name: u8, number: u8, word: u32) -> Result<usize, AllocError>
-    ensures { IfOk result (λ cells. cells ≡ said_of_word name number word) }
+fn label_of_word(alloc: Global, name: u8, number: u8, word: u32) -> Result<usize, AllocError>
+    ensures { IfOk result (λ cells. cells ≡ label_of_word name number word) }
 {
     match decode(word) {
         None => Ok(0),
@@ -157,15 +157,15 @@ fn widened(
     number: u8,
     word: u32,
 ) -> Result<LeastWidths, AllocError>
-    ensures said { IfOk result (λ wider. wider.said ≡ max least.said (min (said_of_word name number word) 255)) }
+    ensures label { IfOk result (λ wider. wider.label ≡ max least.label (min (label_of_word name number word) 255)) }
     ensures brief { IfOk result (λ wider. wider.brief ≡ max least.brief (min (brief_of_word name number word) 255)) }
     ensures kept { IfOk result (λ wider. wider.kept ≡ max least.kept (min (kept_of_word name number word) 255)) }
     ensures lanes { IfOk result (λ wider. wider.lanes ≡ least.lanes) }
     ensures listed_lanes { IfOk result (λ wider. wider.listed_lanes ≡ least.listed_lanes) }
 {
-    let said = capped(said_of_word(alloc, name, number, word)?);
+    let label = capped(label_of_word(alloc, name, number, word)?);
     Ok(LeastWidths {
-        said: least.said.max(said),
+        label: least.label.max(label),
         brief: least.brief.max(capped(brief_of_word(name, number, word))),
         kept: least.kept.max(capped(kept_of_word(name, number, word))),
         lanes: least.lanes,
@@ -184,7 +184,7 @@ fn widths_with(
     ensures { IfOk result (λ least. least ≡ widths_with name number lanes words.now) }
 {
     let mut least = LeastWidths {
-        said: 0,
+        label: 0,
         brief: 0,
         kept: 0,
         lanes,

@@ -34,8 +34,8 @@ impl<const B: usize, const M: usize> ScheduleCommand<B, M> for Shrink {
 
     ghost is_answer = { IsShrink B M };
 
-    fn answer(alloc: Global, test: &Test, said: Schedule) -> Result<(String, ()), Fault> {
-        let machine = machine_of_schedule::<B, M>(alloc, test, said)?;
+    fn answer(alloc: Global, test: &Test, parsed: Schedule) -> Result<(String, ()), Fault> {
+        let machine = machine_of_schedule::<B, M>(alloc, test, parsed)?;
         match shrink_run(alloc, test, machine) {
             Ok(events) => {
                 let text = write_schedule(alloc, &events)?;

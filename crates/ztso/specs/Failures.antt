@@ -13,11 +13,11 @@ use Rattle.engine_support.specs.declared.fault.Fault.TheVariants.{NoMemory}
 use Rattle.engine_support.specs.Faults.{status_of as fault_status_of}
 
 -- the exit status of a program that fails
-abbrev pub status_of : Failure → ℕ
-status_of BadCommandLine = 2
-status_of (Engine fault) = fault_status_of fault
-status_of (AllSeen states) = 1
-status_of (Cut states) = 5
+abbrev pub exit_status : Failure → ℕ
+exit_status BadCommandLine = 2
+exit_status (Engine fault) = fault_status_of fault
+exit_status (AllSeen states) = 1
+exit_status (Cut states) = 5
 
 -- the failure where words give no job
 abbrev pub failure_of : CommandLineError → Failure

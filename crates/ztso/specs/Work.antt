@@ -37,7 +37,7 @@ use Rattle.poll_close.specs.declared.place.BlockPlace.{BlockPlace}
 use Rattle.jumping.specs.declared.Runs.{Runs}
 use Rattle.channel_engines.specs.Channels.{IsChannelAnswer}
 use Rattle.threading.specs.Threads.{IsThreadsAnswer}
-use Rattle.channel_engines.specs.OwnChannels.{IsOwnAnswer}
+use Rattle.channel_engines.specs.UserChannels.{IsUserAnswer}
 use Rattle.channel_engines.specs.Programs.{programs}
 use Rattle.engine_support.specs.declared.fault.Role.TheVariants.{Sender, Receiver}
 use Rattle.channel_engines.specs.Rings.{Draws, draws, IsRingAnswer}
@@ -53,7 +53,7 @@ use Rattle.command_line.specs.declared.job.QueueKind.{QueueKind as KindAsked}
 use Rattle.command_line.specs.declared.job.QueueKind.TheVariants as asked
 use Rattle.command_line.specs.declared.job.CalledQueue.{CalledQueue}
 use Rattle.command_line.specs.declared.job.Command.{Command}
-use Rattle.command_line.specs.declared.job.Command.TheVariants.{Code, Machine, Find, Threads, Own, Ring}
+use Rattle.command_line.specs.declared.job.Command.TheVariants.{Code, Machine, Find, Threads, UserChannel, Ring}
 use Rattle.command_line.specs.declared.job.CodeCommand.TheVariants.{Asm, Dis}
 use Rattle.command_line.specs.declared.job.MachineCommand.TheVariants.{Steps, Run, Replay, Move, Shrink, Chart, Show, Check, Debug, Try, Callers, Channel}
 use Rattle.ztso.specs.declared.failure.Failure.{Failure}
@@ -107,7 +107,7 @@ capacity_of (Code command) = One
 capacity_of (Machine command capacity) = capacity
 capacity_of (Find states capacity) = capacity
 capacity_of (Threads turns capacity) = capacity
-capacity_of (Own place capacity) = capacity
+capacity_of (UserChannel place capacity) = capacity
 capacity_of (Ring seed runs place capacity) = capacity
 
 -- ---- how a command ends
@@ -161,8 +161,8 @@ Does B (Machine (Channel ring place finish) capacity) result given =
     Done done_exit (IsChannelAnswer (tables_of ring) B WORDS (layout_of place []) finish given.first given.second) result
 Does B (Find states capacity) result given = Done found_exit (IsFindAnswer B WORDS (max states 1) given.first) result
 Does B (Threads turns capacity) result given = Done verdict_exit (IsThreadsAnswer B WORDS turns given.first) result
-Does B (Own place capacity) result given =
-    Done done_exit (IsOwnAnswer B WORDS (layout_of place []) given.first given.second given.third given.fourth) result
+Does B (UserChannel place capacity) result given =
+    Done done_exit (IsUserAnswer B WORDS (layout_of place []) given.first given.second given.third given.fourth) result
 Does B (Ring seed runs place capacity) result given =
     Done good_exit (IsRingAnswer (drawn_runs B seed runs place) given.first given.second given.third) result
 
@@ -189,19 +189,19 @@ LeavesSecond (Machine (Callers seed runs queue) capacity) result first = Unit {0
 LeavesSecond (Machine (Channel ring place finish) capacity) result first = IsRefused schedules first
 LeavesSecond (Machine Check capacity) result first = IsRefusal result × IsRefused tests first
 LeavesSecond (Machine command capacity) result first = IsRefused tests first
-LeavesSecond (Own place capacity) result first = IsRefused (programs Sender) first
+LeavesSecond (UserChannel place capacity) result first = IsRefused (programs Sender) first
 LeavesSecond (Ring seed runs place capacity) result first = IsRefused (programs Sender) first
 LeavesSecond command result first = Unit {0}
 
 -- and two with which the third is: only a channel of a user's programs has one
 abbrev pub LeavesThird : Command → (first second : Option (List ℕ)) → Type 0
-LeavesThird (Own place capacity) first second = IsRefused (programs Sender) first ⊎ IsRefused (programs Receiver) second
+LeavesThird (UserChannel place capacity) first second = IsRefused (programs Sender) first ⊎ IsRefused (programs Receiver) second
 LeavesThird (Ring seed runs place capacity) first second = IsRefused (programs Sender) first ⊎ IsRefused (programs Receiver) second
 LeavesThird command first second = Unit {0}
 
 -- and three with which the fourth is
 abbrev pub LeavesFourth : Command → (first second third : Option (List ℕ)) → Type 0
-LeavesFourth (Own place capacity) first second third =
+LeavesFourth (UserChannel place capacity) first second third =
     (IsRefused (programs Sender) first ⊎ IsRefused (programs Receiver) second) ⊎ IsRefused schedules third
 LeavesFourth command first second third = Unit {0}
 

@@ -1,7 +1,7 @@
 //! How the program fails.
 
 ghost use Rattle.std.specs.Prelude.{◌≡◌, ◌≤◌, IfOk};
-ghost use Rattle.ztso.specs.Failures.{done_exit, failure_of, found_exit, good_exit, status_of, verdict_exit};
+ghost use Rattle.ztso.specs.Failures.{done_exit, failure_of, found_exit, good_exit, exit_status, verdict_exit};
 ghost use Rattle.ztso.specs.declared.failure.Failure.TheVariants.{Engine};
 ghost use Rattle.engine_support.specs.declared.fault.Fault.TheVariants.{NoMemory};
 
@@ -33,7 +33,7 @@ pub enum Failure {
 impl Failure {
     /// The program's exit status.
     pub fn status(&self) -> u8
-        ensures { result ≡ status_of self.now }
+        ensures { result ≡ exit_status self.now }
     {
         match self {
             Failure::BadCommandLine => 2,

@@ -119,7 +119,7 @@ impl<'a, R: Clock + Eprint> SearchProgress for TerminalLine<'a, R> {
         }
     }
 
-    fn wants_stops(&self) -> bool
+    fn shows_stops(&self) -> bool
         ensures { result ≡ true }
     {
         true

@@ -25,8 +25,8 @@ ghost use Rattle.channel_engines.specs.Rings.{IsRingAnswer};
 use crate::calling::call_drawn;
 use crate::failure::{Failure, after, after_run, after_runs, after_search};
 use channel_engines::channel::channel_engine;
-use channel_engines::own_channel::own_channel_engine;
 use channel_engines::ring::ring_engine;
+use channel_engines::user_channel::user_channel_engine;
 use checking::check_engine;
 use code_engines::asm::asm_engine;
 use code_engines::dis::dis_engine;
@@ -196,7 +196,7 @@ fn find<const B: usize, F: Read, W: Write, P: SearchProgress>(
 
 /// Runs a channel over two programs by schedules that are drawn from a generator of this seed, with buffers of `B`
 /// stores. The jobs are threads; it has no leave to wait for anything else.
-fn run_own_ring<
+fn run_user_ring<
     const B: usize,
     S: Read,
     R: Read,
@@ -370,7 +370,7 @@ where
             turns,
             &mut streams.writer,
         )),
-        Command::Own { place, .. } => after(own_channel_engine::<B, WORDS, _, _, _, _, _>(
+        Command::UserChannel { place, .. } => after(user_channel_engine::<B, WORDS, _, _, _, _, _>(
             alloc,
             place,
             &mut streams.first,
@@ -384,7 +384,7 @@ where
             runs,
             place,
             ..
-        } => after_runs(run_own_ring::<B, _, _, _, _, _, _>(
+        } => after_runs(run_user_ring::<B, _, _, _, _, _, _>(
             rt,
             alloc,
             seed,
@@ -408,7 +408,7 @@ fn capacity_of(command: Command) -> Capacity
         Command::Machine { capacity, .. }
         | Command::Find { capacity, .. }
         | Command::Threads { capacity, .. }
-        | Command::Own { capacity, .. }
+        | Command::UserChannel { capacity, .. }
         | Command::Ring { capacity, .. } => capacity,
     }
 }

@@ -6,7 +6,7 @@ use Rattle.std.proofs.lemmas.Bool.{eqb-true, and_parts, or_left, false_from_ne_t
 use Rattle.std.proofs.lemmas.List.{take-append-drop, take-append-le, take_all}
 use Rattle.std.proofs.lemmas.Option.{slice_get_past}
 use Rattle.step_machine.specs.History.{OpeningValue}
-use Rattle.step_machine.specs.Entries.{store_of, stores, lands, pending}
+use Rattle.step_machine.specs.Entries.{own_store, own_stores, lands, pending}
 use Rattle.step_machine.specs.Legal.{Allowed, LegalAfter}
 use Rattle.step_machine.specs.declared.events.Entry.{Entry}
 use Rattle.step_machine.proofs.Appended.{LegalAfter-front, LegalAfter-back}
@@ -79,30 +79,31 @@ AreWritten-drop all (suc n) (g ∷ gs) (p ∷ ps) written = AreWritten-drop all 
 AreWritten-drop all (suc n) gs ps written = absurd written
 
 written_before : (all us : List Entry) (e : Entry) (ws : List Entry) (h : ℕ) (rest : List Entry)
-    → all ≡ us ++ e ∷ ws → (gs : List ℕ) → AreWritten all gs (stores h rest)
-    → AreWritten all (place_of (is_store_of h) (length us) e ++ gs) (store_of h e ++ stores h rest)
+    → all ≡ us ++ e ∷ ws → (gs : List ℕ) → AreWritten all gs (own_stores h rest)
+    → AreWritten all (place_of (is_store_of h) (length us) e ++ gs) (own_store h e ++ own_stores h rest)
 written_before all us e ws h rest split gs written = grind (arith, place_of, entry_there)
 
-pub written_stores : (all us es ws : List Entry) (h : ℕ) → all ≡ us ++ (es ++ ws) → AreWritten all (places_of (is_store_of h) (length us) es) (stores h es)
+pub written_stores : (all us es ws : List Entry) (h : ℕ) → all ≡ us ++ (es ++ ws) → AreWritten all (places_of (is_store_of h) (length us) es) (own_stores h es)
 written_stores all us [] ws h split = tt
 written_stores all us (e ∷ es) ws h split =
     let len : length (us ++ e ∷ []) ≡ suc (length us) = omega (arith, length-append us (e ∷ [])) in
-    let rest : AreWritten all (places_of (is_store_of h) (suc (length us)) es) (stores h es)
-    = subst (λ (n : ℕ). AreWritten all (places_of (is_store_of h) n es) (stores h es)) len
+    let rest : AreWritten all (places_of (is_store_of h) (suc (length us)) es) (own_stores h es)
+    = subst (λ (n : ℕ). AreWritten all (places_of (is_store_of h) n es) (own_stores h es)) len
     (written_stores all (us ++ e ∷ []) es ws h (split ∙ sym (append_assoc us (e ∷ []) (es ++ ws)))) in
-    subst (λ (zs : List ℕ). AreWritten all zs (store_of h e ++ stores h es)) (sym (places_of-cons (is_store_of h) (length us) e es))
+    subst (λ (zs : List ℕ). AreWritten all zs (own_store h e ++ own_stores h es)) (sym (places_of-cons (is_store_of h) (length us) e es))
     (written_before all us e (es ++ ws) h es split (places_of (is_store_of h) (suc (length us)) es) rest)
 
 -- the front of a legal trace
 
-pub front_written : (es us ws : List Entry) (h : ℕ) → es ≡ us ++ ws → AreWritten es (store_places h us) (stores h us)
+pub front_written : (es us ws : List Entry) (h : ℕ) → es ≡ us ++ ws → AreWritten es (store_places h us) (own_stores h us)
 front_written es us ws h split = written_stores es [] us ws h split
 
 pub front_balanced : (B : ℕ) (o : OpeningValue) (es us ws : List Entry) (h : ℕ) → LegalAfter B o [] es → es ≡ us ++ ws → lands h us ≤ length (store_places h us)
 front_balanced B o es us ws h legal split =
     let front : LegalAfter B o [] us = LegalAfter-front B o [] us ws (subst (λ (zs : List Entry). LegalAfter B o [] zs) split legal) in
-    let le : lands h us ≤ length (stores h us) = balanced-after B o [] us h front (omega arith) in
-    let same : length (store_places h us) ≡ length (stores h us) = AreWritten-length es (store_places h us) (stores h us) (front_written es us ws h split) in
+    let le : lands h us ≤ length (own_stores h us) = balanced-after B o [] us h front (omega arith) in
+    let same : length (store_places h us) ≡ length (own_stores h us) =
+    AreWritten-length es (store_places h us) (own_stores h us) (front_written es us ws h split) in
     omega arith
 
 pub front_stores : (es us ws : List Entry) (h : ℕ) → es ≡ us ++ ws → store_places h es ≡ store_places h us ++ places_of (is_store_of h) (length us) ws
@@ -122,9 +123,10 @@ pub store_performed : (B : ℕ) (o : OpeningValue) (es us ws : List Entry) (h p 
     → es ≡ us ++ ws → pending h us ≡ [] → stores_at es h p ≡ true → p < length us
     → is_named p (performed_after es [] us) ≡ true
 store_performed B o es us ws h p legal split none own lt =
-    let same : length (store_places h us) ≡ length (stores h us) = AreWritten-length es (store_places h us) (stores h us) (front_written es us ws h split) in
-    let left : length (drop (lands h us) (stores h us)) ≡ 0 = ap length none in
-    let all_landed : length (store_places h us) ≤ lands h us = omega (arith, length-drop (lands h us) (stores h us)) in
+    let same : length (store_places h us) ≡ length (own_stores h us) =
+    AreWritten-length es (store_places h us) (own_stores h us) (front_written es us ws h split) in
+    let left : length (drop (lands h us) (own_stores h us)) ≡ 0 = ap length none in
+    let all_landed : length (store_places h us) ≤ lands h us = omega (arith, length-drop (lands h us) (own_stores h us)) in
     store_in_front es us ws h p split own
     ∙ ap (is_named p) (front_landed B o es us ws h legal split ∙ take_all (lands h us) (store_places h us) all_landed)
     ∙ named-places (is_store_of h) p us

@@ -5,7 +5,7 @@ use Rattle.std.proofs.Common.{length-take, length-drop, get_or-take, get_or-drop
 use Rattle.std.proofs.lemmas.Bool.{eqb-true, eq-eqb, ne_eqb, ltb-true, ltb-false}
 use Rattle.std.proofs.lemmas.List.{take-append-drop, drop_more, take_more, get_or_read, get_or_default}
 use Rattle.std.proofs.lemmas.List.Folds.{list_any-append, list_any_at, Any-from_list_any}
-use Rattle.ztso_axioms.specs.Axioms.{times_named, before, is_named, is_before}
+use Rattle.ztso_axioms.specs.Axioms.{times_named, before_first, is_named, is_before}
 
 -- no place is named twice
 pub record Once (gs : List ℕ) : Type 0 where
@@ -42,8 +42,8 @@ pub index_of : (p : ℕ) (xs : List ℕ) → is_named p xs ≡ true → (i : ℕ
 index_of p xs some = grind (arith, Any-from_list_any, get_or_default, eqb-true)
 
 -- what stands before a place that the front does not name
-pub before-at : (q : ℕ) (xs ys : List ℕ) → times_named q xs ≡ 0 → before q (xs ++ q ∷ ys) ≡ xs
-before-at q [] ys none = ap (λ b. if b then [] else q ∷ before q ys) (eq-eqb q q refl)
+pub before-at : (q : ℕ) (xs ys : List ℕ) → times_named q xs ≡ 0 → before_first q (xs ++ q ∷ ys) ≡ xs
+before-at q [] ys none = ap (λ b. if b then [] else q ∷ before_first q ys) (eq-eqb q q refl)
 before-at q (x ∷ xs) ys none = grind (arith, before-at q xs ys)
 
 pub times-self : (q : ℕ) (ys : List ℕ) → times_named q (q ∷ ys) ≡ suc (times_named q ys)
@@ -52,14 +52,14 @@ times-self q ys = ap (λ b. if b then suc (times_named q ys) else times_named q 
 pub split_at : (gs : List ℕ) (i : ℕ) → i < length gs → gs ≡ take i gs ++ get_or gs i 0 ∷ drop (i + 1) gs
 split_at gs i lt = sym (take-append-drop i gs) ∙ ap (λ zs. take i gs ++ zs) (drop_more gs i 0 lt)
 
-pub before-index : (gs : List ℕ) (i : ℕ) → Once gs → i < length gs → before (get_or gs i 0) gs ≡ take i gs
+pub before-index : (gs : List ℕ) (i : ℕ) → Once gs → i < length gs → before_first (get_or gs i 0) gs ≡ take i gs
 before-index gs i o lt =
     let q : ℕ = get_or gs i 0 in
     let few : times_named q gs ≤ 1 = o.once q in
     let whole : times_named q gs ≡ times_named q (take i gs) + times_named q (q ∷ drop (i + 1) gs) =
     ap (times_named q) (split_at gs i lt) ∙ times-append q (take i gs) (q ∷ drop (i + 1) gs) in
     let here : times_named q (q ∷ drop (i + 1) gs) ≡ suc (times_named q (drop (i + 1) gs)) = times-self q (drop (i + 1) gs) in
-    ap (before q) (split_at gs i lt) ∙ before-at q (take i gs) (drop (i + 1) gs) (omega arith)
+    ap (before_first q) (split_at gs i lt) ∙ before-at q (take i gs) (drop (i + 1) gs) (omega arith)
 
 -- in a list that names no place twice, what stands before is what has the lesser index
 pub is_before-index : (gs : List ℕ) (j i : ℕ) → Once gs → j < length gs → i < length gs → is_before gs (get_or gs j 0) (get_or gs i 0) ≡ nat_lt j i

@@ -6,7 +6,7 @@ use Rattle.std.specs.List.{AllPass, slice_get}
 use Rattle.std.proofs.lemmas.Bool.{eqb-true, eq-eqb, ne_eqb, not-true, or_left, or_right}
 use Rattle.step_machine.specs.declared.events.Entry.{Entry}
 use Rattle.ztso_axioms.specs.Operations.{is_at}
-use Rattle.ztso_axioms.specs.Axioms.{times_named, before, is_named, is_before}
+use Rattle.ztso_axioms.specs.Axioms.{times_named, before_first, is_named, is_before}
 use Rattle.ztso_axioms.specs.Performed.{places_of, performed_by, performed_after}
 use Rattle.ztso_axioms.proofs.Listing.{index_of, named_at, times-none, named-none, named-some, times-some}
 use Rattle.step_machine.specs.Entries.{land_of, lands}
@@ -63,12 +63,12 @@ pub named-filter : (test : ℕ → Bool) (p : ℕ) (xs : List ℕ) → test p �
 named-filter test p xs pass = named-times p (filter test xs) xs (times-filter test p xs pass)
 
 -- what stands before a place that passes, among those that pass
-pub before-filter : (test : ℕ → Bool) (q : ℕ) (xs : List ℕ) → test q ≡ true → before q (filter test xs) ≡ filter test (before q xs)
+pub before-filter : (test : ℕ → Bool) (q : ℕ) (xs : List ℕ) → test q ≡ true → before_first q (filter test xs) ≡ filter test (before_first q xs)
 before-filter test q [] pass = refl
 before-filter test q (x ∷ xs) pass = grind (arith, before-filter test q xs pass, eqb-true x q)
 
 pub is_before-filter : (test : ℕ → Bool) (p q : ℕ) (xs : List ℕ) → test p ≡ true → test q ≡ true → is_before (filter test xs) p q ≡ is_before xs p q
-is_before-filter test p q xs pass_p pass_q = ap (is_named p) (before-filter test q xs pass_q) ∙ named-filter test p (before q xs) pass_p
+is_before-filter test p q xs pass_p pass_q = ap (is_named p) (before-filter test q xs pass_q) ∙ named-filter test p (before_first q xs) pass_p
 
 -- a place that the front names is before one that the front does not name
 pub before-split : (xs ys : List ℕ) (p q : ℕ) → is_named p xs ≡ true → is_named q xs ≡ false → is_before (xs ++ ys) p q ≡ true

@@ -12,7 +12,7 @@ use Rattle.step_machine.specs.Entries.{hart_of}
 use Rattle.step_machine.specs.Legal.{LegalAfter}
 use Rattle.step_machine.specs.declared.events.Entry.{Entry}
 use Rattle.ztso_axioms.specs.Operations.{is_load, is_store, is_amo, is_full_fence, is_operation, is_at, hart_at}
-use Rattle.ztso_axioms.specs.Axioms.{times_named, is_named, is_before, is_barrier, is_fenced, may_pass, NamesEachOnce, KeepsProgramOrder}
+use Rattle.ztso_axioms.specs.Axioms.{times_named, is_named, is_before, is_barrier, is_fenced, may_be_reordered, NamesEachOnce, KeepsProgramOrder}
 use Rattle.ztso_axioms.specs.Performed.{places_of, is_store_of, store_places, performed_after, left_below, hart_bound}
 use Rattle.ztso_axioms.proofs.Listing.{times-none}
 use Rattle.ztso_axioms.proofs.Members.{named_passes, times-filter, times-all_places, named-places, before-split, is_before-filter}
@@ -139,7 +139,7 @@ by_read B o es p q legal reads kind lt within =
 
 -- a store, and a later read that may not pass it
 by_store : (B : ℕ) (o : OpeningValue) (es : List Entry) (h p q : ℕ) → LegalAfter B o [] es → stores_at es h p ≡ true
-    → h ≡ hart_at es q → may_pass es p q ≡ false → p < q → q < length es → reads_at es q ≡ true
+    → h ≡ hart_at es q → may_be_reordered es p q ≡ false → p < q → q < length es → reads_at es q ≡ true
     → is_before (performed_order es) p q ≡ true
 by_store B o es h p q legal own hart held lt within reads = at (load_or_amo es q reads)
   where

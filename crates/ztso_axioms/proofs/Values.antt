@@ -13,7 +13,7 @@ use Rattle.std.specs.Int.{byte_at}
 use Rattle.memory.specs.Writes.{write, covers, newest_of}
 use Rattle.memory.proofs.Bytes.{joined-same, byte_below}
 use Rattle.step_machine.specs.History.{OpeningValue, History}
-use Rattle.step_machine.specs.Entries.{hart_of, stores, lands, write_of, landed_after, opening_byte, memory_byte, read_byte, read}
+use Rattle.step_machine.specs.Entries.{hart_of, own_stores, lands, write_of, landed_after, opening_byte, memory_byte, read_byte, read}
 use Rattle.step_machine.specs.Legal.{Allowed, LegalAfter, Legal}
 use Rattle.step_machine.specs.declared.events.Entry.{Entry}
 use Rattle.step_machine.specs.declared.events.Entry.TheVariants as entry
@@ -21,7 +21,7 @@ use Rattle.memory.proofs.Newest.{newest_of-append}
 use Rattle.step_machine.proofs.Appended.{LegalAfter-front}
 use Rattle.step_machine.proofs.Appended.{entry_there}
 use Rattle.ztso_axioms.specs.Operations.{is_operation, passes, is_at, hart_at, read_of, written_to, written_at, byte_in}
-use Rattle.ztso_axioms.specs.Axioms.{times_named, before, is_named, in_program_order, is_seen, last_written, byte_for, value_for, HasLoadValue, Ztso}
+use Rattle.ztso_axioms.specs.Axioms.{times_named, before_first, is_named, in_program_order, is_seen, last_written, byte_for, value_for, HasLoadValue, Ztso}
 use Rattle.ztso_axioms.specs.Performed.{places_of, is_store_of, store_places, performed_by, performed_after, left_below, hart_bound, order}
 use Rattle.ztso_axioms.proofs.Listing.{times-append, times-none, times-some, named-append, before-at}
 use Rattle.ztso_axioms.proofs.Checked.{once_of, last_written-append}
@@ -72,15 +72,15 @@ writes_by B o all us e ws a w found split = at e split
     at (entry.Amo g b old new) here may = ap (λ so. unwrap_or so (unwrap_or found w))
         (written (entry.Amo g b old new) here) ∙ chosen (covers (write b 4 new) a) (byte_at (a - b) new) w found
     at (entry.Land g) here may =
-        let pairs_written : AreWritten all (store_places g us) (stores g us) = front_written all us (entry.Land g ∷ ws) g here in
-        let same : length (store_places g us) ≡ length (stores g us) = AreWritten-length all (store_places g us) (stores g us) pairs_written in
-        let some : lands g us < length (store_places g us) = omega (arith, length-drop (lands g us) (stores g us)) in
+        let pairs_written : AreWritten all (store_places g us) (own_stores g us) = front_written all us (entry.Land g ∷ ws) g here in
+        let same : length (store_places g us) ≡ length (own_stores g us) = AreWritten-length all (store_places g us) (own_stores g us) pairs_written in
+        let some : lands g us < length (store_places g us) = omega (arith, length-drop (lands g us) (own_stores g us)) in
         ap (λ zs. last_written all a (unwrap_or found w) (option_to_list (slice_get zs (lands g us)))) (front_stores all us (entry.Land g ∷ ws) g here)
         ∙ ap (last_written all a (unwrap_or found w))
         (first_of (store_places g us) (places_of (is_store_of g) (length us) (entry.Land g ∷ ws)) (lands g us) some)
-        ∙ written_values all a w found (take 1 (drop (lands g us) (store_places g us))) (take 1 (drop (lands g us) (stores g us)))
-        (written_first all (drop (lands g us) (store_places g us)) (drop (lands g us) (stores g us))
-        (AreWritten-drop all (lands g us) (store_places g us) (stores g us) pairs_written))
+        ∙ written_values all a w found (take 1 (drop (lands g us) (store_places g us))) (take 1 (drop (lands g us) (own_stores g us)))
+        (written_first all (drop (lands g us) (store_places g us)) (drop (lands g us) (own_stores g us))
+        (AreWritten-drop all (lands g us) (store_places g us) (own_stores g us) pairs_written))
     at other here may = refl
 
 -- what entries perform writes what reaches memory
@@ -158,13 +158,13 @@ reader_performs es us e is = grind arith
 
 -- what stands before a read is what the front performed
 before-read : (es us : List Entry) (e : Entry) (ws : List Entry) (q : ℕ) → es ≡ us ++ e ∷ ws → length us ≡ q
-    → is_reader e ≡ true → reads_at es q ≡ true → before q (performed_order es) ≡ performed_after es [] us
+    → is_reader e ≡ true → reads_at es q ≡ true → before_first q (performed_order es) ≡ performed_after es [] us
 before-read es us e ws q split len reader reads =
     let absent : times_named q (performed_after es [] us) ≡ 0 =
     times-none q (performed_after es [] us) (read_not_yet es us (e ∷ ws) q split reads (omega arith)) in
     let itself : performed_by es us e ≡ q ∷ [] = reader_performs es us e reader ∙ ap (λ n. n ∷ []) len in
-    ap (before q) (order-front es us (e ∷ ws) split)
-    ∙ ap (λ zs. before q (performed_after es [] us ++ ((zs ++ performed_after es (us ++ e ∷ []) ws) ++ left_below (hart_bound es) es))) itself
+    ap (before_first q) (order-front es us (e ∷ ws) split)
+    ∙ ap (λ zs. before_first q (performed_after es [] us ++ ((zs ++ performed_after es (us ++ e ∷ []) ws) ++ left_below (hart_bound es) es))) itself
     ∙ before-at q (performed_after es [] us) (performed_after es (us ++ e ∷ []) ws ++ left_below (hart_bound es) es) absent
 
 -- a read sees what the front performed, and then its hart's pending stores
@@ -226,8 +226,8 @@ byte_of_read B o es us e ws q a legal split len reader reads =
     ∙ ap (λ w. last_written es a w (drop (lands (hart_at es q) us) (store_places (hart_at es q) us))) (front_memory B o es us (e ∷ ws) a legal split)
     ∙ written_values es a (memory_byte o us a) None
     (drop (lands (hart_at es q) us) (store_places (hart_at es q) us))
-    (drop (lands (hart_at es q) us) (stores (hart_at es q) us))
-    (AreWritten-drop es (lands (hart_at es q) us) (store_places (hart_at es q) us) (stores (hart_at es q) us)
+    (drop (lands (hart_at es q) us) (own_stores (hart_at es q) us))
+    (AreWritten-drop es (lands (hart_at es q) us) (store_places (hart_at es q) us) (own_stores (hart_at es q) us)
     (front_written es us (e ∷ ws) (hart_at es q) split))
 
 reads_what : (B : ℕ) (o : OpeningValue) (us : List Entry) (e : Entry) (a n v : ℕ) → read_of e ≡ Some (a, n, v)

@@ -14,16 +14,16 @@ times_named p [] = 0
 times_named p (g ∷ gs) = if g == p then suc (times_named p gs) else times_named p gs
 
 -- what stands in a list before the first naming of a place
-abbrev pub before : ℕ → List ℕ → List ℕ
-before q [] = []
-before q (g ∷ gs) = if g == q then [] else g ∷ before q gs
+abbrev pub before_first : ℕ → List ℕ → List ℕ
+before_first q [] = []
+before_first q (g ∷ gs) = if g == q then [] else g ∷ before_first q gs
 
 abbrev pub is_named : ℕ → List ℕ → Bool
 is_named p gs = list_any (λ g. g == p) gs
 
 -- p stands before q in the global memory order
 abbrev pub is_before : List ℕ → ℕ → ℕ → Bool
-is_before gs p q = is_named p (before q gs)
+is_before gs p q = is_named p (before_first q gs)
 
 -- p and q are entries of one hart, and p comes first
 abbrev pub in_program_order : List Entry → ℕ → ℕ → Bool
@@ -38,13 +38,13 @@ abbrev pub is_fenced : List Entry → ℕ → ℕ → ℕ → Bool
 is_fenced es h p q = list_any (is_barrier h) (drop (suc p) (take q es))
 
 -- a plain store and a later plain load with nothing between them that orders them
-abbrev pub may_pass : List Entry → ℕ → ℕ → Bool
-may_pass es p q = is_at is_store es p && is_at is_load es q && not (is_fenced es (hart_at es q) p q)
+abbrev pub may_be_reordered : List Entry → ℕ → ℕ → Bool
+may_be_reordered es p q = is_at is_store es p && is_at is_load es q && not (is_fenced es (hart_at es q) p q)
 
 -- Preserved program order under Ztso: loads are acquire-RCpc, stores release-RCpc and AMOs both, RCsc,
 -- so that two operations of a hart keep program order but where a load may pass an earlier store.
 abbrev pub is_preserved : List Entry → ℕ → ℕ → Bool
-is_preserved es p q = is_at is_operation es p && is_at is_operation es q && in_program_order es p q && not (may_pass es p q)
+is_preserved es p q = is_at is_operation es p && is_at is_operation es q && in_program_order es p q && not (may_be_reordered es p q)
 
 -- the store at p is one that the Load Value Axiom lets the read at q take its value from: it is before
 -- the read in the global memory order, or in program order

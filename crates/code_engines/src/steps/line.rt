@@ -51,7 +51,7 @@ fn first_number(text: &[u8]) -> Result<(u32, &[u8]), LineFault>
 /// The two numbers that are the words of the text.
 #[tactic(auto, unfolding(crate::specs::StepsReading::two_numbers))]
 fn two_numbers_of(text: &[u8]) -> Result<(u32, u32), LineFault>
-    ensures exact { GivesUpToMemory refusal_of (λ said. said) result (two_numbers (tokens text.now)) }
+    ensures exact { GivesUpToMemory refusal_of (λ numbers. numbers) result (two_numbers (tokens text.now)) }
     ensures bad { IfErr result (λ fault. fault ≡ Refused bad_line) }
 {
     let (a, rest) = first_number(text)?;
@@ -65,7 +65,7 @@ fn two_numbers_of(text: &[u8]) -> Result<(u32, u32), LineFault>
 /// The three numbers that are the words of the text.
 #[tactic(auto, unfolding(crate::specs::StepsReading::three_numbers))]
 fn three_numbers_of(text: &[u8]) -> Result<(u32, u32, u32), LineFault>
-    ensures exact { GivesUpToMemory refusal_of (λ said. said) result (three_numbers (tokens text.now)) }
+    ensures exact { GivesUpToMemory refusal_of (λ numbers. numbers) result (three_numbers (tokens text.now)) }
     ensures bad { IfErr result (λ fault. fault ≡ Refused bad_line) }
 {
     let (a, rest) = first_number(text)?;

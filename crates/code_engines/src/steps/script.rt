@@ -6,7 +6,7 @@ ghost use Rattle.texts.specs.Results.{GivesUpToMemory, refusal_of};
 ghost use Rattle.step_machine.specs.History.{FitsIn};
 ghost use Rattle.engine_support.specs.Faults.{Answers};
 ghost use Rattle.engine_support.specs.LineFaults.{at_line as line_at};
-ghost use Rattle.code_engines.specs.ScriptValue.{ScriptValue, script_value, no_script, opening_of};
+ghost use Rattle.code_engines.specs.ScriptValue.{ScriptValue, script_value, no_script, opening_of_script};
 ghost use Rattle.code_engines.specs.StepsText.{Describes};
 ghost use Rattle.code_engines.specs.StepsReading.{after_line, after_lines, script_at};
 
@@ -103,7 +103,7 @@ pub fn read_script<const M: usize>(alloc: Global, text: &[u8]) -> Result<Script,
     ensures found { IfOk result (λ script. Describes M text.now (script_value script)) }
     ensures only { (script : ScriptValue) → Describes M text.now script → Answers script_value result (Ok script) }
     ensures exact { Answers script_value result (script_at M text.now) }
-    ensures fits { IfOk result (λ script. FitsIn M (opening_of (script_value script))) }
+    ensures fits { IfOk result (λ script. FitsIn M (opening_of_script (script_value script))) }
 {
     script_of::<M>(alloc, text)
 }

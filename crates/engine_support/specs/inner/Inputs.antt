@@ -1,7 +1,7 @@
 -- What inputs are read as: texts, and litmus texts with schedules.
 use Rattle.std.specs.Prelude.{ℕ, ◌≡◌, List, Option, Result, Ok}
 use Rattle.recorder.specs.declared.versions.Schedule.{Schedule}
-use Rattle.recorder.specs.Versions.{ScheduleValue, said_of}
+use Rattle.recorder.specs.Versions.{ScheduleValue, schedule_value}
 use Rattle.litmus.specs.LitmusTests.{LitmusTest}
 use Rattle.engine_support.specs.declared.fault.Refusal.{Refusal}
 use Rattle.engine_support.specs.Engines.{OfInput, decoded}
@@ -16,7 +16,7 @@ ReadsText input answer = OfInput input (λ bytes. IsReadAsText bytes answer)
 
 -- a test and a schedule, as they were read
 abbrev pub AreRead : LitmusTest → ScheduleValue → Result (LitmusTest × ScheduleValue) Refusal → Type 0
-AreRead test said answer = answer ≡ Ok (test, said)
+AreRead test parsed answer = answer ≡ Ok (test, parsed)
 
-abbrev pub test_and_said : LitmusTest × Schedule → LitmusTest × ScheduleValue
-test_and_said read = (read.0, said_of read.1)
+abbrev pub test_and_value : LitmusTest × Schedule → LitmusTest × ScheduleValue
+test_and_value read = (read.0, schedule_value read.1)

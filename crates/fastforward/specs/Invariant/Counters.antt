@@ -1,7 +1,7 @@
 -- The numbers of one block, which say everything of its memory and of both harts' stores to it.
 use Rattle.std.proofs.Common.{ℕ, ◌+◌, ◌<◌, ◌≤◌, ◌≡◌, length}
 use Rattle.std.specs.Prelude.{slice_index}
-use Rattle.poll_close.specs.Invariant.Blocks.{Block, offset, slot}
+use Rattle.poll_close.specs.Invariant.Blocks.{SenderBlock, offset, slot}
 use Rattle.poll_close.specs.Invariant.BlockInvariant as meaning
 
 -- the sender's own: the words that it got from its inbox; the slots and marks that it stored; the nulls
@@ -38,15 +38,15 @@ sent n = n.stored + n.marked
 abbrev pub gone : Landed → ℕ
 gone n = n.slots + n.mark
 
-abbrev pub taken : ReceiverCounts → ℕ
-taken n = nulls n + n.tails + n.done
+abbrev pub taken_so_far : ReceiverCounts → ℕ
+taken_so_far n = nulls n + n.tails + n.done
 
 abbrev pub freed : Landed → ℕ
 freed n = n.nulls + n.tails + n.done
 
 -- a word is stored where the null before it in the slot has landed, and so at most one store to a slot
 -- is pending in both buffers
-pub record CounterInvariant (k : Block) (n : Counters) : Type 0 where
+pub record CounterInvariant (k : SenderBlock) (n : Counters) : Type 0 where
   pub seen_nulls : n.sender.seen ≤ n.landed.nulls
   pub seen_slots : n.receiver.seen ≤ n.landed.slots
   pub seen_mark : n.receiver.mark ≤ n.landed.mark
@@ -72,7 +72,7 @@ pub record CounterInvariant (k : Block) (n : Counters) : Type 0 where
 
 -- the words of the block in memory: its slots hold the words that are not emptied, and 0 from there
 -- round to them
-pub record Words (k : Block) (n : Landed) (word : ℕ → ℕ) : Type 0 where
+pub record Words (k : SenderBlock) (n : Landed) (word : ℕ → ℕ) : Type 0 where
   pub mark : word (k.base + 4) ≡ n.mark
   pub tail : word (k.base + 8) ≡ offset k n.tails
   pub done : word (k.base + 12) ≡ n.done

@@ -1,8 +1,8 @@
 -- The receiver's rows at the last four of its lines between.
 use Rattle.std.proofs.Common.{ℕ, ◌+◌, ◌<◌, ◌≡◌, ◌==◌, ◌⊎◌, ◌&&◌, List, [], ◌∷◌, length}
 use Rattle.std.specs.Prelude.{slice_index}
-use Rattle.poll_close.specs.Invariant.Blocks.{Block, offset}
-use Rattle.poll_close.specs.Invariant.Outlines.{Row}
+use Rattle.poll_close.specs.Invariant.Blocks.{SenderBlock, offset}
+use Rattle.poll_close.specs.Invariant.Outlines.{OutlineRow}
 use Rattle.poll_close.specs.Invariant.BlockInvariant.{Flag, DistanceToReport, Near, Visit, between}
 use Rattle.poll_close.specs.Invariant.ReceiverState.{ReceiverRegisters}
 use Rattle.fastforward.specs.Invariant.Counters.{ReceiverCounts, nulls}
@@ -16,15 +16,15 @@ abbrev pub Filled : ReceiverCounts → Type 0
 Filled n = nulls n ≡ n.tails + 1
 
 -- the next word had landed, and it is in x11
-abbrev pub Loaded : Block → ReceiverCounts → ℕ → Type 0
+abbrev pub Loaded : SenderBlock → ReceiverCounts → ℕ → Type 0
 Loaded k n x11 = (n.tails < n.seen) × (x11 ≡ slice_index k.list n.tails)
 
 -- its slot held 0; where the mark was there before, all is taken
-abbrev pub Empty : Block → ReceiverCounts → ℕ → ℕ → Type 0
+abbrev pub Empty : SenderBlock → ReceiverCounts → ℕ → ℕ → Type 0
 Empty k n x11 x30 = (x11 ≡ 0) × ((x30 ≡ 0) ⊎ (n.tails ≡ length k.list))
 
 -- this visit may find nothing: its sender has ended, and the mark was not read; or nothing was found
-abbrev pub rows : List (Row DistanceToReport (Block → ReceiverCounts → ReceiverRegisters → Type 0))
+abbrev pub rows : List (OutlineRow DistanceToReport (SenderBlock → ReceiverCounts → ReceiverRegisters → Type 0))
 rows =
     between 0x18 (Visit (λ a x. (slice_index x 30 == 0) && a.ended) 15 18) (λ k n r. Flag n r.x30 × (r.x7 ≡ offset k n.tails)) ∷  -- add x28,x8,x7
     between 0x1C (Visit (λ a x. (slice_index x 30 == 0) && a.ended) 14 17)

@@ -26,7 +26,7 @@ abbrev pub LeadsInto : {Node Step : Type 0} → (next : Node → Step → Node) 
 LeadsInto {Step = Step} next count nodes node = (step : Step) → IsAmong count nodes (next node step)
 
 -- a search may go on from the node: it isn't wanted, and each step leads to one of the first `count` of these
-pub record GoesOn {Node Step : Type 0} (next : Node → Step → Node) (Wanted : Node → Type 0) (count : ℕ) (nodes : List Node) (node : Node) : Type 0 where
+pub record IsExpanded {Node Step : Type 0} (next : Node → Step → Node) (Wanted : Node → Type 0) (count : ℕ) (nodes : List Node) (node : Node) : Type 0 where
   pub leads : LeadsInto next count nodes node
   pub unwanted : Wanted node → ⊥
 
@@ -35,12 +35,9 @@ pub record GoesOn {Node Step : Type 0} (next : Node → Step → Node) (Wanted :
 pub record IsSearched {Node Step : Type 0} (next : Node → Step → Node) (Wanted : Node → Type 0) (first : Node) (nodes : List Node)
     (done level depth : ℕ) : Type 0 where
   pub near : (count : ℕ) (node : Node) → count ≤ depth → IsLedToBy next first count node → IsAmong level nodes node
-  pub gone_on : (number : ℕ) (node : Node) → number < done → slice_get nodes number ≡ Some node → GoesOn next Wanted level nodes node
+  pub gone_on : (number : ℕ) (node : Node) → number < done → slice_get nodes number ≡ Some node → IsExpanded next Wanted level nodes node
 
 -- ---- the positions of a machine, for what a test asks about
 
 abbrev pub AreFewestFor : (B : ℕ) → LitmusTest → (first : Position) → (count : ℕ) → Type 0
 AreFewestFor B test first count = AreFewest (next_position B) (IsWantedAt test) first count
-
-abbrev pub IsSearchedFor : (B : ℕ) → LitmusTest → (first : Position) → (positions : List Position) → (done level depth : ℕ) → Type 0
-IsSearchedFor B test first positions done level depth = IsSearched (next_position B) (IsWantedAt test) first positions done level depth

@@ -16,8 +16,8 @@ abbrev pub Found : {A : Type 0} → (A → ℕ) → (A → Type 0) → (A → Ty
 Found hart Good Bad xs o = MatchOption o (All Good xs) (IsLeast hart Good Bad xs)
 
 -- what counts of a seat's diary: of an acting seat's the memory entries, of a landing one's all
-abbrev pub counted : Bool → List Entry → List Entry
-counted acts d = if acts then memory_of d else d
+abbrev pub counting_entries : Bool → List Entry → List Entry
+counting_entries acts d = if acts then memory_of d else d
 
 -- the entry is of the seat's part
 abbrev pub keeps : SeatView → Entry → Bool

@@ -1,7 +1,7 @@
 -- The numbers of one block, which say everything of its memory and of both harts' stores to it.
 use Rattle.std.proofs.Common.{ℕ, ◌+◌, ◌<◌, ◌≤◌, ◌≡◌, length}
 use Rattle.std.specs.Prelude.{slice_index}
-use Rattle.poll_close.specs.Invariant.Blocks.{Block, offset, slot}
+use Rattle.poll_close.specs.Invariant.Blocks.{SenderBlock, offset, slot}
 use Rattle.poll_close.specs.Invariant.BlockInvariant as meaning
 
 -- the sender's own: the words that it got from its inbox; the slots, heads and marks that it stored; the
@@ -36,13 +36,13 @@ sent n = n.stored + n.headed + n.marked
 abbrev pub gone : Landed → ℕ
 gone n = n.slots + n.heads + n.mark
 
-abbrev pub taken : ReceiverCounts → ℕ
-taken n = n.tails + n.done
+abbrev pub taken_so_far : ReceiverCounts → ℕ
+taken_so_far n = n.tails + n.done
 
 abbrev pub freed : Landed → ℕ
 freed n = n.tails + n.done
 
-pub record CounterInvariant (k : Block) (n : Counters) : Type 0 where
+pub record CounterInvariant (k : SenderBlock) (n : Counters) : Type 0 where
   pub seen_tails : n.sender.seen ≤ n.landed.tails
   pub seen_heads : n.receiver.seen ≤ n.landed.heads
   pub seen_mark : n.receiver.mark ≤ n.landed.mark
@@ -68,7 +68,7 @@ pub record CounterInvariant (k : Block) (n : Counters) : Type 0 where
 
 -- the words of the block in memory: its slots hold the words that landed and that no tail in memory has
 -- passed
-pub record Words (k : Block) (n : Landed) (word : ℕ → ℕ) : Type 0 where
+pub record Words (k : SenderBlock) (n : Landed) (word : ℕ → ℕ) : Type 0 where
   pub head : word k.base ≡ offset k n.heads
   pub mark : word (k.base + 4) ≡ n.mark
   pub tail : word (k.base + 8) ≡ offset k n.tails

@@ -8,7 +8,7 @@ use Rattle.poll_close.specs.Invariant.Outlines.{Outline, SenderRow}
 use Rattle.lamport_ring.specs.Listing.{ring_lines}
 use Rattle.lamport_ring.specs.Invariant.Assertions.{Marked}
 use Rattle.lamport_ring.specs.Invariant.RingLines.{More, rows}
-use Rattle.lamport_ring.specs.Invariant.Counters.{Sent, Landed, sent, gone, taken, freed, CounterInvariant, Words}
+use Rattle.lamport_ring.specs.Invariant.Counters.{Sent, Landed, sent, gone, taken_so_far, freed, CounterInvariant, Words}
 use Rattle.lamport_ring.specs.Invariant.Stores.{sender_stores, receiver_stores}
 
 -- its words, the row of each line, the offset after the last one, and that of the line that reads the tail
@@ -45,7 +45,7 @@ blocks_of p = record {
   receiver_stores = receiver_stores;
   sent = sent;
   gone = gone;
-  taken = taken;
+  taken = taken_so_far;
   freed = freed;
   Level = λ n. Unit {0};
   Filled = More;

@@ -8,7 +8,7 @@ use Rattle.poll_close.specs.Layout.{block_size, Layout, base_of}
 
 -- the ring size, where the block begins, the memory's words, the sender's list; and where the first
 -- block begins, and how many bytes on the next one does
-pub record Block : Type 0 where
+pub record SenderBlock : Type 0 where
   pub size : ℕ
   pub base : ℕ
   pub words : ℕ
@@ -16,17 +16,17 @@ pub record Block : Type 0 where
   pub first : ℕ
   pub stride : ℕ
 
-abbrev pub block_of : ℕ → Layout → List (List ℕ) → ℕ → Block
+abbrev pub block_of : ℕ → Layout → List (List ℕ) → ℕ → SenderBlock
 block_of M l lists i = record { size = l.size; base = base_of l i; words = M; list = slice_index_or lists i []; first = l.base; stride = l.stride }
 
 -- the offset of word j among the slots, and the address of its slot
-abbrev pub offset : Block → ℕ → ℕ
+abbrev pub offset : SenderBlock → ℕ → ℕ
 offset k j = 4 * (j % k.size)
 
 abbrev pub slot : ℕ → ℕ → ℕ → ℕ
 slot S b j = b + 16 + 4 * (j % S)
 
-abbrev pub is_within : Block → ℕ → Bool
+abbrev pub is_within : SenderBlock → ℕ → Bool
 is_within k a = not (nat_lt a k.base) && nat_lt a (k.base + block_size k.size)
 
 -- a word stored to an address, as the write of its bytes
@@ -37,10 +37,10 @@ abbrev pub as_writes : List (ℕ × ℕ) → List Write
 as_writes xs = map as_write xs
 
 -- the pending stores of a list that go to the block
-abbrev pub is_to : Block → Write → Bool
+abbrev pub is_to : SenderBlock → Write → Bool
 is_to k w = is_within k w.addr
 
-abbrev pub to_block : Block → List Write → List Write
+abbrev pub to_block : SenderBlock → List Write → List Write
 to_block k ws = filter (is_to k) ws
 
 -- the stores of one fixed list that are made and have not landed: made n, landed k
@@ -63,8 +63,8 @@ pairs first second last [] = last ∷ []
 pairs first second last (w ∷ ws) = first 0 w ∷ second 0 w ∷ pairs (λ j v. first (suc j) v) (λ j v. second (suc j) v) last ws
 
 -- word j goes into its slot, and the tail after it says that it is taken
-abbrev pub slot_store : Block → ℕ → ℕ → ℕ × ℕ
+abbrev pub slot_store : SenderBlock → ℕ → ℕ → ℕ × ℕ
 slot_store k j w = (slot k.size k.base j, w)
 
-abbrev pub tail_store : Block → ℕ → ℕ → ℕ × ℕ
+abbrev pub tail_store : SenderBlock → ℕ → ℕ → ℕ × ℕ
 tail_store k j w = (k.base + 8, offset k (j + 1))

@@ -14,18 +14,18 @@ use Rattle.poll_close.specs.Reports.{taken, Clean}
 use Rattle.poll_close.specs.Going.{AllGoOn}
 use Rattle.poll_close.specs.Touching.{AllTouch}
 use Rattle.poll_close.specs.Invariant.Outlines.{Standing}
-use Rattle.poll_close.specs.Invariant.Blocks.{Block, block_of, as_writes, to_block}
+use Rattle.poll_close.specs.Invariant.Blocks.{SenderBlock, block_of, as_writes, to_block}
 use Rattle.poll_close.specs.Invariant.ReceiverState.{ReceiverRegisters, whole_of, receives, closings_due}
 use Rattle.poll_close.specs.Invariant.BlockInvariant.{BlockInvariant, Count, unsent_of, unread_of, AllReported, ReceiverIs}
 
 -- the sender of a block, which is hart h
-pub record SenderPart (m : BlockInvariant) (k : Block) (M h : ℕ) (t : History) (n : Count m) : Type 0 where
+pub record SenderPart (m : BlockInvariant) (k : SenderBlock) (M h : ℕ) (t : History) (n : Count m) : Type 0 where
   pub stands : HartState
   pub state : state_of M t h ≡ Some stands
   pub holds : Standing m.sender k n.sender stands
   pub buffer : pending h t.entries ≡ as_writes (unsent_of m k n)
 
-pub record BlockPart (m : BlockInvariant) (k : Block) (M i : ℕ) (t : History) (n : Count m) : Type 0 where
+pub record BlockPart (m : BlockInvariant) (k : SenderBlock) (M i : ℕ) (t : History) (n : Count m) : Type 0 where
   pub order : m.CounterInvariant k n
   pub sender : SenderPart m k M (i + 1) t n
   pub theirs : to_block k (pending 0 t.entries) ≡ as_writes (unread_of m k n)
@@ -52,7 +52,7 @@ pub record ReceiverPart (m : BlockInvariant) (M : ℕ) (S : Layout) (lists : Lis
 pub record ReportsOf (rs : List Report) (i : ℕ) (list : List ℕ) (took closings : ℕ) : Type 0 where
   pub words : taken rs i ≡ take took list
   pub closed : (k : ℕ) → slice_get rs k ≡ Some (report.Closed i) → closings ≡ 1
-  pub said : closings ≡ 1 → (k : ℕ) × (slice_get rs k ≡ Some (report.Closed i))
+  pub reporting : closings ≡ 1 → (k : ℕ) × (slice_get rs k ≡ Some (report.Closed i))
 
 pub record ReportPart (m : BlockInvariant) (lists : List (List ℕ)) (rs : List Report) (f : ℕ → Count m) : Type 0 where
   pub senders : (j : ℕ) → j < length lists → ReportsOf rs j (slice_index_or lists j []) ((f j).receiver.took) ((f j).receiver.closings)

@@ -2,8 +2,9 @@
 use Rattle.std.specs.Prelude.{ℕ, ◌+◌, ◌*◌, ◌==◌, if◌then◌else◌, List, [], ◌∷◌}
 use Rattle.hart.specs.State.{HartState}
 use Rattle.hart.specs.declared.status.Status.TheVariants as status
-use Rattle.poll_close.specs.Listing.{RingLines, words_of, receiver_with}
-use Rattle.poll_close.specs.Invariant.Blocks.{Block}
+use Rattle.rv_decode.specs.Listings.{words_of}
+use Rattle.poll_close.specs.Listing.{RingLines, receiver_with}
+use Rattle.poll_close.specs.Invariant.Blocks.{SenderBlock}
 
 abbrev pub receiver_of : RingLines → List ℕ
 receiver_of m = words_of (receiver_with m)
@@ -48,5 +49,5 @@ receives m f here r = if here == 0x80 then received m f r else receiving m f her
 abbrev pub closings_due : ℕ → ℕ
 closings_due here = if here == 0x60 then 1 else 0
 
-abbrev pub whole_of : Block → ℕ → ReceiverConstants
+abbrev pub whole_of : SenderBlock → ℕ → ReceiverConstants
 whole_of k count = record { words = k.words; bytes = 4 * k.size; stride = k.stride; end = k.first + count * k.stride; first = k.first }

@@ -2,7 +2,7 @@
 use Rattle.std.specs.Prelude.{ℕ, ◌*◌, List, [], ◌∷◌}
 use Rattle.hart.specs.State.{HartState}
 use Rattle.hart.specs.declared.status.Status.TheVariants as status
-use Rattle.poll_close.specs.Invariant.Blocks.{Block}
+use Rattle.poll_close.specs.Invariant.Blocks.{SenderBlock}
 
 -- the registers that the program writes
 pub record SenderRegisters : Type 0 where
@@ -20,7 +20,7 @@ pub record SenderConstants : Type 0 where
   pub base : ℕ
   pub bytes : ℕ
 
-abbrev pub fixed : Block → SenderConstants
+abbrev pub fixed : SenderBlock → SenderConstants
 fixed k = record { words = k.words; base = k.base; bytes = 4 * k.size }
 
 abbrev pub file : SenderConstants → SenderRegisters → List ℕ

@@ -15,13 +15,13 @@ abbrev pub bytes_of : (words : List ℕ) → List ℕ
 bytes_of words = flat_map word_bytes words
 
 -- a word that was read so far, with seven bits more
-unfoldable pub joined : (word byte : ℕ) → ℕ
-joined word byte = word % 33554432 * 128 + byte % 128
+unfoldable pub with_seven_bits : (word byte : ℕ) → ℕ
+with_seven_bits word byte = word % 33554432 * 128 + byte % 128
 
 -- the words of bytes, the first of which goes on with a word
 unfoldable pub words_from : (word : ℕ) → (bytes : List ℕ) → List ℕ
 words_from word [] = []
-words_from word (b ∷ bs) = if nat_lt b 128 then joined word b ∷ words_from 0 bs else words_from (joined word b) bs
+words_from word (b ∷ bs) = if nat_lt b 128 then with_seven_bits word b ∷ words_from 0 bs else words_from (with_seven_bits word b) bs
 
 abbrev pub words_in : (bytes : List ℕ) → List ℕ
 words_in bytes = words_from 0 bytes

@@ -51,12 +51,12 @@ entry_of (head.Took h sender) ns ps = entry.Took h sender (slice_index ns 0)
 entry_of head.Plain ns ps = slice_index_or ps 0 (entry.Inner 0)
 
 -- all its entries
-abbrev pub row_of : Head → List ℕ → List Entry → List Entry
-row_of h ns ps = entry_of h ns ps ∷ replicate (further_of h) (entry_of h ns ps)
+abbrev pub packed_entries : Head → List ℕ → List Entry → List Entry
+packed_entries h ns ps = entry_of h ns ps ∷ replicate (further_of h) (entry_of h ns ps)
 
 abbrev pub unpacked : List Head → List ℕ → List Entry → List Entry
 unpacked [] ns ps = []
-unpacked (h ∷ hs) ns ps = row_of h ns ps ++ unpacked hs (drop (numbers_of h) ns) (drop (plain_of h) ps)
+unpacked (h ∷ hs) ns ps = packed_entries h ns ps ++ unpacked hs (drop (numbers_of h) ns) (drop (plain_of h) ps)
 
 -- the numbers and the plain entries are as many as the heads take
 pub record IsBalanced (hs : List Head) (ns : List ℕ) (ps : List Entry) : Type 0 where

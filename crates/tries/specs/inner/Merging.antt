@@ -17,7 +17,7 @@ pub record Merges (old later new : Tally) : Type 0 where
 
 -- Where runs come from: buffers of B stores and a memory of M words, the test, the stream that draws the
 -- schedules, and how many events each schedule has.
-pub record Source : Type 0 where
+pub record TestSource : Type 0 where
   pub B : ℕ
   pub M : ℕ
   pub test : LitmusTest
@@ -25,12 +25,12 @@ pub record Source : Type 0 where
   pub size : ℕ
 
 -- the runs from the one of this number on
-abbrev pub AreRunsFrom : Source → (first number : ℕ) → List Trial → Type 0
+abbrev pub AreRunsFrom : TestSource → (first number : ℕ) → List Trial → Type 0
 AreRunsFrom source first number trials =
     AreTrials source.B source.M source.test (left_after (first * source.size) source.stream) number source.size trials
 
 -- the tally of the runs from one number up to another
-pub record IsTallyFrom (source : Source) (first end : ℕ) (tally : Tally) : Type 0 where
+pub record IsTallyFrom (source : TestSource) (first end : ℕ) (tally : Tally) : Type 0 where
   pub trials : List Trial
   pub are : AreRunsFrom source first (end - first) trials
   pub tallied : IsTallyOf trials tally

@@ -14,11 +14,11 @@ abbrev pub MOST_TIMES : ℕ
 MOST_TIMES = 4294967295
 
 -- where a hart's reason stands in a table: 8 reasons, by their numbers from 8 on, for each hart
-abbrev pub place_of : Stopped → ℕ
-place_of stopped = 8 * stopped.hart + (stop_number stopped.why - 8)
+abbrev pub stop_place : Stopped → ℕ
+stop_place stopped = 8 * stopped.hart + (stop_number stopped.why - 8)
 
 abbrev pub is_at : (place : ℕ) → Stopped → Bool
-is_at place stopped = place_of stopped == place
+is_at place stopped = stop_place stopped == place
 
 -- these harts were stopped once more, if the run didn't finish; nothing is said of a count that is none
 abbrev pub NotesStops : (finished : Bool) → List Stopped → (old new : List ℕ) → Type 0

@@ -1,7 +1,7 @@
 use Rattle.callers.specs.Queues.{spsc_of}
 use Rattle.callers.proofs.Sound.{keeps_all}
 use Rattle.callers.proofs.Exact.{none_owed}
-use Rattle.callers.proofs.Alike.{owes_nothing_there}
+use Rattle.callers.proofs.Alike.{no_opening_debt}
 use Rattle.callers.proofs.laws.laws_of_debts.Goals as goal
 
 pub returns-clause-kept : goal.returns-clause-kept
@@ -11,4 +11,4 @@ pub returns-clause-none : goal.returns-clause-none
 returns-clause-none c = λ B M o l es uses. none_owed B M o (spsc_of l) es uses
 
 pub returns-clause-opening : goal.returns-clause-opening
-returns-clause-opening c = λ M o q l d located owes. owes_nothing_there M o q l d located owes
+returns-clause-opening c = λ M o q l d located has_debt. no_opening_debt M o q l d located has_debt

@@ -5,16 +5,16 @@ use Rattle.callers.specs.Queues.{block_at, sends_by, receives_by, HasNoCopy, Has
 use Rattle.callers.proofs.Rest.{at_any, at_rest}
 use Rattle.callers.proofs.locating.locate.Goals as goal
 
-pub returns-in_default-clause-owes : goal.returns-in_default-clause-owes
-returns-in_default-clause-owes g c = (
+pub returns-in_default-clause-has_debt : goal.returns-in_default-clause-has_debt
+returns-in_default-clause-has_debt g c = (
   refl,
   refl,
   subst (λ (o : OpeningValue). HasNoCopy o c.args.queue.sender (sends_by c.args.queue.kind)) c.opening-opening.ensures.value
       (c.function_of.ensures.none (sends_by c.args.queue.kind) (sym c.send_words.ensures) c.in_default.is),
 )
 
-pub returns-in_default-function_of-clause-owes : goal.returns-in_default-function_of-clause-owes
-returns-in_default-function_of-clause-owes g c = (
+pub returns-in_default-function_of-clause-has_debt : goal.returns-in_default-function_of-clause-has_debt
+returns-in_default-function_of-clause-has_debt g c = (
   refl,
   refl,
   subst (λ (o : OpeningValue). HasNoCopy o c.args.queue.receiver (receives_by c.args.queue.kind)) c.opening-opening.ensures.value

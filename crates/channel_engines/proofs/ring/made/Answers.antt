@@ -39,9 +39,9 @@ returns-in-Ok-clause-made g c =
     read c.in_ok-sender.sender.items _ c.in_ok-sender.ensures.program (read c.in_ok-receiver.receiver.items _ c.in_ok-receiver.ensures.program
     (read _ _ c.in_ok-lists.ensures (record {
       within = c.in-Ok.ensures.accepted;
-      own = record { sender = c.in_ok-sender.sender; receiver = c.in_ok-receiver.receiver; lists = c.in_ok-lists.lists; place = c.args.place };
-      is_own = record { sends_are = refl; receives_are = refl; lists_are = refl; lies = refl };
-      told = c.in-Ok.ensures.told;
+      channel = record { sender = c.in_ok-sender.sender; receiver = c.in_ok-receiver.receiver; lists = c.in_ok-lists.lists; place = c.args.place };
+      is_channel = record { sends_are = refl; receives_are = refl; lists_are = refl; lies = refl };
+      output = c.in-Ok.ensures.output;
     })))
 
 pub returns-clause-made : goal.returns-clause-made

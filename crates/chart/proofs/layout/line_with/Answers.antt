@@ -9,7 +9,7 @@ returns c =
       c.column_of-column.ensures,
       c.shape.ensures,
       c.hart.ensures ∙ ap (λ (r : RowOf). hart_of r.entry) c.row.view_is,
-      c.in_ok-said.ensures.value,
+      c.in_ok-label.ensures.value,
       c.in_ok-kept.ensures.value,
     )
     at c.row_line.ensures

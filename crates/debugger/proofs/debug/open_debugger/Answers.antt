@@ -1,5 +1,5 @@
 use Rattle.engine_support.proofs.Endings.{is_handed}
-use Rattle.recorder.specs.Versions.{said_of}
+use Rattle.recorder.specs.Versions.{schedule_value}
 use Rattle.engine_support.specs.Histories.{AnswersEvents}
 use Rattle.engine_support.proofs.ScheduleLaws.{made_of_read, read_fault}
 use Rattle.debugger.specs.DebuggerStates.{DebuggerState}
@@ -14,4 +14,4 @@ returns-in_err-test-clause-debugger g c =
 pub returns-clause-debugger : goal.returns-clause-debugger
 returns-clause-debugger g c =
     made_of_read _ _ (AnswersEvents IsAtStart) (λ (debugger : DebuggerState). debugger) c.debugger_along.result c.in_ok-test.test
-    (said_of c.in_ok-test.given) c.in_ok-test.ensures.read c.debugger_along.ensures
+    (schedule_value c.in_ok-test.given) c.in_ok-test.ensures.read c.debugger_along.ensures

@@ -1,5 +1,5 @@
 use Rattle.std.proofs.Common.{lit<}
-use Rattle.fastforward.proofs.Falling.{fastforward_loads}
+use Rattle.fastforward.proofs.Decreasing.{fastforward_loads}
 use Rattle.fastforward.proofs.FastForwardFinish.is_ready.Goals as goal
 
 pub is_ready_at-requires : goal.is_ready_at-requires

@@ -1,12 +1,12 @@
 use Rattle.std.proofs.Common.{◌<◌}
 use Rattle.std.specs.Prelude.{IfSome}
 use Rattle.step_machine.specs.declared.opening.TheConstants.{MAX_HARTS}
-use Rattle.recorder.specs.Schedule.{hart_of}
+use Rattle.recorder.specs.Schedule.{hart_of_event}
 use Rattle.finding.specs.inner.Parts.{IsRight, tables_of}
 use Rattle.finding.proofs.back.event_to.Given as goal
 
 abbrev pub invariant-loop-hart : goal.invariant-loop-hart
 invariant-loop-hart g l = record {
   right : IsRight g.row.B (tables_of g.row.B g.row.M l.tables) l.book.machine l.book.steps.items;
-  landing : IfSome l.landing (λ event. hart_of event < MAX_HARTS);
+  landing : IfSome l.landing (λ event. hart_of_event event < MAX_HARTS);
 }

@@ -8,9 +8,9 @@ use Rattle.finding.proofs.changes.words_into.Goals.{then-index-len, else-index-l
 use Rattle.finding.proofs.changes.words_into.Goals as goal
 
 -- one change more is made
-goes : (words new changes said : List ℕ) (at : ℕ) → 2 * at + 1 < length changes → changed_by words (drop (2 * at) changes) ≡ said
-    → new ≡ slice_set words (slice_index changes (2 * at)) (slice_index changes (2 * at + 1)) → changed_by new (drop (2 * (at + 1)) changes) ≡ said
-goes words new changes said at within so is =
+goes : (words new changes contents : List ℕ) (at : ℕ) → 2 * at + 1 < length changes → changed_by words (drop (2 * at) changes) ≡ contents
+    → new ≡ slice_set words (slice_index changes (2 * at)) (slice_index changes (2 * at + 1)) → changed_by new (drop (2 * (at + 1)) changes) ≡ contents
+goes words new changes contents at within so is =
     ap (λ (ws : List ℕ). changed_by ws (drop (2 * (at + 1)) changes)) is
     ∙ sym (changed_more words changes (2 * at) (2 * at + 1) (2 * (at + 1)) refl (omega arith) within) ∙ so
 

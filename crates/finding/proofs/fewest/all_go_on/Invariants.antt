@@ -2,7 +2,7 @@ use Rattle.std.proofs.Common.{◌≡◌, ◌<◌, ◌≤◌, ℕ, Some}
 use Rattle.std.specs.List.{slice_get}
 use Rattle.step_machine.specs.Positions.{Position, next_position}
 use Rattle.finding.specs.Find.{IsWantedAt}
-use Rattle.finding.specs.inner.Levels.{GoesOn}
+use Rattle.finding.specs.inner.Levels.{IsExpanded}
 use Rattle.finding.specs.inner.Parts.{IsRight, positions_by, tables_of}
 use Rattle.finding.proofs.fewest.all_go_on.Given as goal
 
@@ -11,5 +11,5 @@ invariant-loop-number g l = record {
   right : IsRight g.row.B (tables_of g.row.B g.row.M l.tables) l.book.machine l.book.steps.items;
   go : (number : ℕ) (position : Position) → l.from ≤ number → number < l.number
       → slice_get (positions_by (tables_of g.row.B g.row.M l.tables) l.met) number ≡ Some position
-      → GoesOn (next_position g.row.B) (IsWantedAt l.test) l.count (positions_by (tables_of g.row.B g.row.M l.tables) l.met) position;
+      → IsExpanded (next_position g.row.B) (IsWantedAt l.test) l.count (positions_by (tables_of g.row.B g.row.M l.tables) l.met) position;
 }

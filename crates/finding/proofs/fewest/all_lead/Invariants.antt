@@ -1,6 +1,6 @@
 use Rattle.std.proofs.Common.{◌<◌}
 use Rattle.step_machine.specs.declared.events.Event.{Event}
-use Rattle.recorder.specs.Schedule.{hart_of}
+use Rattle.recorder.specs.Schedule.{hart_of_event}
 use Rattle.finding.specs.inner.Parts.{IsRight, tables_of}
 use Rattle.finding.proofs.RowLaws.{IsKnownStep}
 use Rattle.finding.proofs.fewest.all_lead.Given as goal
@@ -8,5 +8,5 @@ use Rattle.finding.proofs.fewest.all_lead.Given as goal
 abbrev pub invariant-loop-hart : goal.invariant-loop-hart
 invariant-loop-hart g l = record {
   right : IsRight g.row.B (tables_of g.row.B g.row.M l.tables) l.book.machine l.book.steps.items;
-  known : (ev : Event) → hart_of ev < l.hart → IsKnownStep g.row.B (tables_of g.row.B g.row.M l.tables) l.count l.met l.row ev;
+  known : (ev : Event) → hart_of_event ev < l.hart → IsKnownStep g.row.B (tables_of g.row.B g.row.M l.tables) l.count l.met l.row ev;
 }

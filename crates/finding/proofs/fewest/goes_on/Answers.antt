@@ -2,7 +2,7 @@ use Rattle.std.proofs.Common.{rules, ◌∙◌, ℕ, List, Some, Result, Ok, Err
 use Rattle.std.specs.Prelude.{IfOk, IsTrue}
 use Rattle.step_machine.specs.Positions.{next_position}
 use Rattle.finding.specs.Find.{IsWantedAt}
-use Rattle.finding.specs.inner.Levels.{GoesOn}
+use Rattle.finding.specs.inner.Levels.{IsExpanded}
 use Rattle.finding.specs.inner.Parts.{position_by_row, positions_by, tables_of}
 use Rattle.finding.proofs.RowLaws.{of_number}
 use Rattle.finding.proofs.fewest.goes_on.Goals as goal
@@ -19,6 +19,6 @@ returns-clause-goes g c =
     let unwanted = subst (λ (r : List ℕ). IsWantedAt c.args.test.now (position_by_row tables r) → ⊥) (c.deref.ensures.value ∙ sym c.deref-2.ensures.value)
     (c.in_ok-is_unwanted.ensures.unwanted yes) in
     ok_more _ _ c.all_lead.result (λ led leads is.
-    of_number (GoesOn (next_position g.row.B) (IsWantedAt c.args.test.now) c.args.count (positions_by tables c.args.met.now)) tables c.args.met.now
+    of_number (IsExpanded (next_position g.row.B) (IsWantedAt c.args.test.now) c.args.count (positions_by tables c.args.met.now)) tables c.args.met.now
     c.args.number row (c.in_ok-row_into.ensures ∙ ap (λ (r : List ℕ). Some r) (sym c.deref-2.ensures.value))
     (record { leads = leads is; unwanted = unwanted })) c.all_lead.ensures.leads

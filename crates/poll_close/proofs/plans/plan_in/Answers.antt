@@ -38,7 +38,7 @@ loop-hart-preserved g c = (
 pub pending-requires-in-loop-machine-2 : goal.pending-requires-in-loop-machine-2
 pending-requires-in-loop-machine-2 g c =
     let turn = turned (rank_of g.K.Finish.ranking) (next_by g.K.Finish.ranking) c.next_hart-next.result c.in_ok-step-2.field-0
-    c.step-in-loop-machine-2.new.self.history c.falls.ensures c.laws.ensures.keeps c.requires.some_capacity
+    c.step-in-loop-machine-2.new.self.history c.ranking_decreases.ensures c.laws.ensures.keeps c.requires.some_capacity
     c.loop-machine-2.invariant.0 c.loop-machine-2.invariant.1
     (sym c.is_finished-in-loop-machine-2.ensures ∙ c.loop-machine-2-test.true) c.next_hart-next.ensures c.in_ok-step-2.ensures.happens in
     (lit< tt, turn.hart)
@@ -46,7 +46,7 @@ pending-requires-in-loop-machine-2 g c =
 pub loop-machine-2-smaller-in-Continue-branch-6 : goal.loop-machine-2-smaller-in-Continue-branch-6
 loop-machine-2-smaller-in-Continue-branch-6 g c =
     let turn = turned (rank_of g.K.Finish.ranking) (next_by g.K.Finish.ranking) c.next_hart-next.result c.in_ok-step-2.field-0
-    c.step-in-loop-machine-2.new.self.history c.falls.ensures c.laws.ensures.keeps c.requires.some_capacity
+    c.step-in-loop-machine-2.new.self.history c.ranking_decreases.ensures c.laws.ensures.keeps c.requires.some_capacity
     c.loop-machine-2.invariant.0 c.loop-machine-2.invariant.1
     (sym c.is_finished-in-loop-machine-2.ensures ∙ c.loop-machine-2-test.true) c.next_hart-next.ensures c.in_ok-step-2.ensures.happens in
     let over = turn_over c.in_ok-step-3.field-0 c.step-then-not-is_empty.new.self.history c.laws.ensures.keeps c.loop-machine-2.invariant.1 turn
@@ -57,7 +57,7 @@ loop-machine-2-smaller-in-Continue-branch-6 g c =
 pub loop-machine-2-preserved-in-Continue-branch-6 : goal.loop-machine-2-preserved-in-Continue-branch-6
 loop-machine-2-preserved-in-Continue-branch-6 g c =
     let turn = turned (rank_of g.K.Finish.ranking) (next_by g.K.Finish.ranking) c.next_hart-next.result c.in_ok-step-2.field-0
-    c.step-in-loop-machine-2.new.self.history c.falls.ensures c.laws.ensures.keeps c.requires.some_capacity
+    c.step-in-loop-machine-2.new.self.history c.ranking_decreases.ensures c.laws.ensures.keeps c.requires.some_capacity
     c.loop-machine-2.invariant.0 c.loop-machine-2.invariant.1
     (sym c.is_finished-in-loop-machine-2.ensures ∙ c.loop-machine-2-test.true) c.next_hart-next.ensures c.in_ok-step-2.ensures.happens in
     let over = turn_over c.in_ok-step-3.field-0 c.step-then-not-is_empty.new.self.history c.laws.ensures.keeps c.loop-machine-2.invariant.1 turn
@@ -73,7 +73,7 @@ loop-machine-2-preserved-in-Continue-branch-6 g c =
 pub loop-machine-2-smaller : goal.loop-machine-2-smaller
 loop-machine-2-smaller g c =
     let turn = turned (rank_of g.K.Finish.ranking) (next_by g.K.Finish.ranking) c.next_hart-next.result c.in_ok-step-2.field-0
-    c.step-in-loop-machine-2.new.self.history c.falls.ensures c.laws.ensures.keeps c.requires.some_capacity
+    c.step-in-loop-machine-2.new.self.history c.ranking_decreases.ensures c.laws.ensures.keeps c.requires.some_capacity
     c.loop-machine-2.invariant.0 c.loop-machine-2.invariant.1
     (sym c.is_finished-in-loop-machine-2.ensures ∙ c.loop-machine-2-test.true) c.next_hart-next.ensures c.in_ok-step-2.ensures.happens in
     turn.stepped.less
@@ -81,7 +81,7 @@ loop-machine-2-smaller g c =
 pub loop-machine-2-preserved : goal.loop-machine-2-preserved
 loop-machine-2-preserved g c =
     let turn = turned (rank_of g.K.Finish.ranking) (next_by g.K.Finish.ranking) c.next_hart-next.result c.in_ok-step-2.field-0
-    c.step-in-loop-machine-2.new.self.history c.falls.ensures c.laws.ensures.keeps c.requires.some_capacity
+    c.step-in-loop-machine-2.new.self.history c.ranking_decreases.ensures c.laws.ensures.keeps c.requires.some_capacity
     c.loop-machine-2.invariant.0 c.loop-machine-2.invariant.1
     (sym c.is_finished-in-loop-machine-2.ensures ∙ c.loop-machine-2-test.true) c.next_hart-next.ensures c.in_ok-step-2.ensures.happens in
     let over = turn_quiet c.loop-machine-2.invariant.1 turn

@@ -1,5 +1,5 @@
 use Rattle.std.proofs.Common.{◌++◌, [], ◌∷◌, ap, ◌∙◌, arith}
-use Rattle.recorder.specs.Drawing.{words}
+use Rattle.recorder.specs.Drawing.{drawn_words}
 use Rattle.recorder.proofs.Drawn.{left_more, words-more, drawn-harts}
 use Rattle.recorder.proofs.drawing.put.Goals as goal
 
@@ -19,5 +19,5 @@ loop-preserved g c =
 
 pub returns-clause-harts : goal.returns-clause-harts
 returns-clause-harts g c = rw c.loop.invariant.so_far
-    (drawn-harts c.args.harts (words c.loop.counter (g.R.Rng.stream c.args.generator.now)) c.requires.some_hart
+    (drawn-harts c.args.harts (drawn_words c.loop.counter (g.R.Rng.stream c.args.generator.now)) c.requires.some_hart
     c.requires.most_harts)

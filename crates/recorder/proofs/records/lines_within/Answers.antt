@@ -3,7 +3,7 @@ use Rattle.std.specs.Option.{option_copied}
 use Rattle.std.proofs.lemmas.Result.{err_from_is_err_and}
 use Rattle.std.proofs.lemmas.List.{length-drop}
 use Rattle.texts.proofs.FormatLaws.{turns_start, turn_found, turn_gives, turns_end}
-use Rattle.recorder.specs.Records.{Line, steps_at, line_size, records_from}
+use Rattle.recorder.specs.Records.{SizedLine, steps_at, line_size, records_from}
 use Rattle.recorder.proofs.Slices.{rest_from}
 use Rattle.recorder.proofs.RecordLaws.{lines_after, lines_cut, line-is}
 use Rattle.recorder.proofs.records.lines_within.Goals as goal
@@ -22,7 +22,7 @@ pub returns-in_err-push_line : goal.returns-in_err-push_line
 returns-in_err-push_line c =
     let p = err_from_is_err_and c.from_residual.result c.from_residual.ensures.1 in
     let after = option_copied c.first_piece.result.1 in
-    let line : Line = (c.line_in-line.result.now, length c.first_piece.result.0.now + 1) in
+    let line : SizedLine = (c.line_in-line.result.now, length c.first_piece.result.0.now + 1) in
     let cut = lines_cut c.in-Some.bytes.now c.first_piece.result.0.now after c.first_piece.ensures.cut in
     let here = line-is c.first_piece.result.0.now c.first_piece.result.1 c.line_in-line.result.now c.is_some.result
     c.is_some.ensures c.line_in-line.ensures.line in
@@ -36,7 +36,7 @@ pub loop-rest-preserved : goal.loop-rest-preserved
 loop-rest-preserved c =
     let read = c.in_ok-push_line.ensures.exact in
     let after = option_copied c.first_piece.result.1 in
-    let line : Line = (c.line_in-line.result.now, length c.first_piece.result.0.now + 1) in
+    let line : SizedLine = (c.line_in-line.result.now, length c.first_piece.result.0.now + 1) in
     let cut = lines_cut c.in-Some.bytes.now c.first_piece.result.0.now after c.first_piece.ensures.cut in
     let here = line-is c.first_piece.result.0.now c.first_piece.result.1 c.line_in-line.result.now c.is_some.result
     c.is_some.ensures c.line_in-line.ensures.line in

@@ -1,7 +1,7 @@
 use Rattle.std.proofs.Common.{◌++◌, [], ◌∷◌, sym, ap, ◌∙◌, length}
 use Rattle.std.proofs.lemmas.Bool.{eqb-true, eqb-false}
 use Rattle.std.specs.String.{string_bytes}
-use Rattle.recorder.specs.Writing.{tokens_of}
+use Rattle.recorder.specs.Writing.{schedule_tokens}
 use Rattle.recorder.proofs.RoundTrip.{canon-none, canon-some, written_again}
 use Rattle.recorder.proofs.writing.write_schedule.Goals as goal
 use Rattle.recorder.proofs.writing.write_schedule.Goals.{then-not-is_empty+in_ok-push_tokens+in_ok-push_str-2, else-not-is_empty}
@@ -12,7 +12,7 @@ returns-clause-canonical c =
     elim c.if-not-is_empty.branch [
       | then-not-is_empty+in_ok-push_tokens+in_ok-push_str-2 w ↦
           (let some = eqb-false (length c.args.events.now) 0 (sym c.is_empty.ensures ∙ w.if-not-is_empty.true) in
-          let tokens = w.in_ok-push_tokens.ensures.pushed ∙ ap (λ front. front ++ tokens_of c.args.events.now) first in
+          let tokens = w.in_ok-push_tokens.ensures.pushed ∙ ap (λ front. front ++ schedule_tokens c.args.events.now) first in
           rw w.text-is (w.in_ok-push_str-2.ensures.bytes ∙ ap (λ front. front ++ 10 ∷ []) tokens ∙ sym (canon-some c.args.events.now some)))
       | else-not-is_empty w ↦
           (let none = eqb-true (length c.args.events.now) 0 (sym c.is_empty.ensures ∙ w.if-not-is_empty.false) in

@@ -7,13 +7,13 @@ use Rattle.ring_trials.proofs.runs.find_on.Goals as goal
 use Rattle.std.proofs.Common.{sym, subst, ap, ◌∙◌, arith}
 use Rattle.step_machine.specs.History.{OpeningValue}
 use Rattle.recorder.proofs.Drawn.{left_after-more}
-use Rattle.ring_trials.specs.Trials.{source_of, AreAllClean, IsChannelJudged}
+use Rattle.ring_trials.specs.Trials.{channel_source, AreAllClean, IsChannelJudged}
 use Rattle.ring_trials.proofs.RunsLaws.{none_clean, one_clean, one_unclean, few_closed, left_none, schedule_is, whole_again}
 
 -- src/runs.rt:87:5
 pub loop-number-init : goal.loop-number-init
 loop-number-init g c = record {
-  all = none_clean (source_of g.row.B g.row.M c.args.own.now (g.G.Rng.stream c.args.generator.now) c.args.size)
+  all = none_clean (channel_source g.row.B g.row.M c.args.channel.now (g.G.Rng.stream c.args.generator.now) c.args.size)
       c.in_ok-totals.totals.items c.in_ok-totals.ensures.totals (c.in_ok-totals.ensures.count ∙ c.senders-count.ensures);
   stands = c.requires.stands;
   left = left_none c.args.size (g.G.Rng.stream c.args.generator.now);
@@ -24,10 +24,10 @@ loop-number-init g c = record {
 pub returns-in-Some-clause-found : goal.returns-in-Some-clause-found
 returns-in-Some-clause-found g c = (
   c.loop-number-test.true,
-  one_unclean (source_of g.row.B g.row.M c.args.own.now (g.G.Rng.stream c.args.generator.now) c.args.size)
+  one_unclean (channel_source g.row.B g.row.M c.args.channel.now (g.G.Rng.stream c.args.generator.now) c.args.size)
       c.loop-number.number c.loop-number.totals.items c.judge.new.shares c.in_ok-found.found c.in-Some.breach c.loop-number.invariant.all
-      (subst (λ evs. IsChannelJudged g.row.B g.row.M c.args.own.now evs c.in_ok-found.found c.judge.new.shares) (c.deref.ensures.value
-      ∙ schedule_is (source_of g.row.B g.row.M c.args.own.now (g.G.Rng.stream c.args.generator.now) c.args.size)
+      (subst (λ evs. IsChannelJudged g.row.B g.row.M c.args.channel.now evs c.in_ok-found.found c.judge.new.shares) (c.deref.ensures.value
+      ∙ schedule_is (channel_source g.row.B g.row.M c.args.channel.now (g.G.Rng.stream c.args.generator.now) c.args.size)
       c.loop-number.number c.harts-harts.result _ _ c.in_ok-draw.ensures.drawn
       (c.harts-harts.ensures.opening c.requires.stands.0 c.requires.stands.1 ∙ ap (λ (o : OpeningValue). length o.harts) c.requires.stands.2)
       c.loop-number.invariant.left) c.in_ok-found.ensures.judged) c.in-Some.is,
@@ -36,7 +36,7 @@ returns-in-Some-clause-found g c = (
 -- src/runs.rt:91:21
 pub take_in-requires-clause-few : goal.take_in-requires-clause-few
 take_in-requires-clause-few g c k s at =
-    let few = few_closed (source_of g.row.B g.row.M c.args.own.now (g.G.Rng.stream c.args.generator.now) c.args.size)
+    let few = few_closed (channel_source g.row.B g.row.M c.args.channel.now (g.G.Rng.stream c.args.generator.now) c.args.size)
     c.loop-number.number c.loop-number.totals.items k s c.loop-number.invariant.all
     (ap (λ xs. slice_get xs k) (sym c.deref_mut-in-None.ensures.value) ∙ at) in
     let most : c.args.runs < 4294967296 = search rules in omega (arith, few, most)
@@ -49,12 +49,12 @@ loop-number-preserved g c =
     let shares = whole_again c.loop-number.shares.len c.judge.new.shares c.loop-number.shares.items
     (c.judge.ensures.count ∙ sym c.loop-number.invariant.count) (omega arith) in
     record {
-      all = subst (AreAllClean (source_of g.row.B g.row.M c.args.own.now (g.G.Rng.stream c.args.generator.now) c.args.size)
+      all = subst (AreAllClean (channel_source g.row.B g.row.M c.args.channel.now (g.G.Rng.stream c.args.generator.now) c.args.size)
           (c.loop-number.number + 1)) (sym totals)
-          (one_clean (source_of g.row.B g.row.M c.args.own.now (g.G.Rng.stream c.args.generator.now) c.args.size)
+          (one_clean (channel_source g.row.B g.row.M c.args.channel.now (g.G.Rng.stream c.args.generator.now) c.args.size)
           c.loop-number.number c.loop-number.totals.items c.take_in.new.totals c.judge.new.shares c.in_ok-found.found c.loop-number.invariant.all
-          (subst (λ evs. IsChannelJudged g.row.B g.row.M c.args.own.now evs c.in_ok-found.found c.judge.new.shares) (c.deref.ensures.value
-          ∙ schedule_is (source_of g.row.B g.row.M c.args.own.now (g.G.Rng.stream c.args.generator.now) c.args.size)
+          (subst (λ evs. IsChannelJudged g.row.B g.row.M c.args.channel.now evs c.in_ok-found.found c.judge.new.shares) (c.deref.ensures.value
+          ∙ schedule_is (channel_source g.row.B g.row.M c.args.channel.now (g.G.Rng.stream c.args.generator.now) c.args.size)
           c.loop-number.number c.harts-harts.result _ _ c.in_ok-draw.ensures.drawn
           (c.harts-harts.ensures.opening c.requires.stands.0 c.requires.stands.1 ∙ ap (λ (o : OpeningValue). length o.harts) c.requires.stands.2)
           c.loop-number.invariant.left) c.in_ok-found.ensures.judged) c.in-None.is

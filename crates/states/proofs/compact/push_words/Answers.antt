@@ -1,5 +1,5 @@
 use Rattle.std.proofs.Common.{◌≡◌, ◌++◌, ◌+◌, ◌<◌, ◌≤◌, ℕ, [], ◌∷◌, length, drop, get_or, sym, ◌∙◌, ap, arith}
-use Rattle.states.specs.inner.Compact.{joined, words_from}
+use Rattle.states.specs.inner.Compact.{with_seven_bits, words_from}
 use Rattle.states.proofs.Compaction.{small_more, large_more, none_left}
 use Rattle.states.proofs.compact.push_words.Goals as goal
 use Rattle.states.proofs.compact.push_words.Goals.{then-byte-lt128+in_ok-push, else-byte-lt128}
@@ -11,7 +11,7 @@ loop-byte-preserved c =
     let i = c.loop-byte.byte-index in
     elim c.if-byte-lt128.branch [
       | then-byte-lt128+in_ok-push w ↦
-          let pushed : w.push.new.self.items ≡ c.loop-byte.out.items ++ joined c.loop-byte.word (get_or bytes i 0) ∷ [] =
+          let pushed : w.push.new.self.items ≡ c.loop-byte.out.items ++ with_seven_bits c.loop-byte.word (get_or bytes i 0) ∷ [] =
           w.in_ok-push.ensures.items ∙ ap (λ (n : ℕ). c.loop-byte.out.items ++ n ∷ []) c.joined-word.ensures in
           (λ k. (w.out-is k).items ++ words_from (w.word-is k) (drop (i + 1) bytes))
           ∙ small_more c.loop-byte.word i bytes c.loop-byte.out.items w.push.new.self.items within w.if-byte-lt128.true pushed ∙ c.loop-byte.invariant

@@ -7,8 +7,8 @@ use Rattle.view_engines.proofs.ChartLaws.{too_many}
 use Rattle.view_engines.proofs.charting.picture_of_run.Goals as goal
 
 pub returns-then-len-gt-MAX_ROWS : goal.returns-then-len-gt-MAX_ROWS
-returns-then-len-gt-MAX_ROWS g c said ran =
-    too_many g.row.B g.row.M (drawing c.args.style c.args.selection) (heading_of c.args.heading.now) c.args.test.now said text_and_value
+returns-then-len-gt-MAX_ROWS g c parsed ran =
+    too_many g.row.B g.row.M (drawing c.args.style c.args.selection) (heading_of c.args.heading.now) c.args.test.now parsed text_and_value
     c.args.machine.now.history c.in_ok-entries.entries.items c.refused.result ran
     (c.in_ok-entries.ensures ∙ c.entries.ensures.value)
     (omega (arith, c.if-len-gt-MAX_ROWS.true, c.len.ensures)) c.refused.ensures

@@ -9,7 +9,7 @@ use Rattle.litmus_reader.proofs.HeadingLaws.{one_heading}
 use Rattle.engine_support.specs.Tests.{tests_with}
 use Rattle.engine_support.proofs.InputLaws.{one_litmus_with, refused_no_answer}
 use Rattle.engine_support.proofs.TestTexts.{litmus_read}
-use Rattle.view_engines.proofs.HeadedLaws.{both_said}
+use Rattle.view_engines.proofs.HeadedLaws.{both_hold}
 use Rattle.view_engines.proofs.heading.read_headed.Goals as goal
 
 abbrev headed : LitmusTest × Heading → LitmusTest × HeadingOf
@@ -19,7 +19,7 @@ pub returns-clause-read : goal.returns-clause-read
 returns-clause-read g c =
     litmus_read (λ text read. IsTestOf text read.0 × IsHeading text read.1) headed (λ (read : LitmusTest × Heading). content_of read.0) _
     (string_bytes c.in_ok-text.text) c.headed_of_text.result c.in_ok-text.ensures.text
-    (both_said c.headed_of_text.result _ _ (rw c.deref.ensures at c.headed_of_text.ensures.test) (rw c.deref.ensures at c.headed_of_text.ensures.heading))
+    (both_hold c.headed_of_text.result _ _ (rw c.deref.ensures at c.headed_of_text.ensures.test) (rw c.deref.ensures at c.headed_of_text.ensures.heading))
     (rw c.deref.ensures at c.headed_of_text.ensures.exact)
 
 pub returns-clause-refused : goal.returns-clause-refused

@@ -14,4 +14,4 @@ returns-clause-run c = alike_run
 pub returns-clause-inputs : goal.returns-clause-inputs
 returns-clause-inputs c B M =
     alike_by_schedule AreOfOneKind (λ (r s : Refusal) (e : r.number ≡ s.number). e) (IsShrink B M)
-    (λ (q : LitmusTest) (said : ScheduleValue) (a b : Result Output Refusal) is other. of_one_kind a b (alike_run B M q said a b is other))
+    (λ (q : LitmusTest) (parsed : ScheduleValue) (a b : Result Output Refusal) is other. of_one_kind a b (alike_run B M q parsed a b is other))

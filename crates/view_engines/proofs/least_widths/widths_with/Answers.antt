@@ -1,5 +1,5 @@
 use Rattle.std.proofs.Common.{◌∙◌}
-use Rattle.view_engines.specs.LeastWidths.{said_of_word, brief_of_word, kept_of_word}
+use Rattle.view_engines.specs.LeastWidths.{label_of_word, brief_of_word, kept_of_word}
 use Rattle.view_engines.proofs.WidthLaws.{wider}
 use Rattle.view_engines.proofs.least_widths.widths_with.Goals as goal
 
@@ -9,7 +9,7 @@ loop-word-preserved c =
     let i = c.loop-word.word-index in
     let before = c.loop-word.invariant in
     let more = c.in_ok-least.ensures in record {
-      said = wider (said_of_word c.args.name c.args.number) words i _ _ _ c.loop-word-test.true before.said more.said;
+      label = wider (label_of_word c.args.name c.args.number) words i _ _ _ c.loop-word-test.true before.label more.label;
       brief = wider (brief_of_word c.args.name c.args.number) words i _ _ _ c.loop-word-test.true before.brief more.brief;
       kept = wider (kept_of_word c.args.name c.args.number) words i _ _ _ c.loop-word-test.true before.kept more.kept;
       lanes = more.lanes ∙ before.lanes;

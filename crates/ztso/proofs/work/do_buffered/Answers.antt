@@ -12,8 +12,8 @@ returns-in-Find-clause-does g c = rw c.in-Find.is (c.find.result, c.after_search
 pub returns-in-Threads-clause-does : goal.returns-in-Threads-clause-does
 returns-in-Threads-clause-does g c = rw c.in-Threads.is (c.threads_engine.result, c.after_run.ensures.ended, c.threads_engine.ensures)
 
-pub returns-in-Own-clause-does : goal.returns-in-Own-clause-does
-returns-in-Own-clause-does g c = rw c.in-Own.is (c.own_channel_engine.result, c.after.ensures.ended, c.own_channel_engine.ensures.ends)
+pub returns-in-UserChannel-clause-does : goal.returns-in-UserChannel-clause-does
+returns-in-UserChannel-clause-does g c = rw c.in-UserChannel.is (c.user_channel_engine.result, c.after.ensures.ended, c.user_channel_engine.ensures.ends)
 
 pub returns-in-Ring-clause-does : goal.returns-in-Ring-clause-does
-returns-in-Ring-clause-does g c = rw c.in-Ring.is (c.run_own_ring.result, c.after_runs.ensures.ended, c.run_own_ring.ensures.ends)
+returns-in-Ring-clause-does g c = rw c.in-Ring.is (c.run_user_ring.result, c.after_runs.ensures.ended, c.run_user_ring.ensures.ends)

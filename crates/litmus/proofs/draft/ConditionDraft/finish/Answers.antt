@@ -1,5 +1,5 @@
 use Rattle.std.proofs.Common.{◌≡◌, ◌∙◌, sym, refl, Ok}
-use Rattle.litmus.specs.Drafting.{finished}
+use Rattle.litmus.specs.Drafting.{formula_of_symbols}
 use Rattle.litmus.proofs.StageLaws.{is_within, finished-open, condition_steps, finished-steps}
 use Rattle.litmus.proofs.GrammarLaws.{finished_only}
 use Rattle.litmus.proofs.FrontLaws.{finished-found}
@@ -15,7 +15,7 @@ returns-then-not-is_complete-clause-exact c =
 
 pub returns-then-not-is_complete-clause-only : goal.returns-then-not-is_complete-clause-only
 returns-then-not-is_complete-clause-only c = λ f stands.
-    let read : finished c.args.self ≡ Ok f = finished_only c.args.self f stands in
+    let read : formula_of_symbols c.args.self ≡ Ok f = finished_only c.args.self f stands in
     let refused = returns-then-not-is_complete-clause-exact c in
     absurd (cc)
 
@@ -36,7 +36,7 @@ returns-clause-found c = finished-found c.args.self c.of_steps.result (returns-c
 
 pub returns-clause-only : goal.returns-clause-only
 returns-clause-only c = λ f stands.
-    let read : finished c.args.self ≡ Ok f = finished_only c.args.self f stands in
+    let read : formula_of_symbols c.args.self ≡ Ok f = finished_only c.args.self f stands in
     let answered = returns-clause-exact c in
     let same : c.of_steps.result ≡ f = cc in
     cc

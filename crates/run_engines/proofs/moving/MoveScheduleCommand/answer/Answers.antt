@@ -3,7 +3,7 @@ use Rattle.std.proofs.lemmas.List.{length-map}
 use Rattle.std.specs.Global.{Vec}
 use Rattle.recorder.specs.Records.{Step}
 use Rattle.recorder.specs.Schedule.{OfHarts}
-use Rattle.recorder.specs.Versions.{said_of}
+use Rattle.recorder.specs.Versions.{schedule_value}
 use Rattle.engine_support.specs.Runs.{Records}
 use Rattle.engine_support.specs.inner.Making.{text_and_value}
 use Rattle.engine_support.proofs.ScheduleLaws.{stopped_by}
@@ -23,7 +23,8 @@ returns g c =
 
 pub returns-in_err-steps : goal.returns-in_err-steps
 returns-in_err-steps g c =
-    stopped_by (Records g.row.B g.row.M c.args.test.now.opening (said_of c.args.said)) (IsMoved g.row.B g.row.M c.args.test.now (said_of c.args.said))
+    stopped_by (Records g.row.B g.row.M c.args.test.now.opening (schedule_value c.args.parsed))
+    (IsMoved g.row.B g.row.M c.args.test.now (schedule_value c.args.parsed))
     (λ (steps : Vec Step). steps.items) text_and_value c.from_residual.result c.in_err-steps.field-0.0
     (λ refusal differs. differs) c.from_residual.ensures.1
     c.in_err-steps.ensures

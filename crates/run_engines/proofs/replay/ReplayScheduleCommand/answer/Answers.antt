@@ -2,7 +2,7 @@ use Rattle.std.proofs.Common.{ap, ◌∙◌}
 use Rattle.std.specs.List.{flat_map}
 use Rattle.step_machine.specs.History.{HistoryWithRoom}
 use Rattle.recorder.specs.Outcomes.{entry_line}
-use Rattle.recorder.specs.Versions.{said_of}
+use Rattle.recorder.specs.Versions.{schedule_value}
 use Rattle.engine_support.specs.Histories.{AnswersRun}
 use Rattle.engine_support.specs.Runs.{Runs}
 use Rattle.engine_support.specs.inner.Making.{text_and_value}
@@ -19,7 +19,8 @@ returns g c = record {
 
 pub returns-in_err-machine : goal.returns-in_err-machine
 returns-in_err-machine g c =
-    stopped_by (Runs g.row.B g.row.M c.args.test.now.opening (said_of c.args.said)) (AnswersRun g.row.B g.row.M IsReplay c.args.test.now (said_of c.args.said))
+    stopped_by (Runs g.row.B g.row.M c.args.test.now.opening (schedule_value c.args.parsed))
+    (AnswersRun g.row.B g.row.M IsReplay c.args.test.now (schedule_value c.args.parsed))
     (λ (machine : HistoryWithRoom). machine.history) text_and_value c.from_residual.result c.in_err-machine.field-0.0
     (λ refusal differs. differs) c.from_residual.ensures.1
     c.in_err-machine.ensures.ran

@@ -1,12 +1,12 @@
 use Rattle.std.proofs.Common.{ℕ, ◌≡◌, ◌<◌, ◌≤◌, [], length}
 use Rattle.std.specs.List.{slice_index_or}
-use Rattle.states.specs.Digits.{HasRoomFor, row_of}
+use Rattle.states.specs.Digits.{HasRoomFor, numbers_of_key}
 use Rattle.states.proofs.keys.Keys.move_to.Given as goal
 
 abbrev pub invariant-loop-index : goal.invariant-loop-index
 invariant-loop-index g l = record {
   count : length l.self-inside.keys.items ≡ length l.fn.self;
-  moved : (i : ℕ) → i < l.index → HasRoomFor l.new (row_of l.old (slice_index_or l.fn.self i []))
-      → row_of l.new (slice_index_or l.self-inside.keys.items i []) ≡ row_of l.old (slice_index_or l.fn.self i []);
+  moved : (i : ℕ) → i < l.index → HasRoomFor l.new (numbers_of_key l.old (slice_index_or l.fn.self i []))
+      → numbers_of_key l.new (slice_index_or l.self-inside.keys.items i []) ≡ numbers_of_key l.old (slice_index_or l.fn.self i []);
   left : (i : ℕ) → l.index ≤ i → slice_index_or l.self-inside.keys.items i [] ≡ slice_index_or l.fn.self i [];
 }

@@ -1,5 +1,5 @@
 use Rattle.std.proofs.Common.{◌∙◌, List, ap, map, slice_index}
-use Rattle.states.specs.Digits.{Digits, digits_of, row_of}
+use Rattle.states.specs.Digits.{Digits, digits_of, numbers_of_key}
 use Rattle.states.proofs.KeyLaws.{read_past, read_there}
 use Rattle.states.proofs.layout.Layout.number.Goals as goal
 
@@ -9,10 +9,10 @@ returns-in-Some-get g c =
     let word = c.in-Some-get.ensures.lookup in
     c.number_in.ensures
     ∙ read_there c.deref.result.now c.args.key.now c.args.place c.in-Some-get.word.now c.in-Some.field.now field.3.0 field.1 word.3.0 word.1
-    ∙ ap (λ (ds : List Digits). slice_index (row_of ds c.args.key.now) c.args.place) (ap (map digits_of) c.deref.ensures.value ∙ c.self.view_is)
+    ∙ ap (λ (ds : List Digits). slice_index (numbers_of_key ds c.args.key.now) c.args.place) (ap (map digits_of) c.deref.ensures.value ∙ c.self.view_is)
 
 pub returns-in-None-get : goal.returns-in-None-get
 returns-in-None-get g c =
     let field = c.in-Some.ensures.lookup in
     read_past c.deref.result.now c.args.key.now c.args.place c.in-Some.field.now field.3.0 field.1 c.in-None-get.ensures.lookup.3
-    ∙ ap (λ (ds : List Digits). slice_index (row_of ds c.args.key.now) c.args.place) (ap (map digits_of) c.deref.ensures.value ∙ c.self.view_is)
+    ∙ ap (λ (ds : List Digits). slice_index (numbers_of_key ds c.args.key.now) c.args.place) (ap (map digits_of) c.deref.ensures.value ∙ c.self.view_is)

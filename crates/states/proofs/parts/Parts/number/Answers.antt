@@ -2,7 +2,7 @@ use Rattle.std.proofs.Common.{◌≡◌, ℕ, List, [], ◌∷◌, length, false
 use Rattle.std.specs.Prelude.{map}
 use Rattle.std.specs.List.{slice_get, list_any}
 use Rattle.states.specs.inner.Compact.{bytes_of, words_in}
-use Rattle.states.specs.Numbered.{words_of, GetsNextNumber}
+use Rattle.states.specs.Numbered.{position_words, GetsNextNumber}
 use Rattle.states.proofs.NumberLaws.{has_bytes, words-there, next_is, stay_either}
 use Rattle.states.proofs.parts.Parts.number.Goals as goal
 
@@ -25,7 +25,7 @@ invariant_of-self-inside-2 c =
       tt,
     )
 
-is_next : (c : goal.In_ok-insert) → GetsNextNumber c.args.self.now c.args.words.now (map words_of c.insert.new.self.keys) c.len-number.result
+is_next : (c : goal.In_ok-insert) → GetsNextNumber c.args.self.now c.args.words.now (map position_words c.insert.new.self.keys) c.len-number.result
 is_next c =
     let words = c.args.words.now in
     let written : c.push_bytes.new.out.items ≡ bytes_of words = grind (arith, c.in_ok-push_bytes.ensures.bytes, c.clear.ensures.items) in

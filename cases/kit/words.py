@@ -1,0 +1,45 @@
+"""The words of specs: one that another crate's specs or sources cite stands for one thing, so no second crate defines it.
+The invariants of the rings use the same words for the same things, each of its own counters."""
+
+import re
+import sys
+from collections import defaultdict
+
+from .links import ROOT
+
+sys.path.insert(0, str(ROOT / "tools/reference"))
+
+from ring_kinds import RINGS  # noqa: E402
+
+DEFINED = re.compile(r"^(?:(?:abbrev|unfoldable|opaque) )?pub (?:record |data )?(?!mod |use )(?P<name>[^\s:({]+)", re.M)
+CITED = re.compile(r"^\s*(?:pub )?(?:ghost )?use Rattle\.(?P<crate>\w+)\.specs\.[\w.]+\.\{(?P<names>[^}]*)\}", re.M)
+
+
+def definitions():
+    """Of each public word of specs, the crates that define it."""
+    crates = defaultdict(set)
+    for path in ROOT.glob("crates/*/specs/**/*.antt"):
+        for found in DEFINED.finditer(path.read_text()):
+            crates[found["name"]].add(path.relative_to(ROOT).parts[1])
+    return crates
+
+
+def citations():
+    """The words that other crates' specs and sources cite, each with the crate that defines it."""
+    cited = set()
+    for path in (*ROOT.glob("crates/*/specs/**/*.antt"), *ROOT.glob("crates/*/src/**/*.rt")):
+        for found in CITED.finditer(path.read_text()):
+            if found["crate"] != path.relative_to(ROOT).parts[1]:
+                cited |= {(name.split()[0], found["crate"]) for name in found["names"].split(",")}
+    return cited
+
+
+def wrong():
+    """A line for each word of a crate that others cite, and that stands for something else in a second crate."""
+    rings, defined = {ring.crate for ring in RINGS.values()}, definitions()
+    for name, crate in sorted(citations()):
+        if "◌" in name:
+            continue  # an operator says the same of other types
+        others = defined[name] - {crate} - (rings if crate in rings else set())
+        if crate in defined[name] and others:
+            yield f"{name} of crates/{crate}/specs, which other crates cite, is also a word of {', '.join(sorted(others))}"

@@ -1,0 +1,34 @@
+use Rattle.std.specs.Prelude.{codes}
+use Rattle.std.specs.Fmt.{decimal}
+use Rattle.std.specs.String.{string_bytes}
+use Rattle.callers.specs.Answers.{kind_name}
+use Rattle.callers.proofs.Pieces.{five_written}
+use Rattle.callers.proofs.answer_texts.push_debt.Goals as goal
+
+pub returns-in-NoSend : goal.returns-in-NoSend
+returns-in-NoSend c =
+    rw c.in-NoSend.is (
+    five_written c.write-in-NoSend.result (string_bytes c.args.out.now) (string_bytes c.write-in-NoSend.new.self)
+    (codes "hart ") (decimal c.in-NoSend.hart) (codes " has no ") (kind_name c.in-NoSend.kind) (codes "_try_send in its code")
+    (rw c.kind_name.ensures at c.write-in-NoSend.ensures.bytes))
+
+pub returns-in-NoReceive : goal.returns-in-NoReceive
+returns-in-NoReceive c =
+    rw c.in-NoReceive.is (
+    five_written c.write-in-NoReceive.result (string_bytes c.args.out.now) (string_bytes c.write-in-NoReceive.new.self)
+    (codes "hart ") (decimal c.in-NoReceive.hart) (codes " has no ") (kind_name c.in-NoReceive.kind) (codes "_try_receive in its code")
+    (rw c.kind_name-in-NoReceive.ensures at c.write-in-NoReceive.ensures.bytes))
+
+pub returns-in-NoOffset : goal.returns-in-NoOffset
+returns-in-NoOffset c =
+    rw c.in-NoOffset.is (
+    five_written c.write-in-NoOffset.result (string_bytes c.args.out.now) (string_bytes c.write-in-NoOffset.new.self)
+    (codes "the index at ") (decimal c.in-NoOffset.address) (codes " opens as ") (decimal c.in-NoOffset.word) (codes ", not as the offset of a slot")
+    c.write-in-NoOffset.ensures.bytes)
+
+pub returns-in-NotEmpty : goal.returns-in-NotEmpty
+returns-in-NotEmpty c =
+    rw c.in-NotEmpty.is (
+    five_written c.write-in-NotEmpty.result (string_bytes c.args.out.now) (string_bytes c.write-in-NotEmpty.new.self)
+    (codes "the indices open as ") (decimal c.in-NotEmpty.head) (codes " and ") (decimal c.in-NotEmpty.tail) (codes ", not alike")
+    c.write-in-NotEmpty.ensures.bytes)

@@ -1,9 +1,0 @@
-use Rattle.tries.specs.inner.Merging.{Source}
-use Rattle.tries.proofs.TallyMerging.{from_none}
-use Rattle.tries.proofs.trials.spreading.TestRunsTrials.none.Goals as goal
-
-pub returns : goal.returns
-returns g c =
-    let runs = c.args.self.now in
-    let source : Source = record { B = g.row.B; M = g.row.M; test = runs.test.now; stream = g.G.Rng.stream runs.generator.now; size = runs.size } in
-    from_none source c.new.result c.new.ensures
