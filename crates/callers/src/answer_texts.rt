@@ -1,4 +1,4 @@
-//! The texts of what is told.
+//! The texts of answers.
 
 ghost use Rattle.std.specs.Prelude.{◌≡◌, ◌++◌, IfOk, OnOk};
 ghost use Rattle.std.specs.String.{string_bytes};
@@ -7,7 +7,7 @@ ghost use Rattle.callers.specs.Answers.{kind_name, debt_text, debt_line, kept_te
 
 use crate::debts::Debt;
 use crate::queue::QueueKind;
-use recorder::{push_tokens, write_schedule};
+use recorder::schedule_text;
 use std::alloc::{AllocError, Global};
 use step_machine::Event;
 
@@ -78,19 +78,6 @@ fn push_debt_line(out: &mut String, debt: Debt) -> Result<(), AllocError>
 {
     push_debt(out, debt)?;
     out.push_str("\n")
-}
-
-/// The schedule of these events, however many they are.
-fn schedule_text(alloc: Global, events: &[Event]) -> Result<String, AllocError>
-    ensures { IfOk result (λ text. string_bytes text ≡ canon events.now) }
-{
-    // a schedule of no events is its head line
-    let mut text = write_schedule(alloc, &[])?;
-    if !events.is_empty() {
-        push_tokens(&mut text, events)?;
-        text.push_str("\n")?;
-    }
-    Ok(text)
 }
 
 /// The text of these events as a schedule, and of what their run owes.

@@ -42,4 +42,4 @@ pub use records::{read_record, write_record};
 pub use replaying::{CheckError, are_same_outcomes, replay, replay_checked};
 pub use running::{check_record, record, replay_state};
 pub use versions::{Schedule, read_either, read_schedule};
-pub use writing::{push_tokens, write_schedule};
+pub use writing::{push_tokens, schedule_text, write_schedule};

@@ -70,15 +70,12 @@ pub fn push_tokens(out: &mut String, events: &[Event]) -> Result<(), AllocError>
     out.push_str(&tokens)
 }
 
-/// The schedule of these events: the head line, and, where there are events, a line of tokens.
+/// The schedule of these events, however many they are: the head line, and, if there are events, a line of tokens.
 ///
 /// The tokens are the longest runs of equal events, without leading zeros, with `*` and a count only
 /// where an event comes more than once, and with one space between two. Lines end with LF.
-pub fn write_schedule(alloc: Global, events: &[Event]) -> Result<String, AllocError>
-    requires harts { OfHarts events.now }
-    requires few { length events.now ≤ MAX_EVENTS }
-    ensures canonical { IfOk result (λ text. string_bytes text ≡ canon events.now) }
-    ensures again { IfOk result (λ text. IsScheduleOf (string_bytes text) events.now) }
+pub fn schedule_text(alloc: Global, events: &[Event]) -> Result<String, AllocError>
+    ensures { IfOk result (λ text. string_bytes text ≡ canon events.now) }
 {
     let mut text = String::from_str(alloc, HEAD)?;
     text.push_str("\n")?;
@@ -86,5 +83,16 @@ pub fn write_schedule(alloc: Global, events: &[Event]) -> Result<String, AllocEr
         push_tokens(&mut text, events)?;
         text.push_str("\n")?;
     }
+    Ok(text)
+}
+
+/// The schedule of these events as [`schedule_text`] writes it, which is read back as the same events.
+pub fn write_schedule(alloc: Global, events: &[Event]) -> Result<String, AllocError>
+    requires harts { OfHarts events.now }
+    requires few { length events.now ≤ MAX_EVENTS }
+    ensures canonical { IfOk result (λ text. string_bytes text ≡ canon events.now) }
+    ensures again { IfOk result (λ text. IsScheduleOf (string_bytes text) events.now) }
+{
+    let text = schedule_text(alloc, events)?;
     Ok(text)
 }

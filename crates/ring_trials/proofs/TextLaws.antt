@@ -1,8 +1,7 @@
 -- Texts, piece by piece and line by line.
 use Rattle.std.proofs.Common.{ℕ, suc, ◌≡◌, ◌+◌, ◌<◌, List, [], ◌∷◌, ◌++◌, length, take, get_or, map, Result, Ok, Err}
 use Rattle.std.proofs.Common.{Vec, Global, sym, ap, ◌∙◌, arith, append_assoc, append-nil}
-use Rattle.std.specs.Prelude.{OnOk, codes, if◌then◌else◌}
-use Rattle.std.specs.Result.{is_ok}
+use Rattle.std.specs.Prelude.{OnOk, codes}
 use Rattle.std.specs.Fmt.{decimal}
 use Rattle.std.proofs.lemmas.Result.{on_ok_weaker}
 use Rattle.std.proofs.lemmas.List.{take_more, map-append, length-map, length-take-le}
@@ -44,10 +43,6 @@ module _ {E : Type 0} (written : Result (Unit {0}) E) (old new a b c : List ℕ)
       (λ is. is ∙ ap (λ xs. old ++ xs) (four_pieces a b c (d ++ (e ++ (f ++ (g ++ (h ++ (i ++ j))))))
       ∙ four_pieces (a ++ b ++ c) d e (f ++ (g ++ (h ++ (i ++ j)))) ∙ four_pieces (a ++ b ++ c ++ d ++ e) f g (h ++ (i ++ j))
       ∙ four_pieces (a ++ b ++ c ++ d ++ e ++ f ++ g) h i j)) put
-
-pub put_on_ok : {T E : Type 0} (put : Result T E) (new more old : List ℕ) → new ≡ (if is_ok put then more else old) → OnOk put (new ≡ more)
-put_on_ok (Ok done) new more old is = is
-put_on_ok (Err e) new more old is = tt
 
 -- ---- the lines of senders, one more at the end
 

@@ -1,13 +1,13 @@
 //! The texts of what is found of runs.
 
-ghost use Rattle.std.specs.Prelude.{◌≡◌, ◌++◌, ◌∷◌, ◌≤◌, [], IfOk, OnOk, length, map};
+ghost use Rattle.std.specs.Prelude.{◌≡◌, ◌++◌, ◌∷◌, ◌≤◌, IfOk, OnOk, length, map};
 ghost use Rattle.std.specs.String.{string_bytes};
 ghost use Rattle.recorder.specs.Writing.{canon};
 ghost use Rattle.ring_trials.specs.Answers.{blocks_text, outside_text, breach_text, breach_line, sender_line, sender_lines, clean_text};
 
 use crate::runs::Total;
 use poll_close::Breach;
-use recorder::{push_tokens, write_schedule};
+use recorder::schedule_text;
 use std::alloc::{AllocError, Global};
 use step_machine::Event;
 
@@ -71,24 +71,11 @@ fn push_breach_line(out: &mut String, breach: Breach) -> Result<(), AllocError>
     out.push_str("\n")
 }
 
-/// Appends these events to the head line of a schedule.
-fn push_events(out: &mut String, events: &[Event]) -> Result<(), AllocError>
-    ensures { OnOk result (string_bytes out.old ≡ canon [] → string_bytes out.new ≡ canon events.now) }
-{
-    if events.is_empty() {
-        return Ok(());
-    }
-    push_tokens(out, events)?;
-    out.push_str("\n")
-}
-
 /// The text of these events as a schedule, and of what their run breaks.
 pub fn unclean_text(alloc: Global, events: &[Event], breach: Breach) -> Result<String, AllocError>
     ensures { IfOk result (λ text. string_bytes text ≡ canon events.now ++ breach_line breach) }
 {
-    // a schedule of no events is its head line
-    let mut out = write_schedule(alloc, &[])?;
-    push_events(&mut out, events)?;
+    let mut out = schedule_text(alloc, events)?;
     push_breach_line(&mut out, breach)?;
     Ok(out)
 }
