@@ -1,9 +1,8 @@
 -- A queue that can be used owes nothing at the opening, so two answers to one input have one exit status.
-use Rattle.std.proofs.Common.{ℕ, ◌≡◌, ◌+◌, ◌-◌, ◌*◌, ◌%◌, ◌<◌, inl, inr, Bool, true, false, List, []}
+use Rattle.std.proofs.Common.{ℕ, ◌≡◌, ◌+◌, ◌*◌, ◌%◌, ◌<◌, inl, inr, Bool, true, false, List, [], Some}
 use Rattle.std.proofs.Common.{refl, sym, ap, subst, ◌∙◌, arith, add-zero}
-use Rattle.std.proofs.lemmas.Bool.{cases_lt, cases_order}
-use Rattle.std.proofs.lemmas.Nat.{mod-mul-add}
-use Rattle.std.proofs.Math.Nat.{mod-eq_of_lt}
+use Rattle.std.proofs.lemmas.Bool.{cases_order}
+use Rattle.std.proofs.Math.Nat.{mod-eq_of_lt, mod-lt}
 use Rattle.rand_core.specs.Stream.{Stream}
 use Rattle.step_machine.specs.declared.events.Event.{Event}
 use Rattle.step_machine.specs.History.{OpeningValue, History, at_opening}
@@ -11,35 +10,31 @@ use Rattle.step_machine.specs.Entries.{memory_word}
 use Rattle.step_machine.proofs.Running.{run-one}
 use Rattle.rv_decode.specs.Listings.{Listed}
 use Rattle.spsc_queue.specs.RingBuffers.{slot_offset, slot_address}
-use Rattle.spsc_queue.specs.Calls.{buffer, HasFunction}
-use Rattle.callers.specs.Queues.{spsc_of, sends_by, receives_by, HasFirstCopy, IsLocated}
+use Rattle.spsc_queue.specs.Calls.{copy_in, buffer, HasFunction}
+use Rattle.callers.specs.Queues.{kind_of, caches_tail, spsc_of, sends_by, receives_by, HasFirstCopy, IsLocated}
 use Rattle.callers.specs.Debts.{IsOpeningDebt, first_debt}
 use Rattle.callers.specs.Runs.{call_source, call_schedule, KeepsObligations, HasDebt}
 use Rattle.callers.specs.Answers.{IsCallersOutput}
 use Rattle.callers.specs.declared.debts.Debt.{Debt}
 use Rattle.callers.specs.declared.debts.Debt.TheVariants as debt
 use Rattle.callers.specs.declared.queue.QueueKind.{QueueKind}
+use Rattle.callers.specs.declared.queue.QueueKind.TheVariants as kind
 use Rattle.callers.specs.declared.queue.Queue.{Queue}
 use Rattle.callers.specs.declared.queue.Located.{Located}
 use Rattle.callers.proofs.Exact.{none_owed}
-use Rattle.callers.proofs.Rest.{at_any}
+use Rattle.callers.proofs.Rest.{place_of, at_any}
 
 -- ---- where a queue begins that can be used
 
--- each slot is that of some word of a run
-place_of : (start S j : ℕ) → start < S → j < S → (i : ℕ) × (i < S) × ((start + i) % S ≡ j)
-place_of start S j within below = elim (cases_lt j start) [
-  | inl less ↦ (
-    j + S - start,
-    omega arith,
-    (let around : start + (j + S - start) ≡ 1 * S + j = omega arith in ap (λ (n : ℕ). n % S) around ∙ mod-mul-add 1 S j below),
-  )
-  | inr more ↦ (
-    j - start,
-    omega arith,
-    (let here : start + (j - start) ≡ j = omega arith in ap (λ (n : ℕ). n % S) here ∙ mod-eq_of_lt below),
-  )
-]
+-- a queue whose sender keeps a copy of the tail has it 4 bytes after its base
+copy_at : (k : QueueKind) (base : ℕ) → caches_tail k ≡ true → copy_in (kind_of k) (caches_tail k) base ≡ Some (base + 4)
+copy_at kind.Lamport base keeps = absurd (cc)
+copy_at kind.Cached base keeps = refl
+copy_at kind.FastForward base keeps = absurd (cc)
+
+-- four times a slot's number is its offset
+offset_is : (w n S : ℕ) → w ≡ 4 * n → n < S → (w % 4 ≡ 0) × (w < 4 * S)
+offset_is w n S is below = (omega (arith, is), omega (arith, is, below))
 
 module _ (M : ℕ) (o : OpeningValue) (l : Located) (located : IsLocated M o l.queue l) where
   at_start : slot_offset (buffer (spsc_of l)) 0 ≡ 4 * l.start
@@ -56,8 +51,12 @@ module _ (M : ℕ) (o : OpeningValue) (l : Located) (located : IsLocated M o l.q
       (subst (λ (x : QueueKind). HasFunction o l.queue.receiver l.receive_line (receives_by x)) (sym has_debt.0) located.receives.here))
   excluded (debt.NoOffset a w) has_debt =
       let is : w ≡ 4 * l.start = sym has_debt.1 ∙ ap (memory_word o []) has_debt.0 ∙ located.rest.head ∙ at_start in
-      has_debt.2 (omega (arith, is), omega (arith, is, located.start))
+      has_debt.2 (offset_is w l.start l.queue.slots is located.start)
   excluded (debt.NotEmpty u v) has_debt = has_debt.2 (sym has_debt.0 ∙ located.rest.head ∙ sym located.rest.tail ∙ has_debt.1)
+  excluded (debt.NoCopy a w) has_debt =
+      let opens = located.rest.copy (l.queue.base + 4) (copy_at l.queue.kind l.queue.base has_debt.0) in
+      let is : w ≡ slot_offset (buffer (spsc_of l)) opens.0 = sym has_debt.2 ∙ ap (memory_word o []) has_debt.1 ∙ opens.2 in
+      has_debt.3 (offset_is w ((l.start + opens.0) % l.queue.slots) l.queue.slots is (mod-lt (l.start + opens.0) (omega (arith, located.start))))
   excluded (debt.NotFree a w) has_debt =
       let place = place_of l.start l.queue.slots has_debt.1.0 located.start has_debt.1.1 in
       let is : a ≡ slot_address (buffer (spsc_of l)) place.0 = has_debt.1.2 ∙ ap (λ (n : ℕ). l.queue.base + 128 + 4 * n) (sym place.2) in

@@ -19,19 +19,27 @@ use Rattle.callers.specs.declared.queue.QueueKind.TheVariants as kind
 use Rattle.callers.specs.declared.queue.Queue.{Queue}
 use Rattle.callers.specs.declared.queue.Located.{Located}
 
--- what a kind's functions are called before `_try_send` and `_try_receive`
-abbrev pub kind_name : QueueKind → List ℕ
-kind_name kind.Lamport = codes "lamport"
-kind_name kind.FastForward = codes "fastforward"
+-- the function that the sender of such a queue calls, and the one that its receiver calls
+abbrev pub send_name : QueueKind → List ℕ
+send_name kind.Lamport = codes "lamport_try_send"
+send_name kind.Cached = codes "cached_try_send"
+send_name kind.FastForward = codes "fastforward_try_send"
+
+abbrev pub receive_name : QueueKind → List ℕ
+receive_name kind.Lamport = codes "lamport_try_receive"
+receive_name kind.Cached = codes "lamport_try_receive"
+receive_name kind.FastForward = codes "fastforward_try_receive"
 
 -- the debt in words
 abbrev pub debt_text : Debt → List ℕ
 debt_text debt.NoBlock = codes "the block isn't aligned to 4 bytes, has no slot, or ends past the memory"
 debt_text (debt.OneParty h) = codes "hart " ++ decimal h ++ codes " both sends and receives"
-debt_text (debt.NoSend k h) = codes "hart " ++ decimal h ++ codes " has no " ++ kind_name k ++ codes "_try_send in its code"
-debt_text (debt.NoReceive k h) = codes "hart " ++ decimal h ++ codes " has no " ++ kind_name k ++ codes "_try_receive in its code"
+debt_text (debt.NoSend k h) = codes "hart " ++ decimal h ++ codes " has no " ++ send_name k ++ codes " in its code"
+debt_text (debt.NoReceive k h) = codes "hart " ++ decimal h ++ codes " has no " ++ receive_name k ++ codes " in its code"
 debt_text (debt.NoOffset a w) = codes "the index at " ++ decimal a ++ codes " opens as " ++ decimal w ++ codes ", not as the offset of a slot"
 debt_text (debt.NotEmpty u v) = codes "the indices open as " ++ decimal u ++ codes " and " ++ decimal v ++ codes ", not alike"
+debt_text (debt.NoCopy a w) =
+    codes "the copy of the tail at " ++ decimal a ++ codes " opens as " ++ decimal w ++ codes ", not as the offset of a slot"
 debt_text (debt.NotFree a w) = codes "the slot at " ++ decimal a ++ codes " opens as " ++ decimal w ++ codes " and not as 0"
 debt_text (debt.Wrote h pc a) =
     codes "hart " ++ decimal h ++ codes " wrote to the block at " ++ decimal a ++ codes " outside of a call, at pc " ++ decimal pc

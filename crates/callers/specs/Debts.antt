@@ -1,5 +1,5 @@
 -- What callers owe and don't keep: where the queue begins, and the first such debt among the entries of a run.
-use Rattle.std.specs.Prelude.{ℕ, ◌≡◌, ◌≢◌, ◌+◌, ◌*◌, ◌%◌, ◌<◌, ◌==◌, ◌||◌, Bool, false, if◌then◌else◌, List, [], ◌∷◌, ◌++◌, Option, None, Some}
+use Rattle.std.specs.Prelude.{ℕ, ◌≡◌, ◌≢◌, ◌+◌, ◌*◌, ◌%◌, ◌<◌, ◌==◌, ◌||◌, Bool, true, false, if◌then◌else◌, List, [], ◌∷◌, ◌++◌, Option, None, Some}
 use Rattle.std.specs.Prelude.{option_map, slice_index}
 use Rattle.std.specs.Option.{option_or}
 use Rattle.memory.specs.declared.writes.Write.{Write}
@@ -13,7 +13,7 @@ use Rattle.step_machine.specs.Paths.{state_of}
 use Rattle.spsc_queue.specs.RingBuffers.{RingBuffer, fastforward, overlaps}
 use Rattle.spsc_queue.specs.Calls.{Block, SpscQueue, Party, the_sender, the_receiver, IsBlock, buffer, enters, is_sender_in_call, is_receiver_in_call}
 use Rattle.spsc_queue.specs.Obligations.{may_pass, has_arguments}
-use Rattle.callers.specs.Queues.{kind_of, block_at, sends_by, receives_by, HasNoCopy}
+use Rattle.callers.specs.Queues.{kind_of, caches_tail, block_at, sends_by, receives_by, HasNoCopy}
 use Rattle.callers.specs.declared.queue.Queue.{Queue}
 use Rattle.callers.specs.declared.debts.Debt.{Debt}
 use Rattle.callers.specs.declared.debts.Debt.TheVariants as debt
@@ -36,6 +36,7 @@ IsOpeningDebt M o q (debt.NoSend k h) = (k ≡ q.kind) × (h ≡ q.sender) × Ha
 IsOpeningDebt M o q (debt.NoReceive k h) = (k ≡ q.kind) × (h ≡ q.receiver) × HasNoCopy o h (receives_by k)
 IsOpeningDebt M o q (debt.NoOffset a w) = (a ≡ q.base) × (memory_word o [] a ≡ w) × (IsOffset q w → ⊥)
 IsOpeningDebt M o q (debt.NotEmpty head tail) = (memory_word o [] q.base ≡ head) × (memory_word o [] (q.base + 64) ≡ tail) × (head ≢ tail)
+IsOpeningDebt M o q (debt.NoCopy a w) = (caches_tail q.kind ≡ true) × (a ≡ q.base + 4) × (memory_word o [] a ≡ w) × (IsOffset q w → ⊥)
 IsOpeningDebt M o q (debt.NotFree a w) = (kind_of q.kind ≡ fastforward) × IsSlot q a × (memory_word o [] a ≡ w) × (w ≢ 0)
 IsOpeningDebt M o q (debt.Wrote h pc a) = ⊥
 IsOpeningDebt M o q (debt.PassedBytes h bytes) = ⊥

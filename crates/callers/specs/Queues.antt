@@ -1,6 +1,6 @@
 -- A queue that code of two harts calls the functions for, as it is asked for: its kind, where its block lies, and which harts
 -- send and receive.
-use Rattle.std.specs.Prelude.{ℕ, ◌≡◌, ◌≢◌, ◌<◌, false, List, []}
+use Rattle.std.specs.Prelude.{ℕ, ◌≡◌, ◌≢◌, ◌<◌, Bool, true, false, List, []}
 use Rattle.step_machine.specs.History.{OpeningValue}
 use Rattle.spsc_queue.specs.RingBuffers.{Kind, lamport, fastforward, IsEmptyAndQuiescent}
 use Rattle.rv_decode.specs.Listings.{Listed}
@@ -12,21 +12,28 @@ use Rattle.callers.specs.declared.queue.Located.{Located}
 
 abbrev pub kind_of : QueueKind → Kind
 kind_of kind.Lamport = lamport
+kind_of kind.Cached = lamport
 kind_of kind.FastForward = fastforward
+
+-- whether the sender of such a queue keeps a copy of the tail
+abbrev pub caches_tail : QueueKind → Bool
+caches_tail kind.Lamport = false
+caches_tail kind.Cached = true
+caches_tail kind.FastForward = false
 
 -- the queue's block, whose indices open at this slot
 abbrev pub block_at : Queue → (start : ℕ) → Block
-block_at q start = record { kind = kind_of q.kind; caches = false; base = q.base; size = q.slots; start = start }
+block_at q start = record { kind = kind_of q.kind; caches = caches_tail q.kind; base = q.base; size = q.slots; start = start }
 
 abbrev pub block_of : Located → Block
 block_of l = block_at l.queue l.start
 
 -- the functions that a queue's sender and its receiver call
 abbrev pub sends_by : QueueKind → List Listed
-sends_by k = listing_of (kind_of k) false the_sender
+sends_by k = listing_of (kind_of k) (caches_tail k) the_sender
 
 abbrev pub receives_by : QueueKind → List Listed
-receives_by k = listing_of (kind_of k) false the_receiver
+receives_by k = listing_of (kind_of k) (caches_tail k) the_receiver
 
 -- the queue with the slot that its indices open at, and the lines at which the functions begin
 abbrev pub spsc_of : Located → SpscQueue

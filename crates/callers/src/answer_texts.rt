@@ -3,7 +3,7 @@
 ghost use Rattle.std.specs.Prelude.{◌≡◌, ◌++◌, IfOk, OnOk};
 ghost use Rattle.std.specs.String.{string_bytes};
 ghost use Rattle.recorder.specs.Writing.{canon};
-ghost use Rattle.callers.specs.Answers.{kind_name, debt_text, debt_line, kept_text};
+ghost use Rattle.callers.specs.Answers.{send_name, receive_name, debt_text, debt_line, kept_text};
 
 use crate::debts::Debt;
 use crate::queue::QueueKind;
@@ -11,13 +11,24 @@ use recorder::schedule_text;
 use std::alloc::{AllocError, Global};
 use step_machine::Event;
 
-/// What a kind's functions are called before `_try_send` and `_try_receive`.
-fn kind_name(kind: QueueKind) -> &'static str
-    ensures { result.now ≡ kind_name kind }
+/// The name of the function that the sender of such a queue calls.
+fn send_name(kind: QueueKind) -> &'static str
+    ensures { result.now ≡ send_name kind }
 {
     match kind {
-        QueueKind::Lamport => "lamport",
-        QueueKind::FastForward => "fastforward",
+        QueueKind::Lamport => "lamport_try_send",
+        QueueKind::Cached => "cached_try_send",
+        QueueKind::FastForward => "fastforward_try_send",
+    }
+}
+
+/// The name of the function that its receiver calls.
+fn receive_name(kind: QueueKind) -> &'static str
+    ensures { result.now ≡ receive_name kind }
+{
+    match kind {
+        QueueKind::Lamport | QueueKind::Cached => "lamport_try_receive",
+        QueueKind::FastForward => "fastforward_try_receive",
     }
 }
 
@@ -30,18 +41,10 @@ fn push_debt(out: &mut String, debt: Debt) -> Result<(), AllocError>
         ),
         Debt::OneParty { hart } => write!(out, "hart {hart} both sends and receives"),
         Debt::NoSend { kind, hart } => {
-            write!(
-                out,
-                "hart {hart} has no {}_try_send in its code",
-                kind_name(kind)
-            )
+            write!(out, "hart {hart} has no {} in its code", send_name(kind))
         }
         Debt::NoReceive { kind, hart } => {
-            write!(
-                out,
-                "hart {hart} has no {}_try_receive in its code",
-                kind_name(kind)
-            )
+            write!(out, "hart {hart} has no {} in its code", receive_name(kind))
         }
         Debt::NoOffset { address, word } => write!(
             out,
@@ -50,6 +53,10 @@ fn push_debt(out: &mut String, debt: Debt) -> Result<(), AllocError>
         Debt::NotEmpty { head, tail } => {
             write!(out, "the indices open as {head} and {tail}, not alike")
         }
+        Debt::NoCopy { address, word } => write!(
+            out,
+            "the copy of the tail at {address} opens as {word}, not as the offset of a slot"
+        ),
         Debt::NotFree { address, word } => {
             write!(out, "the slot at {address} opens as {word} and not as 0")
         }

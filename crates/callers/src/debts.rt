@@ -17,6 +17,8 @@ pub enum Debt {
     NoOffset { address: u32, word: u32 },
     /// The sender's index and the receiver's open as these words, which differ.
     NotEmpty { head: u32, tail: u32 },
+    /// The sender's copy of the tail, at this address, opens as this word, which is the offset of no slot.
+    NoCopy { address: u32, word: u32 },
     /// The slot at this address opens as this word, and not as 0 as each of FastForward's must.
     NotFree { address: u32, word: u32 },
     /// The hart wrote to the block outside of a call, from this address on, by its instruction at `pc`.

@@ -107,7 +107,7 @@ fn is_sendable(kind: QueueKind, word: u32) -> bool
     ensures { result ≡ is_sendable (kind_of kind) word }
 {
     match kind {
-        QueueKind::Lamport => true,
+        QueueKind::Lamport | QueueKind::Cached => true,
         QueueKind::FastForward => word != 0,
     }
 }

@@ -1,19 +1,20 @@
 //! Whether a queue can be used from a machine's opening on, and where its functions stand.
 
-ghost use Rattle.std.specs.Prelude.{◌≡◌, ◌+◌, ◌*◌, ◌≤◌, ◌<◌, ◌↔◌, ℕ, List, All, IsTrue, IfOk, IfErr, OnOk, IfSome, None, [], length};
+ghost use Rattle.std.specs.Prelude.{◌≡◌, ◌+◌, ◌*◌, ◌≤◌, ◌<◌, ◌↔◌, ℕ, List, All, true, IsTrue, IfOk, IfErr, OnOk, IfSome, None, [], length};
 ghost use Rattle.step_machine.specs.History.{at_opening, IsShort};
 ghost use Rattle.step_machine.specs.Entries.{memory_word};
 ghost use Rattle.spsc_queue.specs.RingBuffers.{fastforward};
 ghost use Rattle.rv_decode.specs.Listings.{words_of, Listed};
 ghost use Rattle.spsc_queue.specs.Calls.{IsBlock};
-ghost use Rattle.callers.specs.Queues.{kind_of, block_at, sends_by, receives_by, HasNoCopy, HasFirstCopy, IsLocated};
-ghost use Rattle.callers.specs.Debts.{IsOpeningDebt};
+ghost use Rattle.callers.specs.Queues.{kind_of, caches_tail, block_at, sends_by, receives_by, HasNoCopy, HasFirstCopy, IsLocated};
+ghost use Rattle.callers.specs.Debts.{IsOffset, IsOpeningDebt};
 ghost use Rattle.callers.specs.inner.Locating.{StandsAt};
 
 use crate::debts::Debt;
 use crate::queue::{Located, Queue, QueueKind};
 use spsc_queue::{
-    fastforward_receive_words, fastforward_send_words, try_receive_words, try_send_words,
+    cached_send_words, fastforward_receive_words, fastforward_send_words, try_receive_words,
+    try_send_words,
 };
 use step_machine::{HartOpening, Machine, Opening};
 
@@ -60,6 +61,7 @@ fn send_words(kind: QueueKind) -> &'static [u32]
 {
     match kind {
         QueueKind::Lamport => try_send_words(),
+        QueueKind::Cached => cached_send_words(),
         QueueKind::FastForward => fastforward_send_words(),
     }
 }
@@ -69,7 +71,7 @@ fn receive_words(kind: QueueKind) -> &'static [u32]
     ensures { result.now ≡ words_of (receives_by kind) }
 {
     match kind {
-        QueueKind::Lamport => try_receive_words(),
+        QueueKind::Lamport | QueueKind::Cached => try_receive_words(),
         QueueKind::FastForward => fastforward_receive_words(),
     }
 }
@@ -81,6 +83,13 @@ fn is_block<const M: usize>(queue: Queue) -> bool
 {
     let end = u64::from(queue.base) + 128 + 4 * u64::from(queue.slots);
     queue.base % 4 == 0 && queue.slots >= 1 && end <= 4 * M as u64
+}
+
+/// Whether a word is the offset of one of the queue's slots.
+fn is_offset(queue: Queue, word: u32) -> bool
+    ensures { IsTrue result ↔ IsOffset queue word }
+{
+    word % 4 == 0 && u64::from(word) < 4 * u64::from(queue.slots)
 }
 
 /// The slot that the queue's indices open at. Err if the sender's is no offset of one, or the receiver's is another.
@@ -96,7 +105,7 @@ fn start_of<const B: usize, const M: usize>(
     ensures has_debt { IfErr result (λ debt. IsOpeningDebt M machine.now.history.opening queue debt) }
 {
     let head = machine.word(queue.base);
-    if head % 4 != 0 || u64::from(head) >= 4 * u64::from(queue.slots) {
+    if !is_offset(queue, head) {
         return Err(Debt::NoOffset {
             address: queue.base,
             word: head,
@@ -107,6 +116,26 @@ fn start_of<const B: usize, const M: usize>(
         Ok(head / 4)
     } else {
         Err(Debt::NotEmpty { head, tail })
+    }
+}
+
+/// Err if the sender's copy of the tail is no offset of a slot.
+fn has_tail_copy<const B: usize, const M: usize>(
+    machine: &Machine<B, M>,
+    queue: Queue,
+) -> Result<(), Debt>
+    requires opens { machine.now.history ≡ at_opening machine.now.history.opening }
+    requires block { IsBlock M (block_at queue 0) }
+    requires kind { caches_tail queue.kind ≡ true }
+    ensures copy { OnOk result (IsOffset queue (memory_word machine.now.history.opening [] (queue.base + 4))) }
+    ensures has_debt { IfErr result (λ debt. IsOpeningDebt M machine.now.history.opening queue debt) }
+{
+    let address = queue.base + 4;
+    let word = machine.word(address);
+    if is_offset(queue, word) {
+        Ok(())
+    } else {
+        Err(Debt::NoCopy { address, word })
     }
 }
 
@@ -131,19 +160,22 @@ fn are_free<const B: usize, const M: usize>(
     Ok(())
 }
 
-/// Err if a slot that must be free where such a queue begins isn't.
-fn are_as_owed<const B: usize, const M: usize>(
+/// Err if what is owed of such a queue beside its indices isn't so where it begins: of the copy of the tail, or of the slots.
+fn opens_as_owed<const B: usize, const M: usize>(
     machine: &Machine<B, M>,
     queue: Queue,
 ) -> Result<(), Debt>
     requires opens { machine.now.history ≡ at_opening machine.now.history.opening }
     requires block { IsBlock M (block_at queue 0) }
+    ensures copy { OnOk result (caches_tail queue.kind ≡ true
+        → IsOffset queue (memory_word machine.now.history.opening [] (queue.base + 4))) }
     ensures free { OnOk result (kind_of queue.kind ≡ fastforward
         → (j : ℕ) → j < queue.slots → memory_word machine.now.history.opening [] (queue.base + 128 + 4 * j) ≡ 0) }
     ensures has_debt { IfErr result (λ debt. IsOpeningDebt M machine.now.history.opening queue debt) }
 {
     match queue.kind {
         QueueKind::Lamport => Ok(()),
+        QueueKind::Cached => has_tail_copy(machine, queue),
         QueueKind::FastForward => are_free(machine, queue),
     }
 }
@@ -182,7 +214,7 @@ pub(crate) fn locate<const B: usize, const M: usize>(
         });
     };
     let start = start_of(machine, queue)?;
-    are_as_owed(machine, queue)?;
+    opens_as_owed(machine, queue)?;
     Ok(Located {
         queue,
         start,

@@ -1,9 +1,11 @@
 //! The queue that callers are asked about.
 
-/// The two kinds of queue.
+/// The three kinds of queue.
 #[derive(Clone, Copy, PartialEq, Eq)]
 pub enum QueueKind {
     Lamport,
+    /// Lamport's, with a sender that keeps a copy of the tail.
+    Cached,
     FastForward,
 }
 

@@ -74,6 +74,35 @@ const MAILBOX: &str = "1:x12=8;
 exists (1:x10=1)
 ";
 
+/// The same by Lamport's queue with a cached tail.
+const CACHED_MAILBOX: &str = "1:x12=8;
+}
+ P0                   | P1                   ;
+ addi x11,x18,0       | jal x1,recv          ;
+ addi x12,x0,8        | jal x0,end           ;
+ jal x1,send          | recv: lw x5,64(x10)  ;
+ jal x0,end           | lw x6,0(x10)         ;
+ send: lw x5,0(x10)   | beq x5,x6,empty      ;
+ lw x6,4(x10)         | add x7,x10,x5        ;
+ addi x7,x5,4         | lw x11,128(x7)       ;
+ bne x7,x12,test      | addi x5,x5,4         ;
+ addi x7,x0,0         | bne x5,x12,keep      ;
+ test: beq x6,x7,look | addi x5,x0,0         ;
+ store: add x5,x10,x5 | keep: sw x5,64(x10)  ;
+ sw x11,128(x5)       | addi x10,x0,1        ;
+ sw x7,0(x10)         | jalr x0,0(x1)        ;
+ addi x10,x0,1        | empty: addi x10,x0,0 ;
+ jalr x0,0(x1)        | jalr x0,0(x1)        ;
+ full: addi x10,x0,0  | end:                 ;
+ jalr x0,0(x1)        |                      ;
+ look: lw x6,64(x10)  |                      ;
+ beq x6,x7,full       |                      ;
+ sw x6,4(x10)         |                      ;
+ jal x0,store         |                      ;
+ end:                 |                      ;
+exists (1:x10=1)
+";
+
 /// Wants no report.
 #[derive(Drop)]
 struct NoProgress;
@@ -201,6 +230,52 @@ fn right_callers_of_fastforwards_are_kept_and_each_debt_is_named(rt: HostRuntime
             slots: 2,
             sender: 0,
             receiver: 1,
+        };
+        let (text, is_kept) = answer(&rt, rt.alloc(), &test, queue, 1).expect(&rt, "an answer");
+        assert_same!(rt; text.as_str(), wanted);
+        assert_same!(rt; is_kept, wanted == "kept 20 runs\n");
+    }
+}
+
+#[test]
+fn right_callers_with_a_cached_tail_are_kept_and_each_debt_is_named(rt: HostRuntime) {
+    let rows = [
+        // by its copy the queue is full
+        ("", 1, "kept 20 runs\n"),
+        ("[p1]=4; ", 1, "kept 20 runs\n"),
+        ("[p32]=9; ", 1, "kept 20 runs\n"),
+        (
+            "[p1]=2; ",
+            1,
+            "ztso-schedule 1\nthe copy of the tail at 4 opens as 2, not as the offset of a slot\n",
+        ),
+        (
+            "[p1]=8; ",
+            1,
+            "ztso-schedule 1\nthe copy of the tail at 4 opens as 8, not as the offset of a slot\n",
+        ),
+        (
+            "[p0]=0; [p1]=8; ",
+            1,
+            "ztso-schedule 1\nthe indices open as 0 and 4, not alike\n",
+        ),
+        (
+            "",
+            2,
+            "ztso-schedule 1\nhart 2 has no lamport_try_receive in its code\n",
+        ),
+    ];
+    for (settings, receiver, wanted) in rows {
+        let text = format!(in rt.alloc();
+            "RISCV mailbox\n{{\n{INDICES}{settings}{CACHED_MAILBOX}"
+        ).expect(&rt, "memory");
+        let test = litmus_reader::read(rt.alloc(), &text).expect(&rt, "a test");
+        let queue = Queue {
+            kind: QueueKind::Cached,
+            base: 0,
+            slots: 2,
+            sender: 0,
+            receiver,
         };
         let (text, is_kept) = answer(&rt, rt.alloc(), &test, queue, 1).expect(&rt, "an answer");
         assert_same!(rt; text.as_str(), wanted);

@@ -30,7 +30,7 @@ returns-clause-located g c = let block : IsBlock g.row.M (block_at c.args.queue 
   rest = at_rest c.args.machine.now.history.opening
       (record { queue = c.args.queue; start = c.in_ok-start.start; send_line = c.in-Some.send_line; receive_line = c.in-Some-function_of.receive_line })
       c.in_ok-start.ensures.within c.in_ok-start.ensures.head c.in_ok-start.ensures.tail
-      c.in_ok-are_as_owed.ensures.free;
+      c.in_ok-opens_as_owed.ensures.copy c.in_ok-opens_as_owed.ensures.free;
   sends = subst (λ (o : OpeningValue). HasFirstCopy o c.args.queue.sender c.in-Some.send_line (sends_by c.args.queue.kind))
       c.opening-opening.ensures.value (c.in-Some.ensures.first (sends_by c.args.queue.kind) (sym c.send_words.ensures));
   receives = subst (λ (o : OpeningValue). HasFirstCopy o c.args.queue.receiver (c.in-Some-function_of).receive_line (receives_by c.args.queue.kind))
