@@ -696,10 +696,12 @@ parties_spelled sender receiver words (inr (s, r, words_are, sends, receives)) =
 
 name_is_argument : (of_kind : QueueKind) → IsArgument (kind_name of_kind)
 name_is_argument kind.Lamport = λ e. omega (arith, e)
+name_is_argument kind.Cached = λ e. omega (arith, e)
 name_is_argument kind.FastForward = λ e. omega (arith, e)
 
 name_says : (of_kind : QueueKind) → queue_kind_given (kind_name of_kind) ≡ Some of_kind
 name_says kind.Lamport = refl
+name_says kind.Cached = refl
 name_says kind.FastForward = refl
 
 abbrev KindSpelled : QueueKind → List Text → Type 0

@@ -67,7 +67,8 @@ try_in options = do
 
 abbrev pub queue_kind_given : Text → Option QueueKind
 queue_kind_given text =
-    if bytes_eq text (codes "lamport") then Some kind.Lamport else (if bytes_eq text (codes "fastforward") then Some kind.FastForward else None)
+    if bytes_eq text (codes "lamport") then Some kind.Lamport
+    else (if bytes_eq text (codes "cached") then Some kind.Cached else (if bytes_eq text (codes "fastforward") then Some kind.FastForward else None))
 
 -- the queue whose functions code calls
 abbrev pub queue_in : List Row → Option CalledQueue

@@ -50,6 +50,7 @@ name_of LamportCached = codes "cached"
 -- the text by which a kind of queue is asked for
 abbrev pub kind_name : QueueKind → Text
 kind_name kind.Lamport = codes "lamport"
+kind_name kind.Cached = codes "cached"
 kind_name kind.FastForward = codes "fastforward"
 
 -- a word that says this number, within these limits

@@ -34,6 +34,8 @@ pub enum Ring {
 #[derive(Clone, Copy)]
 pub enum QueueKind {
     Lamport,
+    /// Lamport's with a cached tail.
+    Cached,
     FastForward,
 }
 

@@ -445,6 +445,7 @@ fn queue_kind_of(text: &str) -> Option<QueueKind>
 {
     match text {
         "lamport" => Some(QueueKind::Lamport),
+        "cached" => Some(QueueKind::Cached),
         "fastforward" => Some(QueueKind::FastForward),
         _ => None,
     }
