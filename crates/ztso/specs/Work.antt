@@ -84,6 +84,7 @@ tables_of LamportCached = lamport_cached
 
 abbrev pub queue_kind_of : KindAsked → QueueKind
 queue_kind_of asked.Lamport = kind.Lamport
+queue_kind_of asked.Cached = kind.Cached
 queue_kind_of asked.FastForward = kind.FastForward
 
 -- the queue whose callers are asked about

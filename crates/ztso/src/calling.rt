@@ -33,6 +33,7 @@ fn queue_of(called: CalledQueue) -> Queue
     } = called;
     let kind = match kind {
         job::QueueKind::Lamport => QueueKind::Lamport,
+        job::QueueKind::Cached => QueueKind::Cached,
         job::QueueKind::FastForward => QueueKind::FastForward,
     };
     Queue {
