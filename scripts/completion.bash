@@ -33,7 +33,7 @@ _ztso() {
     elif ((at > COMP_CWORD)); then
         case $last in
         --buffer) words='1 2 4 16' ;;
-        --kind) words='lamport fastforward' ;;
+        --kind) words='lamport cached fastforward' ;;
         --sender) [[ ' channel ' != *" $command "* ]] || compopt -o default ;;
         --receiver) [[ ' channel ' != *" $command "* ]] || compopt -o default ;;
         esac

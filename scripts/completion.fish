@@ -41,4 +41,4 @@ complete -c ztso -n '__fish_seen_subcommand_from callers' -l slots -x -d 'the qu
 complete -c ztso -n '__fish_seen_subcommand_from callers' -l base -x -d 'the queue\'s block begins at byte B of memory, 0 to 4294967295; 0 if it is left out'
 complete -c ztso -n '__fish_seen_subcommand_from callers' -l sender -x -d 'hart H sends, 0 to 63; 0 if it is left out'
 complete -c ztso -n '__fish_seen_subcommand_from callers' -l receiver -x -d 'hart H receives, 0 to 63; 1 if it is left out'
-complete -c ztso -n '__fish_seen_subcommand_from callers' -l kind -x -a 'lamport fastforward' -d 'which queue it is: lamport or fastforward; lamport if it is left out'
+complete -c ztso -n '__fish_seen_subcommand_from callers' -l kind -x -a 'lamport cached fastforward' -d 'which queue it is: lamport, cached or fastforward; lamport if it is left out'

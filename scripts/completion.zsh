@@ -136,7 +136,7 @@ _ztso() {
             '--base[the queue'\''s block begins at byte B of memory, 0 to 4294967295; 0 if it is left out]:B:()' \
             '--sender[hart H sends, 0 to 63; 0 if it is left out]:H:()' \
             '--receiver[hart H receives, 0 to 63; 1 if it is left out]:H:()' \
-            '--kind[which queue it is: lamport or fastforward; lamport if it is left out]:KIND:(lamport fastforward)' \
+            '--kind[which queue it is: lamport, cached or fastforward; lamport if it is left out]:KIND:(lamport cached fastforward)' \
             '1:FILE:_files'
         ;;
     steps)

@@ -23,7 +23,7 @@ function wrong_value(name, value,    bounds, is_bounded) {
     if (value_of[name] == "SENDER" || value_of[name] == "RECEIVER")
         return ""
     if (value_of[name] == "KIND")
-        return value == "lamport" || value == "fastforward" ? "" : "`" value "` is none of lamport and fastforward, for " name
+        return value ~ /^(lamport|cached|fastforward)$/ ? "" : "`" value "` is none of lamport, cached and fastforward, for " name
     is_bounded = match(does[name], /[0-9]+ to [0-9]+/)
     split(is_bounded ? substr(does[name], RSTART, RLENGTH) : "0 to 4294967295", bounds, " to ")
     return is_number(value, bounds[1], bounds[2]) ? "" : "`" value "` is no number from " bounds[1] " to " bounds[2] ", for " name

@@ -210,7 +210,8 @@ def kinds():
     drawn = ["--base", "1024", "--slots", "2", "--seed", "7", "--runs", "20", "--length", "200"]
     yield ["callers", CALLERS, *drawn], b"", {}
     yield ["callers", CALLERS, *drawn, "--jobs", "2", "--skip", "3"], b"", {}
-    yield ["callers", "examples/callers/fastforward.litmus", *drawn, "--kind", "fastforward"], b"", {}
+    for kind in ("cached", "fastforward"):
+        yield ["callers", f"examples/callers/{kind}.litmus", *drawn, "--kind", kind], b"", {}
     for wrong in ("clears-the-queue", "has-a-function-of-its-own"):
         yield ["callers", f"examples/callers/wrong/{wrong}.litmus", *drawn], b"", {}
     own = ["--sender", RING_SENDER, "--receiver", RING_RECEIVER]

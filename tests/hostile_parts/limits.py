@@ -17,6 +17,7 @@ DRAWN = ["--seed", "1", "--runs", "1", "--length", "0"]
 CALLERS = str(ROOT / "examples/callers/lamport.litmus")
 QUEUE = ["--base", "1024", "--slots", "2"]
 NO_BLOCK = 1, b"", NONE + b"the block isn't aligned to 4 bytes, has no slot, or ends past the memory\n"
+NO_SEND = 1, b"", NONE + b"hart 0 has no cached_try_send in its code\n"
 KINDS = ["litmus", "schedules", "records", "shrink", "show", "steps", "asm", "dis", "debug", "channels", "options", "in little memory", "threads"]
 MIB = 1 << 20
 # slots of a ring at the least
@@ -208,7 +209,8 @@ def options(short):
             ("--slots", [("1", None), ("0", NO_BLOCK), ("3808", None), ("3809", NO_BLOCK), (str(2**32 - 1), NO_BLOCK),
                          (str(2**32), BAD_COMMAND_LINE)]),
             ("--sender", [("0", None), ("64", BAD_COMMAND_LINE), ("-1", BAD_COMMAND_LINE)]),
-            ("--receiver", [("1", None), ("64", BAD_COMMAND_LINE)]), ("--kind", [("lamport", None), ("cached", BAD_COMMAND_LINE)])]:
+            ("--receiver", [("1", None), ("64", BAD_COMMAND_LINE)]),
+            ("--kind", [("lamport", None), ("cached", NO_SEND), ("own", BAD_COMMAND_LINE)])]:
         for value, wanted in values:
             words = [word for pair in {**queue, name: value}.items() for word in pair]
             yield ["callers", CALLERS, *words, *DRAWN], b"", wanted

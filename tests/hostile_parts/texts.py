@@ -56,7 +56,8 @@ def grammars():
 
 def callers():
     """Texts that `callers` reads, whose grammar is that of `run`."""
-    for name, kind in ((examples.CALLERS, "lamport"), ("examples/callers/wrong/sends-0.litmus", "fastforward")):
+    for name, kind in ((examples.CALLERS, "lamport"), ("examples/callers/cached.litmus", "cached"),
+                       ("examples/callers/wrong/sends-0.litmus", "fastforward")):
         drawn = ["--base", "1024", "--slots", "2", "--seed", "1", "--runs", "2", "--length", "100", "--kind", kind]
         yield "callers", read(name), ["callers", "text", *drawn], None
 

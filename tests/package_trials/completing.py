@@ -21,7 +21,7 @@ LINES = [
     ("ztso channel own 3 two --sender ", "files"),
     ("ztso callers ", "files"),
     ("ztso callers one.litmus --sl", ["--slots"]),
-    ("ztso callers one.litmus --kind ", ["fastforward", "lamport"]),
+    ("ztso callers one.litmus --kind ", ["cached", "fastforward", "lamport"]),
     ("ztso callers one.litmus --sender ", []),
     ("ztso ring ", "files"),
     ("ztso run ", "files"),

@@ -46,7 +46,7 @@ WRONG = ((("run",), "FILE is missing"), (("run", "a", "b", "c"), "`c` is one wor
           "`04` is none of 1, 2, 4 and 16, for --buffer"), (("channel", "other", "3", "a"), "`other` is no KIND"),
          (("channel", "lamport", "-3", "a"), "`-3` is no number from 0 to 4294967295, for RING"),
          (("callers", "a", "--slots", "2", "--sender", "64"), "`64` is no number from 0 to 63, for --sender"),
-         (("callers", "a", "--kind", "cached"), "`cached` is none of lamport and fastforward, for --kind"),
+         (("callers", "a", "--kind", "own"), "`own` is none of lamport, cached and fastforward, for --kind"),
          (("callers", "a", "--slots", "2", "--seed", "1", "--runs", "1"), "--length is missing"),
          (("chart", "a", "b", "--svg", "--svg"), "--svg is given twice"), (("chart", "a", "b", "--svg=1"), "--svg takes no value"))
 DRAWN = ("--seed", "1", "--runs", "10", "--length", "20")

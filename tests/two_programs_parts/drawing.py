@@ -152,7 +152,7 @@ class Draw:
         text = self.whole_or_changed(test.text, 2)
         words = ["--slots", self.one_of("2", "2", "2", "1", "3", "0"), "--base", self.one_of("1024", "1024", "1024", "16", "0", "2"),
                  "--seed", str(self.random.randrange(2**64)), "--runs", self.one_of("1", "20"), "--length", self.one_of("0", "60", "300")]
-        options = self.options(("kind", "lamport", "fastforward", "cached"), ("jobs", "1", "3", "65"), ("skip", "5"),
+        options = self.options(("kind", "lamport", "cached", "fastforward", "own"), ("jobs", "1", "3", "65"), ("skip", "5"),
                                ("sender", "0", "1", "64"), ("receiver", "1", "0", "2"))
         return self.on_test("callers", "callers", [*words, *options, *self.buffer()], None, "", text)
 

@@ -7,8 +7,8 @@ import words
 from draws import event_of
 from machine import MEMORY, Machine, word_at
 
-# the functions as docs/functions.md lists them, each of 13 lines
-SEND = {"lamport": """
+# the functions as docs/functions.md lists them
+FUNCTIONS = {"lamport_try_send": """
 lw x5,0(x10)
 lw x6,64(x10)
 addi x7,x5,4
@@ -22,22 +22,7 @@ addi x10,x0,1
 jalr x0,0(x1)
 full: addi x10,x0,0
 jalr x0,0(x1)
-""", "fastforward": """
-lw x5,0(x10)
-add x7,x10,x5
-lw x6,128(x7)
-bne x6,x0,full
-addi x5,x5,4
-bne x5,x12,keep
-addi x5,x0,0
-keep: sw x11,128(x7)
-sw x5,0(x10)
-addi x10,x0,1
-jalr x0,0(x1)
-full: addi x10,x0,0
-jalr x0,0(x1)
-"""}
-RECEIVE = {"lamport": """
+""", "lamport_try_receive": """
 lw x5,64(x10)
 lw x6,0(x10)
 beq x5,x6,empty
@@ -51,7 +36,39 @@ addi x10,x0,1
 jalr x0,0(x1)
 empty: addi x10,x0,0
 jalr x0,0(x1)
-""", "fastforward": """
+""", "cached_try_send": """
+lw x5,0(x10)
+lw x6,4(x10)
+addi x7,x5,4
+bne x7,x12,test
+addi x7,x0,0
+test: beq x6,x7,look
+store: add x5,x10,x5
+sw x11,128(x5)
+sw x7,0(x10)
+addi x10,x0,1
+jalr x0,0(x1)
+full: addi x10,x0,0
+jalr x0,0(x1)
+look: lw x6,64(x10)
+beq x6,x7,full
+sw x6,4(x10)
+jal x0,store
+""", "fastforward_try_send": """
+lw x5,0(x10)
+add x7,x10,x5
+lw x6,128(x7)
+bne x6,x0,full
+addi x5,x5,4
+bne x5,x12,keep
+addi x5,x0,0
+keep: sw x11,128(x7)
+sw x5,0(x10)
+addi x10,x0,1
+jalr x0,0(x1)
+full: addi x10,x0,0
+jalr x0,0(x1)
+""", "fastforward_try_receive": """
 lw x5,64(x10)
 add x7,x10,x5
 lw x11,128(x7)
@@ -66,9 +83,11 @@ jalr x0,0(x1)
 empty: addi x10,x0,0
 jalr x0,0(x1)
 """}
-KINDS = tuple(SEND)
+# the function that each kind's sender calls, and the one that its receiver calls
+KINDS = {"lamport": ("lamport_try_send", "lamport_try_receive"), "cached": ("cached_try_send", "lamport_try_receive"),
+         "fastforward": ("fastforward_try_send", "fastforward_try_receive")}
 RETURNS = 0x28, 0x30
-HEAD, TAIL, SLOTS = 0, 64, 128
+HEAD, COPY, TAIL, SLOTS = 0, 4, 64, 128
 STORED = {"store": 4, "store2": 2, "store1": 1, "amo": 4}
 
 
@@ -116,28 +135,32 @@ class Callers:
             return "the block isn't aligned to 4 bytes, has no slot, or ends past the memory"
         if self.sender == self.receiver:
             return f"hart {self.sender} both sends and receives"
-        sends, receives = SEND[self.kind], RECEIVE[self.kind]
-        self.parties = (Party(self.sender, first_copy(self.code(self.sender), sends), True),
-                        Party(self.receiver, first_copy(self.code(self.receiver), receives), False))
-        for party in self.parties:
+        sends, receives = KINDS[self.kind]
+        self.parties = (Party(self.sender, first_copy(self.code(self.sender), FUNCTIONS[sends]), True),
+                        Party(self.receiver, first_copy(self.code(self.receiver), FUNCTIONS[receives]), False))
+        for party, name in zip(self.parties, KINDS[self.kind]):
             if party.entry is None:
-                name = f"{self.kind}_try_{'send' if party.sends else 'receive'}"
                 return f"hart {party.hart} has no {name} in its code"
         return self.owed_by_words()
 
     def owed_by_words(self):
-        """Both indices are the offset of one slot, and each slot of FastForward's is 0."""
+        """Both indices are the offset of one slot, a copy of the tail is that of any, and each slot of FastForward's is 0."""
         opening = self.machine.opening[1]
-        head, tail = (word_at(opening, self.base + offset) for offset in (HEAD, TAIL))
-        if head % 4 or head >= 4 * self.slots:
+        head, copy, tail = (word_at(opening, self.base + offset) for offset in (HEAD, COPY, TAIL))
+        if not self.is_offset(head):
             return f"the index at {self.base} opens as {head}, not as the offset of a slot"
         if head != tail:
             return f"the indices open as {head} and {tail}, not alike"
+        if self.kind == "cached" and not self.is_offset(copy):
+            return f"the copy of the tail at {self.base + COPY} opens as {copy}, not as the offset of a slot"
         if self.kind == "fastforward":
             for address, word in opening:
                 if self.base + SLOTS <= address < self.end:
                     return f"the slot at {address} opens as {word} and not as 0"
         return None
+
+    def is_offset(self, word):
+        return word % 4 == 0 and word < 4 * self.slots
 
     def step(self, pair, event):
         """The pair after an event, and what is owed at its entry, as a line, or None."""
