@@ -1,8 +1,8 @@
 -- What the levels of a search say of how many steps lead to what is wanted.
-use Rattle.std.proofs.Common.{◌≡◌, ℕ, zero, suc, ◌+◌, ◌<◌, ◌≤◌, inl, inr, List, Some, refl, sym, ◌∙◌, ap, subst, arith}
+use Rattle.std.proofs.Common.{◌≡◌, ℕ, zero, suc, ◌+◌, ◌<◌, ◌≤◌, inl, inr, List, Some, sym, subst, arith}
 use Rattle.std.specs.List.{slice_get}
 use Rattle.std.proofs.lemmas.Bool.{cases_lt}
-use Rattle.finding.specs.inner.Levels.{IsLedToBy, AreFewest, IsExpanded, IsAmong, LeadsInto, IsSearched}
+use Rattle.finding.specs.inner.Levels.{IsLedToBy, AreFewest, IsExpanded, IsAmong, IsSearched}
 
 -- it is among more of them
 pub among_more : {X : Type 0} {xs : List X} {count more : ℕ} (x : X) → count ≤ more → IsAmong count xs x → IsAmong more xs x

@@ -7,7 +7,7 @@ use Rattle.step_machine.specs.declared.events.Entry.{Entry}
 use Rattle.step_machine.specs.declared.events.Outcome.{Outcome}
 use Rattle.step_machine.specs.declared.events.Outcome.TheVariants as outcome
 use Rattle.step_machine.specs.History.{History, at_opening}
-use Rattle.step_machine.specs.Runs.{IsFor, Happens, RunFrom, event_of}
+use Rattle.step_machine.specs.Runs.{Happens, RunFrom, event_of}
 use Rattle.step_machine.proofs.Follows.{event_of-for}
 use Rattle.litmus.specs.LitmusTests.{LitmusTest}
 use Rattle.finding.specs.Find.{IsWitness, Shows}
