@@ -11,7 +11,7 @@ sys.path.insert(0, str(ROOT / "tools/reference"))
 
 from ring_kinds import RINGS  # noqa: E402
 
-DEFINED = re.compile(r"^(?:(?:abbrev|unfoldable|opaque) )?pub (?:record |data )?(?!mod |use )(?P<name>[^\s:({]+)", re.M)
+DEFINED = re.compile(r"^(?:(?:abbrev|unfoldable|opaque) )?pub (?:record |data )?(?!mod |use )(?P<name>[^\s:({◌]+)", re.M)  # operators aside
 CITED = re.compile(r"^\s*(?:pub )?(?:ghost )?use Rattle\.(?P<crate>\w+)\.specs\.[\w.]+\.\{(?P<names>[^}]*)\}", re.M)
 
 
@@ -38,8 +38,6 @@ def wrong():
     """A line for each word of a crate that others cite, and that stands for something else in a second crate."""
     rings, defined = {ring.crate for ring in RINGS.values()}, definitions()
     for name, crate in sorted(citations()):
-        if "◌" in name:
-            continue  # an operator says the same of other types
         others = defined[name] - {crate} - (rings if crate in rings else set())
         if crate in defined[name] and others:
             yield f"{name} of crates/{crate}/specs, which other crates cite, is also a word of {', '.join(sorted(others))}"
