@@ -89,10 +89,6 @@ hex_number_said digits n e lt = let said = capped_value-said 16 digits n e in (s
 pub says_hex_number : (digits : List ℕ) (n : ℕ) → SaysInHex digits n → hex_number_of digits ≡ Some (capped n)
 says_hex_number digits n h = subst (λ (m : ℕ). hex_number_of digits ≡ Some (capped m)) h.1 (capped_value-of_IsNumeral 16 digits h.0)
 
--- digits say one number
-pub one_decimal : (digits : List ℕ) (m n : ℕ) → SaysDecimal digits m → SaysDecimal digits n → m ≡ n
-one_decimal digits m n h k = sym h.1 ∙ k.1
-
 -- what a digit's reader says of the byte that it read
 pub other_digit : (radix byte read : ℕ) → read ≡ byte → (digit_value read < radix → ⊥) → radix ≤ digit_value byte
 other_digit radix byte read same refused = subst (λ (b : ℕ). radix ≤ digit_value b) same
