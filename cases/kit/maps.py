@@ -6,7 +6,7 @@ import re
 from .links import ROOT
 
 FOLDERS = ("tools", "tests", "scripts")
-DECISIONS, MOST_WORDS = ROOT / "docs/DECISIONS.md", 150
+DECISIONS, MOST_WORDS = ROOT / "docs/DECISIONS.md", 100
 HIDDEN = ("README.md", "__pycache__", "out")
 
 
