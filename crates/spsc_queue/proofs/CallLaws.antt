@@ -16,13 +16,13 @@ use Rattle.spsc_queue.specs.Protocol.{SenderState, resting, placed, renewing, ro
 use Rattle.spsc_queue.specs.Protocol.{at_start, protocol_after, room_at, says_full, watched_address}
 use Rattle.spsc_queue.specs.Protocol.{says_empty}
 use Rattle.spsc_queue.specs.Laws.{IsPrefix, FollowsSpscProtocol, available_of, available_count, available_words}
-use Rattle.spsc_queue.specs.StoreBuffers.{IsOnlyWriter, AllLeaveByte}
+use Rattle.store_buffers.specs.StoreBuffers.{IsOnlyWriter, AllLeaveByte}
 use Rattle.spsc_queue.specs.Calls.{SpscQueue, Party, the_sender, the_receiver, party_line, buffer, is_sender_in_call, is_receiver_in_call, sent_words}
 use Rattle.spsc_queue.specs.Calls.{received_words, UsesAsSpscQueue}
 use Rattle.spsc_queue.proofs.Invariants.{IsPlaced, Known}
 use Rattle.spsc_queue.proofs.Runs.{known-of, delivered, length-firsts}
 use Rattle.spsc_queue.proofs.Publication.{published, returned}
-use Rattle.spsc_queue.proofs.MessagePassing.{handed_over}
+use Rattle.store_buffers.proofs.MessagePassing.{handed_over}
 use Rattle.spsc_queue.proofs.Linearization.{empty_landed, full_landed}
 use Rattle.spsc_queue.proofs.Outline.{part, IsLevel, Level, Stands, WordsAre}
 use Rattle.spsc_queue.proofs.Functions.{words_are_by}

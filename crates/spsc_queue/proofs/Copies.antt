@@ -16,10 +16,10 @@ use Rattle.step_machine.specs.Entries.{pending, memory_byte, memory_word, read_b
 use Rattle.step_machine.specs.Legal.{Allowed}
 use Rattle.spsc_queue.specs.RingBuffers.{Kind, lamport, fastforward, RingBuffer, IsWordIn, slot_offset, overlaps, writes_to}
 use Rattle.spsc_queue.specs.Protocol.{IsWordAt}
-use Rattle.spsc_queue.specs.StoreBuffers.{LeavesByte, LeavesByteBy, IsOnlyWriter}
+use Rattle.store_buffers.specs.StoreBuffers.{LeavesByte, LeavesByteBy, IsOnlyWriter}
 use Rattle.spsc_queue.proofs.Words.{is_copy, row_of, copy_at}
-use Rattle.spsc_queue.proofs.StoreBuffers.{passed_over}
-use Rattle.spsc_queue.proofs.MessagePassing.{kept}
+use Rattle.store_buffers.proofs.Reading.{passed_over}
+use Rattle.store_buffers.proofs.MessagePassing.{kept}
 
 -- no other hart has a pending store over the copy
 abbrev pub IsAlone : RingBuffer → (c : ℕ) → List Entry → Type 0

@@ -1,17 +1,14 @@
 -- What an entry does to the words of the block and to the pending stores that go to it: only a landing or a store of
 -- the block's own does anything. So whatever else runs, the block is as it was.
-use Rattle.std.proofs.Common.{ℕ, ◌+◌, ◌%◌, ◌≤◌, ◌≡◌, ◌==◌, inl, inr, Bool, true, false, if◌then◌else◌, List, [], ◌∷◌, ◌++◌, length, drop, refl, ◌∙◌, ap, subst}
-use Rattle.std.proofs.Common.{append-nil}
+use Rattle.std.proofs.Common.{ℕ, ◌+◌, ◌%◌, ◌≡◌, ◌==◌, inl, inr, Bool, true, false, if◌then◌else◌, List, [], ◌∷◌, ◌++◌, refl, ◌∙◌, ap, subst}
 use Rattle.std.specs.Prelude.{All}
 use Rattle.std.proofs.lemmas.List.Elements.{filter-append, All-head, All-tail, All-nil, All-cons}
 use Rattle.memory.specs.declared.writes.Write.{Write}
 use Rattle.memory.specs.Writes.{byte_after, joined, IsWholeWord}
-use Rattle.memory.proofs.Bytes.{joined-same}
 use Rattle.step_machine.specs.declared.events.Entry.{Entry}
 use Rattle.step_machine.specs.History.{OpeningValue}
-use Rattle.step_machine.specs.Entries.{own_store, land_of, write_of, pending, memory_byte, memory_word, read, own_stores, lands}
-use Rattle.step_machine.proofs.Appended.{pending-last}
-use Rattle.step_machine.proofs.Stays.{memory_byte-other, memory_byte-write}
+use Rattle.step_machine.specs.Entries.{write_of, pending, memory_byte, memory_word, read}
+use Rattle.store_buffers.proofs.Effects.{number-quiet, number-after}
 use Rattle.spsc_queue.specs.RingBuffers.{RingBuffer, IsWordIn}
 use Rattle.spsc_queue.proofs.Words.{shared, row_of, seen, Tidy, off_word, whole_word, read_through}
 
@@ -19,12 +16,10 @@ use Rattle.spsc_queue.proofs.Words.{shared, row_of, seen, Tidy, off_word, whole_
 
 module _ (o : OpeningValue) (es : List Entry) (e : Entry) where
   pub memory-quiet : (a : ℕ) → write_of es e ≡ [] → memory_word o (es ++ e ∷ []) a ≡ memory_word o es a
-  memory-quiet a none = joined-same (λ i. memory_byte o (es ++ e ∷ []) (a + i)) (λ i. memory_byte o es (a + i)) 4
-      (λ i lt. memory_byte-other o es e (a + i) none)
+  memory-quiet a none = number-quiet o es e a 4 none
 
   memory-after : (a : ℕ) (w : Write) → write_of es e ≡ w ∷ [] → memory_word o (es ++ e ∷ []) a ≡ joined (λ i. byte_after w (a + i) (memory_byte o es (a + i))) 4
-  memory-after a w is = joined-same (λ i. memory_byte o (es ++ e ∷ []) (a + i)) (λ i. byte_after w (a + i) (memory_byte o es (a + i))) 4
-      (λ i lt. memory_byte-write o es e w (a + i) is)
+  memory-after a w is = number-after o es e a 4 w is
 
   -- a write off the block, of bytes or of a word
   pub memory-off : (r : RingBuffer) (a : ℕ) (w : Write) → write_of es e ≡ w ∷ [] → IsWordIn r a → shared r w ≡ false
@@ -62,15 +57,3 @@ tidy-from r (w ∷ ws) all = at (shared r w) refl (λ more. tidy-from r ws more)
 pub reads-word : (r : RingBuffer) (o : OpeningValue) (es : List Entry) (h a : ℕ) → IsWordIn r a → All IsWholeWord (row_of r (pending h es))
     → read o es h a 4 ≡ seen a (memory_word o es a) (row_of r (pending h es))
 reads-word r o es h a is all = read_through r a (memory_byte o es) (pending h es) is (tidy-from r (pending h es) all)
-
-module _ (es : List Entry) (e : Entry) (h : ℕ) (le : lands h es ≤ length (own_stores h es)) where
-  pub pending-quiet : own_store h e ≡ [] → land_of h e ≡ 0 → pending h (es ++ e ∷ []) ≡ pending h es
-  pending-quiet none still = pending-last h es e le ∙ ap (λ n. drop n (pending h es ++ own_store h e)) still
-      ∙ ap (λ ws. pending h es ++ ws) none ∙ append-nil (pending h es)
-
-  pub pending-more : (w : Write) → own_store h e ≡ w ∷ [] → land_of h e ≡ 0 → pending h (es ++ e ∷ []) ≡ pending h es ++ w ∷ []
-  pending-more w one still = pending-last h es e le ∙ ap (λ n. drop n (pending h es ++ own_store h e)) still ∙ ap (λ ws. pending h es ++ ws) one
-
-  pub pending-first : (w : Write) (rest : List Write) → pending h es ≡ w ∷ rest → own_store h e ≡ [] → land_of h e ≡ 1 → pending h (es ++ e ∷ []) ≡ rest
-  pending-first w rest is none one = pending-last h es e le ∙ ap (λ n. drop n (pending h es ++ own_store h e)) one
-      ∙ ap (λ ws. drop 1 (pending h es ++ ws)) none ∙ ap (drop 1) (append-nil (pending h es)) ∙ ap (drop 1) is

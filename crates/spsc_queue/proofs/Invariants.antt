@@ -8,7 +8,7 @@ use Rattle.step_machine.specs.declared.events.Entry.{Entry}
 use Rattle.step_machine.specs.History.{OpeningValue}
 use Rattle.step_machine.specs.Entries.{pending, read, own_stores, lands}
 use Rattle.spsc_queue.specs.RingBuffers.{Kind, lamport, fastforward, RingBuffer, IsRingBuffer, slot_offset, capacity_of, writes_to, IsEmptyAndQuiescent}
-use Rattle.spsc_queue.specs.StoreBuffers.{LeavesByte}
+use Rattle.store_buffers.specs.StoreBuffers.{LeavesByte}
 use Rattle.spsc_queue.specs.Protocol.{SenderState, resting, placed, renewing, roomy, filled, ReceiverState, idle, asked}
 use Rattle.spsc_queue.specs.Protocol.{waiting, holding, cleared, ProtocolState}
 use Rattle.spsc_queue.specs.Protocol.{at_start, send_load, receive_load}

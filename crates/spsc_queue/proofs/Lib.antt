@@ -3,7 +3,6 @@ pub mod Spread
 pub mod Effects
 pub mod Rows
 pub mod PastRows
-pub mod Performed
 pub mod Invariant
 pub mod Copies
 pub mod Loads
@@ -13,8 +12,6 @@ pub mod Landings
 pub mod Invariants
 pub mod Runs
 pub mod Publication
-pub mod StoreBuffers
-pub mod MessagePassing
 pub mod Linearization
 pub mod Registers
 pub mod Courses

@@ -15,7 +15,7 @@ use Rattle.spsc_queue.specs.RingBuffers.{Kind, lamport, fastforward, RingBuffer,
 use Rattle.spsc_queue.specs.RingBuffers.{slot_address, next, capacity_of, capacity, writes_to}
 use Rattle.spsc_queue.specs.Protocol.{placed, asked, ProtocolState, at_start, protocol_after, room_at, says_full, watched_address, says_empty, KeepsProtocol}
 use Rattle.spsc_queue.specs.Laws.{FollowsSpscProtocol, available_of, available_count, ready_by_state}
-use Rattle.spsc_queue.specs.StoreBuffers.{LeavesByte}
+use Rattle.store_buffers.specs.StoreBuffers.{LeavesByte}
 use Rattle.spsc_queue.proofs.Words.{row_of, row_shorter}
 use Rattle.spsc_queue.proofs.Copies.{Copied, row_whole}
 use Rattle.spsc_queue.proofs.Spread.{offset_apart, sent_store, freed_store}

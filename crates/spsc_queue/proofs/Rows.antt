@@ -14,7 +14,8 @@ use Rattle.step_machine.proofs.Lists.{some_first}
 use Rattle.spsc_queue.specs.RingBuffers.{RingBuffer, IsRingBuffer, IsWordIn}
 use Rattle.spsc_queue.proofs.Words.{shared, row_of}
 use Rattle.spsc_queue.proofs.Spread.{spread, spread-more}
-use Rattle.spsc_queue.proofs.Effects.{memory-quiet, memory-off, memory-whole, on-append, on-one, on-none, pending-quiet, pending-more, pending-first}
+use Rattle.store_buffers.proofs.Effects.{pending-quiet, pending-more, pending-first}
+use Rattle.spsc_queue.proofs.Effects.{memory-quiet, memory-off, memory-whole, on-append, on-one, on-none}
 
 -- where what is on the block is a word of a row, and what comes after it
 pub split_on : (r : RingBuffer) (w : Write) (rest : List Write) (f : ℕ → Write) (i n : ℕ) → shared r w ≡ true → row_of r (w ∷ rest) ≡ spread f i n

@@ -20,7 +20,7 @@ use Rattle.spsc_queue.specs.Protocol.{waiting, holding, cleared, ProtocolState}
 use Rattle.spsc_queue.specs.Protocol.{at_start, Role, sends, receives, passes, role_of, send_load, send_store, receive_load, receive_store, next_by}
 use Rattle.spsc_queue.specs.Protocol.{protocol_next, protocol_after, IsWordAt, IsSenderStore, IsTaking, IsReceiverStore, KeepsProtocolBy, KeepsProtocol}
 use Rattle.spsc_queue.specs.Laws.{IsPrefix, FollowsSpscProtocol, available_count, available_words}
-use Rattle.spsc_queue.specs.StoreBuffers.{LeavesByteBy}
+use Rattle.store_buffers.specs.StoreBuffers.{LeavesByteBy}
 use Rattle.spsc_queue.proofs.Words.{shared, shared_on, off_shared, word_on}
 use Rattle.spsc_queue.proofs.Copies.{CopyStays, copy-left, off_leaves, word_leaves}
 use Rattle.spsc_queue.proofs.Rows.{Earlier, Stays, nothing-stays, load-stays, fence-stays, exchange-stays, off-stays}

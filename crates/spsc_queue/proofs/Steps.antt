@@ -10,7 +10,7 @@ use Rattle.step_machine.specs.History.{OpeningValue}
 use Rattle.step_machine.specs.Access.{store, access_of}
 use Rattle.step_machine.specs.Entries.{hart_of, pending, memory_word, own_stores, lands}
 use Rattle.spsc_queue.specs.RingBuffers.{Kind, lamport, fastforward, RingBuffer, IsRingBuffer, IsWordIn, slot_offset, slot_address, next, overlaps}
-use Rattle.spsc_queue.specs.StoreBuffers.{LeavesByte}
+use Rattle.store_buffers.specs.StoreBuffers.{LeavesByte}
 use Rattle.spsc_queue.specs.Protocol.{SenderState, resting, renewing, roomy, filled, ReceiverState, idle, holding}
 use Rattle.spsc_queue.specs.Protocol.{cleared, ProtocolState, send_store, receive_store}
 use Rattle.spsc_queue.specs.Protocol.{IsWordAt, IsSendable, IsCopyStore, IsTaking}

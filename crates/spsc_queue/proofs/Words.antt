@@ -12,6 +12,7 @@ use Rattle.std.proofs.lemmas.List.Elements.{All-head, All-tail}
 use Rattle.memory.specs.declared.writes.Write.{Write}
 use Rattle.memory.specs.Writes.{covers, byte_after, newest_of, joined, IsWholeWord}
 use Rattle.memory.proofs.Bytes.{joined-same, word_of_bytes, covers-yes, covers-from, covers-other}
+use Rattle.store_buffers.proofs.Reading.{newest-first}
 use Rattle.spsc_queue.specs.RingBuffers.{RingBuffer, IsWordIn, overlaps, writes_to}
 use Rattle.spsc_queue.specs.Protocol.{IsWordAt}
 
@@ -116,29 +117,6 @@ whole_word w a f aligned is = at (w.addr == a) refl
         joined-same (λ i. byte_after w (a + i) (f (a + i))) (λ i. f (a + i)) 4 (λ i lt.
         let none : covers w (a + i) ≡ false = covers-other w (a + i) (omega arith) (λ q. elsewhere (omega arith)) in
         ap (λ c. if c then byte_at (a + i - w.addr) w.value else f (a + i)) none)
-
--- what is found before a list counts where nothing is found in it
-newest-found : (x d : ℕ) (found : Option ℕ) (ws : List Write) → unwrap_or (newest_of x found ws) d ≡ unwrap_or (newest_of x None ws) (unwrap_or found d)
-newest-found x d found [] = refl
-newest-found x d found (w ∷ ws) = at (covers w x) (λ e g. newest-found x e g ws)
-  where
-    b : ℕ
-    b = byte_at (x - w.addr) w.value
-
-    at : (c : Bool) → ((e : ℕ) (g : Option ℕ) → unwrap_or (newest_of x g ws) e ≡ unwrap_or (newest_of x None ws) (unwrap_or g e))
-        → unwrap_or (newest_of x (if c then Some b else found) ws) d ≡ unwrap_or (newest_of x (if c then Some b else None) ws) (unwrap_or found d)
-    at true more = more d (Some b) ∙ sym (more (unwrap_or found d) (Some b))
-    at false more = more d found
-
-newest-first : (x d : ℕ) (w : Write) (ws : List Write) → unwrap_or (newest_of x None (w ∷ ws)) d ≡ unwrap_or (newest_of x None ws) (byte_after w x d)
-newest-first x d w ws = at (covers w x)
-  where
-    b : ℕ
-    b = byte_at (x - w.addr) w.value
-
-    at : (c : Bool) → unwrap_or (newest_of x (if c then Some b else None) ws) d ≡ unwrap_or (newest_of x None ws) (if c then b else d)
-    at true = newest-found x d (Some b) ws
-    at false = refl
 
 -- one write, and then more
 seen-first : (r : RingBuffer) (a v : ℕ) (w : Write) (ws : List Write) (b : Bool) → shared r w ≡ b

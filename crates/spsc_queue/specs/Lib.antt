@@ -1,6 +1,5 @@
 pub mod RingBuffers
 pub mod Protocol
-pub mod StoreBuffers
 pub mod Laws
 pub mod Listings
 pub mod Cached

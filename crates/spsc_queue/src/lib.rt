@@ -6,8 +6,8 @@
 //! `CallerObligation` asks of it, whatever else its harts and others execute before, between and after.
 //! [`laws_of_one_call`] states what one call does, [`laws_of_many_queues`] that calls for one queue stay off the others,
 //! [`laws_of_obligations`] that what callers owe can be computed and kept. Below these, [`laws_of_protocol`] states the same
-//! of loads and stores alone, of any program that keeps the queue's protocol, and [`laws_of_store_buffers`] what holds of
-//! any program. The crate gives the words of the functions and runs none.
+//! of loads and stores alone, of any program that keeps the queue's protocol. The crate gives the words of the functions and
+//! runs none.
 
 #![tactic(auto)]
 
@@ -29,7 +29,7 @@ ghost use Rattle.step_machine.specs.Paths.{state_of};
 ghost use Rattle.step_machine.specs.Legal.{Legal, WellFormed};
 ghost use Rattle.spsc_queue.specs.RingBuffers.{Kind, RingBuffer, lamport, capacity, writes_to, IsEmptyAndQuiescent};
 ghost use Rattle.spsc_queue.specs.Protocol.{at_start, protocol_after, asked, placed, room_at, says_full, watched_address, says_empty};
-ghost use Rattle.spsc_queue.specs.StoreBuffers.{IsGloballyPerformed, LeavesByte, AllLeaveByte, IsOnlyWriter};
+ghost use Rattle.store_buffers.specs.StoreBuffers.{AllLeaveByte, IsOnlyWriter};
 ghost use Rattle.spsc_queue.specs.Laws.{IsPrefix, FollowsSpscProtocol, available_words, available_count, known_count, ready_count};
 ghost use Rattle.rv_decode.specs.Listings.{words_of, lines_of};
 ghost use Rattle.spsc_queue.specs.Listings.{try_send, try_receive};
@@ -76,21 +76,6 @@ pub fn try_receive_words() -> &'static [u32]
 pub fn tables_mean()
     ensures all { (k : Kind) (caches : Bool) (p : Party)
         → map meaning (words_of (listing_of k caches p)) ≡ map Some (lines_of (listing_of k caches p)) }
-{}
-
-/// Of any program: if more than n stores of a hart have landed, its n-th store has reached memory, and stays among what
-/// has. A hart reads each byte of it, unless something that landed later covers that byte, or a pending store of its own.
-/// What a hart reads of a byte, every hart reads once that hart's stores have landed, if no other hart had a pending store
-/// over the byte and none of the entries in between writes it. It does nothing.
-pub fn laws_of_store_buffers()
-    ensures performed { (B : ℕ) (o : OpeningValue) (es : List Entry) (h n : ℕ) (w : Write) → Legal B (history_of o es)
-        → slice_get (own_stores h es) n ≡ Some w → n < lands h es → IsGloballyPerformed es w }
-    ensures later { (es fs : List Entry) (w : Write) → IsGloballyPerformed es w → IsGloballyPerformed (es ++ fs) w }
-    ensures read { (o : OpeningValue) (es : List Entry) (w : Write) (p : IsGloballyPerformed es w) (h x : ℕ) → covers w x ≡ true
-        → All (LeavesByte x) p.later → All (LeavesByte x) (pending h es) → read_byte o es h x ≡ byte_at (x - w.addr) w.value }
-    ensures handed_over { (B : ℕ) (o : OpeningValue) (a h x : ℕ) (es fs : List Entry) → Legal B (history_of o (es ++ fs))
-        → length (own_stores a es) ≤ lands a (es ++ fs) → IsOnlyWriter a x es → AllLeaveByte x fs
-        → read_byte o (es ++ fs) h x ≡ read_byte o es a x }
 {}
 
 /// Of every run whose entries keep the queue's protocol, Lamport's (whose sender may keep a copy of the tail) or FastForward's, from

@@ -1,7 +1,7 @@
-use Rattle.spsc_queue.proofs.Performed.{reached, reached_later}
-use Rattle.spsc_queue.proofs.StoreBuffers.{read_seen}
-use Rattle.spsc_queue.proofs.MessagePassing.{handed_over}
-use Rattle.spsc_queue.proofs.laws_of_store_buffers.Goals as goal
+use Rattle.store_buffers.proofs.Performed.{reached, reached_later}
+use Rattle.store_buffers.proofs.Reading.{read_seen}
+use Rattle.store_buffers.proofs.MessagePassing.{handed_over}
+use Rattle.store_buffers.proofs.laws_of_store_buffers.Goals as goal
 
 pub returns-clause-performed : goal.returns-clause-performed
 returns-clause-performed c = λ B o es h n w legal is landed. reached B o es h n w legal is landed

@@ -12,7 +12,7 @@ use Rattle.step_machine.specs.Entries.{hart_of, landed_by, written_by, land_of, 
 use Rattle.step_machine.specs.Legal.{Legal}
 use Rattle.step_machine.proofs.Appended.{lands-append, landed_after-append}
 use Rattle.step_machine.proofs.Landings.{landed-counted}
-use Rattle.spsc_queue.specs.StoreBuffers.{IsGloballyPerformed}
+use Rattle.store_buffers.specs.StoreBuffers.{IsGloballyPerformed}
 
 reached_after : (whole : List Entry) (h n : ℕ) (w : Write) (before es : List Entry) → slice_get (own_stores h whole) n ≡ Some w
     → lands h before ≤ n → n < lands h (before ++ es) → (xs : List Write) × (ys : List Write) × (landed_by_count_after whole before es ≡ xs ++ w ∷ ys)

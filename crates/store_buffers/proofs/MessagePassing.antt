@@ -1,8 +1,7 @@
 -- What a hart would read at an address, once its stores have landed, is what every hart reads there.
-use Rattle.std.proofs.Common.{ℕ, zero, suc, ◌-◌, ◌<◌, ◌≤◌, ◌≡◌, ◌≢◌, ◌==◌, ◌⊎◌, inl, inr, Bool, true, false, if◌then◌else◌, Option, Some, None, List, [], ◌∷◌}
+use Rattle.std.proofs.Common.{ℕ, zero, suc, ◌<◌, ◌≤◌, ◌≡◌, ◌≢◌, ◌==◌, ◌⊎◌, inl, inr, Bool, true, false, Option, None, List, [], ◌∷◌}
 use Rattle.std.proofs.Common.{◌++◌, length, take, drop, refl, sym, ◌∙◌, ap, subst, arith, append-nil, append_assoc}
 use Rattle.std.specs.Prelude.{All, unwrap_or}
-use Rattle.std.specs.Int.{byte_at}
 use Rattle.std.proofs.lemmas.Bool.{cases_eq, eqb-true, eq-eqb}
 use Rattle.std.proofs.lemmas.List.Elements.{All-nil, All-cons, All-append, All-take, All-drop}
 use Rattle.memory.specs.declared.writes.Write.{Write}
@@ -17,33 +16,12 @@ use Rattle.step_machine.specs.Entries.{memory_byte, read_byte}
 use Rattle.step_machine.specs.Legal.{AllowedBy, Allowed, LegalAfter, Legal}
 use Rattle.step_machine.proofs.Appended.{stores-append, landed-last, pending-last, LegalAfter-back, LegalAfter-front}
 use Rattle.step_machine.proofs.Balanced.{balanced-last, balanced}
-use Rattle.spsc_queue.specs.StoreBuffers.{LeavesByte, LeavesByteBy, AllLeaveByte, IsOnlyWriter}
-use Rattle.spsc_queue.proofs.StoreBuffers.{passed_over}
-
-some-any : (x b p q : ℕ) (ws : List Write) → unwrap_or (newest_of x (Some b) ws) p ≡ unwrap_or (newest_of x (Some b) ws) q
-some-any x b p q [] = refl
-some-any x b p q (w ∷ ws) = at (covers w x) (some-any x (byte_at (x - w.addr) w.value) p q ws) (some-any x b p q ws)
-  where
-    at : (c : Bool) → unwrap_or (newest_of x (Some (byte_at (x - w.addr) w.value)) ws) p ≡ unwrap_or (newest_of x (Some (byte_at (x - w.addr) w.value)) ws) q
-        → unwrap_or (newest_of x (Some b) ws) p ≡ unwrap_or (newest_of x (Some b) ws) q
-        → unwrap_or (newest_of x (if c then Some (byte_at (x - w.addr) w.value) else Some b) ws) p
-        ≡ unwrap_or (newest_of x (if c then Some (byte_at (x - w.addr) w.value) else Some b) ws) q
-    at true l m = l
-    at false l m = m
-
-combined : (x op : ℕ) (f : Option ℕ) (ws : List Write) → unwrap_or (newest_of x None ws) (unwrap_or f op) ≡ unwrap_or (newest_of x f ws) op
-combined x op f [] = refl
-combined x op f (w ∷ ws) = at (covers w x) (combined x op f ws)
-  where
-    at : (c : Bool) → unwrap_or (newest_of x None ws) (unwrap_or f op) ≡ unwrap_or (newest_of x f ws) op
-        → unwrap_or (newest_of x (if c then Some (byte_at (x - w.addr) w.value) else None) ws) (unwrap_or f op)
-        ≡ unwrap_or (newest_of x (if c then Some (byte_at (x - w.addr) w.value) else f) ws) op
-    at true m = some-any x (byte_at (x - w.addr) w.value) (unwrap_or f op) op ws
-    at false m = m
+use Rattle.store_buffers.specs.StoreBuffers.{LeavesByte, LeavesByteBy, AllLeaveByte, IsOnlyWriter}
+use Rattle.store_buffers.proofs.Reading.{passed_over, newest-found}
 
 view : (o : OpeningValue) (es : List Entry) (a x : ℕ)
     → read_byte o es a x ≡ unwrap_or (newest_of x (newest_of x None (landed es)) (pending a es)) (opening_byte o x)
-view o es a x = combined x (opening_byte o x) (newest_of x None (landed es)) (pending a es)
+view o es a x = sym (newest-found x (opening_byte o x) (newest_of x None (landed es)) (pending a es))
 
 one : (x : ℕ) (f : Option ℕ) (w : Write) → covers w x ≡ false → newest_of x f (w ∷ []) ≡ f
 one x f w off = passed_over x f (w ∷ []) (All-cons (LeavesByte x) w [] off (All-nil (LeavesByte x)))

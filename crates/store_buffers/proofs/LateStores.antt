@@ -1,0 +1,73 @@
+-- Where a pending store came from: what holds of each store that a hart made late enough holds of all that are pending.
+use Rattle.std.proofs.Common.{ℕ, ◌+◌, ◌<◌, ◌≤◌, ◌≡◌, ◌==◌, ◌⊎◌, inl, inr, if◌then◌else◌}
+use Rattle.std.proofs.Common.{List, [], ◌∷◌, ◌++◌, length, drop, refl, sym, ◌∙◌, ap, subst, arith, append-nil, append_assoc, length-append}
+use Rattle.std.specs.Prelude.{All}
+use Rattle.std.proofs.lemmas.Bool.{cases_eq, cases_lt, eq-eqb, ne_eqb}
+use Rattle.std.proofs.lemmas.List.{drop-append-le, drop_all}
+use Rattle.std.proofs.lemmas.List.Elements.{All-nil, All-cons, All-append}
+use Rattle.memory.specs.declared.writes.Write.{Write}
+use Rattle.step_machine.specs.declared.events.Entry.{Entry}
+use Rattle.step_machine.specs.Access.{Access, nothing, load, store, exchange, fence, land, access_of}
+use Rattle.step_machine.specs.Entries.{hart_of, stored_by, own_store, own_stores}
+use Rattle.step_machine.proofs.Appended.{stores-append}
+use Rattle.store_buffers.specs.StoreBuffers.{LeavesByteBy, AllLeaveByte}
+
+stores-cases : (g : ℕ) (e : Entry) → (own_store g e ≡ []) ⊎ ((w : Write) × (own_store g e ≡ w ∷ []) × (hart_of e ≡ g) × (access_of e ≡ store w))
+stores-cases g e = by (access_of e) refl
+  where
+    Cases : Access → Type 0
+    Cases x = (stored_by (hart_of e == g) x ≡ []) ⊎ ((w : Write) × (stored_by (hart_of e == g) x ≡ w ∷ []) × (hart_of e ≡ g) × (x ≡ store w))
+
+    by : (x : Access) → access_of e ≡ x → (own_store g e ≡ []) ⊎ ((w : Write) × (own_store g e ≡ w ∷ []) × (hart_of e ≡ g) × (access_of e ≡ store w))
+    by (store w) does = elim (cases_eq (hart_of e) g) [
+      | inl same ↦ inr (w, ap (stored_by (hart_of e == g)) does ∙ ap (λ b. if b then w ∷ [] else []) (eq-eqb (hart_of e) g same), same, does)
+      | inr apart ↦ inl (ap (stored_by (hart_of e == g)) does ∙ ap (λ b. if b then w ∷ [] else []) (ne_eqb (hart_of e) g apart))
+    ]
+    by nothing does = inl (ap (stored_by (hart_of e == g)) does)
+    by (load a width v) does = inl (ap (stored_by (hart_of e == g)) does)
+    by (exchange a old new) does = inl (ap (stored_by (hart_of e == g)) does)
+    by (fence full) does = inl (ap (stored_by (hart_of e == g)) does)
+    by land does = inl (ap (stored_by (hart_of e == g)) does)
+
+module _ (P : Write → Type 0) (g l : ℕ) where
+  -- each that isn't among the first l of the hart's stores
+  pub late-stores : (before es : List Entry)
+      → ((es1 : List Entry) (e : Entry) (es2 : List Entry) (w : Write) → es ≡ es1 ++ e ∷ es2 → hart_of e ≡ g → access_of e ≡ store w
+      → l < length (own_stores g (before ++ (es1 ++ e ∷ []))) → P w)
+      → All P (drop l (own_stores g before)) → All P (drop l (own_stores g (before ++ es)))
+  late-stores before [] here all = subst (λ xs. All P (drop l (own_stores g xs))) (sym (append-nil before)) all
+  late-stores before (e ∷ es) here all =
+      subst (λ xs. All P (drop l (own_stores g xs))) (append_assoc before (e ∷ []) es)
+      (late-stores (before ++ e ∷ []) es
+      (λ es1 e1 es2 w is mine does late. here (e ∷ es1) e1 es2 w (ap (λ xs. e ∷ xs) is) mine does
+      (subst (λ xs. l < length (own_stores g xs)) (append_assoc before (e ∷ []) (es1 ++ e1 ∷ [])) late))
+      (subst (λ ws. All P (drop l ws)) (sym
+      (stores-append g before (e ∷ []) ∙ ap (λ ws. own_stores g before ++ ws) (append-nil (own_store g e))))
+      (by (stores-cases g e))))
+    where
+      by : (own_store g e ≡ [])
+          ⊎ ((w : Write) × (own_store g e ≡ w ∷ []) × (hart_of e ≡ g) × (access_of e ≡ store w))
+          → All P (drop l (own_stores g before ++ own_store g e))
+      by (inl none) = subst (λ ws. All P (drop l ws)) (sym (ap (λ ws. own_stores g before ++ ws) none ∙ append-nil (own_stores g before))) all
+      by (inr one) = subst (λ ws. All P (drop l (own_stores g before ++ ws))) (sym one.1) (at (cases_lt (length (own_stores g before)) l))
+        where
+          made : own_stores g (before ++ ([] ++ e ∷ [])) ≡ own_stores g before ++ one.0 ∷ []
+          made = stores-append g before (e ∷ []) ∙ ap (λ ws. own_stores g before ++ ws) (append-nil (own_store g e) ∙ one.1)
+
+          at : (length (own_stores g before) < l) ⊎ (l ≤ length (own_stores g before)) → All P (drop l (own_stores g before ++ one.0 ∷ []))
+          at (inr le) = subst (All P) (sym (drop-append-le l (own_stores g before) (one.0 ∷ []) le))
+              (All-append P (drop l (own_stores g before)) (one.0 ∷ []) all (All-cons P one.0 []
+              (here [] e es one.0 refl one.2 one.3
+              (let long : length (own_stores g (before ++ ([] ++ e ∷ []))) ≡ length (own_stores g before) + 1 =
+              ap length made ∙ length-append (own_stores g before) (one.0 ∷ []) in
+              omega (arith, long, le))) (All-nil P)))
+          at (inl less) = subst (All P) (sym (drop_all l (own_stores g before ++ one.0 ∷ [])
+              (let long : length (own_stores g before ++ one.0 ∷ []) ≡ length (own_stores g before) + 1 = length-append (own_stores g before) (one.0 ∷ []) in
+              omega (arith, long, less)))) (All-nil P)
+
+-- all entries leave a byte if each does
+pub all-by-parts : (x : ℕ) (es : List Entry)
+    → ((es1 : List Entry) (e : Entry) (es2 : List Entry) → es ≡ es1 ++ e ∷ es2 → LeavesByteBy x (access_of e))
+    → AllLeaveByte x es
+all-by-parts x [] parts = tt
+all-by-parts x (e ∷ es) parts = (parts [] e es refl, all-by-parts x es (λ es1 e1 es2 is. parts (e ∷ es1) e1 es2 (ap (λ xs. e ∷ xs) is)))

@@ -1,0 +1,5 @@
+pub mod Reading
+pub mod Effects
+pub mod Performed
+pub mod MessagePassing
+pub mod LateStores
