@@ -9,14 +9,14 @@ use Rattle.step_machine.specs.declared.events.Entry.{Entry}
 use Rattle.step_machine.specs.History.{OpeningValue, history_of}
 use Rattle.memory.specs.Writes.{write}
 use Rattle.step_machine.specs.Access.{Access, load, store, access_of}
-use Rattle.step_machine.specs.Entries.{hart_of, is_own, own}
+use Rattle.step_machine.specs.Entries.{hart_of, is_own, own, pending}
 use Rattle.step_machine.specs.Paths.{number_read, state_of}
-use Rattle.spsc_queue.specs.RingBuffers.{Kind, RingBuffer, IsRingBuffer, next}
+use Rattle.spsc_queue.specs.RingBuffers.{Kind, RingBuffer, IsRingBuffer, next, capacity, unpublished, unreleased}
 use Rattle.spsc_queue.specs.Protocol.{placed, roomy, ProtocolState, at_start, role_of, next_by, protocol_next}
 use Rattle.spsc_queue.specs.Protocol.{protocol_after, room_at, says_full, watched_address, says_empty}
 use Rattle.spsc_queue.specs.Calls.{Block, SpscQueue, Party, the_sender, the_receiver, party_hart, party_line}
 use Rattle.spsc_queue.specs.Calls.{listing_of, buffer, is_in_call, is_in_call_with, enters}
-use Rattle.spsc_queue.specs.Calls.{completed_by_entry, UsesAsSpscQueue}
+use Rattle.spsc_queue.specs.Calls.{completed_by_entry, sent_words, received_words, UsesAsSpscQueue}
 use Rattle.spsc_queue.specs.CallEffects.{longest, sees_full, look_accesses, IsWholeCall, IsCallUnderWay, IsPlainNeed}
 use Rattle.spsc_queue.specs.CallEffects.{ContinuesCall, IsSend, IsReceive, accesses}
 use Rattle.spsc_queue.specs.CallEffects.{completed_word, take_accesses, FoundFull, FoundEmpty}
@@ -34,9 +34,9 @@ use Rattle.spsc_queue.proofs.Running.{runs_here}
 use Rattle.spsc_queue.proofs.Completed.{is_in_call-last, completed-last, none_completed, same_call, entered}
 use Rattle.spsc_queue.proofs.Parties.{is_busy, words, has_of, which, other_hart, Mine, Others, whose, not_mine}
 use Rattle.spsc_queue.proofs.Calls.{calls_follow, Stand, stands-at, here, was_here, course_stands, completes}
-use Rattle.spsc_queue.proofs.CallLaws.{finds_full, finds_empty}
+use Rattle.spsc_queue.proofs.CallLaws.{finds_full, finds_empty, finds_word, finds_room}
 use Rattle.spsc_queue.proofs.Accesses.{First, first_access, off_silent, still, unmoved}
-use Rattle.spsc_queue.proofs.WholeCalls.{first_line, same_arguments, course, course_on, course_same, chose}
+use Rattle.spsc_queue.proofs.WholeCalls.{first_line, same_arguments, course, course_on, course_same, chose, answers}
 
 carry : (n : ℕ) (p : Party) (K : Kind) (k : Block) (r : RingBuffer) {b b1 : Bool} {ws ws1 : List ℕ} {c c1 : Course} {s s1 : HartState} {t t1 : Part}
     → b ≡ b1 → ws ≡ ws1 → c ≡ c1 → s ≡ s1 → t ≡ t1 → CourseStands n p K k r b ws c s t → CourseStands n p K k r b1 ws1 c1 s1 t1
@@ -372,6 +372,7 @@ module _ (B M : ℕ) (o : OpeningValue) (q : SpscQueue) (before es : List Entry)
       loads : access_of entry ≡ load (place_of p K r index) 4 seen
       knows : Knows p index (part p (protocol (done ++ part_done)))
       words : (part p (protocol (done ++ part_done))).words ≡ words_at (done ++ part_done)
+      none_yet : words_at (done ++ part_done) ≡ words_at done
 
     found : slice_index z.registers 10 ≡ 0 → Found
     found none = at looks.copy
@@ -402,6 +403,9 @@ module _ (B M : ℕ) (o : OpeningValue) (q : SpscQueue) (before es : List Entry)
         words = ap (λ (t : Part). t.words) one.crossed ∙ load-words K r p (protocol (done ++ one.upto)) (index_at p r) u
             ∙ ap (λ (t : Part). t.words) begun ∙ fresh.1.words
 
+        none_yet : {ys : List Entry} (l : Reached ys look []) → words_at (done ++ l.upto) ≡ words_at done
+        none_yet l = (so_far l.upto (l.entry ∷ l.left) l.cut).words (w.within l.upto l.entry l.left l.cut)
+
         found_at : (ys : List Entry) → Knows p u (part p (protocol (done ++ ys))) → (part p (protocol (done ++ ys))).words ≡ words_at done
             → Reached ys look [] → Found
         found_at ys knows words l = record {
@@ -415,7 +419,8 @@ module _ (B M : ℕ) (o : OpeningValue) (q : SpscQueue) (before es : List Entry)
           mine = l.mine;
           loads = l.does;
           knows = subst (Knows p u) (sym l.same) knows;
-          words = ap (λ (t : Part). t.words) l.same ∙ words ∙ sym ((so_far l.upto (l.entry ∷ l.left) l.cut).words (w.within l.upto l.entry l.left l.cut));
+          words = ap (λ (t : Part). t.words) l.same ∙ words ∙ sym (none_yet l);
+          none_yet = none_yet l;
         }
 
         at : (looks.first ≡ []) ⊎ ((x : Access) × (looks.first ≡ x ∷ []) × Keeps p K r u x) → Found
@@ -465,6 +470,10 @@ module _ (B M : ℕ) (o : OpeningValue) (q : SpscQueue) (before done call : List
   uses_at : (part : List Entry) (e : Entry) (more : List Entry) → call ≡ part ++ e ∷ more → UsesAsSpscQueue B M o q before ((done ++ part) ++ e ∷ more)
   uses_at part e more is = subst (UsesAsSpscQueue B M o q before) (ap (λ zs. done ++ zs) is ∙ sym (append_assoc done part (e ∷ more))) c
 
+  -- the same run, cut at an entry of the call
+  cut_at : (part : List Entry) (e : Entry) (more : List Entry) → call ≡ part ++ e ∷ more → UsesAsSpscQueue B M o q before (done ++ (part ++ e ∷ more))
+  cut_at part e more is = subst (UsesAsSpscQueue B M o q before) (ap (λ zs. done ++ zs) is) c
+
   pub found_full : IsSend M o q before done call s z → slice_index z.registers 10 ≡ 0 → FoundFull M o q before done call
   found_full w none =
       let f = found B M o q before (done ++ call) c done call [] whole the_sender s (whole_begun w) z w none in
@@ -498,3 +507,34 @@ module _ (B M : ℕ) (o : OpeningValue) (q : SpscQueue) (before done call : List
         empty = finds_empty B M o q before (done ++ f.part_done) f.entry f.more (uses_at f.part_done f.entry f.more f.cut) f.index f.seen
             (own_parts q.receiver f.entry f.mine).0 f.loads f.says f.knows f.words;
       }
+
+  -- a call returns 1 if what it needs had landed where it began
+  pub word_available : IsReceive M o q before done call s z
+      → length (received_words M o q before done) + unpublished (buffer q) (pending q.sender (before ++ done)) < length (sent_words M o q before done)
+      → slice_index z.registers 10 ≡ 1
+  word_available w more =
+      let effect = effect_of B M o q before (done ++ call) c done call [] whole the_receiver s (whole_begun w) z w in
+      elim (answers (says_empty q.block.kind effect.tail effect.seen) (slice_index z.registers 10) effect.answer) [
+        | inl none ↦
+            let f = found B M o q before (done ++ call) c done call [] whole the_receiver s (whole_begun w) z w none in
+            let some : says_empty q.block.kind f.index f.seen ≡ false =
+            finds_word B M o q before done f.part_done f.entry f.more (cut_at f.part_done f.entry f.more f.cut) f.index f.seen
+            (own_parts q.receiver f.entry f.mine).0 f.loads f.knows (f.words ∙ f.none_yet) more in
+            absurd (let no : true ≡ false = sym f.says ∙ some in cc)
+        | inr one ↦ one
+      ]
+
+  pub room_available : IsSend M o q before done call s z
+      → length (sent_words M o q before done) + unreleased (buffer q) (pending q.receiver (before ++ done))
+      < length (received_words M o q before done) + capacity (buffer q) → slice_index z.registers 10 ≡ 1
+  room_available w more =
+      let effect = effect_of B M o q before (done ++ call) c done call [] whole the_sender s (whole_begun w) z w in
+      elim (answers (sees_full (buffer q).copy q.block.kind (buffer q) effect.head effect.copy effect.seen) (slice_index z.registers 10) effect.answer) [
+        | inl none ↦
+            let f = found B M o q before (done ++ call) c done call [] whole the_sender s (whole_begun w) z w none in
+            let some : says_full q.block.kind (buffer q) f.index f.seen ≡ false =
+            finds_room B M o q before done f.part_done f.entry f.more (cut_at f.part_done f.entry f.more f.cut) f.index f.seen
+            (own_parts q.sender f.entry f.mine).0 f.loads f.knows (f.words ∙ f.none_yet) more in
+            absurd (let no : true ≡ false = sym f.says ∙ some in cc)
+        | inr one ↦ one
+      ]

@@ -12,7 +12,7 @@ use Rattle.step_machine.specs.Access.{Access, nothing, load, store, access_of}
 use Rattle.step_machine.specs.History.{OpeningValue, history_of}
 use Rattle.step_machine.specs.Entries.{hart_of, is_own, pending}
 use Rattle.step_machine.specs.Paths.{state_of}
-use Rattle.spsc_queue.specs.RingBuffers.{Kind, lamport, fastforward, RingBuffer, next, capacity, writes_to}
+use Rattle.spsc_queue.specs.RingBuffers.{Kind, lamport, fastforward, RingBuffer, next, capacity, unpublished, unreleased}
 use Rattle.spsc_queue.specs.Protocol.{room_at, says_full, watched_address, says_empty}
 use Rattle.spsc_queue.specs.Calls.{Block, SpscQueue, Party, the_sender, the_receiver, buffer, enters, is_in_call, sent_words, received_words}
 
@@ -147,7 +147,7 @@ pub record ReceiveEffect (k : Kind) (r : RingBuffer) (s z : HartState) (count : 
 -- ---- a call that returns 0
 
 -- at an entry e of the call the sender looks for room at its offset and sees none, and after the entries before e the queue is
--- full: as many words as it holds were sent and no call returned them, as far as the receiver's stores to the block have landed
+-- full: as many words as it holds were sent and no call returned them, except for the slots that the receiver's pending stores hold back
 pub record FoundFull (M : ℕ) (o : OpeningValue) (q : SpscQueue) (before done call : List Entry) : Type 0 where
   pub part : List Entry
   pub entry : Entry
@@ -159,10 +159,10 @@ pub record FoundFull (M : ℕ) (o : OpeningValue) (q : SpscQueue) (before done c
   pub loads : access_of entry ≡ load (room_at q.block.kind (buffer q) offset) 4 value
   pub says : says_full q.block.kind (buffer q) offset value ≡ true
   pub full : length (received_words M o q before (done ++ part)) + capacity (buffer q)
-      ≤ length (sent_words M o q before (done ++ part)) + length (writes_to (buffer q) (pending q.receiver (before ++ (done ++ part))))
+      ≤ length (sent_words M o q before (done ++ part)) + unreleased (buffer q) (pending q.receiver (before ++ (done ++ part)))
 
 -- at an entry e of the call the receiver looks for a word at its offset and sees none, and after the entries before e the queue is
--- empty: each word that was sent was returned, as far as the sender's stores to the block have landed
+-- empty: each word that was sent was returned, except for those that the sender's pending stores hold back
 pub record FoundEmpty (M : ℕ) (o : OpeningValue) (q : SpscQueue) (before done call : List Entry) : Type 0 where
   pub part : List Entry
   pub entry : Entry
@@ -174,4 +174,4 @@ pub record FoundEmpty (M : ℕ) (o : OpeningValue) (q : SpscQueue) (before done 
   pub loads : access_of entry ≡ load (watched_address q.block.kind (buffer q) offset) 4 value
   pub says : says_empty q.block.kind offset value ≡ true
   pub empty : length (sent_words M o q before (done ++ part))
-      ≤ length (received_words M o q before (done ++ part)) + length (writes_to (buffer q) (pending q.sender (before ++ (done ++ part))))
+      ≤ length (received_words M o q before (done ++ part)) + unpublished (buffer q) (pending q.sender (before ++ (done ++ part)))

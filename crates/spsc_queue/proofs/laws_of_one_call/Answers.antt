@@ -1,6 +1,6 @@
 use Rattle.std.proofs.Common.{◌++◌, []}
 use Rattle.spsc_queue.specs.Calls.{the_sender, the_receiver}
-use Rattle.spsc_queue.proofs.OneCall.{whole, whole_begun, goes_on, effect_of, call_completes, found_full, found_empty}
+use Rattle.spsc_queue.proofs.OneCall.{whole, whole_begun, goes_on, effect_of, call_completes, found_full, found_empty, word_available, room_available}
 use Rattle.spsc_queue.proofs.laws_of_one_call.Goals as goal
 
 pub returns-clause-send : goal.returns-clause-send
@@ -30,3 +30,9 @@ returns-clause-send_goes_on c = λ B M o q before done part s z uses w at. goes_
 
 pub returns-clause-receive_goes_on : goal.returns-clause-receive_goes_on
 returns-clause-receive_goes_on c = λ B M o q before done part s z uses w at. goes_on B M o q before done part uses s z the_receiver w at
+
+pub returns-clause-availability_of_words : goal.returns-clause-availability_of_words
+returns-clause-availability_of_words c = λ B M o q before done call s z uses w more. word_available B M o q before done call uses s z w more
+
+pub returns-clause-availability_of_room : goal.returns-clause-availability_of_room
+returns-clause-availability_of_room c = λ B M o q before done call s z uses w more. room_available B M o q before done call uses s z w more
