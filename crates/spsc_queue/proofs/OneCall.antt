@@ -4,7 +4,7 @@ use Rattle.std.proofs.Common.{length, refl, sym, ◌∙◌, ap, subst, arith}
 use Rattle.std.proofs.Common.{append-nil, append_assoc}
 use Rattle.std.specs.Prelude.{slice_index}
 use Rattle.hart.specs.State.{HartState}
-use Rattle.hart.specs.Steps.{need_of, advanced}
+use Rattle.hart.specs.Steps.{advanced}
 use Rattle.step_machine.specs.declared.events.Entry.{Entry}
 use Rattle.step_machine.specs.History.{OpeningValue, history_of}
 use Rattle.memory.specs.Writes.{write}
@@ -17,23 +17,21 @@ use Rattle.spsc_queue.specs.Protocol.{protocol_after, room_at, says_full, watche
 use Rattle.spsc_queue.specs.Calls.{Block, SpscQueue, Party, the_sender, the_receiver, party_hart, party_line}
 use Rattle.spsc_queue.specs.Calls.{listing_of, buffer, is_in_call, is_in_call_with, enters}
 use Rattle.spsc_queue.specs.Calls.{completed_by_entry, sent_words, received_words, UsesAsSpscQueue}
-use Rattle.spsc_queue.specs.CallEffects.{longest, sees_full, look_accesses, IsWholeCall, IsCallUnderWay, IsPlainNeed}
-use Rattle.spsc_queue.specs.CallEffects.{ContinuesCall, IsSend, IsReceive, accesses}
+use Rattle.spsc_queue.specs.CallEffects.{longest, sees_full, look_accesses, IsWholeCall, IsCallUnderWay}
+use Rattle.spsc_queue.specs.CallEffects.{IsSend, IsReceive, accesses}
 use Rattle.spsc_queue.specs.CallEffects.{completed_word, take_accesses, FoundFull, FoundEmpty}
-use Rattle.spsc_queue.specs.Laws.{FollowsSpscProtocol}
 use Rattle.spsc_queue.proofs.Words.{both}
-use Rattle.spsc_queue.proofs.Runs.{known-of, protocol-append}
+use Rattle.spsc_queue.proofs.Runs.{protocol-append}
 use Rattle.spsc_queue.proofs.Courses.{at_00, Course}
-use Rattle.spsc_queue.proofs.Outline.{Near, Part, part, role, Level, first_look, index_at, Knows, Effect}
+use Rattle.spsc_queue.proofs.Outline.{Part, part, role, Level, first_look, index_at, Knows, Effect}
 use Rattle.spsc_queue.proofs.Outline.{Fresh, Row, Inside, Outside, CourseStands}
 use Rattle.spsc_queue.proofs.Outline.{Stands}
-use Rattle.spsc_queue.proofs.Parts.{ring_is, near-of, first-load, look-load, load-words}
-use Rattle.spsc_queue.proofs.Functions.{moves_at, facts, begins}
-use Rattle.spsc_queue.proofs.OwnEntries.{equipped, own_parts, state_here, here_same, here_next}
-use Rattle.spsc_queue.proofs.Running.{runs_here}
+use Rattle.spsc_queue.proofs.Parts.{ring_is, first-load, look-load, load-words}
+use Rattle.spsc_queue.proofs.Functions.{facts, begins}
+use Rattle.spsc_queue.proofs.OwnEntries.{own_parts, state_here, here_same, here_next}
 use Rattle.spsc_queue.proofs.Completed.{is_in_call-last, completed-last, none_completed, same_call, entered}
 use Rattle.spsc_queue.proofs.Parties.{is_busy, words, has_of, which, other_hart, Mine, Others, whose, not_mine}
-use Rattle.spsc_queue.proofs.Calls.{calls_follow, Stand, stands-at, here, was_here, course_stands, completes}
+use Rattle.spsc_queue.proofs.Calls.{Stand, stands-at, here, was_here, course_stands, completes}
 use Rattle.spsc_queue.proofs.CallLaws.{finds_full, finds_empty, finds_word, finds_room}
 use Rattle.spsc_queue.proofs.Accesses.{First, first_access, off_silent, still, unmoved}
 use Rattle.spsc_queue.proofs.WholeCalls.{first_line, same_arguments, course, course_on, course_same, chose, answers}
@@ -437,35 +435,6 @@ module _ (B M : ℕ) (o : OpeningValue) (q : SpscQueue) (before done call : List
     (c : UsesAsSpscQueue B M o q before (done ++ call)) (s z : HartState) where
   pub whole : done ++ call ≡ done ++ (call ++ [])
   whole = ap (λ zs. done ++ zs) (sym (append-nil call))
-
-  -- a party in a call, at the end of the run: what it wants, and how many entries it has made
-  pub goes_on : (p : Party) → IsCallUnderWay M o (party_hart q p) (party_line q p) q.block before done call s
-      → state_of M (history_of o (before ++ (done ++ call))) (party_hart q p) ≡ Some z
-      → ContinuesCall (longest p (buffer q)) z (length (own (party_hart q p) call))
-  goes_on p w at =
-      let es : List Entry = done ++ call in
-      let h : ℕ = party_hart q p in
-      let n : ℕ = party_line q p in
-      let k : Block = q.block in
-      let r : RingBuffer = buffer q in
-      let t : ProtocolState = protocol_after r at_start es in
-      let y : HartState = here B M o q before es c.shares p es in
-      let was : state_of M (history_of o (before ++ es)) h ≡ Some y = was_here B M o q before es c.shares p es in
-      let same : y ≡ z = (let one : Some y ≡ Some z = sym was ∙ at in cc) in
-      let busy : is_in_call M o h n k before es ≡ true = w.within call [] (sym (append-nil call)) in
-      let inside = inside_at B M o q before es c done call [] whole p s (part_begun w) busy in
-      let near : Near k (part p t) = near-of k q.sender q.receiver (ring_is M k q.sender q.receiver c.shares.block c.shares.parties) p k.kind
-      (slice_index (protocol_after r at_start (es ++ [])).sent) t
-      (known-of B r o before es [] (subst (FollowsSpscProtocol B r o before) (sym (append-nil es)) (calls_follow B M o q before es c))) in
-      let moves = moves_at M n q.sender q.receiver p k.kind k c.shares.block h y t 0 refl
-      (equipped M o h n (listing_of k.kind k.caches p) (has_of c.shares p) (before ++ es) y was) near (course h s call) (words M o q p before es)
-      inside.line inside.place inside.row in
-      record {
-        runs = ap (λ (x : HartState). x.status) (sym same)
-            ∙ runs_here B M o h n (listing_of k.kind k.caches p) (has_of c.shares p) (before ++ es) c.shares.run moves.0.plain;
-        needs = subst (λ x. IsPlainNeed (need_of x)) same moves.0.plain;
-        short = made_few B M o q before es c done call [] whole p s (part_begun w) busy;
-      }
 
   uses_at : (part : List Entry) (e : Entry) (more : List Entry) → call ≡ part ++ e ∷ more → UsesAsSpscQueue B M o q before ((done ++ part) ++ e ∷ more)
   uses_at part e more is = subst (UsesAsSpscQueue B M o q before) (ap (λ zs. done ++ zs) is ∙ sym (append_assoc done part (e ∷ more))) c

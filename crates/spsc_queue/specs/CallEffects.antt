@@ -1,6 +1,6 @@
 -- What one whole call does, from its entry to its return, whatever other harts do meanwhile.
 use Rattle.std.specs.Prelude.{ℕ, ◌≡◌, ◌≢◌, ◌+◌, ◌*◌, ◌/◌, ◌%◌, ◌<◌, ◌≤◌, ◌==◌, ◌&&◌, if◌then◌else◌, Bool, true, false, Option, None, Some}
-use Rattle.std.specs.Prelude.{List, [], ◌∷◌, ◌++◌, length, slice_index}
+use Rattle.std.specs.Prelude.{List, [], ◌∷◌, ◌++◌, length, slice_index, All}
 use Rattle.memory.specs.Writes.{write}
 use Rattle.hart.specs.State.{HartState}
 use Rattle.hart.specs.Steps.{need_of}
@@ -8,7 +8,7 @@ use Rattle.hart.specs.declared.status.Status.TheVariants as status
 use Rattle.hart.specs.declared.need.Need.{Need}
 use Rattle.hart.specs.declared.need.Need.TheVariants as need
 use Rattle.step_machine.specs.declared.events.Entry.{Entry}
-use Rattle.step_machine.specs.Access.{Access, nothing, load, store, access_of}
+use Rattle.step_machine.specs.Access.{Access, nothing, load, store, exchange, access_of}
 use Rattle.step_machine.specs.History.{OpeningValue, history_of}
 use Rattle.step_machine.specs.Entries.{hart_of, is_own, pending}
 use Rattle.step_machine.specs.Paths.{state_of}
@@ -143,6 +143,42 @@ pub record ReceiveEffect (k : Kind) (r : RingBuffer) (s z : HartState) (count : 
   pub found : IsFound k seen (slice_index z.registers 11)
   pub accesses : did ≡ receive_accesses k r (slice_index z.registers 11) tail seen
   pub answer : slice_index z.registers 10 ≡ (if says_empty k tail seen then 0 else 1)
+
+-- ---- a call that may be cut at any point
+
+-- no byte of an access lies outside the block
+abbrev pub StaysInBlock : RingBuffer → Access → Type 0
+StaysInBlock r (load a width v) = (r.first ≤ a) × (a + width ≤ r.end)
+StaysInBlock r (store w) = (r.first ≤ w.addr) × (w.addr + w.width ≤ r.end)
+StaysInBlock r (exchange a old new) = (r.first ≤ a) × (a + 4 ≤ r.end)
+StaysInBlock r other = Unit {0}
+
+-- a send of the word in a1 that has come from state s to state z: its accesses are the first of those of a whole call, `left` those that
+-- would follow if it read this. It has kept a1, and the other registers
+pub record SendSoFar (k : Kind) (r : RingBuffer) (s z : HartState) (did : List Access) : Type 0 where
+  pub registers : KeepsOtherRegisters s.registers z.registers
+  pub word : slice_index z.registers 11 ≡ slice_index s.registers 11
+  pub head : ℕ
+  pub copy : ℕ
+  pub seen : ℕ
+  pub among : head + 4 ≤ 4 * r.size
+  pub aligned : head % 4 ≡ 0
+  pub left : List Access
+  pub accesses : did ++ left ≡ send_accesses k r (slice_index s.registers 11) head copy seen
+  pub inside : All (StaysInBlock r) did
+
+-- the same of a receive
+pub record ReceiveSoFar (k : Kind) (r : RingBuffer) (s z : HartState) (did : List Access) : Type 0 where
+  pub registers : KeepsOtherRegisters s.registers z.registers
+  pub word : ℕ
+  pub tail : ℕ
+  pub seen : ℕ
+  pub among : tail + 4 ≤ 4 * r.size
+  pub aligned : tail % 4 ≡ 0
+  pub found : IsFound k seen word
+  pub left : List Access
+  pub accesses : did ++ left ≡ receive_accesses k r word tail seen
+  pub inside : All (StaysInBlock r) did
 
 -- ---- a call that returns 0
 

@@ -37,7 +37,7 @@ ghost use Rattle.spsc_queue.specs.Calls.{SpscQueue, Party, the_sender, the_recei
 ghost use Rattle.spsc_queue.specs.Calls.{buffer, is_sender_in_call, is_receiver_in_call, sent_words, received_words};
 ghost use Rattle.spsc_queue.specs.Calls.{CallerObligation, UsesAsSpscQueue};
 ghost use Rattle.spsc_queue.specs.CallEffects.{IsCallUnderWay, longest, ContinuesCall, IsSend, IsReceive, accesses, completed_word, SendEffect, ReceiveEffect};
-ghost use Rattle.spsc_queue.specs.CallEffects.{FoundFull, FoundEmpty};
+ghost use Rattle.spsc_queue.specs.CallEffects.{SendSoFar, ReceiveSoFar, FoundFull, FoundEmpty};
 ghost use Rattle.spsc_queue.specs.Obligations.{obligations_kept};
 ghost use Rattle.spsc_queue.specs.ManyQueues.{UsesManyQueues};
 ghost use Rattle.spsc_queue.specs.Example as example;
@@ -229,6 +229,8 @@ pub fn laws_of_many_queues()
 /// - `send_goes_on` and `receive_goes_on`: in a call, which may be cut at any point, a hart runs, wants nothing of memory, a load or
 ///   a store, and has made fewer entries than a call makes at most (`longest`). So no call stops a hart, and with its 11th entry, or
 ///   its 15th with a copy, a call is over.
+/// - `send_so_far` and `receive_so_far`: such a call's accesses are the first of those of a whole call, none touches a byte outside
+///   the block, and the registers that a whole call keeps are as they were at its entry.
 /// - `sends` and `receives`: a call that returns 1 completes the word in a1, and one that returns 0 completes none.
 /// - `linearization_of_full` and `linearization_of_empty`: a call that returned 0 found the queue so at its last load, except for
 ///   what pending stores of the partner's held back there.
@@ -249,6 +251,14 @@ pub fn laws_of_one_call()
         → UsesAsSpscQueue B M o q before (done ++ part) → IsCallUnderWay M o q.receiver q.receive_line q.block before done part s
         → state_of M (history_of o (before ++ (done ++ part))) q.receiver ≡ Some z
         → ContinuesCall (longest the_receiver (buffer q)) z (length (own q.receiver part)) }
+    ensures send_so_far { (B M : ℕ) (o : OpeningValue) (q : SpscQueue) (before done part : List Entry) (s z : HartState)
+        → UsesAsSpscQueue B M o q before (done ++ part) → IsCallUnderWay M o q.sender q.send_line q.block before done part s
+        → state_of M (history_of o (before ++ (done ++ part))) q.sender ≡ Some z
+        → SendSoFar q.block.kind (buffer q) s z (accesses q.sender part) }
+    ensures receive_so_far { (B M : ℕ) (o : OpeningValue) (q : SpscQueue) (before done part : List Entry) (s z : HartState)
+        → UsesAsSpscQueue B M o q before (done ++ part) → IsCallUnderWay M o q.receiver q.receive_line q.block before done part s
+        → state_of M (history_of o (before ++ (done ++ part))) q.receiver ≡ Some z
+        → ReceiveSoFar q.block.kind (buffer q) s z (accesses q.receiver part) }
     ensures sends { (B M : ℕ) (o : OpeningValue) (q : SpscQueue) (before done call : List Entry) (s z : HartState)
         → UsesAsSpscQueue B M o q before (done ++ call) → IsSend M o q before done call s z
         → sent_words M o q before (done ++ call) ≡ sent_words M o q before done ++ completed_word z }
