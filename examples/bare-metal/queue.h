@@ -99,19 +99,21 @@ extern "C" {
 #endif
 
 /* Sends the word and returns 1, or returns 0 and stores nothing: it found the queue full. It has no loop. What this hart
- * stored before the call, the receiver's hart reads once it has received the word, if nobody writes there since. */
+ * stored before the call, the receiver's hart reads once it has received the word, if no other hart had a store pending
+ * there at the call, and nobody writes there since. */
 uint32_t lamport_try_send(void *block, uint32_t word, uint32_t bytes);
 
 /* Receives the oldest word, or returns ok = 0 and stores nothing: it found the queue empty. It has no loop. `unused` may
  * be anything. What this hart stored before the call, after j words were received, the sender's hart reads once it has
- * sent j + S words, if nobody writes there since; S is the count of slots. */
+ * sent j + S words, if no other hart had a store pending there at the call, and nobody writes there since; S is the count
+ * of slots. */
 struct received lamport_try_receive(void *block, uint32_t unused, uint32_t bytes);
 
 /* The same of a block of CACHED_QUEUE, whose words lamport_try_receive receives. */
 uint32_t cached_try_send(void *block, uint32_t word, uint32_t bytes);
 
 /* The same of a block of FASTFORWARD_QUEUE, and of words that aren't 0. What the receiver's hart stored before a call, after
- * j words were received, the sender's hart reads once it has sent j + S + 1 words. */
+ * j words were received, the sender's hart reads once it has sent j + S + 1 words, under the same conditions. */
 uint32_t fastforward_try_send(void *block, uint32_t word, uint32_t bytes);
 struct received fastforward_try_receive(void *block, uint32_t unused, uint32_t bytes);
 

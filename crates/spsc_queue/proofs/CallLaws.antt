@@ -11,7 +11,7 @@ use Rattle.step_machine.specs.Access.{load, access_of}
 use Rattle.step_machine.specs.Entries.{hart_of, own_stores, lands, pending, read_byte}
 use Rattle.step_machine.specs.Paths.{state_of}
 use Rattle.step_machine.specs.Legal.{Legal}
-use Rattle.spsc_queue.specs.RingBuffers.{Kind, lamport, fastforward, RingBuffer, capacity, writes_to}
+use Rattle.spsc_queue.specs.RingBuffers.{Kind, lamport, fastforward, RingBuffer, capacity, unpublished, unreleased}
 use Rattle.spsc_queue.specs.Protocol.{SenderState, resting, placed, renewing, roomy, filled, asked, ProtocolState}
 use Rattle.spsc_queue.specs.Protocol.{at_start, protocol_after, room_at, says_full, watched_address}
 use Rattle.spsc_queue.specs.Protocol.{says_empty}
@@ -23,7 +23,7 @@ use Rattle.spsc_queue.proofs.Invariants.{IsPlaced, Known}
 use Rattle.spsc_queue.proofs.Runs.{known-of, delivered, length-firsts}
 use Rattle.spsc_queue.proofs.Publication.{published, returned}
 use Rattle.store_buffers.proofs.MessagePassing.{handed_over}
-use Rattle.spsc_queue.proofs.Linearization.{empty_landed, full_landed}
+use Rattle.spsc_queue.proofs.Linearization.{empty_landed, full_landed, word_found, room_found}
 use Rattle.spsc_queue.proofs.Outline.{part, IsLevel, Level, Stands, WordsAre}
 use Rattle.spsc_queue.proofs.Functions.{words_are_by}
 use Rattle.spsc_queue.proofs.Parties.{is_busy, words}
@@ -231,7 +231,7 @@ module _ (B M : ℕ) (o : OpeningValue) (q : SpscQueue) (before done : List Entr
 
   pub finds_empty : (u v : ℕ) → hart_of e ≡ q.receiver → access_of e ≡ load (watched_address q.block.kind (buffer q) u) 4 v → says_empty q.block.kind u v ≡ true
       → now.receiving ≡ asked u → now.received ≡ received_words M o q before done
-      → length (sent_words M o q before done) ≤ length (received_words M o q before done) + length (writes_to (buffer q) (pending q.sender (before ++ done)))
+      → length (sent_words M o q before done) ≤ length (received_words M o q before done) + unpublished (buffer q) (pending q.sender (before ++ done))
   finds_empty u v mine does says was same =
       let count : length now.received ≡ length (received_words M o q before done) = ap length same in
       let taken = taken_count B M o q before (done ++ e ∷ fs) c done (e ∷ fs) refl in
@@ -240,9 +240,46 @@ module _ (B M : ℕ) (o : OpeningValue) (q : SpscQueue) (before done : List Entr
 
   pub finds_full : (u v : ℕ) → hart_of e ≡ q.sender → access_of e ≡ load (room_at q.block.kind (buffer q) u) 4 v → says_full q.block.kind (buffer q) u v ≡ true
       → now.sending ≡ placed u → now.sent ≡ sent_words M o q before done → length (received_words M o q before done) + capacity (buffer q)
-      ≤ length (sent_words M o q before done) + length (writes_to (buffer q) (pending q.receiver (before ++ done)))
+      ≤ length (sent_words M o q before done) + unreleased (buffer q) (pending q.receiver (before ++ done))
   finds_full u v mine does says was same =
       let count : length now.sent ≡ length (sent_words M o q before done) = ap length same in
       let stored = stored_count B M o q before (done ++ e ∷ fs) c done (e ∷ fs) refl in
       let received = received_least B M o q before (done ++ e ∷ fs) c done (e ∷ fs) refl in
       omega (arith, full_landed B (buffer q) o before done e fs all u v mine does says was, count, stored, received)
+
+-- and what had landed already where a call began
+
+module _ (B M : ℕ) (o : OpeningValue) (q : SpscQueue) (before done part : List Entry) (e : Entry) (fs : List Entry)
+    (c : UsesAsSpscQueue B M o q before (done ++ (part ++ e ∷ fs))) where
+  abbrev es : List Entry
+  es = done ++ (part ++ e ∷ fs)
+
+  abbrev then_state : ProtocolState
+  then_state = protocol_after (buffer q) at_start (done ++ part)
+
+  keeps : FollowsSpscProtocol B (buffer q) o before es
+  keeps = calls_follow B M o q before es c
+
+  cut : es ≡ (done ++ part) ++ e ∷ fs
+  cut = sym (append_assoc done part (e ∷ fs))
+
+  pub finds_word : (u v : ℕ) → hart_of e ≡ q.receiver → access_of e ≡ load (watched_address q.block.kind (buffer q) u) 4 v
+      → then_state.receiving ≡ asked u → then_state.received ≡ received_words M o q before done
+      → length (received_words M o q before done) + unpublished (buffer q) (pending q.sender (before ++ done)) < length (sent_words M o q before done)
+      → says_empty q.block.kind u v ≡ false
+  finds_word u v mine does was same more =
+      let count : length then_state.received ≡ length (received_words M o q before done) = ap length same in
+      let taken = taken_count B M o q before es c (done ++ part) (e ∷ fs) cut in
+      let sent = sent_available B M o q before es c done (part ++ e ∷ fs) refl in
+      word_found B (buffer q) o before done part e fs keeps u v mine does was (omega (arith, more, count, taken, sent))
+
+  pub finds_room : (u v : ℕ) → hart_of e ≡ q.sender → access_of e ≡ load (room_at q.block.kind (buffer q) u) 4 v
+      → then_state.sending ≡ placed u → then_state.sent ≡ sent_words M o q before done
+      → length (sent_words M o q before done) + unreleased (buffer q) (pending q.receiver (before ++ done))
+      < length (received_words M o q before done) + capacity (buffer q)
+      → says_full q.block.kind (buffer q) u v ≡ false
+  finds_room u v mine does was same more =
+      let count : length then_state.sent ≡ length (sent_words M o q before done) = ap length same in
+      let stored = stored_count B M o q before es c (done ++ part) (e ∷ fs) cut in
+      let received = received_least B M o q before es c done (part ++ e ∷ fs) refl in
+      room_found B (buffer q) o before done part e fs keeps u v mine does was (omega (arith, more, count, stored, received))

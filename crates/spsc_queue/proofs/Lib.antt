@@ -33,6 +33,8 @@ pub mod Extend
 pub mod Accesses
 pub mod WholeCalls
 pub mod OneCall
+pub mod CutCalls
+pub mod UnderWay
 pub mod Obligations
 pub mod Example
 pub mod ManyQueues

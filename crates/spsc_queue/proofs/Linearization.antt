@@ -1,98 +1,129 @@
--- A queue that looks empty or full is so, as far as stores have landed.
-use Rattle.std.proofs.Common.{ℕ, ◌+◌, ◌^◌, ◌<◌, ◌≤◌, ◌≡◌, ◌≢◌, not, true, false, inl, inr, Option, Some, None, List, []}
+-- A queue that looks empty or full is so, as far as stores have landed, and what has landed is found.
+use Rattle.std.proofs.Common.{ℕ, ◌+◌, ◌/◌, ◌^◌, ◌<◌, ◌≤◌, ◌≡◌, ◌≢◌, not, Bool, true, false, if◌then◌else◌, inl, inr, Option, Some, None, List, []}
 use Rattle.std.proofs.Common.{◌∷◌, ◌++◌, length, refl, sym, ◌∙◌, ap, subst, arith}
-use Rattle.std.proofs.Common.{append-nil}
+use Rattle.std.proofs.Common.{append-nil, append_assoc}
 use Rattle.std.specs.Prelude.{slice_index, All}
+use Rattle.std.specs.List.{filter}
 use Rattle.memory.specs.declared.writes.Write.{Write}
 use Rattle.std.proofs.lemmas.Bool.{cases_lt, eqb-true, eq-eqb}
 use Rattle.step_machine.specs.declared.events.Entry.{Entry}
-use Rattle.step_machine.specs.History.{OpeningValue}
+use Rattle.step_machine.specs.History.{OpeningValue, history_of}
 use Rattle.step_machine.specs.Access.{load, access_of}
-use Rattle.step_machine.specs.Entries.{hart_of, pending, read}
-use Rattle.step_machine.specs.Legal.{AllowedBy}
-use Rattle.step_machine.proofs.Appended.{LegalAfter-back}
+use Rattle.step_machine.specs.Entries.{hart_of, pending, read, own_stores, lands}
+use Rattle.step_machine.specs.Legal.{AllowedBy, Legal}
+use Rattle.step_machine.proofs.Appended.{LegalAfter-back, LegalAfter-front}
+use Rattle.step_machine.proofs.Balanced.{balanced}
 use Rattle.spsc_queue.specs.RingBuffers.{Kind, lamport, fastforward, RingBuffer, IsRingBuffer, slot_offset}
-use Rattle.spsc_queue.specs.RingBuffers.{slot_address, next, capacity_of, capacity, writes_to}
+use Rattle.spsc_queue.specs.RingBuffers.{slot_address, next, capacity_of, capacity, writes_to, publishes, releases, unpublished, unreleased}
 use Rattle.spsc_queue.specs.Protocol.{placed, asked, ProtocolState, at_start, protocol_after, room_at, says_full, watched_address, says_empty, KeepsProtocol}
 use Rattle.spsc_queue.specs.Laws.{FollowsSpscProtocol, available_of, available_count, ready_by_state}
 use Rattle.store_buffers.specs.StoreBuffers.{LeavesByte}
-use Rattle.spsc_queue.proofs.Words.{row_of, row_shorter}
+use Rattle.spsc_queue.proofs.Words.{is_copy, row_counts, copy_apart}
 use Rattle.spsc_queue.proofs.Copies.{Copied, row_whole}
-use Rattle.spsc_queue.proofs.Spread.{offset_apart, sent_store, freed_store}
-use Rattle.spsc_queue.proofs.Rows.{Earlier}
-use Rattle.spsc_queue.proofs.Invariant.{cleared_store, SendingIs, ReceivingIs, Invariant}
+use Rattle.spsc_queue.proofs.Spread.{offset_apart, sent_store, freed_store, spread-count, counts-heads, counts-slots}
+use Rattle.spsc_queue.proofs.Rows.{Earlier, RowOrder}
+use Rattle.spsc_queue.proofs.Invariant.{turned, turned_is, zeros, cleared_store, Landed, spare, freed, there, their_store, their_landed, Theirs}
+use Rattle.spsc_queue.proofs.Invariant.{SendingIs, ReceivingIs, Invariant}
 use Rattle.spsc_queue.proofs.Loads.{next_offset, sender-tail, receiver-other}
 use Rattle.spsc_queue.proofs.FastForwardLoads.{receiver-word, sender-free}
-use Rattle.spsc_queue.proofs.Invariants.{earlier}
+use Rattle.spsc_queue.proofs.Invariants.{earlier, spare_capacity}
 use Rattle.spsc_queue.proofs.Runs.{invariant-of, protocol-small}
-use Rattle.spsc_queue.proofs.PastRows.{length-spread}
+use Rattle.spsc_queue.proofs.PastRows.{length-spread, sender-grows, receiver-grows}
 
-least : (r : RingBuffer) (ws : List Write) (n : ℕ) → length (row_of r ws) ≡ n → n ≤ length (writes_to r ws)
-least r ws n is = omega (arith, is, row_shorter r ws)
+-- without a copy no store is to one
+no_copy : (r : RingBuffer) (b : Bool) → r.copy ≡ None → (w : Write) → is_copy r.copy w ≡ true → b ≡ false
+no_copy r b is w copy = absurd (let no : false ≡ true = sym (ap (λ q. is_copy q w) is) ∙ copy in cc)
+
+-- where no less of a row has landed, no fewer words are there, and no fewer slots are freed
+more_there : (K : Kind) (p q n h p2 q2 n2 h2 : ℕ) → RowOrder p q n h → RowOrder p2 q2 n2 h2 → n + h ≤ n2 + h2 → there K n h ≤ there K n2 h2
+more_there lamport p q n h p2 q2 n2 h2 row later le = omega (arith, row.heads_slots, row.slots_heads, later.heads_slots, later.slots_heads, le)
+more_there fastforward p q n h p2 q2 n2 h2 row later le = omega (arith, row.heads_slots, row.slots_heads, later.heads_slots, later.slots_heads, le)
+
+more_freed : (K : Kind) (n m z t n2 m2 z2 t2 : ℕ) → Theirs K n m z t → Theirs K n2 m2 z2 t2 → their_landed K z t ≤ their_landed K z2 t2
+    → freed K z t ≤ freed K z2 t2
+more_freed lamport n m z t n2 m2 z2 t2 row later le = le
+more_freed fastforward n m z t n2 m2 z2 t2 row later le = omega (arith, row.heads_slots, row.slots_heads, later.heads_slots, later.slots_heads, le)
 
 module _ (r : RingBuffer) (is : IsRingBuffer r) (L : ℕ → ℕ) (small : (j : ℕ) → L j < 2 ^ 32) (c : Earlier) (o : OpeningValue) (es : List Entry)
     (T : ProtocolState) where
-  -- the receiver sees no word: each that has landed and may be taken was received
-  empty : (k : Kind) → Invariant k r L c o es T → (u v : ℕ) → v ≡ read o es r.receiver (watched_address k r u) 4
-      → says_empty k u v ≡ true → T.receiving ≡ asked u
-      → available_of k T ≤ T.taken + length (writes_to r (pending r.sender es))
-  empty lamport inv u v found says was =
+  -- the receiver sees no word: each that is there in memory was taken
+  none_there : (k : Kind) (inv : Invariant k r L c o es T) (u v : ℕ) → v ≡ read o es r.receiver (watched_address k r u) 4 → says_empty k u v ≡ true
+      → T.receiving ≡ asked u → there k inv.landed.slots inv.landed.heads ≤ T.taken
+  none_there lamport inv u v found says was =
       let known = subst (ReceivingIs lamport r L T.taken T.consumed inv.landed.heads) was inv.receiving in
       let head : v ≡ slot_offset r inv.landed.heads =
       found ∙ receiver-other r is L small c o es T inv r.head is.head (λ q. is.apart (sym q)) ∙ inv.words.head in
-      let same : T.consumed ≡ inv.landed.heads = elim (cases_lt T.consumed inv.landed.heads) [
+      elim (cases_lt T.consumed inv.landed.heads) [
         | inl less ↦ absurd (offset_apart r is T.consumed inv.landed.heads less
             (omega (arith, inv.order.mine.heads_slots, inv.order.mine.slots_stored, inv.order.room, inv.order.theirs.1))
             (sym known.1 ∙ sym (eqb-true v u says) ∙ head))
-        | inr more ↦ omega (arith, more, known.0, inv.order.taken_there)
-      ] in
-      let left : inv.buffers.unsent ≤ length (writes_to r (pending r.sender es)) =
-      least r (pending r.sender es) inv.buffers.unsent (ap length inv.buffers.rows.mine
-      ∙ length-spread (sent_store r L) (inv.landed.slots + inv.landed.heads) inv.buffers.unsent) in
-      omega (arith, same, left, known.0, inv.buffers.mine_count, inv.order.mine.slots_stored, inv.order.mine.heads_published)
-  empty fastforward inv u v found says was =
+        | inr more ↦ omega (arith, more, known.0)
+      ]
+  none_there fastforward inv u v found says was =
       let known = subst (ReceivingIs fastforward r L T.taken T.consumed inv.landed.slots) was inv.receiving in
       let place : r.slots + u ≡ slot_address r T.taken = ap (λ x. r.slots + x) (known.1 ∙ ap (slot_offset r) (sym known.0)) in
       let zero_read : 0 ≡ read o es r.receiver (slot_address r T.taken) 4 = sym (eqb-true v 0 says) ∙ found ∙ ap (λ a. read o es r.receiver a 4) place in
-      let left : inv.buffers.unsent ≤ length (writes_to r (pending r.sender es)) =
-      least r (pending r.sender es) inv.buffers.unsent (ap length inv.buffers.rows.mine
-      ∙ length-spread (sent_store r L) (inv.landed.slots + inv.landed.heads) inv.buffers.unsent) in
-      let all : inv.landed.slots ≤ T.taken = elim (cases_lt T.taken inv.landed.slots) [
+      elim (cases_lt T.taken inv.landed.slots) [
         | inl less ↦ absurd (inv.nonzero refl T.taken (omega (arith, less, inv.order.mine.slots_stored))
             (sym (receiver-word r is L small c o es T inv known.0 less) ∙ sym zero_read))
         | inr more ↦ more
-      ] in
-      omega (arith, all, left, inv.buffers.mine_count, inv.order.mine.heads_published)
+      ]
 
-  -- the sender sees no room: as many words as the queue holds are stored and not taken, or taken by stores that haven't landed
-  full : (k : Kind) → Invariant k r L c o es T → (u v : ℕ) → v ≡ read o es r.sender (room_at k r u) 4 → says_full k r u v ≡ true → T.sending ≡ placed u
-      → T.taken + capacity_of k r.size ≤ T.stored + length (writes_to r (pending r.receiver es))
-  full lamport inv u v found says was =
+  -- the sender sees no room: as many words as fit are stored after those whose slots are free in memory
+  none_free : (k : Kind) (inv : Invariant k r L c o es T) (u v : ℕ) → v ≡ read o es r.sender (room_at k r u) 4 → says_full k r u v ≡ true
+      → T.sending ≡ placed u → freed k inv.landed.cleared inv.landed.tails + r.size ≤ T.stored + spare k
+  none_free lamport inv u v found says was =
       let known : (T.stored ≡ T.published) × (u ≡ slot_offset r T.published) = subst (SendingIs 1 r T.stored T.published inv.landed.tails) was inv.sending in
       let tail : next r u ≡ slot_offset r inv.landed.tails = sym (eqb-true v (next r u) says) ∙ found ∙ sender-tail r is L small c o es T inv in
       let one : slot_offset r inv.landed.tails ≡ slot_offset r (T.published + 1) = sym tail ∙ next_offset r is u T.published known.1 in
       let over : inv.landed.tails < T.published + 1 =
       omega (arith, inv.order.theirs.0, inv.order.theirs.1, inv.order.taken_there, inv.order.mine.heads_published) in
-      let far : inv.landed.tails + r.size ≤ T.published + 1 = elim (cases_lt (T.published + 1) (inv.landed.tails + r.size)) [
+      elim (cases_lt (T.published + 1) (inv.landed.tails + r.size)) [
         | inl less ↦ absurd (offset_apart r is inv.landed.tails (T.published + 1) over less one)
-        | inr more ↦ more
-      ] in
-      let left : inv.buffers.unread ≤ length (writes_to r (pending r.receiver es)) =
-      least r (pending r.receiver es) inv.buffers.unread
-      (ap length inv.buffers.rows.theirs ∙ length-spread (freed_store r) inv.landed.tails inv.buffers.unread) in
-      omega (arith, far, left, known.0, inv.order.theirs.0, inv.buffers.theirs_count, is.some_slots)
-  full fastforward inv u v found says was =
+        | inr more ↦ omega (arith, more, known.0)
+      ]
+  none_free fastforward inv u v found says was =
       let known = subst (SendingIs 0 r T.stored T.published inv.landed.cleared) was inv.sending in
       let place : r.slots + u ≡ slot_address r T.stored = ap (λ x. r.slots + x) (known.1 ∙ ap (slot_offset r) (sym known.0)) in
       let some : v ≢ 0 = λ none. (let no : false ≡ true = sym (ap not (eq-eqb v 0 none)) ∙ says in cc) in
-      let left : inv.buffers.unread ≤ length (writes_to r (pending r.receiver es)) =
-      least r (pending r.receiver es) inv.buffers.unread (ap length inv.buffers.rows.theirs
-      ∙ length-spread (cleared_store r) (inv.landed.cleared + inv.landed.tails) inv.buffers.unread) in
-      let all : inv.landed.cleared + r.size ≤ T.stored = elim (cases_lt T.stored (inv.landed.cleared + r.size)) [
+      elim (cases_lt T.stored (inv.landed.cleared + r.size)) [
         | inl less ↦ absurd (some (found ∙ ap (λ a. read o es r.sender a 4) place ∙ sender-free r is L small c o es T inv known.0 less))
-        | inr more ↦ more
-      ] in
-      omega (arith, all, left, inv.buffers.theirs_count, inv.order.theirs.heads_published)
+        | inr more ↦ omega (arith, more)
+      ]
+
+  -- the words that are available, and the slots that are freed, are those in memory and those that pending stores hold back
+  words_held : (k : Kind) (inv : Invariant k r L c o es T)
+      → available_of k T ≡ there k inv.landed.slots inv.landed.heads + length (filter (publishes k r) (writes_to r (pending r.sender es)))
+  words_held lamport inv =
+      let held = row_counts r (publishes lamport r) (copy_apart r r.head is.head) (pending r.sender es)
+      ∙ ap (λ ws. length (filter (publishes lamport r) ws)) inv.buffers.rows.mine in
+      let count = spread-count (publishes lamport r) (λ p. p / 2) (sent_store r L) (counts-heads r is L) (inv.landed.slots + inv.landed.heads)
+      inv.buffers.unsent in
+      let row = inv.order.mine in
+      omega (arith, held, count, inv.buffers.mine_count, row.heads_slots, row.slots_heads, row.published_stored, row.stored_published)
+  words_held fastforward inv =
+      let held = row_counts r (publishes fastforward r) (λ w. no_copy r (publishes fastforward r w) inv.copy w) (pending r.sender es)
+      ∙ ap (λ ws. length (filter (publishes fastforward r) ws)) inv.buffers.rows.mine in
+      let count = spread-count (publishes fastforward r) (λ p. (p + 1) / 2) (sent_store r L) (counts-slots r is L) (inv.landed.slots + inv.landed.heads)
+      inv.buffers.unsent in
+      let row = inv.order.mine in
+      omega (arith, held, count, inv.buffers.mine_count, row.heads_slots, row.slots_heads, row.published_stored, row.stored_published)
+
+  slots_held : (k : Kind) (inv : Invariant k r L c o es T)
+      → T.taken ≡ freed k inv.landed.cleared inv.landed.tails + length (filter (releases k r) (writes_to r (pending r.receiver es)))
+  slots_held lamport inv =
+      let held = row_counts r (releases lamport r) (copy_apart r r.tail is.tail) (pending r.receiver es)
+      ∙ ap (λ ws. length (filter (releases lamport r) ws)) inv.buffers.rows.theirs in
+      let count = spread-count (releases lamport r) (λ p. p) (freed_store r) (λ p. ap (λ b. (if b then 1 else 0) + p) (eq-eqb r.tail r.tail refl) ∙ omega arith)
+      inv.landed.tails inv.buffers.unread in
+      omega (arith, held, count, inv.buffers.theirs_count, inv.order.theirs.0)
+  slots_held fastforward inv =
+      let held = row_counts r (releases fastforward r) (λ w. no_copy r (releases fastforward r w) inv.copy w) (pending r.receiver es)
+      ∙ ap (λ ws. length (filter (releases fastforward r) ws)) inv.buffers.rows.theirs in
+      let count = spread-count (releases fastforward r) (λ p. (p + 1) / 2) (cleared_store r) (counts-slots (turned r) (turned_is r is) zeros)
+      (inv.landed.cleared + inv.landed.tails) inv.buffers.unread in
+      let row = inv.order.theirs in
+      omega (arith, held, count, inv.buffers.theirs_count, row.heads_slots, row.slots_heads, row.published_stored, row.stored_published)
 
   -- and of Lamport's never more
   never_fuller : (k : Kind) → Invariant k r L c o es T → k ≡ lamport → T.stored + length (writes_to r (pending r.receiver es)) ≤ T.taken + capacity_of k r.size
@@ -129,15 +160,108 @@ module _ (B : ℕ) (r : RingBuffer) (o : OpeningValue) (before es : List Entry) 
   loaded h a v mine does = subst (AllowedBy B (pending (hart_of e) (before ++ es)) (read o (before ++ es) (hart_of e))) does
       (LegalAfter-back B o before es (e ∷ fs) (LegalAfter-back B o [] before (es ++ e ∷ fs) t.legal)).0 ∙ ap (λ g. read o (before ++ es) g a 4) mine
 
+  -- the receiver looks for a word and sees none, or the sender for room
+  nothing_there : (u v : ℕ) → hart_of e ≡ r.receiver → access_of e ≡ load (watched_address r.kind r u) 4 v → says_empty r.kind u v ≡ true
+      → T.receiving ≡ asked u → there r.kind inv.landed.slots inv.landed.heads ≤ T.taken
+  nothing_there u v mine does says was =
+      none_there r t.ring L small (earlier r before) o (before ++ es) T r.kind inv u v (loaded r.receiver (watched_address r.kind r u) v mine does) says was
+
+  nothing_free : (u v : ℕ) → hart_of e ≡ r.sender → access_of e ≡ load (room_at r.kind r u) 4 v → says_full r.kind r u v ≡ true
+      → T.sending ≡ placed u → freed r.kind inv.landed.cleared inv.landed.tails + r.size ≤ T.stored + spare r.kind
+  nothing_free u v mine does says was =
+      none_free r t.ring L small (earlier r before) o (before ++ es) T r.kind inv u v (loaded r.sender (room_at r.kind r u) v mine does) says was
+
+  words_counted : available_count r T ≡ there r.kind inv.landed.slots inv.landed.heads + unpublished r (pending r.sender (before ++ es))
+  words_counted = words_held r t.ring L small (earlier r before) o (before ++ es) T r.kind inv
+
+  slots_counted : T.taken ≡ freed r.kind inv.landed.cleared inv.landed.tails + unreleased r (pending r.receiver (before ++ es))
+  slots_counted = slots_held r t.ring L small (earlier r before) o (before ++ es) T r.kind inv
+
   pub empty_landed : (u v : ℕ) → hart_of e ≡ r.receiver → access_of e ≡ load (watched_address r.kind r u) 4 v → says_empty r.kind u v ≡ true
-      → T.receiving ≡ asked u → available_count r T ≤ T.taken + length (writes_to r (pending r.sender (before ++ es)))
-  empty_landed u v mine does says was = empty r t.ring L small (earlier r before) o (before ++ es) T r.kind inv u v
-      (loaded r.receiver (watched_address r.kind r u) v mine does) says was
+      → T.receiving ≡ asked u → available_count r T ≡ T.taken + unpublished r (pending r.sender (before ++ es))
+  empty_landed u v mine does says was = omega (arith, nothing_there u v mine does says was, inv.order.taken_there, words_counted)
 
   pub full_landed : (u v : ℕ) → hart_of e ≡ r.sender → access_of e ≡ load (room_at r.kind r u) 4 v → says_full r.kind r u v ≡ true
-      → T.sending ≡ placed u → T.taken + capacity r ≤ T.stored + length (writes_to r (pending r.receiver (before ++ es)))
-  full_landed u v mine does says was = full r t.ring L small (earlier r before) o (before ++ es) T r.kind inv u v
-      (loaded r.sender (room_at r.kind r u) v mine does) says was
+      → T.sending ≡ placed u → T.taken + capacity r ≡ T.stored + unreleased r (pending r.receiver (before ++ es))
+  full_landed u v mine does says was =
+      omega (arith, nothing_free u v mine does says was, inv.order.room, slots_counted, spare_capacity r.kind r.size t.ring.some_slots)
+
+-- what has landed at one point is found at a later one
+module _ (B : ℕ) (r : RingBuffer) (o : OpeningValue) (before es fs : List Entry) (e : Entry) (gs : List Entry)
+    (t : FollowsSpscProtocol B r o before (es ++ (fs ++ e ∷ gs))) where
+  abbrev S : ProtocolState
+  S = protocol_after r at_start es
+
+  abbrev Z : ProtocolState
+  Z = protocol_after r at_start (es ++ fs)
+
+  later : FollowsSpscProtocol B r o before ((es ++ fs) ++ e ∷ gs)
+  later = subst (FollowsSpscProtocol B r o before) (sym (append_assoc es fs (e ∷ gs))) t
+
+  abbrev A : ℕ → ℕ
+  A = slice_index (protocol_after r at_start (es ++ (fs ++ e ∷ gs))).sent
+
+  first : Invariant r.kind r A (earlier r before) o (before ++ es) S
+  first = invariant-of B r o before es (fs ++ e ∷ gs) t
+
+  small_words : (j : ℕ) → A j < 2 ^ 32
+  small_words = protocol-small r at_start (es ++ (fs ++ e ∷ gs)) t.keeps (λ j. omega arith)
+
+  abbrev second : Invariant r.kind r (L B r o before (es ++ fs) e gs later) (earlier r before) o (before ++ (es ++ fs)) Z
+  second = inv B r o before (es ++ fs) e gs later
+
+  even : (h : ℕ) → lands h (before ++ es) ≤ length (own_stores h (before ++ es))
+  even h = balanced B (history_of o (before ++ es)) h (LegalAfter-front B o [] (before ++ es) (fs ++ e ∷ gs)
+      (subst (λ xs. Legal B (history_of o xs)) (sym (append_assoc before es (fs ++ e ∷ gs))) t.legal))
+
+  abbrev at : Landed
+  at = first.landed
+
+  abbrev to : Landed
+  to = second.landed
+
+  there_later : there r.kind at.slots at.heads ≤ there r.kind to.slots to.heads
+  there_later = more_there r.kind S.stored S.published at.slots at.heads Z.stored Z.published to.slots to.heads first.order.mine second.order.mine
+      (sender-grows r (earlier r before) (sent_store r A) (their_store r.kind r) (sent_store r (L B r o before (es ++ fs) e gs later)) (their_store r.kind r)
+      (before ++ es) fs (before ++ (es ++ fs)) (at.slots + at.heads) first.buffers.unsent (their_landed r.kind at.cleared at.tails) first.buffers.unread
+      (to.slots + to.heads) second.buffers.unsent (their_landed r.kind to.cleared to.tails) second.buffers.unread
+      (sym (append_assoc before es fs)) first.buffers.rows second.buffers.rows (even r.sender))
+
+  freed_later : freed r.kind at.cleared at.tails ≤ freed r.kind to.cleared to.tails
+  freed_later = more_freed r.kind S.taken S.consumed at.cleared at.tails Z.taken Z.consumed to.cleared to.tails first.order.theirs second.order.theirs
+      (receiver-grows r (earlier r before) (sent_store r A) (their_store r.kind r) (sent_store r (L B r o before (es ++ fs) e gs later)) (their_store r.kind r)
+      (before ++ es) fs (before ++ (es ++ fs)) (at.slots + at.heads) first.buffers.unsent (their_landed r.kind at.cleared at.tails) first.buffers.unread
+      (to.slots + to.heads) second.buffers.unsent (their_landed r.kind to.cleared to.tails) second.buffers.unread
+      (sym (append_assoc before es fs)) first.buffers.rows second.buffers.rows (even r.receiver))
+
+  pub word_found : (u v : ℕ) → hart_of e ≡ r.receiver → access_of e ≡ load (watched_address r.kind r u) 4 v → Z.receiving ≡ asked u
+      → Z.taken + unpublished r (pending r.sender (before ++ es)) < available_count r S → says_empty r.kind u v ≡ false
+  word_found u v mine does was more = at_most (says_empty r.kind u v) refl
+    where
+      at_most : (b : Bool) → says_empty r.kind u v ≡ b → b ≡ false
+      at_most true says = absurd (omega (
+        arith,
+        more,
+        words_held r t.ring A small_words (earlier r before) o (before ++ es) S r.kind first,
+        there_later,
+        nothing_there B r o before (es ++ fs) e gs later u v mine does says was,
+      ))
+      at_most false says = refl
+
+  pub room_found : (u v : ℕ) → hart_of e ≡ r.sender → access_of e ≡ load (room_at r.kind r u) 4 v → Z.sending ≡ placed u
+      → Z.stored + unreleased r (pending r.receiver (before ++ es)) < S.taken + capacity r → says_full r.kind r u v ≡ false
+  room_found u v mine does was more = at_most (says_full r.kind r u v) refl
+    where
+      at_most : (b : Bool) → says_full r.kind r u v ≡ b → b ≡ false
+      at_most true says = absurd (omega (
+        arith,
+        more,
+        slots_held r t.ring A small_words (earlier r before) o (before ++ es) S r.kind first,
+        freed_later,
+        nothing_free B r o before (es ++ fs) e gs later u v mine does says was,
+        spare_capacity r.kind r.size t.ring.some_slots,
+      ))
+      at_most false says = refl
 
 pub room_landed : (B : ℕ) (r : RingBuffer) (o : OpeningValue) (before es : List Entry) → FollowsSpscProtocol B r o before es → r.kind ≡ lamport
     → (protocol_after r at_start es).stored + length (writes_to r (pending r.receiver (before ++ es))) ≤ (protocol_after r at_start es).taken + capacity r

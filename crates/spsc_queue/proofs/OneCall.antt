@@ -4,39 +4,37 @@ use Rattle.std.proofs.Common.{length, refl, sym, ◌∙◌, ap, subst, arith}
 use Rattle.std.proofs.Common.{append-nil, append_assoc}
 use Rattle.std.specs.Prelude.{slice_index}
 use Rattle.hart.specs.State.{HartState}
-use Rattle.hart.specs.Steps.{need_of, advanced}
+use Rattle.hart.specs.Steps.{advanced}
 use Rattle.step_machine.specs.declared.events.Entry.{Entry}
 use Rattle.step_machine.specs.History.{OpeningValue, history_of}
 use Rattle.memory.specs.Writes.{write}
 use Rattle.step_machine.specs.Access.{Access, load, store, access_of}
-use Rattle.step_machine.specs.Entries.{hart_of, is_own, own}
+use Rattle.step_machine.specs.Entries.{hart_of, is_own, own, pending}
 use Rattle.step_machine.specs.Paths.{number_read, state_of}
-use Rattle.spsc_queue.specs.RingBuffers.{Kind, RingBuffer, IsRingBuffer, next}
+use Rattle.spsc_queue.specs.RingBuffers.{Kind, RingBuffer, IsRingBuffer, next, capacity, unpublished, unreleased}
 use Rattle.spsc_queue.specs.Protocol.{placed, roomy, ProtocolState, at_start, role_of, next_by, protocol_next}
 use Rattle.spsc_queue.specs.Protocol.{protocol_after, room_at, says_full, watched_address, says_empty}
 use Rattle.spsc_queue.specs.Calls.{Block, SpscQueue, Party, the_sender, the_receiver, party_hart, party_line}
 use Rattle.spsc_queue.specs.Calls.{listing_of, buffer, is_in_call, is_in_call_with, enters}
-use Rattle.spsc_queue.specs.Calls.{completed_by_entry, UsesAsSpscQueue}
-use Rattle.spsc_queue.specs.CallEffects.{longest, sees_full, look_accesses, IsWholeCall, IsCallUnderWay, IsPlainNeed}
-use Rattle.spsc_queue.specs.CallEffects.{ContinuesCall, IsSend, IsReceive, accesses}
+use Rattle.spsc_queue.specs.Calls.{completed_by_entry, sent_words, received_words, UsesAsSpscQueue}
+use Rattle.spsc_queue.specs.CallEffects.{longest, sees_full, look_accesses, IsWholeCall, IsCallUnderWay}
+use Rattle.spsc_queue.specs.CallEffects.{IsSend, IsReceive, accesses}
 use Rattle.spsc_queue.specs.CallEffects.{completed_word, take_accesses, FoundFull, FoundEmpty}
-use Rattle.spsc_queue.specs.Laws.{FollowsSpscProtocol}
 use Rattle.spsc_queue.proofs.Words.{both}
-use Rattle.spsc_queue.proofs.Runs.{known-of, protocol-append}
+use Rattle.spsc_queue.proofs.Runs.{protocol-append}
 use Rattle.spsc_queue.proofs.Courses.{at_00, Course}
-use Rattle.spsc_queue.proofs.Outline.{Near, Part, part, role, Level, first_look, index_at, Knows, Effect}
+use Rattle.spsc_queue.proofs.Outline.{Part, part, role, Level, first_look, index_at, Knows, Effect}
 use Rattle.spsc_queue.proofs.Outline.{Fresh, Row, Inside, Outside, CourseStands}
 use Rattle.spsc_queue.proofs.Outline.{Stands}
-use Rattle.spsc_queue.proofs.Parts.{ring_is, near-of, first-load, look-load, load-words}
-use Rattle.spsc_queue.proofs.Functions.{moves_at, facts, begins}
-use Rattle.spsc_queue.proofs.OwnEntries.{equipped, own_parts, state_here, here_same, here_next}
-use Rattle.spsc_queue.proofs.Running.{runs_here}
+use Rattle.spsc_queue.proofs.Parts.{ring_is, first-load, look-load, load-words}
+use Rattle.spsc_queue.proofs.Functions.{facts, begins}
+use Rattle.spsc_queue.proofs.OwnEntries.{own_parts, state_here, here_same, here_next}
 use Rattle.spsc_queue.proofs.Completed.{is_in_call-last, completed-last, none_completed, same_call, entered}
 use Rattle.spsc_queue.proofs.Parties.{is_busy, words, has_of, which, other_hart, Mine, Others, whose, not_mine}
-use Rattle.spsc_queue.proofs.Calls.{calls_follow, Stand, stands-at, here, was_here, course_stands, completes}
-use Rattle.spsc_queue.proofs.CallLaws.{finds_full, finds_empty}
+use Rattle.spsc_queue.proofs.Calls.{Stand, stands-at, here, was_here, course_stands, completes}
+use Rattle.spsc_queue.proofs.CallLaws.{finds_full, finds_empty, finds_word, finds_room}
 use Rattle.spsc_queue.proofs.Accesses.{First, first_access, off_silent, still, unmoved}
-use Rattle.spsc_queue.proofs.WholeCalls.{first_line, same_arguments, course, course_on, course_same, chose}
+use Rattle.spsc_queue.proofs.WholeCalls.{first_line, same_arguments, course, course_on, course_same, chose, answers}
 
 carry : (n : ℕ) (p : Party) (K : Kind) (k : Block) (r : RingBuffer) {b b1 : Bool} {ws ws1 : List ℕ} {c c1 : Course} {s s1 : HartState} {t t1 : Part}
     → b ≡ b1 → ws ≡ ws1 → c ≡ c1 → s ≡ s1 → t ≡ t1 → CourseStands n p K k r b ws c s t → CourseStands n p K k r b1 ws1 c1 s1 t1
@@ -372,6 +370,7 @@ module _ (B M : ℕ) (o : OpeningValue) (q : SpscQueue) (before es : List Entry)
       loads : access_of entry ≡ load (place_of p K r index) 4 seen
       knows : Knows p index (part p (protocol (done ++ part_done)))
       words : (part p (protocol (done ++ part_done))).words ≡ words_at (done ++ part_done)
+      none_yet : words_at (done ++ part_done) ≡ words_at done
 
     found : slice_index z.registers 10 ≡ 0 → Found
     found none = at looks.copy
@@ -402,6 +401,9 @@ module _ (B M : ℕ) (o : OpeningValue) (q : SpscQueue) (before es : List Entry)
         words = ap (λ (t : Part). t.words) one.crossed ∙ load-words K r p (protocol (done ++ one.upto)) (index_at p r) u
             ∙ ap (λ (t : Part). t.words) begun ∙ fresh.1.words
 
+        none_yet : {ys : List Entry} (l : Reached ys look []) → words_at (done ++ l.upto) ≡ words_at done
+        none_yet l = (so_far l.upto (l.entry ∷ l.left) l.cut).words (w.within l.upto l.entry l.left l.cut)
+
         found_at : (ys : List Entry) → Knows p u (part p (protocol (done ++ ys))) → (part p (protocol (done ++ ys))).words ≡ words_at done
             → Reached ys look [] → Found
         found_at ys knows words l = record {
@@ -415,7 +417,8 @@ module _ (B M : ℕ) (o : OpeningValue) (q : SpscQueue) (before es : List Entry)
           mine = l.mine;
           loads = l.does;
           knows = subst (Knows p u) (sym l.same) knows;
-          words = ap (λ (t : Part). t.words) l.same ∙ words ∙ sym ((so_far l.upto (l.entry ∷ l.left) l.cut).words (w.within l.upto l.entry l.left l.cut));
+          words = ap (λ (t : Part). t.words) l.same ∙ words ∙ sym (none_yet l);
+          none_yet = none_yet l;
         }
 
         at : (looks.first ≡ []) ⊎ ((x : Access) × (looks.first ≡ x ∷ []) × Keeps p K r u x) → Found
@@ -433,37 +436,12 @@ module _ (B M : ℕ) (o : OpeningValue) (q : SpscQueue) (before done call : List
   pub whole : done ++ call ≡ done ++ (call ++ [])
   whole = ap (λ zs. done ++ zs) (sym (append-nil call))
 
-  -- a party in a call, at the end of the run: what it wants, and how many entries it has made
-  pub goes_on : (p : Party) → IsCallUnderWay M o (party_hart q p) (party_line q p) q.block before done call s
-      → state_of M (history_of o (before ++ (done ++ call))) (party_hart q p) ≡ Some z
-      → ContinuesCall (longest p (buffer q)) z (length (own (party_hart q p) call))
-  goes_on p w at =
-      let es : List Entry = done ++ call in
-      let h : ℕ = party_hart q p in
-      let n : ℕ = party_line q p in
-      let k : Block = q.block in
-      let r : RingBuffer = buffer q in
-      let t : ProtocolState = protocol_after r at_start es in
-      let y : HartState = here B M o q before es c.shares p es in
-      let was : state_of M (history_of o (before ++ es)) h ≡ Some y = was_here B M o q before es c.shares p es in
-      let same : y ≡ z = (let one : Some y ≡ Some z = sym was ∙ at in cc) in
-      let busy : is_in_call M o h n k before es ≡ true = w.within call [] (sym (append-nil call)) in
-      let inside = inside_at B M o q before es c done call [] whole p s (part_begun w) busy in
-      let near : Near k (part p t) = near-of k q.sender q.receiver (ring_is M k q.sender q.receiver c.shares.block c.shares.parties) p k.kind
-      (slice_index (protocol_after r at_start (es ++ [])).sent) t
-      (known-of B r o before es [] (subst (FollowsSpscProtocol B r o before) (sym (append-nil es)) (calls_follow B M o q before es c))) in
-      let moves = moves_at M n q.sender q.receiver p k.kind k c.shares.block h y t 0 refl
-      (equipped M o h n (listing_of k.kind k.caches p) (has_of c.shares p) (before ++ es) y was) near (course h s call) (words M o q p before es)
-      inside.line inside.place inside.row in
-      record {
-        runs = ap (λ (x : HartState). x.status) (sym same)
-            ∙ runs_here B M o h n (listing_of k.kind k.caches p) (has_of c.shares p) (before ++ es) c.shares.run moves.0.plain;
-        needs = subst (λ x. IsPlainNeed (need_of x)) same moves.0.plain;
-        short = made_few B M o q before es c done call [] whole p s (part_begun w) busy;
-      }
-
   uses_at : (part : List Entry) (e : Entry) (more : List Entry) → call ≡ part ++ e ∷ more → UsesAsSpscQueue B M o q before ((done ++ part) ++ e ∷ more)
   uses_at part e more is = subst (UsesAsSpscQueue B M o q before) (ap (λ zs. done ++ zs) is ∙ sym (append_assoc done part (e ∷ more))) c
+
+  -- the same run, cut at an entry of the call
+  cut_at : (part : List Entry) (e : Entry) (more : List Entry) → call ≡ part ++ e ∷ more → UsesAsSpscQueue B M o q before (done ++ (part ++ e ∷ more))
+  cut_at part e more is = subst (UsesAsSpscQueue B M o q before) (ap (λ zs. done ++ zs) is) c
 
   pub found_full : IsSend M o q before done call s z → slice_index z.registers 10 ≡ 0 → FoundFull M o q before done call
   found_full w none =
@@ -498,3 +476,34 @@ module _ (B M : ℕ) (o : OpeningValue) (q : SpscQueue) (before done call : List
         empty = finds_empty B M o q before (done ++ f.part_done) f.entry f.more (uses_at f.part_done f.entry f.more f.cut) f.index f.seen
             (own_parts q.receiver f.entry f.mine).0 f.loads f.says f.knows f.words;
       }
+
+  -- a call returns 1 if what it needs had landed where it began
+  pub word_available : IsReceive M o q before done call s z
+      → length (received_words M o q before done) + unpublished (buffer q) (pending q.sender (before ++ done)) < length (sent_words M o q before done)
+      → slice_index z.registers 10 ≡ 1
+  word_available w more =
+      let effect = effect_of B M o q before (done ++ call) c done call [] whole the_receiver s (whole_begun w) z w in
+      elim (answers (says_empty q.block.kind effect.tail effect.seen) (slice_index z.registers 10) effect.answer) [
+        | inl none ↦
+            let f = found B M o q before (done ++ call) c done call [] whole the_receiver s (whole_begun w) z w none in
+            let some : says_empty q.block.kind f.index f.seen ≡ false =
+            finds_word B M o q before done f.part_done f.entry f.more (cut_at f.part_done f.entry f.more f.cut) f.index f.seen
+            (own_parts q.receiver f.entry f.mine).0 f.loads f.knows (f.words ∙ f.none_yet) more in
+            absurd (let no : true ≡ false = sym f.says ∙ some in cc)
+        | inr one ↦ one
+      ]
+
+  pub room_available : IsSend M o q before done call s z
+      → length (sent_words M o q before done) + unreleased (buffer q) (pending q.receiver (before ++ done))
+      < length (received_words M o q before done) + capacity (buffer q) → slice_index z.registers 10 ≡ 1
+  room_available w more =
+      let effect = effect_of B M o q before (done ++ call) c done call [] whole the_sender s (whole_begun w) z w in
+      elim (answers (sees_full (buffer q).copy q.block.kind (buffer q) effect.head effect.copy effect.seen) (slice_index z.registers 10) effect.answer) [
+        | inl none ↦
+            let f = found B M o q before (done ++ call) c done call [] whole the_sender s (whole_begun w) z w none in
+            let some : says_full q.block.kind (buffer q) f.index f.seen ≡ false =
+            finds_room B M o q before done f.part_done f.entry f.more (cut_at f.part_done f.entry f.more f.cut) f.index f.seen
+            (own_parts q.sender f.entry f.mine).0 f.loads f.knows (f.words ∙ f.none_yet) more in
+            absurd (let no : true ≡ false = sym f.says ∙ some in cc)
+        | inr one ↦ one
+      ]

@@ -1,12 +1,13 @@
 -- How far a party's landings have come, by its row alone: a store of which a later store of the same hart has landed has
 -- landed.
-use Rattle.std.proofs.Common.{ℕ, zero, suc, ◌+◌, ◌<◌, ◌≡◌, inl, inr, List, ◌++◌, length, take, drop, refl, sym, ◌∙◌, ap, subst, arith, length-append}
+use Rattle.std.proofs.Common.{ℕ, zero, suc, ◌+◌, ◌<◌, ◌≤◌, ◌≡◌, inl, inr, List, ◌++◌, length, take, drop, refl, sym, ◌∙◌, ap, subst, arith, length-append}
 use Rattle.std.proofs.lemmas.Bool.{cases_lt}
 use Rattle.std.proofs.lemmas.List.{take-append-drop, take-append-le}
+use Rattle.std.proofs.Math.Seq.{take-add}
 use Rattle.memory.specs.declared.writes.Write.{Write}
 use Rattle.step_machine.specs.declared.events.Entry.{Entry}
 use Rattle.step_machine.specs.Entries.{pending, own_stores, lands}
-use Rattle.step_machine.proofs.Appended.{stores-append}
+use Rattle.step_machine.proofs.Appended.{stores-append, lands-append}
 use Rattle.spsc_queue.specs.RingBuffers.{RingBuffer}
 use Rattle.spsc_queue.proofs.Words.{row_of}
 use Rattle.spsc_queue.proofs.Effects.{on-append}
@@ -51,6 +52,24 @@ past r h es fs whole f a x i n is before after left more = beyond r (own_stores 
     counted : length (row_of r (own_stores h es)) < length (row_of r (take (lands h whole) (own_stores h whole)))
     counted = omega (arith, landed-on r h whole, left_count, before, after, more)
 
+-- what has landed of a hart's stores to the block stays so
+landed-grows : (r : RingBuffer) (h : ℕ) (es fs whole : List Entry) → whole ≡ es ++ fs → lands h es ≤ length (own_stores h es)
+    → length (row_of r (take (lands h es) (own_stores h es))) ≤ length (row_of r (take (lands h whole) (own_stores h whole)))
+landed-grows r h es fs whole is even =
+    let xs : List Write = own_stores h es ++ own_stores h fs in
+    let all : take (lands h whole) (own_stores h whole) ≡ take (lands h es) (own_stores h es) ++ take (lands h fs) (drop (lands h es) xs) =
+    ap (λ zs. take (lands h zs) (own_stores h zs)) is ∙ ap (λ zs. take (lands h (es ++ fs)) zs) (stores-append h es fs)
+    ∙ ap (λ n. take n xs) (lands-append h es fs) ∙ take-add (lands h es) (lands h fs) xs
+    ∙ ap (λ zs. zs ++ take (lands h fs) (drop (lands h es) xs)) (take-append-le (lands h es) (own_stores h es) (own_stores h fs) even) in
+    let more = ap (λ zs. length (row_of r zs)) all ∙ count-append r (take (lands h es) (own_stores h es)) (take (lands h fs) (drop (lands h es) xs)) in
+    omega (arith, more)
+
+-- how far a row has come in memory, by its hart's stores that have landed
+reached : (r : RingBuffer) (h : ℕ) (es : List Entry) (f : ℕ → Write) (a i n : ℕ) → on_count r h es ≡ a + (i + n) → row_of r (pending h es) ≡ spread f i n
+    → length (row_of r (take (lands h es) (own_stores h es))) ≡ a + i
+reached r h es f a i n made left =
+    let count : length (row_of r (pending h es)) ≡ n = ap length left ∙ length-spread f i n in omega (arith, landed-on r h es, count, made)
+
 -- once more of a row has landed than a party had stored at a point, all that its hart had stored there has landed
 module _ (r : RingBuffer) (c : Earlier) (f g p q : ℕ → Write) (es fs whole : List Entry) (i n j m i2 n2 j2 m2 : ℕ) (is : whole ≡ es ++ fs)
     (rows : Rows r c f g es i n j m) (later : Rows r c p q whole i2 n2 j2 m2) where
@@ -59,3 +78,20 @@ module _ (r : RingBuffer) (c : Earlier) (f g p q : ℕ → Write) (es fs whole :
 
   pub receiver-past : j + m < j2 → length (own_stores r.receiver es) < lands r.receiver whole
   receiver-past more = past r r.receiver es fs whole q c.receiver (j + m) j2 m2 is rows.theirs_made later.theirs_made later.theirs more
+
+  -- and no less of it has landed later
+  pub sender-grows : lands r.sender es ≤ length (own_stores r.sender es) → i ≤ i2
+  sender-grows even = omega (
+    arith,
+    landed-grows r r.sender es fs whole is even,
+    reached r r.sender es f c.sender i n rows.mine_made rows.mine,
+    reached r r.sender whole p c.sender i2 n2 later.mine_made later.mine,
+  )
+
+  pub receiver-grows : lands r.receiver es ≤ length (own_stores r.receiver es) → j ≤ j2
+  receiver-grows even = omega (
+    arith,
+    landed-grows r r.receiver es fs whole is even,
+    reached r r.receiver es g c.receiver j m rows.theirs_made rows.theirs,
+    reached r r.receiver whole q c.receiver j2 m2 later.theirs_made later.theirs,
+  )

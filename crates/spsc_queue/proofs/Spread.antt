@@ -1,15 +1,16 @@
 -- Rows of stores: those of a party to the block, in order, and what a word is after some of them.
 use Rattle.std.proofs.Common.{ℕ, zero, suc, ◌+◌, ◌*◌, ◌/◌, ◌%◌, ◌^◌, ◌<◌, ◌≤◌, ◌≡◌, ◌≢◌, ◌==◌, ◌⊎◌, inl, inr, if◌then◌else◌, Bool, true, false, List, [], ◌∷◌}
-use Rattle.std.proofs.Common.{◌++◌, refl, ◌∙◌, ap, arith}
+use Rattle.std.proofs.Common.{◌++◌, refl, ◌∙◌, ap, arith, length, zero-add}
 use Rattle.std.specs.Prelude.{All}
-use Rattle.std.proofs.lemmas.Bool.{cases_eq}
+use Rattle.std.specs.List.{filter}
+use Rattle.std.proofs.lemmas.Bool.{cases_eq, ne_eqb}
 use Rattle.std.proofs.lemmas.Bool.Decides.{nat_tests}
 use Rattle.std.proofs.lemmas.Nat.{mod_below}
 use Rattle.std.proofs.lemmas.List.Elements.{All-nil, All-cons}
 use Rattle.memory.specs.declared.writes.Write.{Write}
 use Rattle.memory.specs.Writes.{write, IsWholeWord}
 use Rattle.step_machine.proofs.Modulo.{mod_apart}
-use Rattle.spsc_queue.specs.RingBuffers.{RingBuffer, IsRingBuffer, slot_offset, slot_address}
+use Rattle.spsc_queue.specs.RingBuffers.{RingBuffer, IsRingBuffer, slot_offset, slot_address, is_in_slots}
 use Rattle.spsc_queue.proofs.Words.{seen}
 
 -- n of the stores of a row, from the i-th on
@@ -27,6 +28,21 @@ spread-more f i (suc n) =
 pub spread-all : (P : Write → Type 0) (f : ℕ → Write) (i n : ℕ) → ((p : ℕ) → P (f p)) → All P (spread f i n)
 spread-all P f i zero each = All-nil P
 spread-all P f i (suc n) each = All-cons P (f i) (spread f (suc i) n) (each i) (spread-all P f (suc i) n each)
+
+-- how many stores of a row are such, where m counts them one by one
+pub spread-count : (P : Write → Bool) (m : ℕ → ℕ) (f : ℕ → Write) → ((p : ℕ) → (if P (f p) then 1 else 0) + m p ≡ m (suc p)) → (i n : ℕ)
+    → length (filter P (spread f i n)) + m i ≡ m (i + n)
+spread-count P m f step i zero = zero-add (m i) ∙ ap m (let same : i ≡ i + 0 = omega arith in same)
+spread-count P m f step i (suc n) = one (P (f i)) (step i) (spread-count P m f step (suc i) n)
+    ∙ ap m (let same : suc i + n ≡ i + suc n = omega arith in same)
+  where
+    rest : List Write
+    rest = filter P (spread f (suc i) n)
+
+    one : (b : Bool) → (if b then 1 else 0) + m i ≡ m (suc i) → length rest + m (suc i) ≡ m (suc i + n)
+        → length (if b then f i ∷ rest else rest) + m i ≡ m (suc i + n)
+    one true here more = omega (arith, here, more)
+    one false here more = omega (arith, here, more)
 
 -- the sender's row, of the words L: word j into its slot, then the head after it
 abbrev pub sent_store : RingBuffer → (ℕ → ℕ) → ℕ → Write
@@ -105,6 +121,40 @@ module _ (r : RingBuffer) (is : IsRingBuffer r) where
     pub sent-whole : ((j : ℕ) → L j < 2 ^ 32) → (p : ℕ) → IsWholeWord (sent_store r L p)
     sent-whole small p = sent-cases IsWholeWord p (λ j. record { whole = refl; aligned = omega (arith, is.slots_aligned); small = small j })
         (λ j. record { whole = refl; aligned = is.head.aligned; small = omega (arith, offset_low j, is.small) })
+
+    -- of a row's stores each other one is of the head, and the others are into slots
+    pub counts-heads : (p : ℕ) → (if (sent_store r L p).addr == r.head then 1 else 0) + p / 2 ≡ suc p / 2
+    counts-heads p = at (cases_eq (p % 2) 0)
+      where
+        at : (p % 2 ≡ 0) ⊎ (p % 2 ≢ 0) → (if (sent_store r L p).addr == r.head then 1 else 0) + p / 2 ≡ suc p / 2
+        at (inl even) =
+            let j : ℕ = p / 2 in
+            ap (λ (x : Write). (if x.addr == r.head then 1 else 0) + p / 2) (sent-slot r L p j (omega arith))
+            ∙ ap (λ b. (if b then 1 else 0) + p / 2) (ne_eqb (slot_address r j) r.head (slot_not_head j)) ∙ omega arith
+        at (inr odd) =
+            let on : (r.head == r.head) ≡ true = grind (arith, nat_tests) in
+            ap (λ (x : Write). (if x.addr == r.head then 1 else 0) + p / 2) (sent-head r L p (p / 2) (omega arith))
+            ∙ ap (λ b. (if b then 1 else 0) + p / 2) on ∙ omega arith
+
+    slot-on : (j : ℕ) → is_in_slots r (write (slot_address r j) 4 (L j)) ≡ true
+    slot-on j = let low = offset_low j in grind (arith, nat_tests)
+
+    head-off : (j : ℕ) → is_in_slots r (write r.head 4 (slot_offset r j)) ≡ false
+    head-off j = elim is.head_apart [
+      | inl below ↦ grind (arith, nat_tests)
+      | inr above ↦ grind (arith, nat_tests)
+    ]
+
+    pub counts-slots : (p : ℕ) → (if is_in_slots r (sent_store r L p) then 1 else 0) + (p + 1) / 2 ≡ (suc p + 1) / 2
+    counts-slots p = at (cases_eq (p % 2) 0)
+      where
+        at : (p % 2 ≡ 0) ⊎ (p % 2 ≢ 0) → (if is_in_slots r (sent_store r L p) then 1 else 0) + (p + 1) / 2 ≡ (suc p + 1) / 2
+        at (inl even) =
+            ap (λ (x : Write). (if is_in_slots r x then 1 else 0) + (p + 1) / 2) (sent-slot r L p (p / 2) (omega arith))
+            ∙ ap (λ b. (if b then 1 else 0) + (p + 1) / 2) (slot-on (p / 2)) ∙ omega arith
+        at (inr odd) =
+            ap (λ (x : Write). (if is_in_slots r x then 1 else 0) + (p + 1) / 2) (sent-head r L p (p / 2) (omega arith))
+            ∙ ap (λ b. (if b then 1 else 0) + (p + 1) / 2) (head-off (p / 2 + 1)) ∙ omega arith
 
     -- the sender finds the head after its last store of one
     pub seen-heads : (p n : ℕ) → seen r.head (slot_offset r (p / 2)) (spread (sent_store r L) p n) ≡ slot_offset r ((p + n) / 2)

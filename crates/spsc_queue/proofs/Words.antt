@@ -1,6 +1,6 @@
 -- What a word of the block is after writes, of which those to the block are of whole words: whatever the others are,
 -- bytes or words, they leave it.
-use Rattle.std.proofs.Common.{ℕ, ◌+◌, ◌-◌, ◌%◌, ◌<◌, ◌≤◌, ◌≡◌, ◌==◌, ◌&&◌, not, ◌⊎◌, inl, inr, Bool, true, false}
+use Rattle.std.proofs.Common.{ℕ, suc, ◌+◌, ◌-◌, ◌%◌, ◌<◌, ◌≤◌, ◌≡◌, ◌==◌, ◌&&◌, not, ◌⊎◌, inl, inr, Bool, true, false}
 use Rattle.std.proofs.Common.{if◌then◌else◌, List, [], ◌∷◌, Option, Some, None}
 use Rattle.std.proofs.Common.{refl, sym, ◌∙◌, ap, arith, length}
 use Rattle.std.specs.Prelude.{unwrap_or, All}
@@ -71,6 +71,32 @@ row_shorter r (w ∷ ws) = at (overlaps r w) (not (is_copy r.copy w)) (row_short
     at true true le = omega (arith, le)
     at true false le = omega (arith, le)
     at false d le = le
+
+-- a row has all such writes to the block, if none of the sender's copy is such
+pub row_counts : (r : RingBuffer) (P : Write → Bool) → ((w : Write) → is_copy r.copy w ≡ true → P w ≡ false) → (ws : List Write)
+    → length (filter P (writes_to r ws)) ≡ length (filter P (row_of r ws))
+row_counts r P off [] = refl
+row_counts r P off (w ∷ ws) = at (overlaps r w) (is_copy r.copy w) (off w) (P w) refl (row_counts r P off ws)
+  where
+    at : (b d : Bool) → (d ≡ true → P w ≡ false) → (c : Bool) → P w ≡ c → length (filter P (writes_to r ws)) ≡ length (filter P (row_of r ws))
+        → length (filter P (if b then w ∷ writes_to r ws else writes_to r ws)) ≡ length (filter P (if b && not d then w ∷ row_of r ws else row_of r ws))
+    at true true copy c is same = ap (λ x. length (if x then w ∷ filter P (writes_to r ws) else filter P (writes_to r ws))) (copy refl) ∙ same
+    at true false copy true is same =
+        ap (λ x. length (if x then w ∷ filter P (writes_to r ws) else filter P (writes_to r ws))) is ∙ ap suc same
+        ∙ sym (ap (λ x. length (if x then w ∷ filter P (row_of r ws) else filter P (row_of r ws))) is)
+    at true false copy false is same =
+        ap (λ x. length (if x then w ∷ filter P (writes_to r ws) else filter P (writes_to r ws))) is ∙ same
+        ∙ sym (ap (λ x. length (if x then w ∷ filter P (row_of r ws) else filter P (row_of r ws))) is)
+    at false d copy c is same = same
+
+-- a store to a word of the block is none to the copy
+pub copy_apart : (r : RingBuffer) (a : ℕ) → IsWordIn r a → (w : Write) → is_copy r.copy w ≡ true → (w.addr == a) ≡ false
+copy_apart r a word w copy =
+    let it = copy_at r.copy w copy in
+    ne_eqb w.addr a (λ e. elim (word.no_copy it.0 it.1) [
+      | inl l ↦ omega (arith, e, it.2, l)
+      | inr l ↦ omega (arith, e, it.2, l)
+    ])
 
 -- a write that is off the block, or of a whole word
 abbrev pub Tidy : RingBuffer → Write → Type 0

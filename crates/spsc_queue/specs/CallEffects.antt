@@ -1,6 +1,6 @@
 -- What one whole call does, from its entry to its return, whatever other harts do meanwhile.
 use Rattle.std.specs.Prelude.{ℕ, ◌≡◌, ◌≢◌, ◌+◌, ◌*◌, ◌/◌, ◌%◌, ◌<◌, ◌≤◌, ◌==◌, ◌&&◌, if◌then◌else◌, Bool, true, false, Option, None, Some}
-use Rattle.std.specs.Prelude.{List, [], ◌∷◌, ◌++◌, length, slice_index}
+use Rattle.std.specs.Prelude.{List, [], ◌∷◌, ◌++◌, length, slice_index, All}
 use Rattle.memory.specs.Writes.{write}
 use Rattle.hart.specs.State.{HartState}
 use Rattle.hart.specs.Steps.{need_of}
@@ -8,11 +8,11 @@ use Rattle.hart.specs.declared.status.Status.TheVariants as status
 use Rattle.hart.specs.declared.need.Need.{Need}
 use Rattle.hart.specs.declared.need.Need.TheVariants as need
 use Rattle.step_machine.specs.declared.events.Entry.{Entry}
-use Rattle.step_machine.specs.Access.{Access, nothing, load, store, access_of}
+use Rattle.step_machine.specs.Access.{Access, nothing, load, store, exchange, access_of}
 use Rattle.step_machine.specs.History.{OpeningValue, history_of}
 use Rattle.step_machine.specs.Entries.{hart_of, is_own, pending}
 use Rattle.step_machine.specs.Paths.{state_of}
-use Rattle.spsc_queue.specs.RingBuffers.{Kind, lamport, fastforward, RingBuffer, next, capacity, writes_to}
+use Rattle.spsc_queue.specs.RingBuffers.{Kind, lamport, fastforward, RingBuffer, next, capacity, unpublished, unreleased}
 use Rattle.spsc_queue.specs.Protocol.{room_at, says_full, watched_address, says_empty}
 use Rattle.spsc_queue.specs.Calls.{Block, SpscQueue, Party, the_sender, the_receiver, buffer, enters, is_in_call, sent_words, received_words}
 
@@ -144,10 +144,46 @@ pub record ReceiveEffect (k : Kind) (r : RingBuffer) (s z : HartState) (count : 
   pub accesses : did ≡ receive_accesses k r (slice_index z.registers 11) tail seen
   pub answer : slice_index z.registers 10 ≡ (if says_empty k tail seen then 0 else 1)
 
+-- ---- a call that may be cut at any point
+
+-- no byte of an access lies outside the block
+abbrev pub StaysInBlock : RingBuffer → Access → Type 0
+StaysInBlock r (load a width v) = (r.first ≤ a) × (a + width ≤ r.end)
+StaysInBlock r (store w) = (r.first ≤ w.addr) × (w.addr + w.width ≤ r.end)
+StaysInBlock r (exchange a old new) = (r.first ≤ a) × (a + 4 ≤ r.end)
+StaysInBlock r other = Unit {0}
+
+-- a send of the word in a1 that has come from state s to state z: its accesses are the first of those of a whole call, `left` those that
+-- would follow if it read this. It has kept a1, and the other registers
+pub record SendSoFar (k : Kind) (r : RingBuffer) (s z : HartState) (did : List Access) : Type 0 where
+  pub registers : KeepsOtherRegisters s.registers z.registers
+  pub word : slice_index z.registers 11 ≡ slice_index s.registers 11
+  pub head : ℕ
+  pub copy : ℕ
+  pub seen : ℕ
+  pub among : head + 4 ≤ 4 * r.size
+  pub aligned : head % 4 ≡ 0
+  pub left : List Access
+  pub accesses : did ++ left ≡ send_accesses k r (slice_index s.registers 11) head copy seen
+  pub inside : All (StaysInBlock r) did
+
+-- the same of a receive
+pub record ReceiveSoFar (k : Kind) (r : RingBuffer) (s z : HartState) (did : List Access) : Type 0 where
+  pub registers : KeepsOtherRegisters s.registers z.registers
+  pub word : ℕ
+  pub tail : ℕ
+  pub seen : ℕ
+  pub among : tail + 4 ≤ 4 * r.size
+  pub aligned : tail % 4 ≡ 0
+  pub found : IsFound k seen word
+  pub left : List Access
+  pub accesses : did ++ left ≡ receive_accesses k r word tail seen
+  pub inside : All (StaysInBlock r) did
+
 -- ---- a call that returns 0
 
 -- at an entry e of the call the sender looks for room at its offset and sees none, and after the entries before e the queue is
--- full: as many words as it holds were sent and no call returned them, as far as the receiver's stores to the block have landed
+-- full: as many words as it holds were sent and no call returned them, except for the slots that the receiver's pending stores hold back
 pub record FoundFull (M : ℕ) (o : OpeningValue) (q : SpscQueue) (before done call : List Entry) : Type 0 where
   pub part : List Entry
   pub entry : Entry
@@ -159,10 +195,10 @@ pub record FoundFull (M : ℕ) (o : OpeningValue) (q : SpscQueue) (before done c
   pub loads : access_of entry ≡ load (room_at q.block.kind (buffer q) offset) 4 value
   pub says : says_full q.block.kind (buffer q) offset value ≡ true
   pub full : length (received_words M o q before (done ++ part)) + capacity (buffer q)
-      ≤ length (sent_words M o q before (done ++ part)) + length (writes_to (buffer q) (pending q.receiver (before ++ (done ++ part))))
+      ≤ length (sent_words M o q before (done ++ part)) + unreleased (buffer q) (pending q.receiver (before ++ (done ++ part)))
 
 -- at an entry e of the call the receiver looks for a word at its offset and sees none, and after the entries before e the queue is
--- empty: each word that was sent was returned, as far as the sender's stores to the block have landed
+-- empty: each word that was sent was returned, except for those that the sender's pending stores hold back
 pub record FoundEmpty (M : ℕ) (o : OpeningValue) (q : SpscQueue) (before done call : List Entry) : Type 0 where
   pub part : List Entry
   pub entry : Entry
@@ -174,4 +210,4 @@ pub record FoundEmpty (M : ℕ) (o : OpeningValue) (q : SpscQueue) (before done 
   pub loads : access_of entry ≡ load (watched_address q.block.kind (buffer q) offset) 4 value
   pub says : says_empty q.block.kind offset value ≡ true
   pub empty : length (sent_words M o q before (done ++ part))
-      ≤ length (received_words M o q before (done ++ part)) + length (writes_to (buffer q) (pending q.sender (before ++ (done ++ part))))
+      ≤ length (received_words M o q before (done ++ part)) + unpublished (buffer q) (pending q.sender (before ++ (done ++ part)))

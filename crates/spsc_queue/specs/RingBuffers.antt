@@ -1,5 +1,6 @@
 -- A ring buffer in memory that two harts share, wherever its parts lie, and what the words of its places are.
-use Rattle.std.specs.Prelude.{ℕ, ◌≡◌, ◌≢◌, ◌⊎◌, ◌+◌, ◌-◌, ◌*◌, ◌%◌, ◌^◌, ◌<◌, ◌≤◌, ◌==◌, ◌&&◌, Bool, nat_lt, if◌then◌else◌, Option, Some, List, []}
+use Rattle.std.specs.Prelude.{ℕ, ◌≡◌, ◌≢◌, ◌⊎◌, ◌+◌, ◌-◌, ◌*◌, ◌%◌, ◌^◌, ◌<◌, ◌≤◌, ◌==◌, ◌&&◌, not, Bool, nat_lt, if◌then◌else◌, Option, Some, List, []}
+use Rattle.std.specs.Prelude.{length}
 use Rattle.std.specs.List.{filter}
 use Rattle.memory.specs.declared.writes.Write.{Write}
 use Rattle.step_machine.specs.declared.events.Entry.{Entry}
@@ -83,6 +84,28 @@ overlaps r w = nat_lt w.addr r.end && nat_lt r.first (w.addr + w.width)
 
 abbrev pub writes_to : RingBuffer → List Write → List Write
 writes_to r ws = filter (overlaps r) ws
+
+-- a write into a slot
+abbrev pub is_in_slots : RingBuffer → Write → Bool
+is_in_slots r w = nat_lt w.addr (r.slots + 4 * r.size) && not (nat_lt w.addr r.slots)
+
+-- by which store the sender makes a word available, once it has landed: Lamport's by that of the head, FastForward's by that of the
+-- word into its slot
+abbrev pub publishes : Kind → RingBuffer → Write → Bool
+publishes lamport r w = w.addr == r.head
+publishes fastforward r w = is_in_slots r w
+
+-- and by which the receiver frees a slot: Lamport's by that of the tail, FastForward's by that of the 0 into that slot
+abbrev pub releases : Kind → RingBuffer → Write → Bool
+releases lamport r w = w.addr == r.tail
+releases fastforward r w = is_in_slots r w
+
+-- how many words these stores of the sender's hold back while they are pending, and how many slots these of the receiver's
+abbrev pub unpublished : RingBuffer → List Write → ℕ
+unpublished r ws = length (filter (publishes r.kind r) (writes_to r ws))
+
+abbrev pub unreleased : RingBuffer → List Write → ℕ
+unreleased r ws = length (filter (releases r.kind r) (writes_to r ws))
 
 -- the block is empty and at rest: both indices are the same offset in memory, no hart has a pending store to the block,
 -- each slot of FastForward's holds 0, and a copy of the tail is the offset of some slot, which need not be the tail's. So a

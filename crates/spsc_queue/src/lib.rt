@@ -27,7 +27,7 @@ ghost use Rattle.step_machine.specs.Entries.{hart_of, own, own_stores, lands, pe
 ghost use Rattle.step_machine.specs.Access.{access_of, load};
 ghost use Rattle.step_machine.specs.Paths.{state_of};
 ghost use Rattle.step_machine.specs.Legal.{Legal, WellFormed};
-ghost use Rattle.spsc_queue.specs.RingBuffers.{Kind, RingBuffer, lamport, capacity, writes_to, IsEmptyAndQuiescent};
+ghost use Rattle.spsc_queue.specs.RingBuffers.{Kind, RingBuffer, lamport, capacity, writes_to, unpublished, unreleased, IsEmptyAndQuiescent};
 ghost use Rattle.spsc_queue.specs.Protocol.{at_start, protocol_after, asked, placed, room_at, says_full, watched_address, says_empty};
 ghost use Rattle.store_buffers.specs.StoreBuffers.{AllLeaveByte, IsOnlyWriter};
 ghost use Rattle.spsc_queue.specs.Laws.{IsPrefix, FollowsSpscProtocol, available_words, available_count, known_count, ready_count};
@@ -37,7 +37,7 @@ ghost use Rattle.spsc_queue.specs.Calls.{SpscQueue, Party, the_sender, the_recei
 ghost use Rattle.spsc_queue.specs.Calls.{buffer, is_sender_in_call, is_receiver_in_call, sent_words, received_words};
 ghost use Rattle.spsc_queue.specs.Calls.{CallerObligation, UsesAsSpscQueue};
 ghost use Rattle.spsc_queue.specs.CallEffects.{IsCallUnderWay, longest, ContinuesCall, IsSend, IsReceive, accesses, completed_word, SendEffect, ReceiveEffect};
-ghost use Rattle.spsc_queue.specs.CallEffects.{FoundFull, FoundEmpty};
+ghost use Rattle.spsc_queue.specs.CallEffects.{SendSoFar, ReceiveSoFar, FoundFull, FoundEmpty};
 ghost use Rattle.spsc_queue.specs.Obligations.{obligations_kept};
 ghost use Rattle.spsc_queue.specs.ManyQueues.{UsesManyQueues};
 ghost use Rattle.spsc_queue.specs.Example as example;
@@ -87,11 +87,15 @@ pub fn tables_mean()
 /// - `reclamation`: once more words are ready than were taken at some point and the queue holds besides, all that the
 ///   receiver's hart had stored there has landed.
 /// - `linearization_of_empty`: where a receiver that has read its tail looks for a word and sees none (the head is the same,
-///   or the slot holds 0), each word that is available is taken, except for what the sender's pending stores hold back.
+///   or the slot holds 0), all words that are available are taken, except just those that the sender's pending stores hold back: of
+///   Lamport's the pending heads count, of FastForward's the pending words.
 /// - `linearization_of_full`: where a sender that has read its head looks for room and sees none (the tail is the next
-///   offset, or the slot holds a word), all that the queue holds is stored and not taken, except for what the receiver's
-///   pending stores hold back.
-/// - `room`: in Lamport's never more is, so that there it is just so much.
+///   offset, or the slot holds a word), just so many words are stored and not taken as the queue holds, less the slots that the
+///   receiver's pending stores hold back: of Lamport's the pending tails count, of FastForward's the pending zeros.
+/// - `availability_of_words`: where a receiver looks for a word, it sees one if at an earlier point more words were available than it has
+///   taken, without those that pending stores held back there. So what has landed is found.
+/// - `availability_of_room`: and a sender sees room if there was some at an earlier point, without the slots held back there.
+/// - `room`: in Lamport's never more is stored and not taken than the queue holds, less one for each pending store of the receiver's.
 pub fn laws_of_protocol()
     ensures fifo { (B : ℕ) (r : RingBuffer) (o : OpeningValue) (before es : List Entry) → FollowsSpscProtocol B r o before es
         → IsPrefix (protocol_after r at_start es).received (available_words r (protocol_after r at_start es)) }
@@ -105,12 +109,22 @@ pub fn laws_of_protocol()
         → FollowsSpscProtocol B r o before (es ++ e ∷ fs) → (u v : ℕ) → hart_of e ≡ r.receiver → access_of e ≡ load (watched_address r.kind r u) 4 v
         → says_empty r.kind u v ≡ true → (protocol_after r at_start es).receiving ≡ asked u
         → available_count r (protocol_after r at_start es)
-        ≤ (protocol_after r at_start es).taken + length (writes_to r (pending r.sender (before ++ es))) }
+        ≡ (protocol_after r at_start es).taken + unpublished r (pending r.sender (before ++ es)) }
     ensures linearization_of_full { (B : ℕ) (r : RingBuffer) (o : OpeningValue) (before es : List Entry) (e : Entry) (fs : List Entry)
         → FollowsSpscProtocol B r o before (es ++ e ∷ fs) → (u v : ℕ) → hart_of e ≡ r.sender → access_of e ≡ load (room_at r.kind r u) 4 v
         → says_full r.kind r u v ≡ true → (protocol_after r at_start es).sending ≡ placed u
         → (protocol_after r at_start es).taken + capacity r
-        ≤ (protocol_after r at_start es).stored + length (writes_to r (pending r.receiver (before ++ es))) }
+        ≡ (protocol_after r at_start es).stored + unreleased r (pending r.receiver (before ++ es)) }
+    ensures availability_of_words { (B : ℕ) (r : RingBuffer) (o : OpeningValue) (before es fs : List Entry) (e : Entry) (gs : List Entry)
+        → FollowsSpscProtocol B r o before (es ++ (fs ++ e ∷ gs)) → (u v : ℕ) → hart_of e ≡ r.receiver
+        → access_of e ≡ load (watched_address r.kind r u) 4 v → (protocol_after r at_start (es ++ fs)).receiving ≡ asked u
+        → (protocol_after r at_start (es ++ fs)).taken + unpublished r (pending r.sender (before ++ es)) < available_count r (protocol_after r at_start es)
+        → says_empty r.kind u v ≡ false }
+    ensures availability_of_room { (B : ℕ) (r : RingBuffer) (o : OpeningValue) (before es fs : List Entry) (e : Entry) (gs : List Entry)
+        → FollowsSpscProtocol B r o before (es ++ (fs ++ e ∷ gs)) → (u v : ℕ) → hart_of e ≡ r.sender
+        → access_of e ≡ load (room_at r.kind r u) 4 v → (protocol_after r at_start (es ++ fs)).sending ≡ placed u
+        → (protocol_after r at_start (es ++ fs)).stored + unreleased r (pending r.receiver (before ++ es)) < (protocol_after r at_start es).taken + capacity r
+        → says_full r.kind r u v ≡ false }
     ensures room { (B : ℕ) (r : RingBuffer) (o : OpeningValue) (before es : List Entry) → FollowsSpscProtocol B r o before es → r.kind ≡ lamport
         → (protocol_after r at_start es).stored + length (writes_to r (pending r.receiver (before ++ es)))
         ≤ (protocol_after r at_start es).taken + capacity r }
@@ -200,9 +214,13 @@ pub fn laws_of_many_queues()
 /// - `send_goes_on` and `receive_goes_on`: in a call, which may be cut at any point, a hart runs, wants nothing of memory, a load or
 ///   a store, and has made fewer entries than a call makes at most (`longest`). So no call stops a hart, and with its 11th entry, or
 ///   its 15th with a copy, a call is over.
+/// - `send_so_far` and `receive_so_far`: such a call's accesses are the first of those of a whole call, none touches a byte outside
+///   the block, and the registers that a whole call keeps are as they were at its entry.
 /// - `sends` and `receives`: a call that returns 1 completes the word in a1, and one that returns 0 completes none.
-/// - `linearization_of_full` and `linearization_of_empty`: a call that returned 0 found the queue so at its last load,
-///   as far as the partner's stores had landed.
+/// - `linearization_of_full` and `linearization_of_empty`: a call that returned 0 found the queue so at its last load, except for
+///   what pending stores of the partner's held back there.
+/// - `availability_of_words` and `availability_of_room`: a call returns 1 if, where it began, a word was there to be received, or
+///   room to send one, except for what pending stores of the partner's held back there. So a word that has landed is received.
 pub fn laws_of_one_call()
     ensures send { (B M : ℕ) (o : OpeningValue) (q : SpscQueue) (before done call : List Entry) (s z : HartState)
         → UsesAsSpscQueue B M o q before (done ++ call) → IsSend M o q before done call s z
@@ -218,6 +236,14 @@ pub fn laws_of_one_call()
         → UsesAsSpscQueue B M o q before (done ++ part) → IsCallUnderWay M o q.receiver q.receive_line q.block before done part s
         → state_of M (history_of o (before ++ (done ++ part))) q.receiver ≡ Some z
         → ContinuesCall (longest the_receiver (buffer q)) z (length (own q.receiver part)) }
+    ensures send_so_far { (B M : ℕ) (o : OpeningValue) (q : SpscQueue) (before done part : List Entry) (s z : HartState)
+        → UsesAsSpscQueue B M o q before (done ++ part) → IsCallUnderWay M o q.sender q.send_line q.block before done part s
+        → state_of M (history_of o (before ++ (done ++ part))) q.sender ≡ Some z
+        → SendSoFar q.block.kind (buffer q) s z (accesses q.sender part) }
+    ensures receive_so_far { (B M : ℕ) (o : OpeningValue) (q : SpscQueue) (before done part : List Entry) (s z : HartState)
+        → UsesAsSpscQueue B M o q before (done ++ part) → IsCallUnderWay M o q.receiver q.receive_line q.block before done part s
+        → state_of M (history_of o (before ++ (done ++ part))) q.receiver ≡ Some z
+        → ReceiveSoFar q.block.kind (buffer q) s z (accesses q.receiver part) }
     ensures sends { (B M : ℕ) (o : OpeningValue) (q : SpscQueue) (before done call : List Entry) (s z : HartState)
         → UsesAsSpscQueue B M o q before (done ++ call) → IsSend M o q before done call s z
         → sent_words M o q before (done ++ call) ≡ sent_words M o q before done ++ completed_word z }
@@ -230,6 +256,15 @@ pub fn laws_of_one_call()
     ensures linearization_of_empty { (B M : ℕ) (o : OpeningValue) (q : SpscQueue) (before done call : List Entry) (s z : HartState)
         → UsesAsSpscQueue B M o q before (done ++ call) → IsReceive M o q before done call s z
         → slice_index z.registers 10 ≡ 0 → FoundEmpty M o q before done call }
+    ensures availability_of_words { (B M : ℕ) (o : OpeningValue) (q : SpscQueue) (before done call : List Entry) (s z : HartState)
+        → UsesAsSpscQueue B M o q before (done ++ call) → IsReceive M o q before done call s z
+        → length (received_words M o q before done) + unpublished (buffer q) (pending q.sender (before ++ done)) < length (sent_words M o q before done)
+        → slice_index z.registers 10 ≡ 1 }
+    ensures availability_of_room { (B M : ℕ) (o : OpeningValue) (q : SpscQueue) (before done call : List Entry) (s z : HartState)
+        → UsesAsSpscQueue B M o q before (done ++ call) → IsSend M o q before done call s z
+        → length (sent_words M o q before done) + unreleased (buffer q) (pending q.receiver (before ++ done))
+        < length (received_words M o q before done) + capacity (buffer q)
+        → slice_index z.registers 10 ≡ 1 }
 {}
 
 /// What callers owe can be computed, and can be kept. It does nothing.

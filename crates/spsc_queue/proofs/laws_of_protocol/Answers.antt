@@ -1,6 +1,6 @@
 use Rattle.spsc_queue.proofs.Runs.{delivered}
 use Rattle.spsc_queue.proofs.Publication.{published, returned}
-use Rattle.spsc_queue.proofs.Linearization.{empty_landed, full_landed, room_landed}
+use Rattle.spsc_queue.proofs.Linearization.{empty_landed, full_landed, word_found, room_found, room_landed}
 use Rattle.spsc_queue.proofs.laws_of_protocol.Goals as goal
 
 pub returns-clause-fifo : goal.returns-clause-fifo
@@ -21,3 +21,11 @@ returns-clause-linearization_of_full c = λ B r o before es e fs follows u v min
 
 pub returns-clause-room : goal.returns-clause-room
 returns-clause-room c = λ B r o before es follows kind. room_landed B r o before es follows kind
+
+pub returns-clause-availability_of_words : goal.returns-clause-availability_of_words
+returns-clause-availability_of_words c =
+    λ B r o before es fs e gs follows u v mine does was more. word_found B r o before es fs e gs follows u v mine does was more
+
+pub returns-clause-availability_of_room : goal.returns-clause-availability_of_room
+returns-clause-availability_of_room c =
+    λ B r o before es fs e gs follows u v mine does was more. room_found B r o before es fs e gs follows u v mine does was more
