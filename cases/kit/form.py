@@ -14,6 +14,7 @@ STREAMS = ("stdin", "stdout")
 # how the text of standard input is given: at a pseudoterminal, or by a pipe
 TYPED = ("at-a-terminal", "line-by-line", "text-by-text", "byte-by-byte")
 NAME = re.compile(r"[^\s/]+")
+TOOL = re.compile(rb"\./ztso|(?:tools|examples|scripts|tests)/[\w./-]+")
 LIKE = re.compile(r"(\S+), with line ([1-9][0-9]*):(?: (.*))?")
 
 Pieces = List[Tuple[int, bytes]]
@@ -38,11 +39,13 @@ class Stream:
 
 @dataclass
 class Case:
-    """One run of the program."""
+    """One run of the program, or of a tool."""
 
     name: str
     words: List[bytes]
     status: int = 0
+    # the tool that runs in the program's place, by its path in the repository
+    tool: Optional[str] = None
     # a line for the shell that runs the program as ./ztso, in place of words
     shell: Optional[str] = None
     comments: List[str] = field(default_factory=list)
@@ -81,7 +84,7 @@ class Case:
     def is_plain(self):
         """Whether it has a command line, a status, one file and lines of standard error, and nothing else."""
         return len(self.files) == 1 and not self.shell and substance(self) == substance(
-            Case(self.name, self.words, self.status, files=self.files))
+            Case(self.name, self.words, self.status, self.tool, files=self.files))
 
     def group(self):
         return "litmus" if self.path.suffix == ".expected" else self.path.stem
@@ -92,7 +95,7 @@ class Case:
 
 def substance(case):
     """All of a case except its comments, its standard error and its place."""
-    return (case.words, case.status, case.memory, case.each_allocation, case.typed, case.wiped, case.copied,
+    return (case.words, case.status, case.tool, case.memory, case.each_allocation, case.typed, case.wiped, case.copied,
             case.files, case.stdin, case.stdout, case.like)
 
 
@@ -184,9 +187,10 @@ class Reader:
             self.take_like(case, rest)
         elif head == "$":
             words = escapes.read_words(rest)
-            if case.words is not None or not words or words[0] != b"ztso":
-                raise self.refused("not one command line `ztso ..` of plain and quoted words")
-            case.words = words[1:]
+            is_tool = words and TOOL.fullmatch(words[0])
+            if case.words is not None or not words or words[0] != b"ztso" and not is_tool:
+                raise self.refused("not one command line `ztso ..` or `tools/NAME ..` of plain and quoted words")
+            case.words, case.tool = words[1:], words[0].decode() if is_tool else None
         elif head == "!":
             case.stderr += escapes.read_line(rest)
         elif head == "status" and rest.isdigit():
@@ -221,7 +225,7 @@ class Reader:
         if number > len(lines):
             raise self.refused(f"{base.name} has no line {number}")
         lines[number - 1] = escapes.read_line(form[3] or "")
-        case.words, case.status, case.like = base.words, base.status, (base.name, number)
+        case.words, case.status, case.tool, case.like = base.words, base.status, base.tool, (base.name, number)
         case.files = {name: escapes.pieces_of(b"".join(lines))}
 
     def take_file(self, case, name):
@@ -284,7 +288,7 @@ def like_line(case):
 
 def given(case):
     """The lines of a case between its comments and its standard error."""
-    yield " ".join(["$ ztso", *map(escapes.quoted, case.words)])
+    yield " ".join([f"$ {case.tool or 'ztso'}", *map(escapes.quoted, case.words)])
     if case.status:
         yield f"status {case.status}"
     if case.memory is not None:

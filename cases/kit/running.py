@@ -7,6 +7,7 @@ import tempfile
 from pathlib import Path
 
 from . import terminal, typing_in
+from .links import ROOT
 
 SECONDS = 60
 # what stands for a number in a text that is wiped: any, or one within bounds
@@ -98,10 +99,17 @@ def command(program, case):
     line for the shell."""
     if case.shell is not None:
         return ["/bin/bash", "-c", case.shell.replace("./ztso", '"$0"'), os.fsencode(program)]
-    words = [os.fsencode(program), *case.words]
+    words = words_of(program, case)
     if not case.needs_shell():
         return words
     return ["/bin/sh", "-c", f'{shell_front(case)}exec "$0" "$@"{redirections(case)}', *words]
+
+
+def words_of(program, case):
+    """The words of the command line. Of a tool's, PROGRAM stands for the program."""
+    if case.tool is None:
+        return [os.fsencode(program), *case.words]
+    return [os.fsencode(ROOT / case.tool), *(os.fsencode(program) if word == b"PROGRAM" else word for word in case.words)]
 
 
 def device(stream, flags):
