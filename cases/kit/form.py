@@ -12,7 +12,9 @@ ROOT = CASES.parent
 SUFFIXES = (".cases", ".expected")
 STREAMS = ("stdin", "stdout")
 # how the text of standard input is given: at a pseudoterminal, or by a pipe
-TYPED = ("at-a-terminal", "line-by-line", "text-by-text", "byte-by-byte")
+TYPED = ("at-a-terminal", "line-by-line", "text-by-text", "byte-by-byte", "in-two-pieces")
+# what `wiped` is where nothing may be written to the terminal and wiped
+NOTHING = (b"",)
 NAME = re.compile(r"[^\s/]+")
 TOOL = re.compile(rb"\./ztso|(?:tools|examples|scripts|tests)/[\w./-]+")
 LIKE = re.compile(r"(\S+), with line ([1-9][0-9]*):(?: (.*))?")
@@ -166,7 +168,7 @@ class Reader:
                 raise self.refused(f"{case.name} is run by a shell, whose allocations aren't to be refused")
             if case.typed and (case.stdin.device or case.stdout.device):
                 raise self.refused(f"{case.name} has no text that is typed, or no pipe for the answers")
-            if case.wiped is not None and (case.typed or case.needs_shell()):
+            if case.wiped is not None and (case.typed not in (None, "in-two-pieces") or case.needs_shell()):
                 raise self.refused(f"{case.name} has another way of running than with standard error at a terminal")
         return found
 
@@ -203,8 +205,8 @@ class Reader:
             case.typed = rest
         elif head == "wiped" and rest:
             case.wiped = (case.wiped or ()) + (escapes.read_line(rest).removesuffix(b"\n"),)
-        elif line == "stderr at-a-terminal" and case.wiped is None:
-            case.wiped = ()
+        elif line in ("stderr at-a-terminal", "stderr never-wiped") and case.wiped is None:
+            case.wiped = () if line.endswith("terminal") else NOTHING
         elif head == "copy" and rest:
             case.copied += rest.split(" ")
         elif head == "file" and rest.endswith(":"):
@@ -297,10 +299,10 @@ def given(case):
         yield f"each-allocation {case.each_allocation}".rstrip()
     if case.typed:
         yield f"typed {case.typed}"
-    if case.wiped == ():
-        yield "stderr at-a-terminal"
-    for wiped in case.wiped or ():
-        yield f"wiped {escapes.shown(wiped)}"
+    if case.wiped in ((), NOTHING):
+        yield "stderr never-wiped" if case.wiped else "stderr at-a-terminal"
+    else:
+        yield from (f"wiped {escapes.shown(wiped)}" for wiped in case.wiped or ())
     if case.copied:
         yield " ".join(["copy", *case.copied])
     for name, pieces in case.files.items():

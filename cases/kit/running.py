@@ -6,7 +6,7 @@ import subprocess
 import tempfile
 from pathlib import Path
 
-from . import terminal, typing_in
+from . import form, terminal, typing_in
 from .links import ROOT
 
 SECONDS = 60
@@ -134,7 +134,9 @@ def run_in(program, case, inside, variables):
         Path(inside, name).write_bytes(content)
     if case.typed:
         environment = {**os.environ, **variables} if variables else None
-        return typing_in.run(case.typed, case.stdin.content(), command(program, case), inside, environment, SECONDS)
+        status, errors, output = typing_in.run(case.typed, case.stdin.content(), command(program, case), inside, environment,
+                                               SECONDS, case.wiped is not None)
+        return status, errors if case.wiped is None else remaining(errors, case.wiped), output
     given, taken = device(case.stdin, os.O_RDONLY), device(case.stdout, os.O_WRONLY)
     options = {
         **({"stdin": subprocess.DEVNULL if given is None else given} if case.stdin.device
@@ -163,6 +165,10 @@ def remaining(written, wiped):
     """What a terminal shows of what was written to it, where the texts that are gone are as wanted: the last one is the
     last of `wiped`, and the others are among those before it, in this order."""
     shown, gone = terminal.shown(written)
+    if wiped == form.NOTHING and gone:
+        raise Wrong(f"texts that were wiped at the terminal, where none should be: {gone}")
+    if wiped == form.NOTHING:
+        return shown
     if not (is_text(wiped[-1], gone[-1]) if wiped and gone else wiped == ()):
         raise Wrong(f"the last text that was wiped at the terminal: {gone[-1:]}, wanted {wiped[-1:]}")
     before = iter(gone[:-1])
