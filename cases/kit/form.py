@@ -12,8 +12,11 @@ ROOT = CASES.parent
 SUFFIXES = (".cases", ".expected")
 STREAMS = ("stdin", "stdout")
 # how the text of standard input is given: at a pseudoterminal, or by a pipe
-TYPED = ("at-a-terminal", "line-by-line", "text-by-text", "byte-by-byte")
+TYPED = ("at-a-terminal", "line-by-line", "text-by-text", "byte-by-byte", "in-two-pieces")
+# what `wiped` is where nothing may be written to the terminal and wiped
+NOTHING = (b"",)
 NAME = re.compile(r"[^\s/]+")
+TOOL = re.compile(rb"\./ztso|(?:tools|examples|scripts|tests)/[\w./-]+")
 LIKE = re.compile(r"(\S+), with line ([1-9][0-9]*):(?: (.*))?")
 
 Pieces = List[Tuple[int, bytes]]
@@ -38,11 +41,13 @@ class Stream:
 
 @dataclass
 class Case:
-    """One run of the program."""
+    """One run of the program, or of a tool."""
 
     name: str
     words: List[bytes]
     status: int = 0
+    # the tool that runs in the program's place, by its path in the repository
+    tool: Optional[str] = None
     # a line for the shell that runs the program as ./ztso, in place of words
     shell: Optional[str] = None
     comments: List[str] = field(default_factory=list)
@@ -81,7 +86,7 @@ class Case:
     def is_plain(self):
         """Whether it has a command line, a status, one file and lines of standard error, and nothing else."""
         return len(self.files) == 1 and not self.shell and substance(self) == substance(
-            Case(self.name, self.words, self.status, files=self.files))
+            Case(self.name, self.words, self.status, self.tool, files=self.files))
 
     def group(self):
         return "litmus" if self.path.suffix == ".expected" else self.path.stem
@@ -92,7 +97,7 @@ class Case:
 
 def substance(case):
     """All of a case except its comments, its standard error and its place."""
-    return (case.words, case.status, case.memory, case.each_allocation, case.typed, case.wiped, case.copied,
+    return (case.words, case.status, case.tool, case.memory, case.each_allocation, case.typed, case.wiped, case.copied,
             case.files, case.stdin, case.stdout, case.like)
 
 
@@ -163,7 +168,7 @@ class Reader:
                 raise self.refused(f"{case.name} is run by a shell, whose allocations aren't to be refused")
             if case.typed and (case.stdin.device or case.stdout.device):
                 raise self.refused(f"{case.name} has no text that is typed, or no pipe for the answers")
-            if case.wiped is not None and (case.typed or case.needs_shell()):
+            if case.wiped is not None and (case.typed not in (None, "in-two-pieces") or case.needs_shell()):
                 raise self.refused(f"{case.name} has another way of running than with standard error at a terminal")
         return found
 
@@ -184,9 +189,10 @@ class Reader:
             self.take_like(case, rest)
         elif head == "$":
             words = escapes.read_words(rest)
-            if case.words is not None or not words or words[0] != b"ztso":
-                raise self.refused("not one command line `ztso ..` of plain and quoted words")
-            case.words = words[1:]
+            is_tool = words and TOOL.fullmatch(words[0])
+            if case.words is not None or not words or words[0] != b"ztso" and not is_tool:
+                raise self.refused("not one command line `ztso ..` or `tools/NAME ..` of plain and quoted words")
+            case.words, case.tool = words[1:], words[0].decode() if is_tool else None
         elif head == "!":
             case.stderr += escapes.read_line(rest)
         elif head == "status" and rest.isdigit():
@@ -199,8 +205,8 @@ class Reader:
             case.typed = rest
         elif head == "wiped" and rest:
             case.wiped = (case.wiped or ()) + (escapes.read_line(rest).removesuffix(b"\n"),)
-        elif line == "stderr at-a-terminal" and case.wiped is None:
-            case.wiped = ()
+        elif line in ("stderr at-a-terminal", "stderr never-wiped") and case.wiped is None:
+            case.wiped = () if line.endswith("terminal") else NOTHING
         elif head == "copy" and rest:
             case.copied += rest.split(" ")
         elif head == "file" and rest.endswith(":"):
@@ -221,7 +227,7 @@ class Reader:
         if number > len(lines):
             raise self.refused(f"{base.name} has no line {number}")
         lines[number - 1] = escapes.read_line(form[3] or "")
-        case.words, case.status, case.like = base.words, base.status, (base.name, number)
+        case.words, case.status, case.tool, case.like = base.words, base.status, base.tool, (base.name, number)
         case.files = {name: escapes.pieces_of(b"".join(lines))}
 
     def take_file(self, case, name):
@@ -284,7 +290,7 @@ def like_line(case):
 
 def given(case):
     """The lines of a case between its comments and its standard error."""
-    yield " ".join(["$ ztso", *map(escapes.quoted, case.words)])
+    yield " ".join([f"$ {case.tool or 'ztso'}", *map(escapes.quoted, case.words)])
     if case.status:
         yield f"status {case.status}"
     if case.memory is not None:
@@ -293,10 +299,10 @@ def given(case):
         yield f"each-allocation {case.each_allocation}".rstrip()
     if case.typed:
         yield f"typed {case.typed}"
-    if case.wiped == ():
-        yield "stderr at-a-terminal"
-    for wiped in case.wiped or ():
-        yield f"wiped {escapes.shown(wiped)}"
+    if case.wiped in ((), NOTHING):
+        yield "stderr never-wiped" if case.wiped else "stderr at-a-terminal"
+    else:
+        yield from (f"wiped {escapes.shown(wiped)}" for wiped in case.wiped or ())
     if case.copied:
         yield " ".join(["copy", *case.copied])
     for name, pieces in case.files.items():

@@ -6,7 +6,8 @@ import subprocess
 import tempfile
 from pathlib import Path
 
-from . import terminal, typing_in
+from . import form, terminal, typing_in
+from .links import ROOT
 
 SECONDS = 60
 # what stands for a number in a text that is wiped: any, or one within bounds
@@ -98,10 +99,17 @@ def command(program, case):
     line for the shell."""
     if case.shell is not None:
         return ["/bin/bash", "-c", case.shell.replace("./ztso", '"$0"'), os.fsencode(program)]
-    words = [os.fsencode(program), *case.words]
+    words = words_of(program, case)
     if not case.needs_shell():
         return words
     return ["/bin/sh", "-c", f'{shell_front(case)}exec "$0" "$@"{redirections(case)}', *words]
+
+
+def words_of(program, case):
+    """The words of the command line. Of a tool's, PROGRAM stands for the program."""
+    if case.tool is None:
+        return [os.fsencode(program), *case.words]
+    return [os.fsencode(ROOT / case.tool), *(os.fsencode(program) if word == b"PROGRAM" else word for word in case.words)]
 
 
 def device(stream, flags):
@@ -126,7 +134,9 @@ def run_in(program, case, inside, variables):
         Path(inside, name).write_bytes(content)
     if case.typed:
         environment = {**os.environ, **variables} if variables else None
-        return typing_in.run(case.typed, case.stdin.content(), command(program, case), inside, environment, SECONDS)
+        status, errors, output = typing_in.run(case.typed, case.stdin.content(), command(program, case), inside, environment,
+                                               SECONDS, case.wiped is not None)
+        return status, errors if case.wiped is None else remaining(errors, case.wiped), output
     given, taken = device(case.stdin, os.O_RDONLY), device(case.stdout, os.O_WRONLY)
     options = {
         **({"stdin": subprocess.DEVNULL if given is None else given} if case.stdin.device
@@ -155,6 +165,10 @@ def remaining(written, wiped):
     """What a terminal shows of what was written to it, where the texts that are gone are as wanted: the last one is the
     last of `wiped`, and the others are among those before it, in this order."""
     shown, gone = terminal.shown(written)
+    if wiped == form.NOTHING and gone:
+        raise Wrong(f"texts that were wiped at the terminal, where none should be: {gone}")
+    if wiped == form.NOTHING:
+        return shown
     if not (is_text(wiped[-1], gone[-1]) if wiped and gone else wiped == ()):
         raise Wrong(f"the last text that was wiped at the terminal: {gone[-1:]}, wanted {wiped[-1:]}")
     before = iter(gone[:-1])

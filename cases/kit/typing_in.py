@@ -8,8 +8,12 @@ import termios
 import threading
 import time
 
+from . import terminal
+
 # the byte that ends what is typed at a terminal, at the beginning of a line
 END = b"\x04"
+# how long the second of two pieces waits
+PAUSE = 1.2
 
 
 class Taken(threading.Thread):
@@ -46,20 +50,23 @@ def bits_of(how, text):
         return [*lines, END]
     if how == "line-by-line":
         return lines
+    if how == "in-two-pieces":
+        return [text[:len(text) // 2], text[len(text) // 2:]]
     heads = [at + 1 for at, line in enumerate(lines) if at and line == lines[0]]
     return [b"".join(lines[begin:end]) for begin, end in zip([0, *heads], [*heads, len(lines)])]
 
 
-def run(how, text, words, folder, environment, seconds):
-    """The status, standard error and standard output. A line is typed at a terminal once the prompt for
-    it stands on standard error, and given by a pipe once the line before it was answered on standard
-    output; a text of several is answered once the next one has begun; a byte is given once the one before
-    it was read."""
+def run(how, text, words, folder, environment, seconds, at_terminal=False):
+    """The status, standard error (a pseudoterminal if asked for) and standard output. A line is typed at a
+    terminal once the prompt for it stands on standard error, and given by a pipe once the line before it was
+    answered on standard output; a text of several is answered once the next one has begun; a byte is given once
+    the one before it was read; of two pieces the second waits for more than a second."""
     inner, outer = os.pipe() if how != "at-a-terminal" else reversed(pty.openpty())
+    shown, written = pty.openpty() if at_terminal else (None, subprocess.PIPE)
     until = time.monotonic() + seconds
-    with subprocess.Popen(words, stdin=inner, stdout=subprocess.PIPE, stderr=subprocess.PIPE, cwd=folder,
+    with subprocess.Popen(words, stdin=inner, stdout=subprocess.PIPE, stderr=written, cwd=folder,
                           env=environment) as process:
-        answers, errors = Taken(process.stdout), Taken(process.stderr)
+        answers, errors = Taken(process.stdout), terminal.Drain(shown) if at_terminal else Taken(process.stderr)
         bits = bits_of(how, text)
         try:
             for place, bit in enumerate(bits):
@@ -68,7 +75,9 @@ def run(how, text, words, folder, environment, seconds):
                     wait_for(lambda: errors.content.endswith(b"> "), process, until)
                     time.sleep(0.02)
                 os.write(outer, bit)
-                if how == "byte-by-byte":
+                if how == "in-two-pieces":
+                    time.sleep(0 if place else PAUSE)
+                elif how == "byte-by-byte":
                     wait_for(lambda: not unread(inner), process, until)
                 elif how == "at-a-terminal":
                     if bit != END:
@@ -89,7 +98,11 @@ def run(how, text, words, folder, environment, seconds):
         finally:
             process.kill()
         answers.join(1)
+        if at_terminal:
+            os.close(written)
         errors.join(1)
+    if at_terminal:
+        os.close(shown)
     if how == "at-a-terminal":
         os.close(outer)
     return status, errors.content, answers.content

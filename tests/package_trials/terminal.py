@@ -231,6 +231,10 @@ def progress(count, place, share):
     done, written = terminal.run(list(map(str, words)), stdout=subprocess.PIPE, timeout=SECONDS)
     shown, gone = terminal.shown(written)
     count.told("the progress of check", shown == b"" and gone and gone[-1].startswith(b"0 kB read, ") and done.stdout, (shown, gone))
+    # what is written to the terminal itself stands in lines of its own
+    done, written = terminal.run([*words[:2], words[2].replace('check "$1"', 'check "$1" >&2'), *map(str, words[3:])], timeout=SECONDS)
+    shown, gone = terminal.shown(written)
+    count.same("the answers of check at a terminal", shown, b"1 unfinished\n2 unfinished\nunfinished 2\nrefused 0\n")
 
 
 def prompt(count, place, share):

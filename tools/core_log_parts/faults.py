@@ -7,10 +7,14 @@ from .record import ECALL, FETCH_FAULT, has_landings
 JUMPS = (0x63, 0x67, 0x6F)
 
 
-def faults(run, opening):
-    """The faults of a run: their kinds, `drain`, `code` and `cut`, and what is said of them."""
+def faults(run, opening, events, order):
+    """The faults of a run with these events in this order: their kinds, `drain`, `order`, `code` and `cut`, and what is
+    said of them."""
     if has_landings(run):
-        yield from drains(run)
+        yield from drains(run, events)
+    elif run.has_drains and order != "placed":
+        yield "drain", "it has stores and no line `drain`: --order placed searches for the landings of such a log"
+    yield from backward(run)
     yield from other_words(run, opening)
     yield from (("cut", note) for note in run.notes)
     if run.timed_out:
@@ -21,14 +25,15 @@ def faults(run, opening):
         yield from unended(run, opening)
 
 
-def drains(run):
-    """Drains that aren't their hart's oldest store; and where the run ended, stores that no drain let out."""
+def drains(run, events):
+    """Drains that aren't their hart's oldest store in the record's order; and where the run ended, stores that no drain
+    let out."""
     pending = {}
-    for step in run.steps:
-        stores = pending.setdefault(step.hart, [])
-        if isinstance(step, Retired) and step.write_lanes and not step.read_lanes:
+    for event in events:
+        stores, step = pending.setdefault(event.hart, []), event.step
+        if event.name.startswith("store"):
             stores.append(step)
-        elif isinstance(step, Drained):
+        elif event.letter == "l":
             oldest = stores.pop(0) if stores else None
             if oldest is None or (step.address, step.lanes, step.data) != (oldest.address, oldest.write_lanes, oldest.written):
                 drained = store_text(step.address, step.lanes, step.data)
@@ -42,6 +47,18 @@ def drains(run):
 
 def store_text(address, lanes, data):
     return f"{address:x} mask {lanes:x} data {data:x}"
+
+
+def backward(run):
+    """Instructions that retire before the one that stands above them of the same hart."""
+    last = {}
+    for step in run.steps:
+        if not isinstance(step, Drained):
+            above = last.get(step.hart)
+            if above and step.cycle < above.cycle:
+                yield "order", (f"line {step.line}: hart {step.hart} retires in cycle {step.cycle} what stands after line "
+                                f"{above.line}, of cycle {above.cycle}: a hart's lines go in its program's order")
+            last[step.hart] = step
 
 
 def other_words(run, opening):

@@ -79,13 +79,13 @@ def events(run, opening, order="performed", capacity=4):
     """A run's events. The order is by the cycle in which each took effect; `placed`, which knows of loads only
     when they retired, and places landings too where the log has none; or `retired`, as the log has them."""
     found = [made for step in run.steps if (made := event(step, opening))]
-    if order == "placed" and not has_landings(run):
-        return landings.placed(found, opening.words, capacity)
     if order == "retired":
         return found
     stamps = list(times(found, order))
     found = [found[at] for at in sorted(range(len(found)), key=lambda at: (stamps[at], at))]
-    return placing.placed(found, opening.words) if order == "placed" else found
+    if order == "performed":
+        return found
+    return placing.placed(found, opening.words) if has_landings(run) else landings.placed(found, opening.words, capacity)
 
 
 def text(found):

@@ -32,7 +32,7 @@ class Asked:
 @dataclass
 class Report:
     """What came of a test's runs. The kinds of faults are `refused`, `unfinished`, `cut`, `state`, `drain`,
-    `code`, `outcome` and `register`."""
+    `order`, `code`, `outcome` and `register`."""
     name: str
     runs: int = 0
     failed: int = 0
@@ -65,7 +65,8 @@ def check_run(report, asked, entry, test, run, events, line):
         if line not in (judge.ACCEPTED, judge.UNFINISHED):
             report.add("refused", run.seed, lambda: line)
         return
-    for kind, words in {kind: words for kind, words in reversed(list(faults.faults(run, test)))}.items():
+    found = list(faults.faults(run, test, events, asked.order))
+    for kind, words in {kind: words for kind, words in reversed(found)}.items():
         report.add(kind, run.seed, lambda words=words: words)
     if line not in (judge.ACCEPTED, judge.UNFINISHED):
         report.add("refused", run.seed, lambda: explaining.refused(asked, path, events, line))
