@@ -97,7 +97,7 @@ def sources(count):
     words = c_tests.Words([0, 7, 0, 0, 0, 0, 0], [(4, 4, "x"), (8, 8, "y.0"), (16, 4, "y_0_1"), (20, 4, "null")])
     words.open({"x": ["null"]})
     words.push_stack(0, 4)
-    wanted = ["int null_; int x=null; int y_0; int y_0_1_; int y_0_1; int null; int const24; int stack0_0;"]
+    wanted = ["int null_; int x=null; int y_0; int y_0_1_; int y_0_1; int null; int word24; int stack0_0;"]
     count.told("words", words.items() == wanted, str(words.items()))
     names = [words.named(text, "") for text in ("x", "x[0]", "y_0_1", "null", "stack0_0")]
     count.told("names of words", names == ["x", "x", "y_0_1", "null", "stack0_0"], str(names))

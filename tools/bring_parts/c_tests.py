@@ -134,7 +134,7 @@ class Words:
             if place < len(self.names) and self.names[place] is None:
                 self.names[place] = self.fresh(called.get(place) or re.sub(r"\W", "_", name) + (f"_{at}" if at else ""))
         for place, name in enumerate(self.names):
-            self.names[place] = name or self.fresh(f"const{4 * place}" if place else "null")
+            self.names[place] = name or self.fresh(f"word{4 * place}" if place else "null")
 
     def called_in_c(self, symbols, parts_of):
         """A name for each word by the first part of an object that begins there: `q_tail` for `q.tail`, and `q_slot` for

@@ -13,7 +13,7 @@ DATA = 4 * 1024
 SCRIPT = """
 SECTIONS {
   .text 0x100000 : { *(.text .text.*) }
-  .data 0 : SUBALIGN(4) { LONG(0);
+  .data 0 : { LONG(0);
     *(SORT_BY_NAME(.data.*)) *(SORT_BY_NAME(.bss.*)) *(.data .sdata .sdata.* .bss .sbss .sbss.* COMMON)
     *(SORT_BY_NAME(.rodata.*)) *(.rodata .srodata .srodata.*) . = ALIGN(4); }
   /DISCARD/ : { *(.comment) *(.riscv.attributes) *(.eh_frame) *(.note*) }
@@ -21,6 +21,8 @@ SECTIONS {
 """
 HEAD = re.compile(r"([0-9a-f]+) <(.+)>:$")
 LINE = re.compile(r" *([0-9a-f]+):\t(\S+)(?:\t([^#<]*))?")
+# a section's name, flags and alignment
+SECTION = re.compile(r" *\[ *[0-9]+\] (\S+) +\w+ +[0-9a-f]+ [0-9a-f]+ [0-9a-f]+ [0-9a-f]+ +([A-Za-z]*) +[0-9]+ +[0-9]+ +([0-9]+)")
 # the operands of a call's two instructions
 UPPER, LOWER = re.compile(r"(x[0-9]+),0x([0-9a-f]+)"), re.compile(r"(x[01]),(-?[0-9]+)\((x[0-9]+)\)")
 PLACE = re.compile(r"(\S.*):([0-9]+)(?: \(discriminator [0-9]+\))?$")
@@ -46,18 +48,35 @@ class Instruction:
         return self.name == "jalr" and self.operands in ("x0,0(x1)", "x0,x1,0")
 
 
+def tool(name, *words):
+    """What a command of binutils prints."""
+    return compilers.output([compilers.binutil(name), *words])
+
+
 def missing(module):
     """The names that a module uses and doesn't define, each with the C line of its first use, or with nothing."""
-    lines = compilers.output([compilers.binutil("nm"), "-u", "-l", module]).splitlines()
+    lines = tool("nm", "-u", "-l", module).splitlines()
     rows = [line.split("\t") for line in lines]
     return {row[0].split()[1]: Path(row[1]).name if row[1:] else "" for row in sorted(rows)}
 
 
 def symbols(module):
     """The objects of a module: address, bytes and name."""
-    lines = compilers.output([compilers.binutil("nm"), "-S", "--defined-only", module]).splitlines()
+    lines = tool("nm", "-S", "--defined-only", module).splitlines()
     rows = [line.split() for line in lines]
     return sorted((int(row[0], 16), int(row[1], 16), row[3]) for row in rows if len(row) == 4 and row[2] not in "tTwW")
+
+
+def by_words(module, folder):
+    """The module with each section of data on a word's boundary at least, and otherwise aligned as it is."""
+    sections = map(SECTION.match, tool("readelf", "-SW", module).splitlines())
+    narrow = {row[1] for row in sections if row and "A" in row[2] and "X" not in row[2] and int(row[3]) < 4}
+    if not narrow:
+        return module
+    made = Path(folder, f"{Path(module).name}.words")
+    words = [word for name in sorted(narrow) for word in ("--set-section-alignment", f"{name}=4")]
+    tool("objcopy", *words, module, made)
+    return made
 
 
 def linked(modules, folder):
@@ -67,23 +86,22 @@ def linked(modules, folder):
         raise Refused(f"{size} bytes of data: ztso has names for {DATA} bytes")
     script, program = Path(folder, "script"), Path(folder, "program")
     script.write_text(SCRIPT)
-    compilers.output([compilers.binutil("ld"), "-m", "elf32lriscv", "--no-relax", "-e", "0", "-T", script,
-                      "-o", program, *modules])
+    tool("ld", "-m", "elf32lriscv", "--no-relax", "-e", "0", "-T", script, "-o", program,
+         *(by_words(module, folder) for module in modules))
     return program
 
 
 def data_of(program, folder):
     """The words of the data, from address 0 on."""
     file = Path(folder, "data")
-    compilers.output([compilers.binutil("objcopy"), "-O", "binary", "-j", ".data", program, file])
+    tool("objcopy", "-O", "binary", "-j", ".data", program, file)
     data = file.read_bytes()
     return [int.from_bytes(data[at:at + 4], "little") for at in range(0, len(data), 4)]
 
 
 def functions_of(program):
     """Each function's instructions by its name."""
-    return functions_in(compilers.output([compilers.binutil("objdump"), "-d", "-l", "-M", "no-aliases,numeric",
-                                          "--no-show-raw-insn", program]))
+    return functions_in(tool("objdump", "-d", "-l", "-M", "no-aliases,numeric", "--no-show-raw-insn", program))
 
 
 def functions_in(listing):
