@@ -1,17 +1,14 @@
 -- What a function reads of an operand, and the relation of the grammar that says the same.
-use Rattle.std.proofs.Common.{◌≡◌, ℕ, ◌<◌, ◌≤◌, ◌^◌, Bool, true, false, not, ◌||◌, eqb, ltb, List, [], ◌∷◌, length}
-use Rattle.std.proofs.Common.{Option, Some, None, Result, Ok, refl, sym, ap, subst, inl, inr, arith, ℤ, pos}
-use Rattle.std.specs.Prelude.{◌==◌, neg_ℤ, int_lt, unsigned_abs, option_map, ◌≤ℤ◌, ◌<ℤ◌, slice_index, drop}
+use Rattle.std.proofs.Common.{◌≡◌, ℕ, ◌<◌, Bool, true, false, not, ◌||◌, eqb, List, [], ◌∷◌}
+use Rattle.std.proofs.Common.{Option, Some, None, Result, Ok, refl, sym, ap, subst, arith, ℤ, pos}
+use Rattle.std.specs.Prelude.{◌==◌, int_lt, option_map, ◌≤ℤ◌}
 use Rattle.std.specs.List.{Contains, list_all}
-use Rattle.std.specs.Char.{digit_value}
-use Rattle.std.specs.Str.Parse.{AllDigits}
-use Rattle.std.proofs.lemmas.Bool.{and_parts, and_right, or_parts, cases_Bool, eqb-true, ne_eqb, le-ltb, lt-ltb, cases_lt}
+use Rattle.std.proofs.lemmas.Bool.{and_parts, or_parts, cases_Bool, eqb-true, le-ltb, cases_lt}
 use Rattle.std.proofs.lemmas.Int.{ints}
 use Rattle.texts.specs.Pieces.{is_blank}
 use Rattle.texts.specs.Cutting.{trimmed, NonePass}
-use Rattle.texts.specs.Numbers.{IsMagnitude, magnitude_of, is_negative, integer_of}
-use Rattle.texts.specs.Numbers.IsMagnitude.{decimal, hex}
-use Rattle.texts.proofs.NumberLaws.{magnitude_found, magnitude_only, negative_text}
+use Rattle.texts.specs.Grammars.{magnitude, integer}
+use Rattle.texts.proofs.GrammarLaws.{all_weaker as all_pass_weaker, test_of_all, integer_settles}
 use Rattle.texts.proofs.ResultLaws.{guard_ok, ok_is, bind_ok}
 use Rattle.rv_decode.specs.Meaning.{reg_of}
 use Rattle.rv_decode.proofs.Meanings.{reg_of-number}
@@ -21,8 +18,7 @@ use Rattle.rv_decode.specs.Registers.{register_names, register_named}
 use Rattle.assembler.specs.Sets.{set_names, set_named}
 use Rattle.assembler.specs.Names.{goes_on_label_name}
 use Rattle.assembler.specs.Operands.{register_in, known_register, in_range, number_in, natural_in, set_in}
-use Rattle.assembler.specs.Spelled.{IsNumber, IsNumberFrom, IsNumberUpTo, IsRegister, IsSet}
-use Rattle.assembler.specs.Spelled.IsNumber.{plain, negative}
+use Rattle.assembler.specs.Spelled.{IsNumberFrom, IsNumberUpTo, IsRegister, IsSet}
 use Rattle.rv_decode.proofs.TableLaws.{row_below}
 use Rattle.texts.proofs.TrimLaws.{stripped-none}
 use Rattle.assembler.proofs.Rows.{all_below, below_all, found_in, are_apart, row_of_member, member_of_row, all_rows}
@@ -138,91 +134,30 @@ reads_set = record {
   bytes = λ t n is. word_operand t (set_word t n is);
 }
 
--- ---- digits
-
-pub digit_low : (c : ℕ) → digit_value c < 16 → c < 123
-digit_low c small = grind (arith, cases_lt, le-ltb)
-
-digit_test : ℕ → Bool
-digit_test c = not (ltb (digit_value c) 16) || is_word_byte c
-
-all_digit_test : all_below 123 digit_test ≡ true
-unfolding digit_test
-all_digit_test = refl
-
-digit_word : (c : ℕ) → digit_value c < 16 → is_word_byte c ≡ true
-unfolding digit_test
-digit_word c small = (let f : (not (ltb (digit_value c) 16) || is_word_byte c) ≡ true =
-    below_all 123 digit_test all_digit_test c (digit_low c small) in
-    let g : ltb (digit_value c) 16 ≡ true = lt-ltb (digit_value c) 16 small in rw g at f)
-
-digits_word : (radix : ℕ) → radix ≤ 16 → (digits : List ℕ) → AllDigits radix digits → list_all is_word_byte digits ≡ true
-digits_word radix most [] h = refl
-digits_word radix most (c ∷ digits) h = rw (digit_word c (omega (arith, h.0)), digits_word radix most digits h.1) refl
-
--- ---- magnitudes
-
-magnitude_word : (t : List ℕ) (n : ℕ) → IsMagnitude t n → list_all is_word_byte t ≡ true
-magnitude_word t n h2 = grind (arith, digits_word)
-
--- no magnitude begins with the byte, as none begins with a `-` or a letter
-pub magnitude_first : (byte : ℕ) → 10 ≤ digit_value byte → (t : List ℕ) (n : ℕ) → IsMagnitude t n → eqb (slice_index t 0) byte ≡ false
-magnitude_first byte other t n (decimal digits m says) = first digits says.0.0 says.0.1
-  where
-    first : (ds : List ℕ) → 0 < length ds → AllDigits 10 ds → eqb (slice_index ds 0) byte ≡ false
-    first [] some h = absurd (omega arith)
-    first (c ∷ ds) some h = ne_eqb c byte (λ is. (let f : digit_value byte < 10 = subst (λ (d : ℕ). digit_value d < 10) is h.0 in omega arith))
-magnitude_first byte other t n (hex digits m says) = ne_eqb 48 byte
-    (λ is. (let f : 10 ≤ digit_value 48 = subst (λ (d : ℕ). 10 ≤ digit_value d) (sym is) other in omega arith))
-
 -- ---- numbers
 
-not_negative : (t : List ℕ) → eqb (slice_index t 0) 45 ≡ false → is_negative t ≡ false
-not_negative t other = rw other (and_right (ltb 0 (length t)) false refl)
+number_byte_test : ℕ → Bool
+number_byte_test c = not (integer.bytes c) || is_word_byte c
 
-mapped : (view : ℕ → ℤ) (o : Option ℕ) (z : ℤ) → option_map view o ≡ Some z → (n : ℕ) × (o ≡ Some n) × (view n ≡ z)
-mapped view o z e = grind arith
+all_number_bytes : all_below 123 number_byte_test ≡ true
+unfolding number_byte_test integer magnitude
+all_number_bytes = refl
 
-pub number_found : (t : List ℕ) (z : ℤ) → integer_of t ≡ Some z → unsigned_abs z < 2 ^ 32 → IsNumber t z
-unfolding integer_of
-number_found t z e small = elim (cases_Bool (is_negative t)) [
-  | inl is ↦ (
-      let said = mapped (λ n. neg_ℤ (pos n)) (magnitude_of (drop 1 t)) z (rw is at e) in
-      let few : said.0 < 2 ^ 32 = below_negative said.0 z said.2 small in
-      subst (λ (s : List ℕ). IsNumber s z) (sym (negative_text t is))
-      (subst (λ (y : ℤ). IsNumber (45 ∷ drop 1 t) y) said.2
-      (negative (drop 1 t) said.0 (magnitude_found (drop 1 t) said.0 said.1 few))))
-  | inr other ↦ (
-      let said = mapped pos (magnitude_of t) z (rw other at e) in
-      let few : said.0 < 2 ^ 32 = below_positive said.0 z said.2 small in
-      subst (λ (y : ℤ). IsNumber t y) said.2 (plain t said.0 (magnitude_found t said.0 said.1 few)))
-]
-  where
-    below_negative : (n : ℕ) (y : ℤ) → neg_ℤ (pos n) ≡ y → unsigned_abs y < 2 ^ 32 → n < 2 ^ 32
-    below_negative n y is lt = (let f : unsigned_abs (neg_ℤ (pos n)) < 2 ^ 32 = subst (λ (x : ℤ). unsigned_abs x < 2 ^ 32) (sym is) lt in omega (arith, ints))
+low_byte : (c : ℕ) → integer.bytes c ≡ true → c < 123
+unfolding integer magnitude
+low_byte c passes = grind (arith, cases_lt, le-ltb)
 
-    below_positive : (n : ℕ) (y : ℤ) → pos n ≡ y → unsigned_abs y < 2 ^ 32 → n < 2 ^ 32
-    below_positive n y is lt = (let f : unsigned_abs (pos n) < 2 ^ 32 = subst (λ (x : ℤ). unsigned_abs x < 2 ^ 32) (sym is) lt in f)
+number_byte : (c : ℕ) → integer.bytes c ≡ true → is_word_byte c ≡ true
+unfolding number_byte_test
+number_byte c e = let f : (not (integer.bytes c) || is_word_byte c) ≡ true = below_all 123 number_byte_test all_number_bytes c (low_byte c e) in rw e at f
 
-pub number_only : (t : List ℕ) (z : ℤ) → IsNumber t z → unsigned_abs z < 2 ^ 32 → integer_of t ≡ Some z
-unfolding integer_of
-number_only t z h2 small = grind (arith, not_negative, magnitude_first, magnitude_only, ints, lt-ltb)
-
-pub number_word : (t : List ℕ) (z : ℤ) → IsNumber t z → list_all is_word_byte t ≡ true
-number_word t z h2 = grind (arith, magnitude_word)
+pub number_word : (t : List ℕ) (z : ℤ) → integer.Says t z → list_all is_word_byte t ≡ true
+number_word t z says = test_of_all is_word_byte t (all_pass_weaker integer.bytes is_word_byte number_byte t (integer_settles.bytes t z says))
 
 -- ---- numbers in a range
 
 pub not_less : (a b : ℤ) → b ≤ℤ a → int_lt a b ≡ false
 not_less a b le = grind (arith, ints)
-
--- a range within words of 32 bits and a sign
-pub record IsWithin (low high : ℤ) : Type 0 where
-  pub above : neg_ℤ (pos (2 ^ 32)) <ℤ low
-  pub below : high <ℤ pos (2 ^ 32)
-
-pub small_within : (low high z : ℤ) → IsWithin low high → low ≤ℤ z → z ≤ℤ high → unsigned_abs z < 2 ^ 32
-small_within low high z within above below = grind (arith, ints)
 
 ranged_found : (low high : ℤ) (o : Option ℤ) (z : ℤ) → in_range low high o ≡ Ok z → (o ≡ Some z) × (low ≤ℤ z) × (z ≤ℤ high)
 ranged_found low high o z e = grind (arith, guard_ok, or_parts, ints)
@@ -230,26 +165,23 @@ ranged_found low high o z e = grind (arith, guard_ok, or_parts, ints)
 pub ranged_only : (low high z : ℤ) → low ≤ℤ z → z ≤ℤ high → in_range low high (Some z) ≡ Ok z
 ranged_only low high z above below = rw (not_less z low above, not_less high z below) refl
 
-pub from_found : (low high : ℤ) → IsWithin low high → (t : List ℕ) (z : ℤ) → number_in low high t ≡ Ok z → IsNumberFrom low high t z
-from_found low high within t z e =
-    let said = ranged_found low high (integer_of t) z e in
-    (number_found t z said.0 (small_within low high z within said.1 said.2), said.1, said.2)
+pub from_found : (low high : ℤ) (t : List ℕ) (z : ℤ) → number_in low high t ≡ Ok z → IsNumberFrom low high t z
+from_found low high t z e =
+    let said = ranged_found low high (integer.reads t) z e in
+    (integer_settles.found t z said.0, said.1, said.2)
 
-pub from_only : (low high : ℤ) → IsWithin low high → (t : List ℕ) (z : ℤ) → IsNumberFrom low high t z → number_in low high t ≡ Ok z
-from_only low high within t z is = rw (number_only t z is.0 (small_within low high z within is.1 is.2)) (ranged_only low high z is.1 is.2)
+pub from_only : (low high : ℤ) (t : List ℕ) (z : ℤ) → IsNumberFrom low high t z → number_in low high t ≡ Ok z
+from_only low high t z is = rw (integer_settles.only t z is.0) (ranged_only low high z is.1 is.2)
 
-pub reads_number : (low high : ℤ) → IsWithin low high → Reads (number_in low high) (IsNumberFrom low high)
-reads_number low high within = grind (arith, from_found, word_trimmed, number_word, from_only, word_operand)
+pub reads_number : (low high : ℤ) → Reads (number_in low high) (IsNumberFrom low high)
+reads_number low high = grind (arith, from_found, word_trimmed, number_word, from_only, word_operand)
 
-natural_within : (most : ℕ) → most < 2 ^ 32 → IsWithin (pos 0) (pos most)
-natural_within most small = record { above = omega (arith, ints); below = omega (arith, ints) }
+natural_found : (most : ℕ) (t : List ℕ) (n : ℕ) → natural_in most t ≡ Ok n → IsNumberUpTo most t n
+natural_found most t n e = grind (arith, bind_ok, from_found, ok_is, ints)
 
-natural_found : (most : ℕ) → most < 2 ^ 32 → (t : List ℕ) (n : ℕ) → natural_in most t ≡ Ok n → IsNumberUpTo most t n
-natural_found most small t n e = grind (arith, bind_ok, from_found, natural_within, ok_is, ints)
-
-natural_only : (most : ℕ) → most < 2 ^ 32 → (t : List ℕ) (n : ℕ) → IsNumberUpTo most t n → natural_in most t ≡ Ok n
-natural_only most small t n is = rw (from_only (pos 0) (pos most) (natural_within most small) t (pos n)
+natural_only : (most : ℕ) (t : List ℕ) (n : ℕ) → IsNumberUpTo most t n → natural_in most t ≡ Ok n
+natural_only most t n is = rw (from_only (pos 0) (pos most) t (pos n)
     (is.0, omega (arith, ints), omega (arith, ints, is.1))) refl
 
-pub reads_natural : (most : ℕ) → most < 2 ^ 32 → Reads (natural_in most) (IsNumberUpTo most)
-reads_natural most small = grind (arith, natural_found, word_trimmed, number_word, natural_only, word_operand)
+pub reads_natural : (most : ℕ) → Reads (natural_in most) (IsNumberUpTo most)
+reads_natural most = grind (arith, natural_found, word_trimmed, number_word, natural_only, word_operand)

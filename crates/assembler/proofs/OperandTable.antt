@@ -1,9 +1,9 @@
 -- The table of operands: what is made of a list of them is what the grammar says.
 use Rattle.std.proofs.Common.{◌≡◌, ℕ, true, false, List, [], ◌∷◌, length, map, Ok, refl, sym, ap, subst, arith, pos, negsuc}
 use Rattle.std.specs.List.{AllByRecursion, list_all}
-use Rattle.std.proofs.lemmas.Int.{ints}
 use Rattle.std.proofs.lemmas.List.{length-map}
-use Rattle.texts.specs.Numbers.{capped_value, magnitude_of, integer_of}
+use Rattle.texts.specs.Numbers.{capped_value}
+use Rattle.texts.specs.Grammars.{magnitude, integer}
 use Rattle.texts.specs.Cutting.{trimmed}
 use Rattle.texts.proofs.ResultLaws.{ok_is, bind_ok}
 use Rattle.rv_decode.specs.declared.instruction.Instr.TheVariants as instr
@@ -17,40 +17,25 @@ use Rattle.assembler.specs.Statements.{Made, one, Maker, operand_row, read_opera
 use Rattle.assembler.specs.Lines.{is_pair}
 use Rattle.assembler.specs.Spelled.{IsSpelled}
 use Rattle.assembler.specs.Grammar.{AreSpelled, Makes}
-use Rattle.assembler.proofs.Leaves.{is_operand_byte, Reads, IsWithin, reads_register, reads_set, reads_number, reads_natural}
-use Rattle.assembler.proofs.Addresses.{IsReach, reads_target, reads_address}
+use Rattle.assembler.proofs.Leaves.{is_operand_byte, Reads, reads_register, reads_set, reads_number, reads_natural}
+use Rattle.assembler.proofs.Addresses.{reads_target, reads_address}
 
 -- ---- an operand of each kind
 
-short_range : IsWithin (negsuc 2047) (pos 2047)
-short_range = record { above = omega (arith, ints); below = omega (arith, ints) }
-
-word_range : IsWithin (negsuc 2147483647) (pos 4294967295)
-word_range = record { above = omega (arith, ints); below = omega (arith, ints) }
-
-zero_alone : IsWithin (pos 0) (pos 0)
-zero_alone = record { above = omega (arith, ints); below = omega (arith, ints) }
-
-near_reach : IsReach (pos 4096)
-near_reach = record { low = omega (arith, ints); high = omega (arith, ints) }
-
-far_reach : IsReach (pos 1048576)
-far_reach = record { low = omega (arith, ints); high = omega (arith, ints) }
-
 pub reads_kind : (kind : OperandKind) → Reads (value_in kind) (IsSpelled kind)
 reads_kind register = reads_register
-reads_kind upper = reads_natural 1048575 (omega arith)
-reads_kind amount = reads_natural 31 (omega arith)
-reads_kind short = reads_number (negsuc 2047) (pos 2047) short_range
-reads_kind word = reads_number (negsuc 2147483647) (pos 4294967295) word_range
-reads_kind address = reads_address (negsuc 2047) (pos 2047) short_range
-reads_kind pointer = reads_address (pos 0) (pos 0) zero_alone
-reads_kind near = reads_target (pos 4096) near_reach
-reads_kind far = reads_target (pos 1048576) far_reach
+reads_kind upper = reads_natural 1048575
+reads_kind amount = reads_natural 31
+reads_kind short = reads_number (negsuc 2047) (pos 2047)
+reads_kind word = reads_number (negsuc 2147483647) (pos 4294967295)
+reads_kind address = reads_address (negsuc 2047) (pos 2047)
+reads_kind pointer = reads_address (pos 0) (pos 0)
+reads_kind near = reads_target (pos 4096)
+reads_kind far = reads_target (pos 1048576)
 reads_kind set = reads_set
 
 none_in_empty : (kind : OperandKind) (x : OperandValue kind) → value_in kind [] ≡ Ok x → ⊥
-unfolding register_named set_named magnitude_of integer_of capped_value
+unfolding register_named set_named magnitude integer capped_value
 none_in_empty register x e = cc
 none_in_empty kind x e = cc
 

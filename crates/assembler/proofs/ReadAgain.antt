@@ -4,7 +4,7 @@ use Rattle.std.proofs.Common.{None, refl, arith, inl, inr, ℤ, pos, negsuc}
 use Rattle.std.specs.Prelude.{nat_eq}
 use Rattle.std.specs.Fmt.{digits, decimal, signed_decimal}
 use Rattle.std.proofs.lemmas.Bool.{eqb-true}
-use Rattle.std.proofs.lemmas.Fmt.{decimal_nonempty, decimal_is_IsNumeral}
+use Rattle.std.proofs.lemmas.Fmt.{decimal_nonempty}
 use Rattle.std.proofs.lemmas.Int.{ints}
 use Rattle.texts.specs.Cutting.{NonePass}
 use Rattle.texts.proofs.CuttingLaws.{decimal_none}
@@ -12,9 +12,9 @@ use Rattle.rv_decode.specs.Fits.{IsSigned}
 use Rattle.rv_decode.specs.declared.instruction.Reg.{Reg}
 use Rattle.rv_decode.specs.Registers.{register_names}
 use Rattle.assembler.specs.Sets.{set_names}
-use Rattle.assembler.specs.Spelled.{IsNumber, IsNumberFrom, IsNumberUpTo, IsRegister, IsSet, IsAddressOperand}
-use Rattle.texts.specs.Numbers.IsMagnitude.{decimal as in_decimal}
-use Rattle.assembler.specs.Spelled.IsNumber.{plain, negative}
+use Rattle.assembler.specs.Spelled.{IsNumberFrom, IsNumberUpTo, IsRegister, IsSet, IsAddressOperand}
+use Rattle.texts.specs.Grammars.{magnitude, integer}
+use Rattle.texts.proofs.GrammarLaws.{decimal_numeral}
 use Rattle.assembler.specs.Writing.{register_text, address_text, set_text}
 use Rattle.assembler.proofs.Rows.{all_below, below_all, found_in, member_of_row}
 use Rattle.assembler.proofs.StatementGrammar.{padded_self}
@@ -53,15 +53,17 @@ set_spelled n lt = member_of_row set_names (set_text n) n (is_number_of (found_i
 
 -- ---- numbers
 
-pub signed_spelled : (z : ℤ) → IsSigned 31 z → IsNumber (signed_decimal z) z
-signed_spelled (pos n) fits = plain (decimal n) n (in_decimal (decimal n) n (decimal_is_IsNumeral n (omega (arith, ints))))
-signed_spelled (negsuc n) fits = negative (decimal (suc n)) (suc n) (in_decimal (decimal (suc n)) (suc n) (decimal_is_IsNumeral (suc n) (omega (arith, ints))))
+pub signed_spelled : (z : ℤ) → IsSigned 31 z → integer.Says (signed_decimal z) z
+unfolding integer magnitude
+signed_spelled (pos n) fits = inr (n, inr (decimal_numeral n (omega (arith, ints))), refl)
+signed_spelled (negsuc n) fits = inl (suc n, (decimal (suc n), refl, inr (decimal_numeral (suc n) (omega (arith, ints)))), refl)
 
 pub short_spelled : (z : ℤ) → IsSigned 11 z → IsSigned 31 z → IsNumberFrom (negsuc 2047) (pos 2047) (signed_decimal z) z
 short_spelled z short fits = (signed_spelled z fits, omega (arith, ints), omega (arith, ints))
 
 pub natural_spelled : (most n : ℕ) → n ≤ most → most < 2 ^ 32 → IsNumberUpTo most (decimal n) n
-natural_spelled most n le small = (plain (decimal n) n (in_decimal (decimal n) n (decimal_is_IsNumeral n (omega arith))), le)
+unfolding integer magnitude
+natural_spelled most n le small = (inr (n, inr (decimal_numeral n (omega arith)), refl), le)
 
 pub signed_none : (p : ℕ → Bool) → p 45 ≡ false → ((d : ℕ) → d < 10 → p (48 + d) ≡ false) → (z : ℤ) → IsSigned 31 z → NonePass p (signed_decimal z)
 signed_none p sign digit (pos n) fits = decimal_none p digit n (omega (arith, ints))

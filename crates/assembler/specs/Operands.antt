@@ -2,7 +2,7 @@
 use Rattle.std.specs.Prelude.{◌≡◌, ◌≤ℤ◌, ◌<ℤ◌, ℕ, ℤ, pos, negsuc, neg_ℤ, int_lt, unsigned_abs, ◌==◌, ◌%◌, Bool, ◌&&◌}
 use Rattle.std.specs.Prelude.{◌||◌, not, List, length, Option, Some, None, Result, Ok, Err, if◌then◌else◌}
 use Rattle.texts.specs.Cutting.{before, after, is_byte, trimmed}
-use Rattle.texts.specs.Numbers.{integer_of}
+use Rattle.texts.specs.Grammars.{integer}
 use Rattle.texts.specs.Results.{◌>>=◌}
 use Rattle.rv_decode.specs.Fits.{IsEven}
 use Rattle.rv_decode.specs.declared.instruction.Reg.{Reg}
@@ -31,7 +31,7 @@ in_range low high None = Err BadOperand
 in_range low high (Some n) = if int_lt n low || int_lt high n then Err OutOfRange else Ok n
 
 abbrev pub number_in : ℤ → ℤ → List ℕ → Result ℤ AsmFault
-number_in low high text = in_range low high (integer_of text)
+number_in low high text = in_range low high (integer.reads text)
 
 -- a number from 0 to the most
 abbrev pub natural_in : ℕ → List ℕ → Result ℕ AsmFault
@@ -90,7 +90,7 @@ IsInReach bound (bytes n) = (neg_ℤ bound ≤ℤ n) × (n <ℤ bound) × IsEven
 IsInReach bound (label name) = Unit {0}
 
 abbrev pub target_in : ℤ → List ℕ → Result Target AsmFault
-target_in bound text = if is_label_name text then Ok (label text) else in_reach bound (integer_of text)
+target_in bound text = if is_label_name text then Ok (label text) else in_reach bound (integer.reads text)
 
 -- ---- the sets of a fence
 

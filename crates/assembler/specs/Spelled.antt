@@ -1,7 +1,7 @@
 -- How the parts of a statement are spelled, each a relation between a text and what it says.
 use Rattle.std.specs.Prelude.{◌≡◌, ℕ, ℤ, pos, negsuc, neg_ℤ, ◌≤◌, ◌≤ℤ◌, ◌<ℤ◌, true, ◌⊎◌, List, [], ◌∷◌, ◌++◌}
 use Rattle.std.specs.List.{Contains}
-use Rattle.texts.specs.Numbers.{IsMagnitude}
+use Rattle.texts.specs.Grammars.{integer}
 use Rattle.rv_decode.specs.Fits.{IsEven}
 use Rattle.rv_decode.specs.declared.instruction.Reg.{Reg}
 use Rattle.rv_decode.specs.Registers.{register_names}
@@ -19,16 +19,11 @@ pub data AreListed : List ℕ → List (List ℕ) → Type 0 where
 
 -- ---- numbers
 
--- a magnitude, with a `-` (45) in front or none
-pub data IsNumber : List ℕ → ℤ → Type 0 where
-  plain : (text : List ℕ) (n : ℕ) → IsMagnitude text n → IsNumber text (pos n)
-  negative : (text : List ℕ) (n : ℕ) → IsMagnitude text n → IsNumber (45 ∷ text) (neg_ℤ (pos n))
-
 abbrev pub IsNumberFrom : (low high : ℤ) → List ℕ → ℤ → Type 0
-IsNumberFrom low high text n = IsNumber text n × (low ≤ℤ n) × (n ≤ℤ high)
+IsNumberFrom low high text n = integer.Says text n × (low ≤ℤ n) × (n ≤ℤ high)
 
 abbrev pub IsNumberUpTo : (most : ℕ) → List ℕ → ℕ → Type 0
-IsNumberUpTo most text n = IsNumber text (pos n) × (n ≤ most)
+IsNumberUpTo most text n = integer.Says text (pos n) × (n ≤ most)
 
 -- ---- registers and the sets of a fence, each a row of its table
 
@@ -58,7 +53,7 @@ pub record IsAddressOperand (low high : ℤ) (text : List ℕ) (at : Reg × ℤ)
 
 abbrev pub IsTarget : (bound : ℤ) → List ℕ → Target → Type 0
 IsTarget bound text (label name) = (text ≡ name) × (is_label_name name ≡ true)
-IsTarget bound text (bytes n) = IsNumber text n × (neg_ℤ bound ≤ℤ n) × (n <ℤ bound) × IsEven n
+IsTarget bound text (bytes n) = integer.Says text n × (neg_ℤ bound ≤ℤ n) × (n <ℤ bound) × IsEven n
 
 -- ---- an operand of each kind
 

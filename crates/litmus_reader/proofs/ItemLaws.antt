@@ -10,11 +10,11 @@ use Rattle.texts.proofs.ResultLaws.{bind_ok, ok_is}
 use Rattle.texts.specs.Pieces.{is_gap}
 use Rattle.litmus_tokens.specs.Names.{core}
 use Rattle.texts.specs.Cutting.{AllPass}
-use Rattle.litmus_tokens.specs.Settings.{NamedPlace, Equation, IsDeclared, IsItem}
+use Rattle.litmus_tokens.specs.Settings.{NamedPlace, Equation, declared, item as an_item}
 use Rattle.litmus_tokens.specs.Settings.NamedPlace.{in_register, at_location}
-use Rattle.litmus_tokens.specs.Reading.{item_at}
 use Rattle.texts.proofs.TrimLaws.{stripped-all}
-use Rattle.litmus_tokens.proofs.ItemLaws.{item_found, item_read}
+use Rattle.litmus_tokens.proofs.SettingLaws.{item_settles}
+use Rattle.texts.proofs.GrammarLaws.{all_by_test, test_of_all}
 use Rattle.litmus_reader.specs.declared.faults.LitmusFault.{LitmusFault}
 use Rattle.litmus_reader.specs.declared.init.Target.{Target}
 use Rattle.litmus_reader.specs.declared.init.Target.TheVariants.{Register, Word}
@@ -162,39 +162,31 @@ item_only_added equations so_far equation shown few =
 
 -- ---- gaps, and texts of items
 
-gaps_in : (text : List ℕ) → list_all is_gap text ≡ true → AllPass is_gap text
-gaps_in [] e = tt
-gaps_in (c ∷ rest) e = let both = and_parts (is_gap c) (list_all is_gap rest) e in (both.0, gaps_in rest both.1)
-
-gaps_are : (text : List ℕ) → AllPass is_gap text → list_all is_gap text ≡ true
-gaps_are [] all = refl
-gaps_are (c ∷ rest) all = and_from (is_gap c) (list_all is_gap rest) all.0 (gaps_are rest all.1)
-
 no_core : (text : List ℕ) → list_all is_gap text ≡ true → core text ≡ []
-no_core text e = stripped-all is_gap text (gaps_in text e)
+no_core text e = stripped-all is_gap text (all_by_test is_gap text e)
 
-declared_solid : (text : List ℕ) (place : NamedPlace) → IsDeclared text place → list_all is_gap text ≡ true → ⊥
-declared_solid text place is gaps = grind (arith, no_core)
-
-item_solid : (text : List ℕ) (equation : Equation) → IsItem text equation → list_all is_gap text ≡ false
-item_solid text equation h2 = grind (arith, list_all-append, and_right, false_from_ne_true, declared_solid)
+item_solid : (text : List ℕ) (equation : Equation) → an_item.Says text equation → list_all is_gap text ≡ false
+unfolding an_item declared
+item_solid text equation (inl (left, right, whole, at, says)) = rw (whole, list_all-append is_gap left (61 ∷ right)) (and_right (list_all is_gap left) false refl)
+item_solid text equation (inr (at, (name, (gap, rest, whole, gap_is, is, inner), same), made)) =
+    false_from_ne_true (list_all is_gap text) (λ gaps. let none = no_core text gaps in absurd cc)
 
 -- ---- piece by piece
 
 piece_found : (equations : List Equation) (so_far more : InitItems) (piece : List ℕ) → AreAdded equations so_far
     → piece_added so_far piece ≡ Ok more
     → (AllPass is_gap piece × AreAdded equations more)
-    ⊎ ((equation : Equation) × IsItem piece equation × AreAdded (equations ++ equation ∷ []) more)
+    ⊎ ((equation : Equation) × an_item.Says piece equation × AreAdded (equations ++ equation ∷ []) more)
 unfolding piece_added item_added
 piece_found equations so_far more piece shown e = elim (cases_Bool (list_all is_gap piece)) [
-  | inl gaps ↦ inl (gaps_in piece gaps, subst (AreAdded equations) (ok_is LitmusFault so_far more (rw gaps at e)) shown)
-  | inr solid ↦ inr (go (item_at piece) refl (rw solid at e))
+  | inl gaps ↦ inl (all_by_test is_gap piece gaps, subst (AreAdded equations) (ok_is LitmusFault so_far more (rw gaps at e)) shown)
+  | inr solid ↦ inr (go (an_item.reads piece) refl (rw solid at e))
 ]
   where
-    go : (o : Option Equation) → item_at piece ≡ o → item_added so_far o ≡ Ok more
-        → (equation : Equation) × IsItem piece equation × AreAdded (equations ++ equation ∷ []) more
+    go : (o : Option Equation) → an_item.reads piece ≡ o → item_added so_far o ≡ Ok more
+        → (equation : Equation) × an_item.Says piece equation × AreAdded (equations ++ equation ∷ []) more
     go None is made = absurd cc
-    go (Some equation) is made = (equation, item_found piece equation is, item_found_added equations so_far more equation shown made)
+    go (Some equation) is made = (equation, item_settles.found piece equation is, item_found_added equations so_far more equation shown made)
 
 pieces_found : (ps : List (List ℕ)) (equations : List Equation) (so_far settings : InitItems)
     → AreAdded equations so_far → pieces_added so_far ps ≡ Ok settings
@@ -222,11 +214,11 @@ pieces_found (piece ∷ ps) equations so_far settings shown e =
 
 piece_empty : (so_far : InitItems) (piece : List ℕ) → AllPass is_gap piece → piece_added so_far piece ≡ Ok so_far
 unfolding piece_added
-piece_empty so_far piece gaps = rw (gaps_are piece gaps) refl
+piece_empty so_far piece gaps = rw (test_of_all is_gap piece gaps) refl
 
-piece_item : (so_far : InitItems) (piece : List ℕ) (equation : Equation) → IsItem piece equation → piece_added so_far piece ≡ item_added so_far (Some equation)
+piece_item : (so_far : InitItems) (piece : List ℕ) (equation : Equation) → an_item.Says piece equation → piece_added so_far piece ≡ item_added so_far (Some equation)
 unfolding piece_added
-piece_item so_far piece equation is = rw (item_solid piece equation is, item_read piece equation is) refl
+piece_item so_far piece equation is = rw (item_solid piece equation is, item_settles.only piece equation is) refl
 
 pieces_only : (ps : List (List ℕ)) (more equations : List Equation) (so_far : InitItems) → AreItems ps more
     → AreAdded equations so_far → length (each_once (names_in (equations ++ more))) ≤ 1024

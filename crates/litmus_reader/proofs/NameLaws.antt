@@ -1,35 +1,48 @@
 -- The locations in settings have the shapes of names.
-use Rattle.std.proofs.Common.{arith, ◌≡◌, ℕ, Bool, List, Option, Some, sym, subst}
-use Rattle.std.specs.Prelude.{if◌then◌else◌}
-use Rattle.litmus_tokens.specs.Settings.{NamedPlace, Value, Equation, IsNamedPlace, IsValue, IsSetting, IsDeclared, IsItem}
-use Rattle.litmus_tokens.specs.Reading.{setting_at}
+use Rattle.std.proofs.Common.{arith, ◌≡◌, ℕ, Bool, List, Option, Some, sym, subst, inl, inr}
+use Rattle.std.specs.Prelude.{IsTrue, if◌then◌else◌}
+use Rattle.litmus_tokens.specs.Settings.{NamedPlace, Value, Equation, location, place, value, declared, setting, item_place, item}
+use Rattle.litmus_tokens.specs.Names.{is_name}
 use Rattle.litmus_tokens.specs.Tokens.{Token, Beginning, nothing, begins, no_token, is_mark, after_not, paired}
 use Rattle.litmus_tokens.specs.Tokens.{atom_from, negation_or, unmarked, begun, beginning_of}
 use Rattle.texts.specs.Cutting.{before, from_first, without_leading}
-use Rattle.litmus_tokens.proofs.SettingLaws.{setting_found}
+use Rattle.litmus_tokens.proofs.SettingLaws.{setting_settles}
 use Rattle.litmus_reader.specs.Locations.{HasLocation, HasName, HasNames}
 use Rattle.litmus_reader.specs.Condition.{TokenHasNames}
 use Rattle.texts.specs.Pieces.{is_gap}
 
-place_names : (text : List ℕ) (place : NamedPlace) → IsNamedPlace text place → HasLocation place
-place_names text place is = grind arith
+location_names : (text name : List ℕ) → location.Says text name → IsTrue (is_name name)
+location_names text name (inl (rest, whole, (inner, closed, (is, same)))) = rw same at is
+location_names text name (inr (is, same)) = rw same at is
 
-value_names : (text : List ℕ) (value : Value) → IsValue text value → HasName value
-value_names text value is = grind arith
+place_names : (text : List ℕ) (at : NamedPlace) → place.Says text at → HasLocation at
+unfolding place
+place_names text at (inl (both, parts, is)) = subst HasLocation is tt
+place_names text at (inr (name, says, is)) = subst HasLocation is (location_names _ name says)
 
-declared_names : (text : List ℕ) (place : NamedPlace) → IsDeclared text place → HasLocation place
-declared_names text place is = grind arith
+value_names : (text : List ℕ) (v : Value) → value.Says text v → HasName v
+unfolding value
+value_names text v (inl (name, (is, same), made)) = subst HasName made (rw same at is)
+value_names text v (inr (n, says, made)) = subst HasName made tt
 
-setting_names : (text : List ℕ) (equation : Equation) → IsSetting text equation → HasNames equation
-setting_names text equation is = (place_names is.0 equation.0 is.3, value_names is.1 equation.1 is.4)
+declared_names : (text : List ℕ) (at : NamedPlace) → declared.Says text at → HasLocation at
+unfolding declared
+declared_names text at (name, (gap, rest, whole, gap_is, is, same), made) = subst HasLocation made (rw same at is)
 
-item_names : (text : List ℕ) (equation : Equation) → IsItem text equation → HasNames equation
-item_names text equation is = grind (arith, setting_names, declared_names, value_names)
+setting_names : (text : List ℕ) (equation : Equation) → setting.Says text equation → HasNames equation
+unfolding setting
+setting_names text equation (left, right, whole, at, says) = (place_names left equation.0 at, value_names right equation.1 says)
 
-pub item_location : (text : List ℕ) (equation : Equation) → IsItem text equation → HasLocation equation.0
+item_names : (text : List ℕ) (equation : Equation) → item.Says text equation → HasNames equation
+unfolding item item_place
+item_names text equation (inl (left, right, whole, inl at, says)) = (declared_names left equation.0 at, value_names right equation.1 says)
+item_names text equation (inl (left, right, whole, inr at, says)) = (place_names left equation.0 at, value_names right equation.1 says)
+item_names text equation (inr (at, says, made)) = subst HasNames made (declared_names text at says, tt)
+
+pub item_location : (text : List ℕ) (equation : Equation) → item.Says text equation → HasLocation equation.0
 item_location text equation is = (item_names text equation is).0
 
-pub item_value : (text : List ℕ) (equation : Equation) → IsItem text equation → HasName equation.1
+pub item_value : (text : List ℕ) (equation : Equation) → item.Says text equation → HasName equation.1
 item_value text equation is = (item_names text equation is).1
 
 -- ---- tokens
@@ -54,8 +67,8 @@ not_named o other names = grind arith
 unmarked-named : (text : List ℕ) → Named (unmarked text)
 unfolding unmarked
 unmarked-named text =
-    not_named (after_not text) _ (atom_named (setting_at (before is_mark text)) (from_first is_mark text)
-    (λ equation is. setting_names (before is_mark text) equation (setting_found (before is_mark text) equation is)))
+    not_named (after_not text) _ (atom_named (setting.reads (before is_mark text)) (from_first is_mark text)
+    (λ equation is. setting_names (before is_mark text) equation (setting_settles.found (before is_mark text) equation is)))
 
 begun-named : (text : List ℕ) → Named (begun text)
 unfolding begun

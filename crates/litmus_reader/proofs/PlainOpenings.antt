@@ -1,6 +1,7 @@
 -- Each test of a text opens plainly.
 use Rattle.std.proofs.Common.{◌≡◌, ℕ, zero, suc, ◌+◌, ◌*◌, ◌<◌, ◌≤◌, Bool, true, false, cond, List, [], ◌∷◌, length, map, get_or, All, Option, Some, None}
-use Rattle.std.proofs.Common.{refl, sym, ap, subst, ◌∙◌, inl, inr, length-append, arith}
+use Rattle.std.proofs.Common.{refl, sym, ap, subst, ◌∙◌, inl, inr, length-append, arith, ℤ}
+use Rattle.std.proofs.lemmas.Bool.{ltb-true}
 use Rattle.std.specs.List.{AllByRecursion}
 use Rattle.std.proofs.lemmas.List.{length-map}
 use Rattle.std.proofs.lemmas.List.Elements.{recursion_from_All, All-head, All-tail}
@@ -12,9 +13,8 @@ use Rattle.assembler.specs.Program.{IsPlaced, ArePlaced}
 use Rattle.assembler.specs.Program.IsPlaced.{nothing, single, double, jumping, branching}
 use Rattle.step_machine.specs.History.{HartOpeningValue}
 use Rattle.litmus.specs.LitmusTests.{LitmusTest}
-use Rattle.litmus_tokens.specs.Names.{IsNumber, core}
-use Rattle.litmus_tokens.specs.Names.IsNumber.{plain, negated}
-use Rattle.litmus_tokens.specs.Settings.{NamedPlace, Value, Equation, IsValue, IsItem}
+use Rattle.litmus_tokens.specs.Names.{word_from, a_word}
+use Rattle.litmus_tokens.specs.Settings.{NamedPlace, Value, Equation, value, item as an_item}
 use Rattle.litmus_tokens.specs.Settings.Value.{number, address_of}
 use Rattle.litmus_reader.specs.Locations.{Names}
 use Rattle.litmus_reader.specs.Shapes.{AreParts}
@@ -51,18 +51,18 @@ abbrev IsSmall : Value → Type 0
 IsSmall (number n) = IsWord n
 IsSmall (address_of name) = Unit {0}
 
-number_small : (text : List ℕ) (n : ℕ) → IsNumber text n → IsWord n
-number_small text n (plain digits m magnitude small) = small
-number_small text n (negated digits m magnitude few) = omega arith
+word_small : (z : ℤ) (n : ℕ) → word_from z ≡ Some n → IsWord n
+word_small z n is = grind (arith, ltb-true)
 
-value_small : (text : List ℕ) (v : Value) → IsValue text v → IsSmall v
-value_small text (number n) is = number_small (core text) n is
-value_small text (address_of name) is = tt
+value_small : (text : List ℕ) (v : Value) → value.Says text v → IsSmall v
+unfolding value a_word
+value_small text v (inl (name, says, made)) = subst IsSmall made tt
+value_small text v (inr (n, (z, says, is), made)) = subst IsSmall made (word_small z n is)
 
-item_small : (text : List ℕ) (equation : Equation) → IsItem text equation → IsSmall equation.1
-item_small text equation (inl (left, right, whole, place, value)) = value_small right equation.1 value
-item_small text equation (inr (inl (left, right, whole, place, value))) = value_small right equation.1 value
-item_small text equation (inr (inr (declared, zero_put))) = subst IsSmall (sym zero_put) (omega arith)
+item_small : (text : List ℕ) (equation : Equation) → an_item.Says text equation → IsSmall equation.1
+unfolding an_item
+item_small text equation (inl (left, right, whole, place, says)) = value_small right equation.1 says
+item_small text equation (inr (at, declared, made)) = subst (λ (e : Equation). IsSmall e.1) made (omega arith)
 
 abbrev AreSmall : List Equation → Type 0
 AreSmall equations = AllByRecursion (λ (equation : Equation). IsSmall equation.1) equations

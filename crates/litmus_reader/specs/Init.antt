@@ -3,9 +3,8 @@ use Rattle.std.specs.Prelude.{ℕ, List, [], ◌∷◌, ◌++◌, map, Option, N
 use Rattle.std.specs.List.{list_all}
 use Rattle.texts.specs.Results.{◌>>=◌}
 use Rattle.texts.specs.Pieces.{is_gap, pieces}
-use Rattle.litmus_tokens.specs.Settings.{NamedPlace, Equation}
+use Rattle.litmus_tokens.specs.Settings.{NamedPlace, Equation, item}
 use Rattle.litmus_tokens.specs.Settings.NamedPlace.{in_register, at_location}
-use Rattle.litmus_tokens.specs.Reading.{item_at}
 use Rattle.litmus_reader.specs.declared.faults.LitmusFault.{LitmusFault}
 use Rattle.litmus_reader.specs.declared.faults.LitmusFault.TheVariants.{BadInit}
 use Rattle.litmus_reader.specs.declared.init.Item.{Item}
@@ -52,7 +51,7 @@ item_added so_far (Some equation) = do
 
 -- an item, or nothing, between two `;`
 unfoldable pub piece_added : InitItems → List ℕ → Result InitItems LitmusFault
-piece_added so_far piece = if list_all is_gap piece then Ok so_far else item_added so_far (item_at piece)
+piece_added so_far piece = if list_all is_gap piece then Ok so_far else item_added so_far (item.reads piece)
 
 abbrev pub pieces_added : InitItems → List (List ℕ) → Result InitItems LitmusFault
 pieces_added so_far [] = Ok so_far

@@ -2,7 +2,7 @@
 use Rattle.std.specs.Prelude.{◌≡◌, ℕ, ◌*◌, ◌<◌, ◌≤◌, ◌==◌, ◌&&◌, Bool, false, not, List, [], ◌∷◌, ◌++◌, length, filter, Option, Some, None, if◌then◌else◌}
 use Rattle.std.specs.List.{slice_index_or}
 use Rattle.std.specs.Str.{bytes_eq}
-use Rattle.litmus_tokens.specs.Settings.{NamedPlace, Value, Equation, IsItem}
+use Rattle.litmus_tokens.specs.Settings.{NamedPlace, Value, Equation, item as an_item}
 use Rattle.litmus_tokens.specs.Settings.NamedPlace.{in_register, at_location}
 use Rattle.litmus_tokens.specs.Settings.Value.{number, address_of}
 use Rattle.texts.specs.Pieces.{is_gap}
@@ -15,7 +15,7 @@ pub data AreItems : List (List ℕ) → List Equation → Type 0 where
   empty : (part : List ℕ) (parts : List (List ℕ)) (equations : List Equation) → AllPass is_gap part
       → AreItems parts equations → AreItems (part ∷ parts) equations
   item : (part : List ℕ) (parts : List (List ℕ)) (equation : Equation) (equations : List Equation)
-      → IsItem part equation → AreItems parts equations → AreItems (part ∷ parts) (equation ∷ equations)
+      → an_item.Says part equation → AreItems parts equations → AreItems (part ∷ parts) (equation ∷ equations)
 
 -- ---- locations
 

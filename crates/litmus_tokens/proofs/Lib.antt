@@ -4,5 +4,4 @@ pub mod TokenLaws
 pub mod Bytes
 pub mod NumberTexts
 pub mod SettingLaws
-pub mod ItemLaws
 pub mod Spelling

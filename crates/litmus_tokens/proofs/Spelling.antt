@@ -7,8 +7,7 @@ use Rattle.std.proofs.lemmas.Slice.Eq.{starts_is}
 use Rattle.texts.specs.Cutting.{before, AllPass, NonePass, from_first, without_leading}
 use Rattle.texts.proofs.TrimLaws.{leading_all, leading_past, leading_split, leading_first, leading_gone}
 use Rattle.texts.specs.Pieces.{is_gap}
-use Rattle.litmus_tokens.specs.Settings.{Equation, IsSetting}
-use Rattle.litmus_tokens.specs.Reading.{setting_at}
+use Rattle.litmus_tokens.specs.Settings.{Equation, setting}
 use Rattle.litmus_tokens.specs.Tokens.{Token, Beginning, Tokens, is_mark, ends_name, after_not, paired, atom_from}
 use Rattle.litmus_tokens.specs.Tokens.{negation_or, unmarked, begun, beginning_of, tokens_from, tokens_of, EndsAtom}
 use Rattle.litmus_tokens.specs.Tokens.{Spells, AreTokens, listed}
@@ -17,7 +16,7 @@ use Rattle.litmus_tokens.specs.Tokens.Beginning.{nothing, begins, no_token}
 use Rattle.litmus_tokens.specs.Tokens.Tokens.{ended, goes_on}
 use Rattle.litmus_tokens.specs.Tokens.Spells.{opens, closes, tilde, named_not, both, either, says}
 use Rattle.litmus_tokens.specs.Tokens.AreTokens.{no_more, one_more}
-use Rattle.litmus_tokens.proofs.SettingLaws.{setting_found, setting_read}
+use Rattle.litmus_tokens.proofs.SettingLaws.{setting_settles}
 use Rattle.litmus_tokens.proofs.TokenLaws.{tokens-cut}
 
 -- ---- gaps in front
@@ -82,11 +81,11 @@ begun-plain c rest plain = rw (plain.open_none, plain.close_none, plain.tilde_no
 
 -- an atom, where it is known to be one
 atom_read : (first : ℕ) (others rest : List ℕ) (equation : Equation) → NonePass is_mark (first ∷ others)
-    → EndsAtom rest → after_not (first ∷ (others ++ rest)) ≡ None → IsSetting (first ∷ others) equation
+    → EndsAtom rest → after_not (first ∷ (others ++ rest)) ≡ None → setting.Says (first ∷ others) equation
     → unmarked (first ∷ (others ++ rest)) ≡ begins (atom equation) rest
 unfolding unmarked
 atom_read first others rest equation none ends no_name is =
-    rw (no_name, before-mark (first ∷ others) rest none ends, from_mark (first ∷ others) rest none ends, setting_read (first ∷ others) equation is) refl
+    rw (no_name, before-mark (first ∷ others) rest none ends, from_mark (first ∷ others) rest none ends, setting_settles.only (first ∷ others) equation is) refl
 
 spelled_begun : (token : Token) (bytes rest : List ℕ) → Spells token bytes rest → beginning_of (bytes ++ rest) ≡ begins token rest
 unfolding beginning_of begun unmarked after_not
@@ -157,7 +156,7 @@ not_front text rest e = grind (arith, and_parts, starts_is, Decides-eqb)
 
 atom_found : (c : ℕ) (following : List ℕ) (token : Token) (rest : List ℕ) (equation : Option Equation)
     → is_gap c ≡ false → is_mark c ≡ false → after_not (c ∷ following) ≡ None
-    → setting_at (c ∷ before is_mark following) ≡ equation
+    → setting.reads (c ∷ before is_mark following) ≡ equation
     → atom_from equation (from_first is_mark following) ≡ begins token rest → Spelled (c ∷ following) token rest
 atom_found c following token rest None solid plain no_name is e = absurd cc
 atom_found c following token rest (Some equation) solid plain no_name is e =
@@ -166,7 +165,7 @@ atom_found c following token rest (Some equation) solid plain no_name is e =
     let whole : c ∷ following ≡ (c ∷ before is_mark following) ++ from_first is_mark following = ap (λ (ys : List ℕ). c ∷ ys) cut.whole in
     let spells = says c (before is_mark following) (from_first is_mark following) equation solid (plain, cut.none)
     cut.ends (subst (λ (ys : List ℕ). after_not (c ∷ ys) ≡ None) cut.whole no_name)
-    (setting_found (c ∷ before is_mark following) equation is) in
+    (setting_settles.found (c ∷ before is_mark following) equation is) in
     subst (λ (r : List ℕ). Spelled (c ∷ following) token r) same
     (subst (λ (t : Token). Spelled (c ∷ following) t (from_first is_mark following)) (begins-token (atom equation) token (from_first is_mark following) rest e)
     (record { bytes = c ∷ before is_mark following; whole = whole; spells = spells }))
@@ -177,7 +176,7 @@ unfolding unmarked
 unmarked-found c following token rest solid plain e = go (after_not (c ∷ following)) refl
   where
     go : (o : Option (List ℕ)) → after_not (c ∷ following) ≡ o → Spelled (c ∷ following) token rest
-    go None no_name = atom_found c following token rest (setting_at (c ∷ before is_mark following)) solid plain no_name refl (rw (no_name, plain) at e)
+    go None no_name = atom_found c following token rest (setting.reads (c ∷ before is_mark following)) solid plain no_name refl (rw (no_name, plain) at e)
     go (Some more) name =
         let shown = rw name at e in
         let front = not_front (c ∷ following) more name in
@@ -231,7 +230,7 @@ shown_some None (Some equation) rest e = absurd cc
 
 unmarked-some : (text : List ℕ) → unmarked text ≡ nothing → ⊥
 unfolding unmarked
-unmarked-some text e = shown_some (after_not text) (setting_at (before is_mark text)) (from_first is_mark text) e
+unmarked-some text e = shown_some (after_not text) (setting.reads (before is_mark text)) (from_first is_mark text) e
 
 begun-nothing : (solid : List ℕ) → begun solid ≡ nothing → solid ≡ []
 unfolding begun

@@ -2,7 +2,7 @@
 use Rattle.std.proofs.Common.{◌≡◌, ℕ, suc, ◌<◌, ◌≤◌, false, List, ◌∷◌, length, Option, refl, ap, arith, length-drop}
 use Rattle.texts.specs.Cutting.{before, fails, from_first, without_leading}
 use Rattle.litmus_tokens.specs.Settings.{Equation}
-use Rattle.litmus_tokens.specs.Reading.{setting_at}
+use Rattle.litmus_tokens.specs.Settings.{setting}
 use Rattle.litmus_tokens.specs.Tokens.{Token, Beginning, Tokens, is_mark, after_not, paired, atom_from, negation_or}
 use Rattle.litmus_tokens.specs.Tokens.{unmarked, begun, beginning_of, tokens_from, tokens_within, tokens_of, LeavesLess}
 use Rattle.litmus_tokens.specs.Tokens.Beginning.{nothing, begins, no_token}
@@ -23,8 +23,8 @@ atom_less c rest equation other = grind (arith, length-from_first)
 unmarked-less : (c : ℕ) (rest : List ℕ) → is_mark c ≡ false → LeavesLess (c ∷ rest) (unmarked (c ∷ rest))
 unfolding unmarked
 unmarked-less c rest other =
-    not_or_less c rest (atom_from (setting_at (before is_mark (c ∷ rest))) (from_first is_mark (c ∷ rest)))
-    (atom_less c rest (setting_at (before is_mark (c ∷ rest))) other)
+    not_or_less c rest (atom_from (setting.reads (before is_mark (c ∷ rest))) (from_first is_mark (c ∷ rest)))
+    (atom_less c rest (setting.reads (before is_mark (c ∷ rest))) other)
 
 paired-less : (c : ℕ) (rest : List ℕ) (token : Token) (second : ℕ) → LeavesLess (c ∷ rest) (paired token second rest)
 paired-less c rest token second = grind arith

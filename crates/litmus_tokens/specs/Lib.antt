@@ -1,5 +1,4 @@
 pub mod Cleaning
 pub mod Names
 pub mod Settings
-pub mod Reading
 pub mod Tokens

@@ -1,11 +1,11 @@
 -- Names and numbers.
-use Rattle.std.specs.Prelude.{ℕ, ◌-◌, ◌<◌, ◌≤◌, ◌^◌, ◌%◌, ◌==◌, ℤ, pos, negsuc, Bool, false, not, ◌&&◌, ◌||◌, nat_lt}
+use Rattle.std.specs.Prelude.{ℕ, ◌-◌, ◌^◌, ◌==◌, ℤ, pos, negsuc, Bool, false, not, ◌&&◌, ◌||◌, nat_lt}
 use Rattle.std.specs.Prelude.{nat_eq, List, [], ◌∷◌, length, codes, Option, None, Some, if◌then◌else◌}
 use Rattle.std.specs.List.{list_all, starts_with}
 use Rattle.texts.specs.Letters.{is_letter, is_digit}
 use Rattle.texts.specs.Pieces.{is_gap}
 use Rattle.texts.specs.Cutting.{stripped}
-use Rattle.texts.specs.Numbers.{IsMagnitude, integer_of}
+use Rattle.texts.specs.Grammars.{Grammar, filter_mapped, integer}
 
 -- What is left of a text without the blanks and LFs round it. A CR that ends a line is a space in a
 -- cleaned text, and another one is no blank.
@@ -33,20 +33,10 @@ is_name text = is_spelled text && not (is_not text)
 
 -- ---- numbers
 
--- A number's text and the word for which it stands, which is the number modulo 2^32; `-` is 45.
-pub data IsNumber : List ℕ → ℕ → Type 0 where
-  plain : (digits : List ℕ) (n : ℕ) → IsMagnitude digits n → n < 2 ^ 32 → IsNumber digits n
-  negated : (digits : List ℕ) (n : ℕ) → IsMagnitude digits n → n ≤ 2 ^ 31 → IsNumber (45 ∷ digits) ((2 ^ 32 - n) % 2 ^ 32)
-
--- ---- numbers, as they are read
-
+-- the word for which a number from -2^31 to 2^32 - 1 stands, which is the number modulo 2^32
 abbrev pub word_from : ℤ → Option ℕ
 word_from (pos n) = if nat_lt n (2 ^ 32) then Some n else None
 word_from (negsuc n) = if nat_lt n (2 ^ 31) then Some (2 ^ 32 - 1 - n) else None
 
-abbrev pub word_read : Option ℤ → Option ℕ
-word_read None = None
-word_read (Some n) = word_from n
-
-unfoldable pub word_in : List ℕ → Option ℕ
-word_in text = word_read (integer_of text)
+unfoldable pub a_word : Grammar ℕ
+a_word = filter_mapped integer word_from

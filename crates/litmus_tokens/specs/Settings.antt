@@ -1,10 +1,13 @@
 -- What the texts of init's items and of a condition's atoms say: which value is put where.
-use Rattle.std.specs.Prelude.{◌≡◌, ℕ, ◌⊎◌, IsTrue, List, [], ◌∷◌, ◌++◌, Option, None, Some, codes}
+use Rattle.std.proofs.Common.{◌≡◌, ℕ, Bool, false, List, [], ◌∷◌, ◌++◌, Option, None, Some}
+use Rattle.std.specs.Prelude.{IsTrue, ◌&&◌, ◌||◌, nat_eq, drop, codes, if◌then◌else◌}
+use Rattle.std.specs.List.{starts_with}
+use Rattle.std.specs.Option.{option_and_then}
 use Rattle.rv_decode.specs.declared.instruction.Reg.{Reg}
 use Rattle.rv_decode.specs.Registers.{register_named}
-use Rattle.texts.specs.Numbers.{SaysDecimal, capped}
 use Rattle.texts.specs.Pieces.{is_gap}
-use Rattle.litmus_tokens.specs.Names.{core, is_name, IsNumber}
+use Rattle.texts.specs.Grammars.{Grammar, mapped, parted, begun, ended, padded, either, by_byte, numeral}
+use Rattle.litmus_tokens.specs.Names.{core, is_name, goes_on_name, a_word}
 use Rattle.litmus_tokens.specs.declared.settings.Spot.{Spot}
 use Rattle.litmus_tokens.specs.declared.settings.Spot.TheVariants.{Register, Location}
 use Rattle.litmus_tokens.specs.declared.settings.Worth.{Worth}
@@ -25,34 +28,76 @@ pub data Value : Type 0 where
 abbrev pub Equation : Type 0
 Equation = NamedPlace × Value
 
--- ---- the grammar; blanks and LFs stand round each part
+-- ---- the parts that are no further parted
 
-abbrev pub IsValue : List ℕ → Value → Type 0
-IsValue text (number n) = IsNumber (core text) n
-IsValue text (address_of name) = IsTrue (is_name name) × (core text ≡ name)
+abbrev pub named_text : List ℕ → Option (List ℕ)
+named_text text = if is_name text then Some text else None
 
--- `H:reg`, `name` or `[name]`; `:` is 58, `[` is 91, `]` is 93. The hart's number is capped.
-abbrev pub IsNamedPlace : List ℕ → NamedPlace → Type 0
-IsNamedPlace text (in_register hart register) = (digits name : List ℕ) × (n : ℕ) × (text ≡ digits ++ 58 ∷ name)
-    × SaysDecimal (core digits) n × (hart ≡ capped n) × (register_named (core name) ≡ Some register)
-IsNamedPlace text (at_location name) = IsTrue (is_name name)
-    × ((core text ≡ name) ⊎ ((inner : List ℕ) × (core text ≡ 91 ∷ (inner ++ 93 ∷ [])) × (core inner ≡ name)))
+abbrev pub a_name : Grammar (List ℕ)
+a_name = record { Says = λ text name. IsTrue (is_name text) × (text ≡ name); reads = named_text; bytes = goes_on_name }
 
--- The text puts a value: a place, `=` (61), and the value.
-abbrev pub IsSetting : List ℕ → Equation → Type 0
-IsSetting text equation = (left right : List ℕ) × (text ≡ left ++ 61 ∷ right) × IsNamedPlace left equation.0 × IsValue right equation.1
+abbrev pub a_register : Grammar Reg
+a_register = record { Says = λ text r. register_named text ≡ Some r; reads = register_named; bytes = goes_on_name }
 
 -- `int` and a name, with a gap between them
-abbrev pub IsDeclared : List ℕ → NamedPlace → Type 0
-IsDeclared text (in_register hart register) = ⊥
-IsDeclared text (at_location name) = (gap : ℕ) × (rest : List ℕ) × (core text ≡ codes "int" ++ gap ∷ rest)
-    × IsTrue (is_gap gap) × IsTrue (is_name name) × (core rest ≡ name)
+abbrev pub begins_with_gap : List ℕ → Bool
+begins_with_gap [] = false
+begins_with_gap (c ∷ rest) = is_gap c
 
--- The item puts a value: a setting, or one of a declared location, which gets 0 where no value is given.
-abbrev pub IsItem : List ℕ → Equation → Type 0
-IsItem text equation = IsSetting text equation
-    ⊎ (((left right : List ℕ) × (text ≡ left ++ 61 ∷ right) × IsDeclared left equation.0 × IsValue right equation.1)
-    ⊎ (IsDeclared text equation.0 × (equation.1 ≡ number 0)))
+unfoldable pub after_int : List ℕ → Option (List ℕ)
+after_int text = if starts_with nat_eq text (codes "int") && begins_with_gap (drop 3 text) then Some (drop 3 text) else None
+
+abbrev pub IsDeclaration : List ℕ → List ℕ → Type 0
+IsDeclaration text name = (gap : ℕ) × (rest : List ℕ) × (text ≡ codes "int" ++ gap ∷ rest) × IsTrue (is_gap gap)
+    × IsTrue (is_name (core rest)) × (core rest ≡ name)
+
+abbrev pub a_declaration : Grammar (List ℕ)
+a_declaration = record {
+  Says = IsDeclaration;
+  reads = λ text. option_and_then (λ rest. named_text (core rest)) (after_int text);
+  bytes = λ b. goes_on_name b || is_gap b;
+}
+
+-- ---- the grammar; blanks and LFs stand round each part
+
+abbrev pub spaced : {A : Type 0} → Grammar A → Grammar A
+spaced g = padded is_gap g
+
+-- a name, which stands for its address, or a number
+unfoldable pub value : Grammar Value
+value = spaced (either (mapped a_name address_of) (mapped a_word number))
+
+-- `[name]`; `[` is 91, `]` is 93
+abbrev pub bracketed : Grammar (List ℕ)
+bracketed = begun 91 (ended 93 (spaced a_name))
+
+abbrev pub location : Grammar (List ℕ)
+location = either bracketed a_name
+
+abbrev pub register_at : ℕ × Reg → NamedPlace
+register_at both = in_register both.0 both.1
+
+-- `H:reg`; `:` is 58, and the hart's number is capped
+abbrev pub register_place : Grammar NamedPlace
+register_place = mapped (parted 58 (spaced (numeral 10)) (spaced a_register)) register_at
+
+unfoldable pub place : Grammar NamedPlace
+place = by_byte 58 register_place (mapped (spaced location) at_location)
+
+unfoldable pub declared : Grammar NamedPlace
+declared = mapped (spaced a_declaration) at_location
+
+-- a place, `=` (61), and the value
+unfoldable pub setting : Grammar Equation
+setting = parted 61 place value
+
+-- a place, or a location that is declared there
+unfoldable pub item_place : Grammar NamedPlace
+item_place = either declared place
+
+-- a setting, or one of a declared location, which gets 0 where no value is given
+unfoldable pub item : Grammar Equation
+item = by_byte 61 (parted 61 item_place value) (mapped declared (λ at. (at, number 0)))
 
 -- ---- what the code's values stand for
 
@@ -66,7 +111,3 @@ value_of (Address name) = address_of name.now
 
 abbrev pub equation_of : Setting → Equation
 equation_of setting = (place_of setting.spot, value_of setting.worth)
-
-abbrev pub equations : Option Setting → Option Equation
-equations None = None
-equations (Some setting) = Some (equation_of setting)

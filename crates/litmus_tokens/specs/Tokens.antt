@@ -5,8 +5,7 @@ use Rattle.std.specs.List.{starts_with}
 use Rattle.texts.specs.Cutting.{before, AllPass, NonePass, from_first, without_leading}
 use Rattle.texts.specs.Pieces.{is_gap}
 use Rattle.litmus_tokens.specs.Names.{goes_on_name}
-use Rattle.litmus_tokens.specs.Settings.{Equation, IsSetting, equation_of}
-use Rattle.litmus_tokens.specs.Reading.{setting_at}
+use Rattle.litmus_tokens.specs.Settings.{Equation, setting, equation_of}
 use Rattle.litmus_tokens.specs.declared.tokens.Token as coded
 use Rattle.litmus_tokens.specs.declared.tokens.Token.TheVariants as code
 use Rattle.litmus_tokens.specs.declared.tokens.Front.{Front}
@@ -60,7 +59,7 @@ negation_or (Some rest) other = begins negation rest
 
 -- a token that no mark begins: `not`, or the atom that goes on to the next mark
 unfoldable pub unmarked : List ℕ → Beginning
-unmarked text = negation_or (after_not text) (atom_from (setting_at (before is_mark text)) (from_first is_mark text))
+unmarked text = negation_or (after_not text) (atom_from (setting.reads (before is_mark text)) (from_first is_mark text))
 
 unfoldable pub begun : List ℕ → Beginning
 begun [] = nothing
@@ -128,7 +127,7 @@ pub data Spells : Token → (bytes rest : List ℕ) → Type 0 where
   either : (rest : List ℕ) → Spells disjunction (92 ∷ 47 ∷ []) rest
   says : (first : ℕ) (others rest : List ℕ) (equation : Equation) → is_gap first ≡ false
       → NonePass is_mark (first ∷ others) → EndsAtom rest → after_not (first ∷ (others ++ rest)) ≡ None
-      → IsSetting (first ∷ others) equation → Spells (atom equation) (first ∷ others) rest
+      → setting.Says (first ∷ others) equation → Spells (atom equation) (first ∷ others) rest
 
 -- The text is these tokens, with gaps before, between and after them.
 pub data AreTokens : List ℕ → List Token → Type 0 where

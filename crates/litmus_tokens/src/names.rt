@@ -2,7 +2,7 @@
 
 ghost use Rattle.std.specs.Prelude.{◌≡◌};
 ghost use Rattle.std.specs.List.{list_all};
-ghost use Rattle.litmus_tokens.specs.Names.{begins_name, goes_on_name, is_spelled, is_not, is_name, word_from, word_in};
+ghost use Rattle.litmus_tokens.specs.Names.{begins_name, goes_on_name, is_spelled, is_not, is_name, word_from, a_word};
 
 use texts::integer;
 
@@ -61,9 +61,9 @@ fn word_of(number: i64) -> Option<u32>
 }
 
 /// The word that a number from -2147483648 to 4294967295 says, modulo 2^32.
-#[tactic(auto, unfolding(crate::specs::Names::word_in))]
+#[tactic(auto, unfolding(crate::specs::Names::a_word))]
 pub fn word_in(text: &[u8]) -> Option<u32>
-    ensures { result ≡ word_in text.now }
+    ensures { result ≡ a_word.reads text.now }
 {
     match integer(text) {
         Some(number) => word_of(number),

@@ -1,12 +1,11 @@
 //! Settings: which value is put where.
 
 ghost use Rattle.std.specs.Prelude.{◌≡◌, Some, IfSome, option_map};
-ghost use Rattle.std.specs.Option.{option_copied};
+ghost use Rattle.std.specs.Option.{option_copied, option_zip};
 ghost use Rattle.litmus_tokens.specs.Names.{core};
-ghost use Rattle.litmus_tokens.specs.Settings.{Equation, IsSetting, IsItem, place_of, value_of, equations};
-ghost use Rattle.litmus_tokens.specs.Reading.{value_in, named, location_in, register_from, place_in, equation_from};
-ghost use Rattle.litmus_tokens.specs.Reading.{setting_at, begins_with_gap, after_int, declared_in, item_place_in};
-ghost use Rattle.litmus_tokens.specs.Reading.{item_at};
+ghost use Rattle.litmus_tokens.specs.Settings.{Equation, begins_with_gap, after_int, a_name, value, bracketed, location, register_at, place};
+ghost use Rattle.litmus_tokens.specs.Settings.{declared, setting, item_place, item, place_of, value_of, equation_of};
+ghost use Rattle.litmus_tokens.specs.Settings.NamedPlace.{at_location};
 
 use crate::names::{is_name, word_in};
 use rv_decode::{Reg, register_named};
@@ -46,9 +45,9 @@ fn core(text: &[u8]) -> &[u8]
 }
 
 /// A name, or a number.
-#[tactic(auto, unfolding(crate::specs::Reading::value_in))]
+#[tactic(auto, unfolding(crate::specs::Settings::value))]
 fn worth_in(text: &[u8]) -> Option<Worth<'_>>
-    ensures { option_map value_of result ≡ value_in text.now }
+    ensures { option_map value_of result ≡ value.reads text.now }
 {
     let text = core(text);
     if is_name(text) {
@@ -61,7 +60,7 @@ fn worth_in(text: &[u8]) -> Option<Worth<'_>>
 }
 
 fn location_named(name: &[u8]) -> Option<Spot<'_>>
-    ensures { option_map place_of result ≡ named name.now }
+    ensures { option_map place_of result ≡ option_map at_location (a_name.reads name.now) }
 {
     if is_name(name) {
         Some(Spot::Location(name))
@@ -70,21 +69,30 @@ fn location_named(name: &[u8]) -> Option<Spot<'_>>
     }
 }
 
-/// A location, in brackets or without.
-fn location_in(text: &[u8]) -> Option<Spot<'_>>
-    ensures { option_map place_of result ≡ location_in text.now }
+fn bracketed_in(text: &[u8]) -> Option<Spot<'_>>
+    ensures { option_map place_of result ≡ option_map at_location (bracketed.reads text.now) }
 {
     match text {
         [b'[', rest @ ..] => match cut_at(rest, b']') {
             (name, Some([])) => location_named(core(name)),
             _ => None,
         },
-        _ => location_named(text),
+        _ => None,
+    }
+}
+
+/// A location, in brackets or without.
+fn location_in(text: &[u8]) -> Option<Spot<'_>>
+    ensures { option_map place_of result ≡ option_map at_location (location.reads text.now) }
+{
+    match bracketed_in(text) {
+        Some(spot) => Some(spot),
+        None => location_named(text),
     }
 }
 
 fn register_of<'a>(hart: Option<u64>, register: Option<Reg>) -> Option<Spot<'a>>
-    ensures { option_map place_of result ≡ register_from hart register }
+    ensures { option_map place_of result ≡ option_map register_at (option_zip hart register) }
 {
     match (hart, register) {
         (Some(hart), Some(register)) => Some(Spot::Register { hart, register }),
@@ -93,9 +101,9 @@ fn register_of<'a>(hart: Option<u64>, register: Option<Reg>) -> Option<Spot<'a>>
 }
 
 /// A register of a hart, or a location.
-#[tactic(auto, unfolding(crate::specs::Reading::place_in))]
+#[tactic(auto, unfolding(crate::specs::Settings::place))]
 fn spot_in(text: &[u8]) -> Option<Spot<'_>>
-    ensures { option_map place_of result ≡ place_in text.now }
+    ensures { option_map place_of result ≡ place.reads text.now }
 {
     let (front, name) = cut_at(text, b':');
     match name {
@@ -105,7 +113,7 @@ fn spot_in(text: &[u8]) -> Option<Spot<'_>>
 }
 
 fn put<'a>(spot: Option<Spot<'a>>, worth: Option<Worth<'a>>) -> Option<Setting<'a>>
-    ensures { equations result ≡ equation_from (option_map place_of spot.entry) (option_map value_of worth.entry) }
+    ensures { option_map equation_of result ≡ option_zip (option_map place_of spot.entry) (option_map value_of worth.entry) }
 {
     match (spot, worth) {
         (Some(spot), Some(worth)) => Some(Setting { spot, worth }),
@@ -113,9 +121,9 @@ fn put<'a>(spot: Option<Spot<'a>>, worth: Option<Worth<'a>>) -> Option<Setting<'
     }
 }
 
-#[tactic(auto, unfolding(crate::specs::Reading::setting_at))]
+#[tactic(auto, unfolding(crate::specs::Settings::setting))]
 fn setting_of(text: &[u8]) -> Option<Setting<'_>>
-    ensures { equations result ≡ setting_at text.now }
+    ensures { option_map equation_of result ≡ setting.reads text.now }
 {
     let (left, right) = cut_at(text, b'=');
     match right {
@@ -130,9 +138,9 @@ fn setting_of(text: &[u8]) -> Option<Setting<'_>>
 /// Blanks and LFs may stand round the whole and round `:`, `=` and a name in brackets. The text is a
 /// cleaned one: a CR is no blank.
 pub fn setting_in(text: &[u8]) -> Option<Setting<'_>>
-    ensures found { IfSome (equations result) (IsSetting text.now) }
-    ensures only { (equation : Equation) → IsSetting text.now equation → equations result ≡ Some equation }
-    ensures exact { equations result ≡ setting_at text.now }
+    ensures found { IfSome (option_map equation_of result) (setting.Says text.now) }
+    ensures only { (equation : Equation) → setting.Says text.now equation → option_map equation_of result ≡ Some equation }
+    ensures exact { option_map equation_of result ≡ setting.reads text.now }
 {
     setting_of(text)
 }
@@ -147,7 +155,7 @@ fn begins_with_gap(text: &[u8]) -> bool
 }
 
 /// What follows `int`, where that begins with a gap.
-#[tactic(auto, unfolding(crate::specs::Reading::after_int))]
+#[tactic(auto, unfolding(crate::specs::Settings::after_int))]
 fn after_int(text: &[u8]) -> Option<&[u8]>
     ensures { option_copied result ≡ after_int text.now }
 {
@@ -159,9 +167,9 @@ fn after_int(text: &[u8]) -> Option<&[u8]>
 }
 
 /// The location that a declaration `int name` names.
-#[tactic(auto, unfolding(crate::specs::Reading::declared_in))]
+#[tactic(auto, unfolding(crate::specs::Settings::declared))]
 fn declared_in(text: &[u8]) -> Option<Spot<'_>>
-    ensures { option_map place_of result ≡ declared_in text.now }
+    ensures { option_map place_of result ≡ declared.reads text.now }
 {
     match after_int(core(text)) {
         Some(name) => location_named(core(name)),
@@ -169,9 +177,9 @@ fn declared_in(text: &[u8]) -> Option<Spot<'_>>
     }
 }
 
-#[tactic(auto, unfolding(crate::specs::Reading::item_place_in))]
+#[tactic(auto, unfolding(crate::specs::Settings::item_place))]
 fn item_spot_in(text: &[u8]) -> Option<Spot<'_>>
-    ensures { option_map place_of result ≡ item_place_in text.now }
+    ensures { option_map place_of result ≡ item_place.reads text.now }
 {
     match declared_in(text) {
         Some(spot) => Some(spot),
@@ -179,9 +187,9 @@ fn item_spot_in(text: &[u8]) -> Option<Spot<'_>>
     }
 }
 
-#[tactic(auto, unfolding(crate::specs::Reading::item_at))]
+#[tactic(auto, unfolding(crate::specs::Settings::item))]
 fn item_of(text: &[u8]) -> Option<Setting<'_>>
-    ensures { equations result ≡ item_at text.now }
+    ensures { option_map equation_of result ≡ item.reads text.now }
 {
     let (left, right) = cut_at(text, b'=');
     match right {
@@ -195,9 +203,9 @@ fn item_of(text: &[u8]) -> Option<Setting<'_>>
 ///
 /// A blank or LF follows the `int` there, so `int=5` puts 5 at the location `int`.
 pub fn item_in(text: &[u8]) -> Option<Setting<'_>>
-    ensures found { IfSome (equations result) (IsItem text.now) }
-    ensures only { (equation : Equation) → IsItem text.now equation → equations result ≡ Some equation }
-    ensures exact { equations result ≡ item_at text.now }
+    ensures found { IfSome (option_map equation_of result) (item.Says text.now) }
+    ensures only { (equation : Equation) → item.Says text.now equation → option_map equation_of result ≡ Some equation }
+    ensures exact { option_map equation_of result ≡ item.reads text.now }
 {
     item_of(text)
 }

@@ -4,19 +4,19 @@ use Rattle.std.proofs.Common.{refl, sym, ap, subst, ◌∙◌, inl, inr, append_
 use Rattle.std.specs.List.{AllByRecursion}
 use Rattle.std.specs.Fmt.{decimal}
 use Rattle.std.proofs.lemmas.Bool.{cases_lt, lt-ltb, le-ltb, ne_eqb}
-use Rattle.std.proofs.lemmas.Fmt.{decimal_is_IsNumeral}
 use Rattle.std.proofs.lemmas.List.{append-nil, length-replicate}
 use Rattle.std.proofs.lemmas.List.Elements.{recursion_from_All}
 use Rattle.step_machine.specs.declared.events.Event.{Event}
 use Rattle.texts.specs.declared.pieces.Separators.TheVariants.{BlanksAndLineEnds}
 use Rattle.texts.specs.Pieces.{separates, pieces}
-use Rattle.texts.specs.Numbers.{SaysDecimal}
+use Rattle.texts.specs.Grammars.{numeral}
+use Rattle.texts.proofs.GrammarLaws.{decimal_numeral}
 use Rattle.texts.specs.Cutting.{NonePass}
 use Rattle.texts.specs.Formats.{Stand}
 use Rattle.texts.proofs.CuttingLaws.{none-append, split_none, split_stop}
 use Rattle.texts.proofs.RowLaws.{is_low, Solid, none_of, decimal_solid}
-use Rattle.recorder.specs.Schedule.{letter, hart_of_event, Spells, IsPieceOf, OfHarts, IsTokensOf, EndsLine, IsPlainOf}
-use Rattle.recorder.specs.Schedule.Spells.{once, repeated}
+use Rattle.recorder.specs.Schedule.{letter, hart_of_event, numbers, token, IsPieceOf, OfHarts, IsTokensOf, EndsLine, IsPlainOf}
+use Rattle.step_machine.specs.declared.events.Event.TheVariants.{Act, Land}
 use Rattle.recorder.specs.Reading.{head}
 use Rattle.texts.specs.Runs.{Repetition, repetitions_of, expanded}
 use Rattle.texts.proofs.RunLaws.{expanded-runs_of, all-runs_of}
@@ -55,33 +55,42 @@ token-one : (run : Repetition Event) → run.1 ≤ 1 → repetition_text run ≡
 token-one run one = rw (le-ltb 1 run.1 one) (ap (λ (word : List ℕ). letter run.0 ∷ word) (append-nil (decimal (hart_of_event run.0))))
 
 abbrev pub IsToken : Repetition Event → List ℕ → Type 0
-IsToken run word = Spells run.0 word run.1 × Solid word
+IsToken run word = token.Says word run × Solid word
+
+after_letter_said : (event : Event) (text : List ℕ) (times : ℕ) → numbers.Says text (hart_of_event event, times)
+    → token.Says (letter event ∷ text) (event, times)
+unfolding token
+after_letter_said (Act hart) text times says = inl ((hart, times), (text, refl, says), refl)
+after_letter_said (Land hart) text times says = inr ((hart, times), (text, refl, says), refl)
 
 -- a run's token spells its event and how often it stands, and nothing in it parts pieces
-pub token_fits : (run : Repetition Event) → IsFit run → run.1 < 2 ^ 64 → IsToken run (repetition_text run)
+pub token_fits : (run : Repetition Event) → IsFit run → run.1 < 2 ^ 32 → IsToken run (repetition_text run)
+unfolding numbers
 token_fits run fit small =
     elim (cases_lt 1 run.1) [
       | inl more ↦ subst (IsToken run) (sym (token-more run more)) (repeats more)
       | inr one ↦ subst (IsToken run) (sym (token-one run one)) (comes_once one)
     ]
   where
-    hart : SaysDecimal (decimal (hart_of_event run.0)) (hart_of_event run.0)
-    hart = decimal_is_IsNumeral (hart_of_event run.0) (omega (arith, fit.0))
+    hart : (numeral 10).Says (decimal (hart_of_event run.0)) (hart_of_event run.0)
+    hart = decimal_numeral (hart_of_event run.0) (omega (arith, fit.0))
 
     printed : NonePass is_low (decimal (hart_of_event run.0))
     printed = (decimal_solid (hart_of_event run.0) (omega (arith, fit.0))).1
 
     repeats : 1 < run.1 → IsToken run (letter run.0 ∷ (decimal (hart_of_event run.0) ++ 42 ∷ decimal run.1))
     repeats more = (
-      repeated (decimal (hart_of_event run.0)) (decimal run.1) run.1 hart (decimal_is_IsNumeral run.1 small),
+      after_letter_said run.0 (decimal (hart_of_event run.0) ++ 42 ∷ decimal run.1) run.1
+          (inl (decimal (hart_of_event run.0), decimal run.1, refl, hart, decimal_numeral run.1 small)),
       after_letter run.0 (decimal (hart_of_event run.0) ++ 42 ∷ decimal run.1)
-          (none-append is_low (decimal (hart_of_event run.0)) (42 ∷ decimal run.1) printed (refl, (decimal_solid run.1 small).1)),
+          (none-append is_low (decimal (hart_of_event run.0)) (42 ∷ decimal run.1) printed (refl, (decimal_solid run.1 (omega arith)).1)),
     )
 
     comes_once : run.1 ≤ 1 → IsToken run (letter run.0 ∷ decimal (hart_of_event run.0))
     comes_once one =
         let times : 1 ≡ run.1 = omega (arith, fit.1) in (
-          subst (λ (n : ℕ). Spells run.0 (letter run.0 ∷ decimal (hart_of_event run.0)) n) times (once (decimal (hart_of_event run.0)) hart),
+          subst (λ (n : ℕ). token.Says (letter run.0 ∷ decimal (hart_of_event run.0)) (run.0, n)) times
+              (after_letter_said run.0 (decimal (hart_of_event run.0)) 1 (inr (hart_of_event run.0, hart, refl))),
           after_letter run.0 (decimal (hart_of_event run.0)) printed,
         )
 
@@ -94,19 +103,19 @@ module _ (end : List ℕ) (tail : List (List ℕ)) (none : Stand IsPieceOf tail 
       → Stand IsPieceOf (pieces BlanksAndLineEnds (tokens_text runs ++ end)) (expanded runs)
   text_stands [] fit few = rw (ends [] tt) ([], [], refl, refl, none)
   text_stands (run ∷ []) fit few =
-      let token = token_fits run fit.0 (omega (arith, length-append (replicate run.1 run.0) [], length-replicate run.1 run.0)) in
+      let fits = token_fits run fit.0 (omega (arith, length-append (replicate run.1 run.0) [], length-replicate run.1 run.0)) in
       subst (λ (ps : List (List ℕ)). Stand IsPieceOf ps (expanded (run ∷ [])))
-      (sym (ends (repetition_text run) (none_of parts parts_none (repetition_text run) token.1.1)))
-      (replicate run.1 run.0, [], (run.0, run.1, token.0, fit.0.0, fit.0.1, refl), refl, none)
+      (sym (ends (repetition_text run) (none_of parts parts_none (repetition_text run) fits.1.1)))
+      (replicate run.1 run.0, [], (run.0, run.1, fits.0, fit.0.0, fit.0.1, refl), refl, none)
   text_stands (run ∷ next ∷ runs) fit few =
       let total : length (expanded (run ∷ next ∷ runs)) ≡ run.1 + length (expanded (next ∷ runs)) =
       omega (arith, length-append (replicate run.1 run.0) (expanded (next ∷ runs)), length-replicate run.1 run.0) in
-      let token = token_fits run fit.0 (omega arith) in
+      let fits = token_fits run fit.0 (omega arith) in
       let rest = tokens_text (next ∷ runs) ++ end in
-      let first = split_stop parts (repetition_text run) 32 rest (none_of parts parts_none (repetition_text run) token.1.1) refl in
+      let first = split_stop parts (repetition_text run) 32 rest (none_of parts parts_none (repetition_text run) fits.1.1) refl in
       subst (λ (ps : List (List ℕ)). Stand IsPieceOf ps (expanded (run ∷ next ∷ runs)))
       (sym (ap (pieces BlanksAndLineEnds) (append_assoc (repetition_text run) (32 ∷ tokens_text (next ∷ runs)) end) ∙ first))
-      (replicate run.1 run.0, expanded (next ∷ runs), (run.0, run.1, token.0, fit.0.0, fit.0.1, refl), refl, text_stands (next ∷ runs) fit.1 (omega arith))
+      (replicate run.1 run.0, expanded (next ∷ runs), (run.0, run.1, fits.0, fit.0.0, fit.0.1, refl), refl, text_stands (next ∷ runs) fit.1 (omega arith))
 
   events_again : (events : List Event) → OfHarts events → length events ≤ 1048576 → IsTokensOf (schedule_tokens events ++ end) events
   unfolding schedule_tokens

@@ -12,6 +12,7 @@ use Rattle.recorder.specs.declared.faults.AtByte.{AtByte}
 use Rattle.recorder.specs.declared.tokens.Kind.{Kind}
 use Rattle.recorder.specs.declared.tokens.Kind.TheVariants as kinds
 use Rattle.recorder.specs.declared.tokens.Token.{Token}
+use Rattle.recorder.specs.Schedule.{hart_of_event, token}
 use Rattle.recorder.specs.declared.reading.TheConstants.{MAX_EVENTS}
 use Rattle.texts.specs.declared.pieces.Separators.TheVariants.{BlanksAndLineEnds}
 use Rattle.texts.specs.Pieces.{pieces}
@@ -26,34 +27,13 @@ at_byte fault place = record { fault = fault; place = place }
 
 -- ---- a token: `a` is 97, `l` is 108, `*` is 42
 
--- the hart and the count that stand after a token's letter
-abbrev pub Numbers : Type 0
-Numbers = ℕ × ℕ
+-- what the code's token stands for
+abbrev pub event_of_kind : Kind → ℕ → Event
+event_of_kind kinds.Act hart = Act hart
+event_of_kind kinds.Land hart = Land hart
 
-abbrev pub once_of : Option ℕ → Option Numbers
-once_of None = None
-once_of (Some hart) = Some (hart, 1)
-
-abbrev pub numbers_given : Option ℕ → Option ℕ → Option Numbers
-numbers_given None times = None
-numbers_given (Some hart) None = None
-numbers_given (Some hart) (Some times) = Some (hart, times)
-
-abbrev pub numbers_cut : List ℕ → Option (List ℕ) → Option Numbers
-numbers_cut hart None = once_of (number_of hart)
-numbers_cut hart (Some times) = numbers_given (number_of hart) (number_of times)
-
-unfoldable pub numbers_of : List ℕ → Option Numbers
-numbers_of numbers = numbers_cut (before (is_byte 42) numbers) (after (is_byte 42) numbers)
-
-abbrev pub token_with : Kind → Option Numbers → Option Token
-token_with kind None = None
-token_with kind (Some numbers) = Some (record { kind = kind; hart = numbers.0; times = numbers.1 })
-
-unfoldable pub token_in_word : List ℕ → Option Token
-token_in_word [] = None
-token_in_word (c ∷ numbers) =
-    if c == 97 then token_with kinds.Act (numbers_of numbers) else (if c == 108 then token_with kinds.Land (numbers_of numbers) else None)
+abbrev pub run_of_token : Token → Event × ℕ
+run_of_token token = (event_of_kind token.kind token.hart, token.times)
 
 abbrev pub ends_after : List ℕ → Option (List ℕ) → Bool
 ends_after hart None = length hart == 0
@@ -64,24 +44,19 @@ unfoldable pub is_cut : List ℕ → Bool
 is_cut [] = false
 is_cut (c ∷ numbers) = ((c == 97) || (c == 108)) && ends_after (before (is_byte 42) numbers) (after (is_byte 42) numbers)
 
-abbrev pub event_of_kind : Kind → ℕ → Event
-event_of_kind kinds.Act hart = Act hart
-event_of_kind kinds.Land hart = Land hart
-
 -- The run of one event for which a token stands that begins at `place` in a text of `end` bytes, where
 -- `room` more events may come.
 abbrev pub shape_fault : (end place : ℕ) → List ℕ → AtByte
 shape_fault end place word = if is_cut word && ((place + length word) == end) then at_byte Truncated end else at_byte BadToken place
 
-abbrev pub decoded_token : (place room : ℕ) → Token → Result (Event × ℕ) AtByte
-decoded_token place room token = if nat_le MAX_HARTS token.hart then Err (at_byte BadHart place)
-    else (if (token.times == 0) || nat_lt room token.times then Err (at_byte BadCount place)
-    else Ok (event_of_kind token.kind token.hart, token.times))
+abbrev pub run_within : (place room : ℕ) → Event × ℕ → Result (Event × ℕ) AtByte
+run_within place room run = if nat_le MAX_HARTS (hart_of_event run.0) then Err (at_byte BadHart place)
+    else (if (run.1 == 0) || nat_lt room run.1 then Err (at_byte BadCount place) else Ok run)
 
 unfoldable pub run_at : (end place room : ℕ) → List ℕ → Result (Event × ℕ) AtByte
 run_at end place room word = do
-  token ← or_fault (shape_fault end place word) (token_in_word word)
-  decoded_token place room token
+  run ← or_fault (shape_fault end place word) (token.reads word)
+  run_within place room run
 
 -- ---- a text
 

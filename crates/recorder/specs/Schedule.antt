@@ -5,7 +5,8 @@ use Rattle.step_machine.specs.declared.events.Event.TheVariants.{Act, Land}
 use Rattle.step_machine.specs.declared.opening.TheConstants.{MAX_HARTS}
 use Rattle.texts.specs.declared.pieces.Separators.TheVariants.{BlanksAndLineEnds}
 use Rattle.texts.specs.Pieces.{pieces}
-use Rattle.texts.specs.Numbers.{SaysDecimal}
+use Rattle.texts.specs.Grammars.{Grammar, mapped, parted, begun, either, by_byte, numeral}
+use Rattle.texts.specs.Runs.{Repetition}
 use Rattle.texts.specs.Formats.{Stand}
 use Rattle.recorder.specs.declared.reading.TheConstants.{MAX_EVENTS}
 
@@ -18,16 +19,27 @@ abbrev pub hart_of_event : Event → ℕ
 hart_of_event (Act hart) = hart
 hart_of_event (Land hart) = hart
 
--- A token spells an event and how often it stands: its letter, its hart, and a star and the count, or no count for once.
-pub data Spells (event : Event) : List ℕ → ℕ → Type 0 where
-  once : (hart : List ℕ) → SaysDecimal hart (hart_of_event event) → Spells event (letter event ∷ hart) 1
-  repeated : (hart count : List ℕ) (times : ℕ) → SaysDecimal hart (hart_of_event event) → SaysDecimal count times
-      → Spells event (letter event ∷ (hart ++ 42 ∷ count)) times
+-- a hart, and how often, after a star (42); no count is once
+abbrev pub once : ℕ → ℕ × ℕ
+once hart = (hart, 1)
+
+unfoldable pub numbers : Grammar (ℕ × ℕ)
+numbers = by_byte 42 (parted 42 (numeral 10) (numeral 10)) (mapped (numeral 10) once)
+
+-- an event and how often it stands: its letter, and then its numbers
+abbrev pub acts : ℕ × ℕ → Repetition Event
+acts n = (Act n.0, n.1)
+
+abbrev pub landings : ℕ × ℕ → Repetition Event
+landings n = (Land n.0, n.1)
+
+unfoldable pub token : Grammar (Repetition Event)
+token = either (mapped (begun 97 numbers) acts) (mapped (begun 108 numbers) landings)
 
 -- A piece is a token for a run of one event of one of the harts, once at least, or it is empty and for none.
 abbrev pub IsPieceOf : List ℕ → List Event → Type 0
 IsPieceOf [] events = events ≡ []
-IsPieceOf (c ∷ token) events = (event : Event) × (times : ℕ) × Spells event (c ∷ token) times
+IsPieceOf (c ∷ word) events = (event : Event) × (times : ℕ) × token.Says (c ∷ word) (event, times)
     × (hart_of_event event < MAX_HARTS) × (0 < times) × (events ≡ replicate times event)
 
 -- The tokens of the text stand for these events, which are at most 1,048,576. Tokens are parted by

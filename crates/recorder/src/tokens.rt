@@ -1,10 +1,11 @@
 //! One token of a schedule text.
 
-ghost use Rattle.std.specs.Prelude.{◌≡◌, ◌+◌, ◌≤◌, ◌||◌, ℕ, is_some, length, Err, IfOk, IfErr};
+ghost use Rattle.std.specs.Prelude.{◌≡◌, ◌+◌, ◌≤◌, ◌||◌, ℕ, is_some, option_map, length, Err, IfOk, IfErr};
 ghost use Rattle.step_machine.specs.declared.events.Event.{Event};
+ghost use Rattle.recorder.specs.Schedule.{numbers as run_numbers, token};
 ghost use Rattle.texts.specs.Results.{GivesUpToMemory, refusal_of};
 ghost use Rattle.texts.specs.declared.errors.TextError.TheVariants.{Refused};
-ghost use Rattle.recorder.specs.Reading.{numbers_of, token_in_word, is_cut, event_of_kind, run_at};
+ghost use Rattle.recorder.specs.Reading.{is_cut, event_of_kind, run_of_token, run_at};
 
 use crate::faults::{ScheduleError, ScheduleFault};
 use step_machine::events::Event;
@@ -40,9 +41,9 @@ impl Kind {
 }
 
 /// The hart and the count after a token's letter; no count is once.
-#[tactic(auto, unfolding(crate::specs::Reading::numbers_of))]
+#[tactic(auto, unfolding(crate::specs::Schedule::numbers))]
 fn numbers_in(numbers: &[u8]) -> Option<(u64, u64)>
-    ensures { result ≡ numbers_of numbers.now }
+    ensures { result ≡ run_numbers.reads numbers.now }
 {
     match cut_at(numbers, b'*') {
         (hart, None) => Some((number(hart)?, 1)),
@@ -51,9 +52,9 @@ fn numbers_in(numbers: &[u8]) -> Option<(u64, u64)>
 }
 
 /// What the word says as a token; `None` where its shape is another one.
-#[tactic(auto, unfolding(crate::specs::Reading::token_in_word))]
+#[tactic(auto, unfolding(crate::specs::Schedule::token))]
 fn token_in(word: &[u8]) -> Option<Token>
-    ensures { result ≡ token_in_word word.now }
+    ensures { option_map run_of_token result ≡ token.reads word.now }
 {
     let (kind, numbers) = match word {
         [b'a', numbers @ ..] => (Kind::Act, numbers),
@@ -80,7 +81,7 @@ fn is_cut_short(word: &[u8]) -> bool
 
 /// Whether the word is a token, or one that ends too early.
 pub fn may_begin(word: &[u8]) -> bool
-    ensures { result ≡ (is_cut word.now || is_some (token_in_word word.now)) }
+    ensures { result ≡ (is_cut word.now || is_some (token.reads word.now)) }
 {
     is_cut_short(word) || token_in(word).is_some()
 }

@@ -8,3 +8,4 @@ pub mod TokenLaws
 pub mod FormatLaws
 pub mod RowLaws
 pub mod RunLaws
+pub mod GrammarLaws

@@ -1,19 +1,17 @@
 -- Digits and what they say.
-use Rattle.std.proofs.Common.{◌≡◌, ℕ, ◌+◌, ◌*◌, ◌^◌, ◌<◌, ◌≤◌, Bool, true, false, cond, ◌&&◌, List, [], ◌∷◌, length}
-use Rattle.std.proofs.Common.{take, drop, get_or, Option, Some, None, refl, sym, ◌∙◌, subst, arith, inl, inr, ltb, eqb}
-use Rattle.std.proofs.Common.{ap}
+use Rattle.std.proofs.Common.{◌≡◌, ℕ, ◌+◌, ◌*◌, ◌^◌, ◌<◌, ◌≤◌, Bool, true, false, cond, List, [], ◌∷◌, length}
+use Rattle.std.proofs.Common.{take, get_or, Option, Some, None, refl, ◌∙◌, subst, arith, inl, inr, ltb}
 use Rattle.std.specs.Prelude.{IfSome}
 use Rattle.std.specs.List.{list_all}
 use Rattle.std.specs.Char.{digit_value, is_digit}
 use Rattle.std.specs.Str.Parse.{IsNumeral, AllDigits, digits_value}
-use Rattle.std.proofs.lemmas.Bool.{cases_Bool, ltb-true, lt-ltb, le-ltb, cases_lt, eqb-true, ne_eqb, and_parts, and_right}
+use Rattle.std.proofs.lemmas.Bool.{ltb-true, lt-ltb, le-ltb, cases_lt, eqb-true, ne_eqb, and_parts}
 use Rattle.std.proofs.lemmas.List.Folds.{list_all_more, list_all_at}
 use Rattle.std.proofs.lemmas.Int.Digits.{digits_value_more, digits_value-lt}
 use Rattle.std.proofs.Math.Nat.{mul-le-mul_left, mul-le-mul_right}
-use Rattle.texts.specs.Numbers.{SaysDecimal, SaysInHex, IsMagnitude, IsHexWord, capped, is_numeral}
+use Rattle.texts.specs.Numbers.{SaysDecimal, SaysInHex, IsHexWord, capped, is_numeral}
 use Rattle.texts.specs.Numbers.{capped_value, number_of, hex_number_of, below_cap_of, word_of}
-use Rattle.texts.specs.Numbers.{hex_word_of, is_hex, magnitude_of, is_negative}
-use Rattle.texts.specs.Numbers.IsMagnitude.{decimal, hex}
+use Rattle.texts.specs.Numbers.{hex_word_of}
 
 AllDigits-from_list_all : (radix : ℕ) (digits : List ℕ) → list_all (λ c. is_digit c radix) digits ≡ true → AllDigits radix digits
 AllDigits-from_list_all radix [] e = tt
@@ -150,39 +148,5 @@ found_hex_word digits o e = grind (arith, hex_word-said)
 
 -- ---- how large a number that is read can be
 
-pub small_decimal : (digits : List ℕ) (r : Option ℕ) → r ≡ number_of digits → IfSome r (λ n. n ≤ 2 ^ 32)
-small_decimal digits r e = grind (arith, capped_value-said)
-
-pub small_hex : (digits : List ℕ) (r : Option ℕ) → r ≡ hex_number_of digits → IfSome r (λ n. n ≤ 2 ^ 32)
-small_hex digits r e = grind (arith, capped_value-said)
-
--- ---- what a sign or a `0x` in front says of the text
-
-hex_text : (text : List ℕ) → is_hex text ≡ true → text ≡ 48 ∷ 120 ∷ drop 2 text
-hex_text text e = grind (arith, and_parts, eqb-true)
-
-no_hex : (digits : List ℕ) → AllDigits 10 digits → is_hex digits ≡ false
-no_hex [] h = refl
-no_hex (a ∷ []) h = refl
-no_hex (a ∷ b ∷ rest) h = rw
-    (ne_eqb b 120 (λ is. (let f : digit_value 120 < 10 = subst (λ (c : ℕ). digit_value c < 10) is h.1.0 in omega arith)))
-    (and_right (ltb 1 (length (a ∷ b ∷ rest)) && eqb a 48) false refl)
-
-pub magnitude_found : (text : List ℕ) (n : ℕ) → magnitude_of text ≡ Some n → n < 2 ^ 32 → IsMagnitude text n
-unfolding magnitude_of
-magnitude_found text n e small = elim (cases_Bool (is_hex text)) [
-  | inl is ↦ subst (λ (s : List ℕ). IsMagnitude s n) (sym (hex_text text is)) (hex (drop 2 text) n (hex_number_said (drop 2 text) n (rw is at e) small))
-  | inr other ↦ decimal text n (number_said text n (rw other at e) small)
-]
-
-pub magnitude_only : (text : List ℕ) (n : ℕ) → IsMagnitude text n → n < 2 ^ 32 → magnitude_of text ≡ Some n
-unfolding magnitude_of
-magnitude_only text n (decimal digits m says) small =
-    let same : capped m ≡ m = omega arith in
-    rw (no_hex digits says.0.1) (says_number digits m says ∙ ap Some same)
-magnitude_only text n (hex digits m says) small =
-    let same : capped m ≡ m = omega arith in
-    rw (lt-ltb 1 (length (48 ∷ 120 ∷ digits)) (omega arith)) (says_hex_number digits m says ∙ ap Some same)
-
-pub negative_text : (text : List ℕ) → is_negative text ≡ true → text ≡ 45 ∷ drop 1 text
-negative_text text e = grind (arith, and_parts, eqb-true)
+pub small_number : (radix : ℕ) (digits : List ℕ) (r : Option ℕ) → r ≡ capped_value radix digits → IfSome r (λ n. n ≤ 2 ^ 32)
+small_number radix digits r e = grind (arith, capped_value-said)

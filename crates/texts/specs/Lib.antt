@@ -6,3 +6,4 @@ pub mod Numbers
 pub mod Cutting
 pub mod Letters
 pub mod Runs
+pub mod Grammars

@@ -1,6 +1,6 @@
 -- Numbers in digits, with a sign or without.
-use Rattle.std.specs.Prelude.{◌≡◌, ℕ, ℤ, pos, neg_ℤ, ◌^◌, ◌-◌, ◌<◌, ◌==◌, nat_lt, Bool, false, ◌&&◌, if◌then◌else◌, min}
-use Rattle.std.specs.Prelude.{List, [], ◌∷◌, ◌++◌, length, replicate, drop, slice_index, Option, Some, None, option_map}
+use Rattle.std.specs.Prelude.{◌≡◌, ℕ, ◌^◌, ◌-◌, ◌<◌, ◌==◌, nat_lt, Bool, false, ◌&&◌, if◌then◌else◌, min}
+use Rattle.std.specs.Prelude.{List, [], ◌∷◌, ◌++◌, length, replicate, Option, Some, None}
 use Rattle.std.specs.List.{list_all}
 use Rattle.std.specs.Char.{is_digit}
 use Rattle.std.specs.Fmt.{digits}
@@ -14,11 +14,6 @@ SaysDecimal digits n = IsNumeral 10 digits × (digits_value 10 digits ≡ n)
 abbrev pub SaysInHex : List ℕ → ℕ → Type 0
 SaysInHex digits n = IsNumeral 16 digits × (digits_value 16 digits ≡ n)
 
--- Decimal digits, or `0x` (48 and 120) and hex digits, say n.
-pub data IsMagnitude : List ℕ → ℕ → Type 0 where
-  decimal : (digits : List ℕ) (n : ℕ) → SaysDecimal digits n → IsMagnitude digits n
-  hex : (digits : List ℕ) (n : ℕ) → SaysInHex digits n → IsMagnitude (48 ∷ 120 ∷ digits) n
-
 -- Eight hex digits say the word n.
 abbrev pub IsHexWord : List ℕ → ℕ → Type 0
 IsHexWord digits n = (length digits ≡ 8) × SaysInHex digits n
@@ -30,10 +25,6 @@ hex_word word = replicate (8 - length (digits 16 false word)) 48 ++ digits 16 fa
 -- A number from 2^32 on counts as 2^32, which passes every limit.
 abbrev pub capped : ℕ → ℕ
 capped n = min n (2 ^ 32)
-
--- One or more decimal digits say a number that counts as n.
-abbrev pub SaysCapped : List ℕ → ℕ → Type 0
-SaysCapped digits n = (said : ℕ) × SaysDecimal digits said × (n ≡ capped said)
 
 -- One or more decimal digits say a number n below 2^32.
 abbrev pub SaysWord : List ℕ → ℕ → Type 0
@@ -65,19 +56,3 @@ word_of digits = if is_numeral 10 digits && nat_lt (digits_value 10 digits) (2 ^
 -- the word that eight hex digits say
 unfoldable pub hex_word_of : List ℕ → Option ℕ
 hex_word_of digits = if (length digits == 8) && is_numeral 16 digits then Some (digits_value 16 digits) else None
-
--- ---- with a sign
-
-abbrev pub is_hex : List ℕ → Bool
-is_hex text = nat_lt 1 (length text) && (slice_index text 0 == 48) && (slice_index text 1 == 120)
-
--- decimal digits, or `0x` and hex digits
-unfoldable pub magnitude_of : List ℕ → Option ℕ
-magnitude_of text = if is_hex text then hex_number_of (drop 2 text) else number_of text
-
-abbrev pub is_negative : List ℕ → Bool
-is_negative text = nat_lt 0 (length text) && (slice_index text 0 == 45)
-
--- a magnitude, and a `-` in front or none
-unfoldable pub integer_of : List ℕ → Option ℤ
-integer_of text = if is_negative text then option_map (λ n. neg_ℤ (pos n)) (magnitude_of (drop 1 text)) else option_map pos (magnitude_of text)

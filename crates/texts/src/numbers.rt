@@ -4,7 +4,8 @@ ghost use Rattle.std.specs.Prelude.{◌≡◌, ◌++◌, ◌≤◌, ◌<◌, ◌
 ghost use Rattle.std.specs.String.{string_bytes};
 ghost use Rattle.std.specs.Fmt.{decimal};
 ghost use Rattle.texts.specs.Numbers.{capped_value, number_of, hex_number_of, below_cap_of, word_of, hex_word_of, SaysDecimal};
-ghost use Rattle.texts.specs.Numbers.{IsHexWord, is_hex, is_negative, magnitude_of, integer_of};
+ghost use Rattle.texts.specs.Numbers.{IsHexWord};
+ghost use Rattle.texts.specs.Grammars.{hex_magnitude, magnitude, negative, positive, integer};
 
 use std::alloc::AllocError;
 
@@ -80,33 +81,44 @@ pub fn hex_word(bytes: &[u8]) -> Option<u32>
     }
 }
 
-fn is_hex(text: &[u8]) -> bool
-    ensures { result ≡ is_hex text.now }
-{
-    text.len() > 1 && text[0] == b'0' && text[1] == b'x'
-}
-
-fn is_negative(text: &[u8]) -> bool
-    ensures { result ≡ is_negative text.now }
-{
-    !text.is_empty() && text[0] == b'-'
-}
-
-/// The number without its sign, capped at 2^32.
-#[tactic(auto, using(std::proofs::lemmas::List::take_rest, crate::proofs::NumberLaws::small_decimal, crate::proofs::NumberLaws::small_hex), unfolding(crate::specs::Numbers::magnitude_of))]
-fn magnitude(text: &[u8]) -> Option<u64>
-    ensures value { result ≡ magnitude_of text.now }
+/// `0x` and hex digits.
+#[tactic(auto, using(crate::proofs::NumberLaws::small_number))]
+fn hex_magnitude(text: &[u8]) -> Option<u64>
+    ensures value { result ≡ hex_magnitude.reads text.now }
     ensures small { IfSome result (λ n. n ≤ 2 ^ 32) }
 {
-    if is_hex(text) {
-        hex_number(&text[2..])
-    } else {
-        number(text)
+    match text {
+        [b'0', b'x', digits @ ..] => hex_number(digits),
+        _ => None,
     }
 }
 
-fn signed_magnitude(text: &[u8]) -> Option<i64>
-    ensures { result ≡ option_map pos (magnitude_of text.now) }
+/// The number without its sign, capped at 2^32.
+#[tactic(auto, using(crate::proofs::NumberLaws::small_number), unfolding(crate::specs::Grammars::magnitude))]
+fn magnitude(text: &[u8]) -> Option<u64>
+    ensures value { result ≡ magnitude.reads text.now }
+    ensures small { IfSome result (λ n. n ≤ 2 ^ 32) }
+{
+    match hex_magnitude(text) {
+        Some(number) => Some(number),
+        None => number(text),
+    }
+}
+
+fn negative(text: &[u8]) -> Option<i64>
+    ensures { result ≡ negative.reads text.now }
+{
+    match text {
+        [b'-', digits @ ..] => match magnitude(digits) {
+            Some(number) => Some(-(number as i64)),
+            None => None,
+        },
+        _ => None,
+    }
+}
+
+fn positive(text: &[u8]) -> Option<i64>
+    ensures { result ≡ positive.reads text.now }
 {
     match magnitude(text) {
         Some(number) => Some(number as i64),
@@ -116,17 +128,13 @@ fn signed_magnitude(text: &[u8]) -> Option<i64>
 
 /// The number that the text says: decimal digits, or `0x` and hex digits, with a `-` in front or
 /// none. One from 2^32 on counts as 2^32, which is past every limit of the program.
-#[tactic(auto, using(std::proofs::lemmas::List::take_rest), unfolding(crate::specs::Numbers::integer_of))]
+#[tactic(auto, unfolding(crate::specs::Grammars::integer))]
 pub fn integer(text: &[u8]) -> Option<i64>
-    ensures { result ≡ integer_of text.now }
+    ensures { result ≡ integer.reads text.now }
 {
-    if is_negative(text) {
-        match magnitude(&text[1..]) {
-            Some(number) => Some(-(number as i64)),
-            None => None,
-        }
-    } else {
-        signed_magnitude(text)
+    match negative(text) {
+        Some(number) => Some(number),
+        None => positive(text),
     }
 }
 

@@ -1,10 +1,12 @@
 use Rattle.std.proofs.Common.{◌∙◌}
-use Rattle.litmus_tokens.specs.Settings.{equations}
-use Rattle.litmus_tokens.proofs.ItemLaws.{found_item, item_read}
+use Rattle.std.specs.Prelude.{option_map}
+use Rattle.texts.proofs.GrammarLaws.{if_found}
+use Rattle.litmus_tokens.specs.Settings.{item, equation_of}
+use Rattle.litmus_tokens.proofs.SettingLaws.{item_settles}
 use Rattle.litmus_tokens.proofs.settings.item_in.Goals as goal
 
 pub returns-clause-found : goal.returns-clause-found
-returns-clause-found c = found_item c.args.text.now (equations c.item_of.result) c.item_of.ensures
+returns-clause-found c = if_found item item_settles c.args.text.now (option_map equation_of c.item_of.result) c.item_of.ensures
 
 pub returns-clause-only : goal.returns-clause-only
-returns-clause-only c = λ equation is. c.item_of.ensures ∙ item_read c.args.text.now equation is
+returns-clause-only c = λ equation is. c.item_of.ensures ∙ item_settles.only c.args.text.now equation is
