@@ -3,4 +3,6 @@ pub mod Descriptions
 pub mod Faults
 pub mod Jobs
 pub mod Numbers
-pub mod Spellings
+pub mod Parameters
+pub mod Rows
+pub mod Uses

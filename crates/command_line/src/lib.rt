@@ -11,6 +11,7 @@ mod fault;
 pub mod job;
 mod numbers;
 mod reading;
+mod table;
 
 pub use fault::CommandLineError;
 pub use reading::job_of;
