@@ -14,9 +14,10 @@ use Rattle.clap.specs.Walk.{Row as Found, Walk, answers_to, finished, first_of, 
 use Rattle.clap.specs.Words.{Text}
 use Rattle.clap.proofs.OnLiterals.{clap_on_literals}
 use Rattle.clap.proofs.WalkLemmas.{find-map}
-use Rattle.command_line.specs.Descriptions.{commands, row_named, ztso_command}
+use Rattle.command_line.specs.Commands.{commands}
+use Rattle.command_line.specs.Descriptions.{ztso_command}
 use Rattle.command_line.specs.Parameters.{CommandRow}
-use Rattle.command_line.specs.Uses.{IsWhole, Said, Says, Use, said_for, defaults_of, texts_of_uses}
+use Rattle.command_line.specs.Uses.{IsWhole, Said, Says, Use, row_named, said_for, defaults_of, texts_of_uses}
 use Rattle.command_line.proofs.RowLaws.{is_sound, sound_row}
 use Rattle.command_line.proofs.UseLaws.{find_left, leaf, one_of_all, rules_from, uses_read}
 

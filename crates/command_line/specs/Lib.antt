@@ -1,4 +1,5 @@
 pub mod CommandLines
+pub mod Commands
 pub mod Descriptions
 pub mod Faults
 pub mod Jobs

@@ -55,3 +55,6 @@ rule_for (flag name) = record (new_rule name) { long = Some name; action = Some 
 pub record CommandRow : Type 0 where
   pub name : Text
   pub parameters : List Parameter
+
+abbrev pub row : (name : Text) → List Parameter → CommandRow
+row name parameters = record { name = name; parameters = parameters }

@@ -3,7 +3,7 @@ use Rattle.std.specs.Prelude.{ℕ, ◌≡◌, ◌≢◌, ◌++◌, suc, true, Li
 use Rattle.std.specs.Str.{bytes_eq}
 use Rattle.clap.specs.Words.{Text}
 use Rattle.command_line.specs.CommandLines.{job_by}
-use Rattle.command_line.specs.Descriptions.{row_named}
+use Rattle.command_line.specs.Commands.{commands}
 use Rattle.command_line.specs.Jobs.{Wanted}
 use Rattle.command_line.specs.Parameters.{Parameter, CommandRow, flag, is_required, name_of, named, takes_value, defaulted, word_in_place}
 
@@ -60,6 +60,10 @@ defaults_of [] = []
 defaults_of (defaulted name value ∷ parameters) = (name, value) ∷ defaults_of parameters
 defaults_of (flag name ∷ parameters) = (name, codes "false") ∷ defaults_of parameters
 defaults_of (_ ∷ parameters) = defaults_of parameters
+
+-- the row of the command of this name
+abbrev pub row_named : Text → Option CommandRow
+row_named name = find (λ r. bytes_eq r.name name) commands
 
 -- The words after the program's name say a command's name and then uses of its parameters, from which that job follows.
 abbrev pub IsSpelling : Wanted → List Text → Type 0

@@ -6,6 +6,7 @@
 
 #![tactic(auto)]
 
+mod commands;
 mod description;
 mod fault;
 pub mod job;
