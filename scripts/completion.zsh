@@ -89,7 +89,7 @@ _ztso() {
             '--runs[how many schedules are drawn, 1 to 100000]:N:()' \
             '--length[how many events each schedule has, 0 to 1048576]:L:()' \
             '--skip[the first K runs of the seed are passed over, 0 to 18446744073709551615; 0 if it is left out]:K:()' \
-            '--jobs[J threads share the runs, 1 to 64, and the output is the same; 1 if it is left out]:J:()' \
+            '--jobs[J threads share the runs, with the same output, 1 to 64; 1 if it is left out]:J:()' \
             '1:FILE:_files'
         ;;
     threads)
@@ -101,8 +101,8 @@ _ztso() {
     channel)
         _arguments \
             '--buffer[a hart'\''s store buffer holds N stores: 1, 2, 4 or 16; 4 if it is left out]:N:(1 2 4 16)' \
-            '--base[the first block begins at byte A of memory, a multiple of 4 below 4294967296; 0 if it is left out]:A:()' \
-            '--stride[each block begins T bytes after the one before it, a multiple of 4 and at least 16 + 4 RING; that if it is left out]:T:()' \
+            '--base[the first block begins at byte A of memory, a multiple of 4, 0 to 4294967295; 0 if it is left out]:A:()' \
+            '--stride[each block begins T bytes after the one before it (a multiple of 4 and at least 16 + 4 RING, which it is if it is left out), 0 to 4294967295]:T:()' \
             '--finish[after the schedule a plan runs, until each list is taken and each sender closed; not with own]' \
             '--sender[the program of each sender, as assembly: with own, and only there]:SENDER:_files' \
             '--receiver[the program of the receiver, as assembly: with own, and only there]:RECEIVER:_files' \
@@ -117,9 +117,9 @@ _ztso() {
             '--runs[how many schedules are drawn, 1 to 100000]:N:()' \
             '--length[how many events each schedule has, 0 to 1048576]:L:()' \
             '--skip[the first K runs of the seed are passed over, 0 to 18446744073709551615; 0 if it is left out]:K:()' \
-            '--jobs[J threads share the runs, 1 to 64, and the output is the same; 1 if it is left out]:J:()' \
-            '--base[the first block begins at byte A of memory, a multiple of 4 below 4294967296; 0 if it is left out]:A:()' \
-            '--stride[each block begins T bytes after the one before it, a multiple of 4 and at least 16 + 4 RING; that if it is left out]:T:()' \
+            '--jobs[J threads share the runs, with the same output, 1 to 64; 1 if it is left out]:J:()' \
+            '--base[the first block begins at byte A of memory, a multiple of 4, 0 to 4294967295; 0 if it is left out]:A:()' \
+            '--stride[each block begins T bytes after the one before it (a multiple of 4 and at least 16 + 4 RING, which it is if it is left out), 0 to 4294967295]:T:()' \
             '1:SENDER:_files' \
             '2:RECEIVER:_files' \
             '3:RING:()'
@@ -131,7 +131,7 @@ _ztso() {
             '--runs[how many schedules are drawn, 1 to 100000]:N:()' \
             '--length[how many events each schedule has, 0 to 1048576]:L:()' \
             '--skip[the first K runs of the seed are passed over, 0 to 18446744073709551615; 0 if it is left out]:K:()' \
-            '--jobs[J threads share the runs, 1 to 64, and the output is the same; 1 if it is left out]:J:()' \
+            '--jobs[J threads share the runs, with the same output, 1 to 64; 1 if it is left out]:J:()' \
             '--slots[the queue has S slots, 0 to 4294967295]:S:()' \
             '--base[the queue'\''s block begins at byte B of memory, 0 to 4294967295; 0 if it is left out]:B:()' \
             '--sender[hart H sends, 0 to 63; 0 if it is left out]:H:()' \

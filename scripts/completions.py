@@ -1,51 +1,30 @@
-"""The completions of scripts/make-commands for bash, zsh and fish. Each function gets `rows`, the rows of docs/commands.tsv of
-a kind, and yields lines."""
+"""The completions of scripts/make-commands for bash, zsh and fish. Each function gets the commands and options of
+docs/commands.tsv, and yields lines."""
 
 import re
+
+from command_table import FILE
 
 FILES = "files"
 # what the command line calls a file
 NAMES = ("FILE", "SCHEDULE", "SENDER", "RECEIVER")
-# the values of an argument, as a text lists them
-LISTED = r"(?:\w+, )*\w+ or \w+"
+# the values of a word, as a text lists them
+LISTED = r"\b([A-Z]+) is ((?:\w+, )*\w+ or \w+)"
 
 
-class Command:
-    """A command with what can come after its name."""
-
-    def __init__(self, words, reads, prints, options):
-        self.name, self.prints = words.split()[0], re.split(r"[,:;(]", prints)[0]
-        listed = {name: values_of(words) for name, words in re.findall(rf"\b([A-Z]+) is ({LISTED})", reads)}
-        # the inputs in their order by name, each with FILES, a list of words, or nothing where it is any text
-        self.inputs = [(name, FILES if name in NAMES else listed.get(name, []))
-                       for name in words.split(" --")[0].split()[1:]]
-        self.options = [option for option in options if self.name in option.commands]
+def inputs(command):
+    """The inputs in their order by name, each with FILES, a list of words, or nothing where it is any text."""
+    listed = {name: re.split(", | or ", words) for name, words in re.findall(LISTED, command.reads)}
+    return [(name, FILES if name in NAMES else listed.get(name, [])) for name in command.places]
 
 
-class Option:
-    """An option with the name of its value, or nothing, the values where its text lists them, and whether it is a file."""
-
-    def __init__(self, words, commands, does):
-        self.name, _, self.value = words.partition(" ")
-        self.commands, self.does = commands.split(), does
-        listed = re.search(rf": ({LISTED})(?:;|$)", does)
-        self.values = values_of(listed[1]) if listed else []
-        self.has_file = self.value in NAMES
-
-
-def values_of(listed):
-    return re.split(", | or ", listed)
-
-
-def read(rows):
-    options = [Option(*row) for row in rows("option")]
-    return [Command(words, reads, prints, options) for words, reads, prints, _ in rows("command")], options
+def in_short(command):
+    return re.split(r"[,:;(]", command.prints)[0]
 
 
 # ---- bash
 
-def bash(rows):
-    commands, options = read(rows)
+def bash(commands, options):
     yield "# Completes the words of ztso in bash: source scripts/completion.bash. Made by scripts/make-commands."
     yield "_ztso() {"
     yield "    local word=${COMP_WORDS[COMP_CWORD]} last=${COMP_WORDS[COMP_CWORD - 1]} command=${COMP_WORDS[1]}"
@@ -64,10 +43,10 @@ def bash(rows):
     yield f"        words='{' '.join(command.name for command in commands)}'"
     yield "    elif ((at > COMP_CWORD)); then"
     yield "        case $last in"
-    yield from (f"        {option.name}) words='{' '.join(option.values)}' ;;" for option in options if option.values)
+    yield from (f"        {option.name}) words='{' '.join(option.listed)}' ;;" for option in options if option.listed)
     # another command may have an option by the same name for something else
     yield from (f"        {option.name}) [[ ' {' '.join(option.commands)} ' != *\" $command \"* ]] || compopt -o default ;;"
-                for option in options if option.has_file)
+                for option in options if option.values == FILE)
     yield "        esac"
     yield "    elif [[ $word == -* ]]; then"
     yield "        words=$options"
@@ -83,21 +62,20 @@ def bash(rows):
 
 
 def bash_command(command):
-    inputs = " ".join(kind if kind == FILES else f"'{' '.join(kind)}'" for _, kind in command.inputs)
+    words = " ".join(kind if kind == FILES else f"'{' '.join(kind)}'" for _, kind in inputs(command))
     options = " ".join(option.name for option in command.options)
-    return f"    {command.name}) inputs=({inputs}) options='{options}' ;;"
+    return f"    {command.name}) inputs=({words}) options='{options}' ;;"
 
 
 # ---- zsh
 
-def zsh(rows):
-    commands, _ = read(rows)
+def zsh(commands, _):
     yield "#compdef ztso"
     yield "# Completes the words of ztso in zsh, as the file _ztso of a folder of fpath. Made by scripts/make-commands."
     yield "_ztso() {"
     yield "    if ((CURRENT == 2)); then"
     yield "        local -a commands=("
-    yield from (f"            {zsh_quoted(f'{command.name}:{command.prints}')}" for command in commands)
+    yield from (f"            {zsh_quoted(f'{command.name}:{in_short(command)}')}" for command in commands)
     yield "        )"
     yield "        _describe command commands"
     yield "        return"
@@ -106,7 +84,7 @@ def zsh(rows):
     yield "    ((CURRENT--))"
     yield "    case $words[1] in"
     for command in commands:
-        words = [*map(zsh_option, command.options), *map(zsh_input, range(1, 9), command.inputs)]
+        words = [*map(zsh_option, command.options), *map(zsh_input, range(1, 9), inputs(command))]
         yield f"    {command.name})"
         words = ["_arguments", *map(zsh_quoted, words)] if words else ["_message 'no more words'"]
         yield "        " + " \\\n            ".join(words)
@@ -117,8 +95,8 @@ def zsh(rows):
 
 
 def zsh_option(option):
-    text = option.does.replace("[", "\\[").replace("]", "\\]")
-    values = "_files" if option.has_file else f"({' '.join(option.values)})"
+    text = option.text.replace("[", "\\[").replace("]", "\\]")
+    values = "_files" if option.values == FILE else f"({' '.join(option.listed)})"
     return f"{option.name}[{text}]" + (f":{option.value}:{values}" if option.value else "")
 
 
@@ -133,25 +111,25 @@ def zsh_quoted(text):
 
 # ---- fish
 
-def fish(rows):
-    commands, options = read(rows)
+def fish(commands, options):
     yield "# Completes the words of ztso in fish. Made by scripts/make-commands."
     yield "complete -c ztso -f"
     for command in commands:
-        yield f"complete -c ztso -n __fish_use_subcommand -a {command.name} -d {fish_quoted(command.prints)}"
-    listed = {command: next((kind for _, kind in command.inputs if kind and kind != FILES), [])
+        yield f"complete -c ztso -n __fish_use_subcommand -a {command.name} -d {fish_quoted(in_short(command))}"
+    listed = {command.name: next((kind for _, kind in inputs(command) if kind and kind != FILES), [])
               for command in commands}
-    plain = [command.name for command in commands if not listed[command] and FILES in dict(command.inputs).values()]
+    plain = [command.name for command in commands if not listed[command.name] and FILES in dict(inputs(command)).values()]
     yield f"complete -c ztso -n '{fish_seen(plain)}' -F"
-    for command, words in listed.items():
+    for name, words in listed.items():
         if words:
             # first one of the words, then files
-            yield f"complete -c ztso -n '{fish_seen([command.name])}; and not {fish_seen(words)}' -a '{' '.join(words)}'"
-            yield f"complete -c ztso -n '{fish_seen([command.name])}; and {fish_seen(words)}' -F"
+            yield f"complete -c ztso -n '{fish_seen([name])}; and not {fish_seen(words)}' -a '{' '.join(words)}'"
+            yield f"complete -c ztso -n '{fish_seen([name])}; and {fish_seen(words)}' -F"
     for option in options:
         line = f"complete -c ztso -n '{fish_seen(option.commands)}' -l {option.name[2:]}"
-        line += (" -r -F" if option.has_file else " -x") * bool(option.value) + f" -a '{' '.join(option.values)}'" * bool(option.values)
-        yield f"{line} -d {fish_quoted(option.does)}"
+        line += (" -r -F" if option.values == FILE else " -x") * bool(option.value)
+        line += f" -a '{' '.join(option.listed)}'" * bool(option.listed)
+        yield f"{line} -d {fish_quoted(option.text)}"
 
 
 def fish_seen(words):

@@ -79,7 +79,7 @@ $1 == "option" {
     options++
     option[options] = $2
     takers[options] = " " $3 " "
-    does[options] = $4
+    does[options] = $6 ($4 ~ / or / ? ": " $4 : $4 ~ / to / ? ", " $4 : "") ($5 != "" ? "; " $5 " if it is left out" : "")
 }
 
 END {

@@ -16,17 +16,17 @@ function is_number(text, least, most) {
     return !is_less(text, least) && !is_less(most, text)
 }
 
-# What is wrong with the value of an option, or nothing. Its bounds stand in what the page says that it does.
-function wrong_value(name, value,    bounds, is_bounded) {
-    if (name == "--buffer")
-        return value ~ /^(1|2|4|16)$/ ? "" : "`" value "` is none of 1, 2, 4 and 16, for --buffer"
-    if (value_of[name] == "SENDER" || value_of[name] == "RECEIVER")
-        return ""
-    if (value_of[name] == "KIND")
-        return value ~ /^(lamport|cached|fastforward)$/ ? "" : "`" value "` is none of lamport, cached and fastforward, for " name
-    is_bounded = match(does[name], /[0-9]+ to [0-9]+/)
-    split(is_bounded ? substr(does[name], RSTART, RLENGTH) : "0 to 4294967295", bounds, " to ")
-    return is_number(value, bounds[1], bounds[2]) ? "" : "`" value "` is no number from " bounds[1] " to " bounds[2] ", for " name
+# What is wrong with the value of an option, or nothing: its values are a range of numbers, or a list of words, or any file.
+function wrong_value(name, value,    bounds, one, count, i, listed) {
+    if (split(values_of[name], bounds, " to ") == 2)
+        return is_number(value, bounds[1], bounds[2]) ? "" : "`" value "` is no number from " bounds[1] " to " bounds[2] ", for " name
+    count = split(values_of[name], one, /, | or /)
+    for (i = 1; i <= count; i++)
+        if (count == 1 || value "" == one[i] "")
+            return ""
+    listed = values_of[name]
+    sub(/ or /, " and ", listed)
+    return "`" value "` is none of " listed ", for " name
 }
 
 # What is wrong with a word in its place.
@@ -52,7 +52,7 @@ function take_option(at,    name, value, has_value) {
         value = substr(name, has_value + 1)
         name = substr(name, 1, has_value - 1)
     }
-    if (!(name in does)) {
+    if (!(name in value_of)) {
         say("`" name "` is no option of " command)
         return 1
     }
@@ -138,7 +138,7 @@ $1 == "command" {
 $1 == "option" && " " $3 " " ~ " " command " " {
     split($2, part, " ")
     value_of[part[1]] = part[2]
-    does[part[1]] = $4
+    values_of[part[1]] = $4
 }
 
 END {

@@ -1,5 +1,7 @@
 pub mod Described
 pub mod Matches
 pub mod NumberLaws
-pub mod Pieces
-pub mod Spellings
+pub mod RowLaws
+pub mod Spelled
+pub mod TableLaws
+pub mod UseLaws

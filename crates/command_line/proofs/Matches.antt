@@ -1,5 +1,5 @@
 -- From what a parse found to the job.
-use Rattle.std.proofs.Common.{◌≡◌, List, [], ◌∷◌, inl, inr, Option, Some, None, refl, true}
+use Rattle.std.proofs.Common.{◌≡◌, List, [], ◌∷◌, inl, inr, ap₂, Option, Some, None, refl, true}
 use Rattle.std.specs.Prelude.{option_and_then, option_map, Result, Ok, Err, IsErrAnd}
 use Rattle.std.specs.Option.{ok_or}
 use Rattle.clap.specs.Words.{HasKind, Kinds, Row, Text, fault_of, is_simple, is_simple_and_free, kind_of, subcommand_of}
@@ -47,3 +47,16 @@ gives_where_found words none found is_found r is_r = rw (none, ← is_found, is_
     by_found : (o : Option Job) → GivesJob (option_map wanted_by o) (ok_or o BadCommandLine)
     by_found None = inr (refl, refl)
     by_found (Some job) = refl
+
+-- what is known of both parts of a pair that is there
+module _ {B N R : Type 0} (f : B → N) (g : B → R) where
+  abbrev pair : B → N × R
+  pair b = (f b, g b)
+
+  pub both_known : (o : Option B) (n : N) (r : R) → Some n ≡ option_map f o → Some r ≡ option_map (λ (p : N × R). p.1) (option_map pair o)
+      → ◌≡◌ {A = Option (N × R)} (Some (n, r)) (option_map pair o)
+  both_known None n r a b = absurd cc
+  both_known (Some x) n r a b =
+      let first : n ≡ f x = cc in
+      let second : r ≡ g x = cc in
+      ap₂ (λ (k : N) (v : R). Some (k, v)) first second

@@ -1,7 +1,8 @@
 -- The job that words ask for.
 use Rattle.std.specs.Prelude.{ℕ, ◌≡◌, ◌⊎◌, Bool, List, [], ◌∷◌, Option, Some, None, Result, Ok, Err, codes, if◌then◌else◌, option_and_then, option_map}
 use Rattle.std.specs.Str.{bytes_eq}
-use Rattle.clap.specs.Words.{Kinds, Row, Text, fault_of, first_of, subcommand_of}
+use Rattle.clap.specs.Words.{Kinds, Row, Text, fault_of, first_of, found_of, rows_of, subcommand_of}
+use Rattle.clap.specs.declared.parser.matches.ArgMatches.{ArgMatches}
 use Rattle.recorder.specs.declared.reading.TheConstants.{MAX_EVENTS}
 use Rattle.command_line.specs.declared.fault.CommandLineError.{CommandLineError}
 use Rattle.command_line.specs.declared.fault.CommandLineError.TheVariants.{BadCommandLine, NoMemory}
@@ -41,25 +42,32 @@ capacity_given text =
     else (if bytes_eq text (codes "4") then Some Four
     else (if bytes_eq text (codes "16") then Some Sixteen else None)))
 
+-- the text that is found for a name, if there is one
+abbrev pub Found : Type 0
+Found = Text → Option Text
+
+abbrev pub found_by : ArgMatches → Found
+found_by matches = λ id. first_of id (rows_of (found_of matches))
+
 -- the seed of the generator that draws schedules
-abbrev pub seed_in : List Row → Option ℕ
-seed_in options = first_of (codes "seed") options >>= number_within 0 18446744073709551615
+abbrev pub seed_in : Found → Option ℕ
+seed_in options = options (codes "seed") >>= number_within 0 18446744073709551615
 
 -- which runs are drawn
-abbrev pub runs_in : List Row → Option Runs
+abbrev pub runs_in : Found → Option Runs
 runs_in options = do
-  skip_text ← first_of (codes "skip") options
+  skip_text ← options (codes "skip")
   skip ← number_within 0 18446744073709551615 skip_text
-  runs_text ← first_of (codes "runs") options
+  runs_text ← options (codes "runs")
   runs ← number_within 1 100000 runs_text
-  length_text ← first_of (codes "length") options
+  length_text ← options (codes "length")
   events ← number_within 0 MAX_EVENTS length_text
-  jobs_text ← first_of (codes "jobs") options
+  jobs_text ← options (codes "jobs")
   jobs ← number_within 1 64 jobs_text
   Some (record { skip = skip; number = runs; length = events; jobs = jobs })
 
 -- the runs of `try`, from its options
-abbrev pub try_in : List Row → Option MachineCommand
+abbrev pub try_in : Found → Option MachineCommand
 try_in options = do
   seed ← seed_in options
   runs ← runs_in options
@@ -71,22 +79,22 @@ queue_kind_given text =
     else (if bytes_eq text (codes "cached") then Some kind.Cached else (if bytes_eq text (codes "fastforward") then Some kind.FastForward else None))
 
 -- the queue whose functions code calls
-abbrev pub queue_in : List Row → Option CalledQueue
+abbrev pub queue_in : Found → Option CalledQueue
 queue_in options = do
-  kind_text ← first_of (codes "kind") options
+  kind_text ← options (codes "kind")
   of_kind ← queue_kind_given kind_text
-  base_text ← first_of (codes "base") options
+  base_text ← options (codes "base")
   base ← number_within 0 4294967295 base_text
-  slots_text ← first_of (codes "slots") options
+  slots_text ← options (codes "slots")
   slots ← number_within 0 4294967295 slots_text
-  sender_text ← first_of (codes "sender") options
+  sender_text ← options (codes "sender")
   sender ← number_within 0 63 sender_text
-  receiver_text ← first_of (codes "receiver") options
+  receiver_text ← options (codes "receiver")
   receiver ← number_within 0 63 receiver_text
   Some (record { kind = of_kind; base = base; slots = slots; sender = sender; receiver = receiver })
 
 -- the runs of `callers`, from its options, and of which queue
-abbrev pub callers_in : List Row → Option MachineCommand
+abbrev pub callers_in : Found → Option MachineCommand
 callers_in options = do
   seed ← seed_in options
   runs ← runs_in options
@@ -115,65 +123,65 @@ style_given text = if flag_given text then Svg else style.Text
 abbrev pub selection_given : Text → Selection
 selection_given text = if flag_given text then MemoryRows else EveryRow
 
-abbrev pub chart_in : List Row → Option MachineCommand
+abbrev pub chart_in : Found → Option MachineCommand
 chart_in options = do
-  svg ← first_of (codes "svg") options
-  memory ← first_of (codes "memory") options
+  svg ← options (codes "svg")
+  memory ← options (codes "memory")
   Some (Chart (style_given svg) (selection_given memory))
 
-abbrev pub show_in : List Row → Option MachineCommand
+abbrev pub show_in : Found → Option MachineCommand
 show_in options = do
-  steps ← first_of (codes "steps") options
+  steps ← options (codes "steps")
   Some (Show (flag_given steps))
 
 -- where a channel's blocks lie
-abbrev pub place_in : List Row → Option BlockPlace
+abbrev pub place_in : Found → Option BlockPlace
 place_in options = do
-  slots_text ← first_of (codes "ring") options
+  slots_text ← options (codes "ring")
   slots ← number_within 0 4294967295 slots_text
-  base_text ← first_of (codes "base") options
+  base_text ← options (codes "base")
   base ← number_within 0 4294967295 base_text
-  stride ← number_if_given (first_of (codes "stride") options)
+  stride ← number_if_given (options (codes "stride"))
   Some (record { slots = slots; base = base; stride = stride })
 
 -- the ring of `channel`, from its words, its place, and whether it is to be finished
-abbrev pub channel_in : List Row → Option MachineCommand
+abbrev pub channel_in : Found → Option MachineCommand
 channel_in options = do
-  kind ← first_of (codes "kind") options
+  kind ← options (codes "kind")
   ring ← ring_given kind
   place ← place_in options
-  finish ← first_of (codes "finish") options
+  finish ← options (codes "finish")
   Some (Channel ring place (flag_given finish))
 
 -- the capacity that the options ask for
-abbrev pub capacity_in : List Row → Option Capacity
-capacity_in options = first_of (codes "buffer") options >>= capacity_given
+abbrev pub capacity_in : Found → Option Capacity
+capacity_in options = options (codes "buffer") >>= capacity_given
 
 -- this command on a machine of this capacity
-abbrev pub machine_in : List Row → Option MachineCommand → Option Command
+abbrev pub machine_in : Found → Option MachineCommand → Option Command
 machine_in options found = do
   command ← found
   capacity ← capacity_in options
   Some (Machine command capacity)
 
 -- the search, from its options
-abbrev pub find_in : List Row → Option Command
+abbrev pub find_in : Found → Option Command
 find_in options = do
-  states_text ← first_of (codes "states") options
+  states_text ← options (codes "states")
   states ← number_within 1 16777216 states_text
   capacity ← capacity_in options
   Some (Find states capacity)
 
 -- the run on threads, from its options
-abbrev pub threads_in : List Row → Option Command
+abbrev pub threads_in : Found → Option Command
 threads_in options = do
-  turns_text ← first_of (codes "turns") options
+  turns_text ← options (codes "turns")
   turns ← number_within 0 10000000 turns_text
   capacity ← capacity_in options
   Some (Threads turns capacity)
 
 -- the runs of `ring`, from its options, and of which channel
-abbrev pub ring_in : List Row → Option Command
+abbrev pub ring_in : Found → Option Command
 ring_in options = do
   seed ← seed_in options
   runs ← runs_in options
@@ -182,48 +190,48 @@ ring_in options = do
   Some (UserRing seed runs place capacity)
 
 -- the channel of a user's programs, from its words and its place; it isn't finished by a plan
-abbrev pub own_in : List Row → Option Command
+abbrev pub own_in : Found → Option Command
 own_in options = do
   place ← place_in options
-  finish ← first_of (codes "finish") options
+  finish ← options (codes "finish")
   if flag_given finish then None else (do
     capacity ← capacity_in options
     Some (UserChannel place capacity))
 
 -- the file that a word names
-abbrev pub file_in : (id : Text) → List Row → Option Input
+abbrev pub file_in : (id : Text) → Found → Option Input
 file_in id options = do
-  path ← first_of id options
+  path ← options id
   Some (File path)
 
 -- a command with its inputs, in the order in which they are read
-abbrev pub on_file : List Row → Option Command → Option Wanted
+abbrev pub on_file : Found → Option Command → Option Wanted
 on_file options found = do
   command ← found
   file ← file_in (codes "file") options
   Some (one_input command file)
 
-abbrev pub on_file_and_schedule : List Row → Option Command → Option Wanted
+abbrev pub on_file_and_schedule : Found → Option Command → Option Wanted
 on_file_and_schedule options found = do
   command ← found
   file ← file_in (codes "file") options
   schedule ← file_in (codes "schedule") options
   Some (two_inputs command file schedule)
 
-abbrev pub on_file_and_standard : List Row → Option Command → Option Wanted
+abbrev pub on_file_and_standard : Found → Option Command → Option Wanted
 on_file_and_standard options found = do
   command ← found
   file ← file_in (codes "file") options
   Some (two_inputs command file Standard)
 
-abbrev pub on_schedule_and_standard : List Row → Option Command → Option Wanted
+abbrev pub on_schedule_and_standard : Found → Option Command → Option Wanted
 on_schedule_and_standard options found = do
   command ← found
   schedule ← file_in (codes "schedule") options
   Some (two_inputs command schedule Standard)
 
 -- a command on the files `sender` and `receiver`, and then on standard input
-abbrev pub on_programs_and_standard : List Row → Option Command → Option Wanted
+abbrev pub on_programs_and_standard : Found → Option Command → Option Wanted
 on_programs_and_standard options found = do
   command ← found
   sender ← file_in (codes "sender") options
@@ -236,7 +244,7 @@ where_left_out None found = found
 where_left_out (Some asked) found = None
 
 -- `channel own`, on the files `sender`, `receiver` and `schedule`, and then on standard input
-abbrev pub on_own_channel : List Row → Option Wanted
+abbrev pub on_own_channel : Found → Option Wanted
 on_own_channel options = do
   sender ← file_in (codes "sender") options
   receiver ← file_in (codes "receiver") options
@@ -245,11 +253,11 @@ on_own_channel options = do
   Some (four_inputs command sender receiver schedule Standard)
 
 -- `channel`, with KIND `own` over the user's programs, else without them
-abbrev pub on_channel : List Row → Option Wanted
+abbrev pub on_channel : Found → Option Wanted
 on_channel options = do
-  kind ← first_of (codes "kind") options
+  kind ← options (codes "kind")
   if bytes_eq kind (codes "own") then on_own_channel options
-      else where_left_out (first_of (codes "sender") options) (where_left_out (first_of (codes "receiver") options)
+      else where_left_out (options (codes "sender")) (where_left_out (options (codes "receiver"))
       (on_schedule_and_standard options (machine_in options (channel_in options))))
 
 abbrev pub on_standard : Option Command → Option Wanted
@@ -258,7 +266,7 @@ on_standard found = do
   Some (one_input command Standard)
 
 -- the command of this name on a litmus text and a schedule, by its options
-abbrev pub scheduled_in : (name : Text) → List Row → Option MachineCommand
+abbrev pub scheduled_in : (name : Text) → Found → Option MachineCommand
 scheduled_in name options =
     if bytes_eq name (codes "run") then Some Run
     else (if bytes_eq name (codes "replay") then Some Replay
@@ -268,20 +276,24 @@ scheduled_in name options =
     else (if bytes_eq name (codes "debug") then Some Debug else None)))))
 
 -- The table of commands: what each asks for, by its options and words.
+abbrev pub job_by : (command : Text) → Found → Option Wanted
+job_by name options =
+    if bytes_eq name (codes "steps") then on_standard (machine_in options (Some Steps))
+    else (if bytes_eq name (codes "asm") then on_standard (Some (Code Asm))
+    else (if bytes_eq name (codes "dis") then on_standard (Some (Code Dis))
+    else (if bytes_eq name (codes "show") then on_file options (machine_in options (show_in options))
+    else (if bytes_eq name (codes "check") then on_file_and_standard options (machine_in options (Some Check))
+    else (if bytes_eq name (codes "find") then on_file options (find_in options)
+    else (if bytes_eq name (codes "try") then on_file options (machine_in options (try_in options))
+    else (if bytes_eq name (codes "callers") then on_file options (machine_in options (callers_in options))
+    else (if bytes_eq name (codes "channel") then on_channel options
+    else (if bytes_eq name (codes "threads") then on_file options (threads_in options)
+    else (if bytes_eq name (codes "ring") then on_programs_and_standard options (ring_in options)
+    else on_file_and_schedule options (machine_in options (scheduled_in name options))))))))))))
+
+-- the same, by what clap found
 abbrev pub job_at : Text × List Row → Option Wanted
-job_at p =
-    if bytes_eq p.0 (codes "steps") then on_standard (machine_in p.1 (Some Steps))
-    else (if bytes_eq p.0 (codes "asm") then on_standard (Some (Code Asm))
-    else (if bytes_eq p.0 (codes "dis") then on_standard (Some (Code Dis))
-    else (if bytes_eq p.0 (codes "show") then on_file p.1 (machine_in p.1 (show_in p.1))
-    else (if bytes_eq p.0 (codes "check") then on_file_and_standard p.1 (machine_in p.1 (Some Check))
-    else (if bytes_eq p.0 (codes "find") then on_file p.1 (find_in p.1)
-    else (if bytes_eq p.0 (codes "try") then on_file p.1 (machine_in p.1 (try_in p.1))
-    else (if bytes_eq p.0 (codes "callers") then on_file p.1 (machine_in p.1 (callers_in p.1))
-    else (if bytes_eq p.0 (codes "channel") then on_channel p.1
-    else (if bytes_eq p.0 (codes "threads") then on_file p.1 (threads_in p.1)
-    else (if bytes_eq p.0 (codes "ring") then on_programs_and_standard p.1 (ring_in p.1)
-    else on_file_and_schedule p.1 (machine_in p.1 (scheduled_in p.0 p.1))))))))))))
+job_at p = job_by p.0 (λ id. first_of id p.1)
 
 abbrev pub job_without : Kinds → Option (Text × List Row) → Option Wanted
 job_without [] found = option_and_then job_at found

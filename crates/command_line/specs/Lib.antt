@@ -1,6 +1,9 @@
 pub mod CommandLines
+pub mod Commands
 pub mod Descriptions
 pub mod Faults
 pub mod Jobs
 pub mod Numbers
-pub mod Spellings
+pub mod Parameters
+pub mod Rows
+pub mod Uses

@@ -6,11 +6,13 @@
 
 #![tactic(auto)]
 
+mod commands;
 mod description;
 mod fault;
 pub mod job;
 mod numbers;
 mod reading;
+mod table;
 
 pub use fault::CommandLineError;
 pub use reading::job_of;

@@ -1,8 +1,8 @@
 //! The command line, read as a job.
 
 ghost use Rattle.std.specs.Prelude.{◌≡◌, ◌∷◌, ℕ, List, IfOk, map, option_and_then, option_map};
-ghost use Rattle.clap.specs.Words.{FailsBy, fault_of, first_of, found_of, rows_of, subcommand_of, subcommand_rows_of};
-ghost use Rattle.command_line.specs.CommandLines.{GivesJob, capacity_given, job_at, channel_in, chart_in, find_in, flag_given};
+ghost use Rattle.clap.specs.Words.{FailsBy, fault_of, subcommand_of, subcommand_rows_of};
+ghost use Rattle.command_line.specs.CommandLines.{GivesJob, found_by, job_by, capacity_given, job_at, channel_in, chart_in, find_in, flag_given};
 ghost use Rattle.command_line.specs.CommandLines.{callers_in, queue_in, queue_kind_given};
 ghost use Rattle.command_line.specs.CommandLines.{show_in, style_given, selection_given, job_given, number_if_given};
 ghost use Rattle.command_line.specs.CommandLines.{machine_in, own_in, on_file, on_file_and_schedule, on_channel};
@@ -10,7 +10,7 @@ ghost use Rattle.command_line.specs.CommandLines.{on_file_and_standard, on_own_c
 ghost use Rattle.command_line.specs.CommandLines.{on_schedule_and_standard, on_standard, place_in, ring_in, ring_given, runs_in};
 ghost use Rattle.command_line.specs.CommandLines.{scheduled_in, seed_in, threads_in, try_in};
 ghost use Rattle.command_line.specs.Descriptions.{ztso_command};
-ghost use Rattle.command_line.specs.Spellings.{IsSpelling};
+ghost use Rattle.command_line.specs.Uses.{IsSpelling};
 ghost use Rattle.command_line.specs.Jobs.{Wanted, wanted_by};
 
 use crate::description::ztso_command;
@@ -66,34 +66,36 @@ fn matches_of<'a, S: AsStr>(alloc: Global, words: &'a [S]) -> Result<ArgMatches<
     command.try_get_matches_from(words)
 }
 
-/// The table of commands: what each asks for.
 fn job_at<'a>(matches: &ArgMatches<'a>) -> Option<Job<'a>>
     ensures { option_map wanted_by result ≡ option_and_then job_at (subcommand_rows_of matches.now) }
 {
-    match matches.subcommand()? {
-        ("steps", options) => on_standard(machine_in(options, Some(MachineCommand::Steps))),
-        ("asm", _) => on_standard(Some(Command::Code(CodeCommand::Asm))),
-        ("dis", _) => on_standard(Some(Command::Code(CodeCommand::Dis))),
-        ("show", options) => on_file(options, machine_in(options, show_in(options))),
-        ("check", options) => on_file_and_standard(
-            options,
-            machine_in(options, Some(MachineCommand::Check)),
-        ),
-        ("find", options) => on_file(options, find_in(options)),
-        ("try", options) => on_file(options, machine_in(options, try_in(options))),
-        ("callers", options) => on_file(options, machine_in(options, callers_in(options))),
-        ("channel", options) => on_channel(options),
-        ("threads", options) => on_file(options, threads_in(options)),
-        ("ring", options) => on_programs_and_standard(options, ring_in(options)),
-        (name, options) => {
-            on_file_and_schedule(options, machine_in(options, scheduled_in(name, options)))
-        }
+    let (name, options) = matches.subcommand()?;
+    job_by(name, options)
+}
+
+/// The table of commands: what each asks for.
+fn job_by<'a>(name: &str, options: &ArgMatches<'a>) -> Option<Job<'a>>
+    ensures { option_map wanted_by result ≡ job_by name.now (found_by options.now) }
+{
+    match name {
+        "steps" => on_standard(machine_in(options, Some(MachineCommand::Steps))),
+        "asm" => on_standard(Some(Command::Code(CodeCommand::Asm))),
+        "dis" => on_standard(Some(Command::Code(CodeCommand::Dis))),
+        "show" => on_file(options, machine_in(options, show_in(options))),
+        "check" => on_file_and_standard(options, machine_in(options, Some(MachineCommand::Check))),
+        "find" => on_file(options, find_in(options)),
+        "try" => on_file(options, machine_in(options, try_in(options))),
+        "callers" => on_file(options, machine_in(options, callers_in(options))),
+        "channel" => on_channel(options),
+        "threads" => on_file(options, threads_in(options)),
+        "ring" => on_programs_and_standard(options, ring_in(options)),
+        _ => { on_file_and_schedule(options, machine_in(options, scheduled_in(name, options))) }
     }
 }
 
 /// The command of this name on a litmus text and a schedule, if there is one.
 fn scheduled_in(name: &str, options: &ArgMatches<'_>) -> Option<MachineCommand>
-    ensures { result ≡ scheduled_in name.now (rows_of (found_of options.now)) }
+    ensures { result ≡ scheduled_in name.now (found_by options.now) }
 {
     match name {
         "run" => Some(MachineCommand::Run),
@@ -121,7 +123,7 @@ fn on_standard<'a>(command: Option<Command>) -> Option<Job<'a>>
 }
 
 fn on_file<'a>(options: &ArgMatches<'a>, command: Option<Command>) -> Option<Job<'a>>
-    ensures { option_map wanted_by result ≡ on_file (rows_of (found_of options.now)) command }
+    ensures { option_map wanted_by result ≡ on_file (found_by options.now) command }
 {
     let command = command?;
     let file = word_in(options, "file")?;
@@ -135,7 +137,7 @@ fn on_file<'a>(options: &ArgMatches<'a>, command: Option<Command>) -> Option<Job
 }
 
 fn on_file_and_schedule<'a>(options: &ArgMatches<'a>, command: Option<Command>) -> Option<Job<'a>>
-    ensures { option_map wanted_by result ≡ on_file_and_schedule (rows_of (found_of options.now)) command }
+    ensures { option_map wanted_by result ≡ on_file_and_schedule (found_by options.now) command }
 {
     let command = command?;
     let file = word_in(options, "file")?;
@@ -150,7 +152,7 @@ fn on_file_and_schedule<'a>(options: &ArgMatches<'a>, command: Option<Command>) 
 }
 
 fn on_file_and_standard<'a>(options: &ArgMatches<'a>, command: Option<Command>) -> Option<Job<'a>>
-    ensures { option_map wanted_by result ≡ on_file_and_standard (rows_of (found_of options.now)) command }
+    ensures { option_map wanted_by result ≡ on_file_and_standard (found_by options.now) command }
 {
     let command = command?;
     let file = word_in(options, "file")?;
@@ -167,7 +169,7 @@ fn on_schedule_and_standard<'a>(
     options: &ArgMatches<'a>,
     command: Option<Command>,
 ) -> Option<Job<'a>>
-    ensures { option_map wanted_by result ≡ on_schedule_and_standard (rows_of (found_of options.now)) command }
+    ensures { option_map wanted_by result ≡ on_schedule_and_standard (found_by options.now) command }
 {
     let command = command?;
     let schedule = word_in(options, "schedule")?;
@@ -185,7 +187,7 @@ fn on_programs_and_standard<'a>(
     options: &ArgMatches<'a>,
     command: Option<Command>,
 ) -> Option<Job<'a>>
-    ensures { option_map wanted_by result ≡ on_programs_and_standard (rows_of (found_of options.now)) command }
+    ensures { option_map wanted_by result ≡ on_programs_and_standard (found_by options.now) command }
 {
     let command = command?;
     let sender = word_in(options, "sender")?;
@@ -202,7 +204,7 @@ fn on_programs_and_standard<'a>(
 /// What `channel` asks for: with KIND `own` a run over the user's programs, which have to be there; else one of a known
 /// ring, without them.
 fn on_channel<'a>(options: &ArgMatches<'a>) -> Option<Job<'a>>
-    ensures { option_map wanted_by result ≡ on_channel (rows_of (found_of options.now)) }
+    ensures { option_map wanted_by result ≡ on_channel (found_by options.now) }
 {
     if word_in(options, "kind")? == "own" {
         return on_own_channel(options);
@@ -215,7 +217,7 @@ fn on_channel<'a>(options: &ArgMatches<'a>) -> Option<Job<'a>>
 
 /// `channel own`: the files `sender`, `receiver` and `schedule`, and then standard input.
 fn on_own_channel<'a>(options: &ArgMatches<'a>) -> Option<Job<'a>>
-    ensures { option_map wanted_by result ≡ on_own_channel (rows_of (found_of options.now)) }
+    ensures { option_map wanted_by result ≡ on_own_channel (found_by options.now) }
 {
     let sender = word_in(options, "sender")?;
     let receiver = word_in(options, "receiver")?;
@@ -232,7 +234,7 @@ fn on_own_channel<'a>(options: &ArgMatches<'a>) -> Option<Job<'a>>
 
 /// The command, if there is one, on a machine of the capacity that the options ask for.
 fn machine_in(options: &ArgMatches<'_>, command: Option<MachineCommand>) -> Option<Command>
-    ensures { result ≡ machine_in (rows_of (found_of options.now)) command }
+    ensures { result ≡ machine_in (found_by options.now) command }
 {
     let command = command?;
     let capacity = capacity_of(word_in(options, "buffer")?)?;
@@ -241,7 +243,7 @@ fn machine_in(options: &ArgMatches<'_>, command: Option<MachineCommand>) -> Opti
 
 /// The search that `find` is to make.
 fn find_in(options: &ArgMatches<'_>) -> Option<Command>
-    ensures { result ≡ find_in (rows_of (found_of options.now)) }
+    ensures { result ≡ find_in (found_by options.now) }
 {
     let states = count_of(word_in(options, "states")?, 1, MOST_STATES)?;
     let capacity = capacity_of(word_in(options, "buffer")?)?;
@@ -250,7 +252,7 @@ fn find_in(options: &ArgMatches<'_>) -> Option<Command>
 
 /// The run on threads that `threads` is to make.
 fn threads_in(options: &ArgMatches<'_>) -> Option<Command>
-    ensures { result ≡ threads_in (rows_of (found_of options.now)) }
+    ensures { result ≡ threads_in (found_by options.now) }
 {
     let turns = count_of(word_in(options, "turns")?, 0, MOST_TURNS)?;
     let capacity = capacity_of(word_in(options, "buffer")?)?;
@@ -259,14 +261,14 @@ fn threads_in(options: &ArgMatches<'_>) -> Option<Command>
 
 /// The seed of the generator that draws schedules.
 fn seed_in(options: &ArgMatches<'_>) -> Option<u64>
-    ensures { result ≡ seed_in (rows_of (found_of options.now)) }
+    ensures { result ≡ seed_in (found_by options.now) }
 {
     number_of(word_in(options, "seed")?)
 }
 
 /// Which runs are drawn.
 fn runs_in(options: &ArgMatches<'_>) -> Option<Runs>
-    ensures { result ≡ runs_in (rows_of (found_of options.now)) }
+    ensures { result ≡ runs_in (found_by options.now) }
 {
     let skip = number_of(word_in(options, "skip")?)?;
     let number = count_of(word_in(options, "runs")?, 1, MOST_RUNS)?;
@@ -282,7 +284,7 @@ fn runs_in(options: &ArgMatches<'_>) -> Option<Runs>
 
 /// The runs that `try` is to make.
 fn try_in(options: &ArgMatches<'_>) -> Option<MachineCommand>
-    ensures { result ≡ try_in (rows_of (found_of options.now)) }
+    ensures { result ≡ try_in (found_by options.now) }
 {
     let seed = seed_in(options)?;
     let runs = runs_in(options)?;
@@ -291,7 +293,7 @@ fn try_in(options: &ArgMatches<'_>) -> Option<MachineCommand>
 
 /// The queue whose functions code calls.
 fn queue_in(options: &ArgMatches<'_>) -> Option<CalledQueue>
-    ensures { result ≡ queue_in (rows_of (found_of options.now)) }
+    ensures { result ≡ queue_in (found_by options.now) }
 {
     let kind = queue_kind_of(word_in(options, "kind")?)?;
     let base = count_of(word_in(options, "base")?, 0, u32::MAX)?;
@@ -309,7 +311,7 @@ fn queue_in(options: &ArgMatches<'_>) -> Option<CalledQueue>
 
 /// The runs that `callers` is to make, and of which queue.
 fn callers_in(options: &ArgMatches<'_>) -> Option<MachineCommand>
-    ensures { result ≡ callers_in (rows_of (found_of options.now)) }
+    ensures { result ≡ callers_in (found_by options.now) }
 {
     let seed = seed_in(options)?;
     let runs = runs_in(options)?;
@@ -319,7 +321,7 @@ fn callers_in(options: &ArgMatches<'_>) -> Option<MachineCommand>
 
 /// The runs that `ring` is to make, and of which channel.
 fn ring_in(options: &ArgMatches<'_>) -> Option<Command>
-    ensures { result ≡ ring_in (rows_of (found_of options.now)) }
+    ensures { result ≡ ring_in (found_by options.now) }
 {
     let seed = seed_in(options)?;
     let runs = runs_in(options)?;
@@ -335,7 +337,7 @@ fn ring_in(options: &ArgMatches<'_>) -> Option<Command>
 
 /// The picture that is to be drawn.
 fn chart_in(options: &ArgMatches<'_>) -> Option<MachineCommand>
-    ensures { result ≡ chart_in (rows_of (found_of options.now)) }
+    ensures { result ≡ chart_in (found_by options.now) }
 {
     let style = style_of(word_in(options, "svg")?);
     let selection = selection_of(word_in(options, "memory")?);
@@ -365,7 +367,7 @@ fn style_of(text: &str) -> Style
 
 /// Whether a test is shown as a steps text.
 fn show_in(options: &ArgMatches<'_>) -> Option<MachineCommand>
-    ensures { result ≡ show_in (rows_of (found_of options.now)) }
+    ensures { result ≡ show_in (found_by options.now) }
 {
     let steps = flag_of(word_in(options, "steps")?);
     Some(MachineCommand::Show { steps })
@@ -373,7 +375,7 @@ fn show_in(options: &ArgMatches<'_>) -> Option<MachineCommand>
 
 /// Where a channel's blocks lie.
 fn place_in(options: &ArgMatches<'_>) -> Option<BlockPlace>
-    ensures { result ≡ place_in (rows_of (found_of options.now)) }
+    ensures { result ≡ place_in (found_by options.now) }
 {
     let slots = count_of(word_in(options, "ring")?, 0, u32::MAX)?;
     let base = count_of(word_in(options, "base")?, 0, u32::MAX)?;
@@ -387,7 +389,7 @@ fn place_in(options: &ArgMatches<'_>) -> Option<BlockPlace>
 
 /// The channel that is to run.
 fn channel_in(options: &ArgMatches<'_>) -> Option<MachineCommand>
-    ensures { result ≡ channel_in (rows_of (found_of options.now)) }
+    ensures { result ≡ channel_in (found_by options.now) }
 {
     let kind = ring_of(word_in(options, "kind")?)?;
     let place = place_in(options)?;
@@ -401,7 +403,7 @@ fn channel_in(options: &ArgMatches<'_>) -> Option<MachineCommand>
 
 /// The channel of a user's programs that is to run. It isn't finished by a plan.
 fn own_in(options: &ArgMatches<'_>) -> Option<Command>
-    ensures { result ≡ own_in (rows_of (found_of options.now)) }
+    ensures { result ≡ own_in (found_by options.now) }
 {
     let place = place_in(options)?;
     let finish = word_in(options, "finish")?;
@@ -453,7 +455,7 @@ fn queue_kind_of(text: &str) -> Option<QueueKind>
 
 /// The word in this place, or after this option.
 fn word_in<'a>(options: &ArgMatches<'a>, id: &str) -> Option<&'a str>
-    ensures { option_map (λ word. word.now) result ≡ first_of id.now (rows_of (found_of options.now)) }
+    ensures { option_map (λ word. word.now) result ≡ found_by options.now id.now }
 {
     options.get_str(id)
 }

@@ -21,9 +21,9 @@ impl<'a> Command<'a> {
         Command { name, args: Vec::new(alloc), subcommands: Vec::new(alloc) }
     }
 
-    /// Adds arguments. Those in places stand in this order.
-    pub fn args(mut self, args: Vec<Arg<'a>>) -> Result<Self, AllocError> {
-        self.args.extend_from_slice(&args)?;
+    /// Adds an argument. Those in places stand in this order.
+    pub fn arg(mut self, arg: Arg<'a>) -> Result<Self, AllocError> {
+        self.args.push(arg)?;
         Ok(self)
     }
 

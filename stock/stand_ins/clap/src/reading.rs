@@ -94,7 +94,7 @@ mod tests {
             Arg::new(Global, "size").long("size").action(ArgAction::Set).default_value("4"),
             Arg::new(Global, "all").long("all").action(ArgAction::SetTrue),
         ];
-        let go = Command::new(Global, "go").args(kit_std::vec::Vec::from_slice(Global, &args).unwrap()).unwrap();
+        let go = args.into_iter().fold(Command::new(Global, "go"), |go, arg| go.arg(arg).unwrap());
         Command::new(Global, "top").subcommand(go).unwrap()
     }
 

@@ -2,7 +2,7 @@ use Rattle.std.proofs.Common.{◌∙◌, ap, map}
 use Rattle.std.specs.Prelude.{option_and_then}
 use Rattle.command_line.specs.CommandLines.{job_at}
 use Rattle.command_line.proofs.Matches.{gives_where_failed, gives_where_found}
-use Rattle.command_line.proofs.Spellings.{gives_spelled}
+use Rattle.command_line.proofs.Spelled.{gives_spelled}
 use Rattle.command_line.proofs.reading.job_of.Goals as goal
 
 pub returns-in_err-matches : goal.returns-in_err-matches
