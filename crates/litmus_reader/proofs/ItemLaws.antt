@@ -167,7 +167,8 @@ no_core text e = stripped-all is_gap text (all_by_test is_gap text e)
 
 item_solid : (text : List ℕ) (equation : Equation) → an_item.Says text equation → list_all is_gap text ≡ false
 unfolding an_item declared
-item_solid text equation (inl (left, right, whole, at, says)) = rw (whole, list_all-append is_gap left (61 ∷ right)) (and_right (list_all is_gap left) false refl)
+item_solid text equation (inl (left, right, whole, at, says)) =
+    rw (whole, list_all-append is_gap left (61 ∷ right)) (and_right (list_all is_gap left) false refl)
 item_solid text equation (inr (at, (name, (gap, rest, whole, gap_is, is, inner), same), made)) =
     false_from_ne_true (list_all is_gap text) (λ gaps. let none = no_core text gaps in absurd cc)
 
@@ -216,7 +217,8 @@ piece_empty : (so_far : InitItems) (piece : List ℕ) → AllPass is_gap piece �
 unfolding piece_added
 piece_empty so_far piece gaps = rw (test_of_all is_gap piece gaps) refl
 
-piece_item : (so_far : InitItems) (piece : List ℕ) (equation : Equation) → an_item.Says piece equation → piece_added so_far piece ≡ item_added so_far (Some equation)
+piece_item : (so_far : InitItems) (piece : List ℕ) (equation : Equation) → an_item.Says piece equation
+    → piece_added so_far piece ≡ item_added so_far (Some equation)
 unfolding piece_added
 piece_item so_far piece equation is = rw (item_solid piece equation is, item_settles.only piece equation is) refl
 

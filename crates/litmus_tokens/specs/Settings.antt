@@ -6,7 +6,7 @@ use Rattle.std.specs.Option.{option_and_then}
 use Rattle.rv_decode.specs.declared.instruction.Reg.{Reg}
 use Rattle.rv_decode.specs.Registers.{register_named}
 use Rattle.texts.specs.Pieces.{is_gap}
-use Rattle.texts.specs.Grammars.{Grammar, mapped, parted, begun, ended, padded, either, by_byte, numeral}
+use Rattle.texts.specs.Grammars.{Grammar, mapped, parted, prefixed, suffixed, surrounded, choice, by_byte, numeral}
 use Rattle.litmus_tokens.specs.Names.{core, is_name, goes_on_name, a_word}
 use Rattle.litmus_tokens.specs.declared.settings.Spot.{Spot}
 use Rattle.litmus_tokens.specs.declared.settings.Spot.TheVariants.{Register, Location}
@@ -61,18 +61,18 @@ a_declaration = record {
 -- ---- the grammar; blanks and LFs stand round each part
 
 abbrev pub spaced : {A : Type 0} → Grammar A → Grammar A
-spaced g = padded is_gap g
+spaced g = surrounded is_gap g
 
 -- a name, which stands for its address, or a number
 unfoldable pub value : Grammar Value
-value = spaced (either (mapped a_name address_of) (mapped a_word number))
+value = spaced (choice (mapped a_name address_of) (mapped a_word number))
 
 -- `[name]`; `[` is 91, `]` is 93
 abbrev pub bracketed : Grammar (List ℕ)
-bracketed = begun 91 (ended 93 (spaced a_name))
+bracketed = prefixed 91 (suffixed 93 (spaced a_name))
 
 abbrev pub location : Grammar (List ℕ)
-location = either bracketed a_name
+location = choice bracketed a_name
 
 abbrev pub register_at : ℕ × Reg → NamedPlace
 register_at both = in_register both.0 both.1
@@ -93,7 +93,7 @@ setting = parted 61 place value
 
 -- a place, or a location that is declared there
 unfoldable pub item_place : Grammar NamedPlace
-item_place = either declared place
+item_place = choice declared place
 
 -- a setting, or one of a declared location, which gets 0 where no value is given
 unfoldable pub item : Grammar Equation

@@ -5,7 +5,7 @@ use Rattle.step_machine.specs.declared.events.Event.TheVariants.{Act, Land}
 use Rattle.step_machine.specs.declared.opening.TheConstants.{MAX_HARTS}
 use Rattle.texts.specs.declared.pieces.Separators.TheVariants.{BlanksAndLineEnds}
 use Rattle.texts.specs.Pieces.{pieces}
-use Rattle.texts.specs.Grammars.{Grammar, mapped, parted, begun, either, by_byte, numeral}
+use Rattle.texts.specs.Grammars.{Grammar, mapped, parted, prefixed, choice, by_byte, numeral}
 use Rattle.texts.specs.Runs.{Repetition}
 use Rattle.texts.specs.Formats.{Stand}
 use Rattle.recorder.specs.declared.reading.TheConstants.{MAX_EVENTS}
@@ -34,7 +34,7 @@ abbrev pub landings : ℕ × ℕ → Repetition Event
 landings n = (Land n.0, n.1)
 
 unfoldable pub token : Grammar (Repetition Event)
-token = either (mapped (begun 97 numbers) acts) (mapped (begun 108 numbers) landings)
+token = choice (mapped (prefixed 97 numbers) acts) (mapped (prefixed 108 numbers) landings)
 
 -- A piece is a token for a run of one event of one of the harts, once at least, or it is empty and for none.
 abbrev pub IsPieceOf : List ℕ → List Event → Type 0

@@ -11,8 +11,8 @@ use Rattle.std.specs.Option.{option_map, option_and_then, option_or, option_zip}
 use Rattle.std.proofs.lemmas.Bool.{and_parts, cases_Bool, eqb-true, or_right, lt-ltb}
 use Rattle.texts.specs.Formats.{DecidesGrammar, or_fault}
 use Rattle.texts.specs.Cutting.{before, after, is_byte, AllPass, NonePass, stripped}
-use Rattle.texts.specs.Grammars.{Grammar, mapped, filter_mapped, parted, begun_at, begun, ended_at, ended, absent_at}
-use Rattle.texts.specs.Grammars.{absent, padded, EitherSays, either, by_byte_at, by_byte}
+use Rattle.texts.specs.Grammars.{Grammar, mapped, filter_mapped, parted, prefixed_at, prefixed, suffixed_at, suffixed, absent_at}
+use Rattle.texts.specs.Grammars.{absent, surrounded, EitherSays, choice, by_byte_at, by_byte}
 use Rattle.texts.specs.Grammars.{numeral, hex_magnitude, magnitude, positive, negative, integer}
 use Rattle.texts.proofs.CuttingLaws.{after-none, before-stop, after-stop, cut_byte, uncut}
 use Rattle.texts.proofs.TrimLaws.{all-append, padded_stripped}
@@ -109,14 +109,14 @@ settles_parted b f g apart sf sg = record {
       (in_right f.bytes (λ c. is_byte b c || g.bytes c) (b ∷ r) (rw (same_byte b) refl, in_right (is_byte b) g.bytes r (sg.bytes r v.1 y))));
 }
 
-begun_found : {A : Type 0} (b : ℕ) (f : Grammar A) → Settles f → (text : List ℕ) (v : A) → begun_at b f.reads text ≡ Some v → (begun b f).Says text v
+begun_found : {A : Type 0} (b : ℕ) (f : Grammar A) → Settles f → (text : List ℕ) (v : A) → prefixed_at b f.reads text ≡ Some v → (prefixed b f).Says text v
 begun_found b f s [] v e = absurd cc
 begun_found b f s (c ∷ rest) v e = elim (cases_Bool (is_byte b c)) [
   | inl is ↦ (rest, ap (λ x. x ∷ rest) (eqb-true c b is), s.found rest v (rw is at e))
   | inr isnt ↦ (let never = rw isnt at e in absurd cc)
 ]
 
-pub settles_begun : {A : Type 0} (b : ℕ) (f : Grammar A) → Settles f → Settles (begun b f)
+pub settles_begun : {A : Type 0} (b : ℕ) (f : Grammar A) → Settles f → Settles (prefixed b f)
 settles_begun b f s = record {
   found = begun_found b f s;
   only = λ text v (rest, is, says). rw is (rw (same_byte b) (s.only rest v says));
@@ -124,12 +124,12 @@ settles_begun b f s = record {
 }
 
 ended_found : {A : Type 0} (b : ℕ) (f : Grammar A) → Settles f → (text : List ℕ) (v : A) (o : Option (List ℕ)) → after (is_byte b) text ≡ o
-    → option_and_then (ended_at (f.reads (before (is_byte b) text))) o ≡ Some v → (ended b f).Says text v
+    → option_and_then (suffixed_at (f.reads (before (is_byte b) text))) o ≡ Some v → (suffixed b f).Says text v
 ended_found b f s text v None is e = absurd cc
 ended_found b f s text v (Some []) is e = (before (is_byte b) text, cut_byte b text [] is, s.found (before (is_byte b) text) v e)
 ended_found b f s text v (Some (c ∷ rest)) is e = absurd cc
 
-pub settles_ended : {A : Type 0} (b : ℕ) (f : Grammar A) → f.bytes b ≡ false → Settles f → Settles (ended b f)
+pub settles_ended : {A : Type 0} (b : ℕ) (f : Grammar A) → f.bytes b ≡ false → Settles f → Settles (suffixed b f)
 settles_ended b f apart s = record {
   found = λ text v e. ended_found b f s text v (after (is_byte b) text) refl e;
   only = λ text v (inner, is, says).
@@ -151,7 +151,7 @@ settles_absent a = record {
     absent_found b (c ∷ rest) v e = absurd cc
 
 -- bytes round it that pass
-pub settles_padded : {A : Type 0} (p : ℕ → Bool) (f : Grammar A) → Settles f → Settles (padded p f)
+pub settles_padded : {A : Type 0} (p : ℕ → Bool) (f : Grammar A) → Settles f → Settles (surrounded p f)
 settles_padded p f s = record {
   found = λ text v e. s.found (stripped p text) v e;
   only = λ text v says. s.only (stripped p text) v says;
@@ -181,7 +181,7 @@ either_only f g sf sg apart text v (Some u) is (inr other) = absurd (apart text 
 
 -- of no text that says something by both
 pub settles_either : {A : Type 0} (f g : Grammar A) → ((text : List ℕ) (u v : A) → f.Says text u → g.Says text v → ⊥)
-    → Settles f → Settles g → Settles (either f g)
+    → Settles f → Settles g → Settles (choice f g)
 settles_either f g apart sf sg = record {
   found = λ text v e. either_found f g sf sg text v (f.reads text) refl e;
   only = λ text v says. either_only f g sf sg apart text v (f.reads text) refl says;

@@ -37,26 +37,26 @@ parted b f g = record {
 }
 
 -- this byte, and what follows it
-abbrev pub begun_at : {A : Type 0} → ℕ → (List ℕ → Option A) → List ℕ → Option A
-begun_at b reads [] = None
-begun_at b reads (c ∷ rest) = if is_byte b c then reads rest else None
+abbrev pub prefixed_at : {A : Type 0} → ℕ → (List ℕ → Option A) → List ℕ → Option A
+prefixed_at b reads [] = None
+prefixed_at b reads (c ∷ rest) = if is_byte b c then reads rest else None
 
-abbrev pub begun : {A : Type 0} → ℕ → Grammar A → Grammar A
-begun b f = record {
+abbrev pub prefixed : {A : Type 0} → ℕ → Grammar A → Grammar A
+prefixed b f = record {
   Says = λ text v. (rest : List ℕ) × (text ≡ b ∷ rest) × f.Says rest v;
-  reads = begun_at b f.reads;
+  reads = prefixed_at b f.reads;
   bytes = λ c. is_byte b c || f.bytes c;
 }
 
 -- a text, and this byte, after which nothing follows
-abbrev pub ended_at : {A : Type 0} → Option A → List ℕ → Option A
-ended_at read [] = read
-ended_at read (c ∷ rest) = None
+abbrev pub suffixed_at : {A : Type 0} → Option A → List ℕ → Option A
+suffixed_at read [] = read
+suffixed_at read (c ∷ rest) = None
 
-abbrev pub ended : {A : Type 0} → ℕ → Grammar A → Grammar A
-ended b f = record {
+abbrev pub suffixed : {A : Type 0} → ℕ → Grammar A → Grammar A
+suffixed b f = record {
   Says = λ text v. (inner : List ℕ) × (text ≡ inner ++ b ∷ []) × f.Says inner v;
-  reads = λ text. option_and_then (ended_at (f.reads (before (is_byte b) text))) (after (is_byte b) text);
+  reads = λ text. option_and_then (suffixed_at (f.reads (before (is_byte b) text))) (after (is_byte b) text);
   bytes = λ c. f.bytes c || is_byte b c;
 }
 
@@ -73,8 +73,8 @@ absent a = record {
 }
 
 -- bytes round it that pass
-abbrev pub padded : {A : Type 0} → (ℕ → Bool) → Grammar A → Grammar A
-padded p f = record {
+abbrev pub surrounded : {A : Type 0} → (ℕ → Bool) → Grammar A → Grammar A
+surrounded p f = record {
   Says = λ text v. f.Says (stripped p text) v;
   reads = λ text. f.reads (stripped p text);
   bytes = λ c. p c || f.bytes c;
@@ -84,8 +84,8 @@ padded p f = record {
 abbrev pub EitherSays : {A : Type 0} → Grammar A → Grammar A → List ℕ → A → Type 0
 EitherSays f g text v = f.Says text v ⊎ g.Says text v
 
-abbrev pub either : {A : Type 0} → Grammar A → Grammar A → Grammar A
-either f g = record {
+abbrev pub choice : {A : Type 0} → Grammar A → Grammar A → Grammar A
+choice f g = record {
   Says = EitherSays f g;
   reads = λ text. option_or (f.reads text) (g.reads text);
   bytes = λ c. f.bytes c || g.bytes c;
@@ -115,19 +115,19 @@ numeral radix = record {
 
 -- `0x` (48 and 120) and hex digits
 abbrev pub hex_magnitude : Grammar ℕ
-hex_magnitude = begun 48 (begun 120 (numeral 16))
+hex_magnitude = prefixed 48 (prefixed 120 (numeral 16))
 
 -- these, or decimal digits
 unfoldable pub magnitude : Grammar ℕ
-magnitude = either hex_magnitude (numeral 10)
+magnitude = choice hex_magnitude (numeral 10)
 
 abbrev pub positive : Grammar ℤ
 positive = mapped magnitude pos
 
 -- after a `-` (45)
 abbrev pub negative : Grammar ℤ
-negative = mapped (begun 45 magnitude) (λ n. neg_ℤ (pos n))
+negative = mapped (prefixed 45 magnitude) (λ n. neg_ℤ (pos n))
 
 -- a magnitude, with a `-` in front or none
 unfoldable pub integer : Grammar ℤ
-integer = either negative positive
+integer = choice negative positive
