@@ -13,8 +13,8 @@ SHARE = "share/ztso"
 # where zsh looks for completions of what Debian's packages hold, and elsewhere
 ZSH, ZSH_OF_DEBIAN = "share/zsh/site-functions/_ztso", "share/zsh/vendor-completions/_ztso"
 # the tools that are commands, as ztso-page and on
-TOOLS = ("page", "from-c", "chart-lines", "compare-mappings", "from-herd", "to-litmus-log", "allowed", "core-log-to-record",
-         "merge-tries", "tries-over-machines")
+TOOLS = ("page", "from-c", "from-object", "make-rust-core", "chart-lines", "compare-mappings", "from-herd", "to-litmus-log", "allowed",
+         "core-log-to-record", "merge-tries", "tries-over-machines")
 COMMANDS = {
     "bin/ztso": "ztso",
     "bin/ztso-explain": "tools/explain",
@@ -39,8 +39,8 @@ TEXTS = {
 FOLDERS = {
     "docs": (".md", ".png", ".svg"),
     "litmus": (".litmus", ".schedule", ".md"),
-    "examples": (".litmus", ".schedule", ".steps", ".lists", ".asm", ".words", ".c", ".h", ".S", ".ld", ".log",
-                 ".spike", ".vcd", ".md", ".py", ".sv", ".edit"),
+    "examples": (".litmus", ".schedule", ".steps", ".lists", ".asm", ".words", ".c", ".cpp", ".rs", ".h", ".s", ".S", ".ld",
+                 ".log", ".spike", ".vcd", ".md", ".py", ".sv", ".edit"),
     "tools/page_parts": (".py", ".html", ".css", ".js", ".svg"),
     "tools/bring_parts": (".py", ".c", ".h"),
     "tools/core_log_parts": (".py",),

@@ -3,7 +3,7 @@ compiler."""
 
 import tempfile
 
-from bring_parts import Refused, c_tests, fields
+from bring_parts import Refused, dwarf, fields, memory
 from bring_trials.counting import run, write
 
 # struct { atomic int head; struct { short low; } in[2]; struct empty {} none[1000][1000]; int m[2][2]; } q; the
@@ -101,11 +101,12 @@ exists""")
 
 def names(count):
     """The parts of objects, and the names of words by them."""
-    types = fields.Types(LISTING)
-    came = [(part.at, part.size, part.name) for part in types.parts_of("q")]
+    parts = fields.Parts(dwarf.Information(LISTING))
+    of_q = parts.of_variable("q", "q", 0, 28)
+    came = [(part.at, part.size, part.name) for part in of_q]
     count.told("parts", came == PARTS, str(came))
-    count.told("no parts", [types.parts_of(name) for name in ("circle", "none")] == [[], []], "")
-    words = c_tests.Words([0] * 8, [(4, 28, "q")], types.parts_of)
+    count.told("no parts", [parts.of_variable(name, name, 0, 28) for name in ("circle", "none")] == [[], []], "")
+    words = memory.Memory([0] * 8, [memory.Placed(4, 28, "q", of_q)])
     count.told("words by their parts", words.names == NAMES, str(words.names))
     asked = [words.named(text, "") for text in ("q.head", "q.in[1].low", "q.m[1][0]", "q", "q[2]", "q_m_1_1")]
     wanted = ["q_head", "q_in_1_low", "q_m_1_0", "q_head", "q_in_1_low", "q_m_1_1"]

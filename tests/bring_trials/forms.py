@@ -5,8 +5,8 @@ import shutil
 import tempfile
 from pathlib import Path
 
-from bring_parts import ROOT, Refused, c_command, c_source, c_tests, columns, compilers, herd, objects, search, text_of
-from bring_parts.c_command import Way
+from bring_parts import ROOT, Refused, columns, herd, images, instructions, litmus_texts, making, objects, search
+from bring_parts.making import Way
 from bring_parts.mappings import joined
 from bring_trials import counting, hostile
 
@@ -16,7 +16,7 @@ FORMS = Path(__file__).resolve().parent / "forms"
 COMPILERS = ("gcc", "clang")
 # options of from-c, its status, and a part of what it prints
 OPTIONS = [(["--flag=-O0"], 0, "-fno-ipa-icf -O0"), (["--flag=-no-such-flag"], 2, "fails"),
-           (["--compiler", "clang -Wall"], 0, "clang version"), (["--compiler", "true"], 2, "nm fails"),
+           (["--compiler", "clang -Wall"], 0, "clang version"), (["--compiler", "true"], 2, "true makes no object"),
            (["--compiler", "false"], 2, "said nothing"), (["--fences", "full"], 0, "--fences full"),
            (["--lines"], 0, "# 2: int P0(void) { return x")]
 # where a form has states without end
@@ -26,7 +26,7 @@ STATES = 3000
 def answer(path, way):
     """The outcomes of what a way makes of a file, or the first line of what it is refused for."""
     try:
-        text = c_command.made(path, way)
+        text = making.of_c(path, way)
     except Refused as refused:
         return None, "refused: " + str(refused).split("\n")[0]
     found = search.outcomes(text, 4, STATES)
@@ -56,22 +56,16 @@ def part(count):
     print(f"  {taken} of {len(jobs)} compilations of {len(jobs) // 2} files taken")
 
 
-def raw_words(program):
-    """The words of a program's code by their addresses, as objdump prints them."""
-    listing = compilers.output([compilers.binutil("objdump"), "-d", program])
-    return {int(at, 16): word for at, word in re.findall(r"^ *([0-9a-f]+):\t([0-9a-f]{8}) ", listing, re.MULTILINE)}
-
-
 def assembled(path, compiler):
-    """For each instruction of a file's program that is no jump: its statement, the word that this assembles to, and the
+    """For each instruction of a file's image that is no jump: its statement, the word that this assembles to, and the
     compiler's word."""
-    source, compiler = c_source.read(text_of(path), path.name), compilers.Compiler(compiler)
     with tempfile.TemporaryDirectory() as folder:
-        program = c_tests.compiled(source, c_tests.results_of(source), compiler, [],
-                                   [path.parent, c_command.QUEUES], c_command.FUNCTIONS, folder)
-        functions, raw = objects.functions_of(program), raw_words(program)
-    for instruction in (each for code in functions.values() for each in code):
-        if instruction.name not in (*columns.JUMPS, "jalr"):
+        modules, _, _ = making.modules_of([path], making.Way(compiler), folder, making.C)
+        image = images.Image(images.linked(litmus_texts.complete(modules, compiler, folder), folder), folder)
+        listing = objects.tool("objdump", "-d", image.path)
+    raw = {int(at, 16): word for at, word in re.findall(r"^ *([0-9a-f]+):\t([0-9a-f]{8}) ", listing, re.MULTILINE)}
+    for instruction in image.code:
+        if instruction.name not in (*instructions.JUMPS, "jalr"):
             statement = columns.statement(instruction)
             yield statement, f"{programs.read(statement + chr(10))[0]:08x}", raw[instruction.at]
 

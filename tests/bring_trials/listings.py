@@ -1,8 +1,12 @@
 """Columns from listings of objdump, written by hand: what a compiler may make, without one."""
 
-from types import SimpleNamespace
+import re
 
-from bring_parts import Refused, c_source, c_tests, columns, objects, queues
+from bring_parts import Refused, c_source, c_tests, columns, functions, instructions, memory, queues
+from bring_parts.fields import Part
+from bring_parts.memory import Placed
+from bring_parts.objects import Symbol
+from bring_parts.queues import Call, Queue
 
 CALLS = """
 00100000 <P0>:
@@ -55,9 +59,9 @@ COLUMNS = [
     (["jal\tx0,100000 <P0>"], ["L0: jal x0,L0"]),
     (["lr.w\tx5,(x6)"], "a.c:1: `lr.w x5,(x6)`: ztso has no LR and SC"),
     (["jalr\tx0,0(x15)"], "a jump to a computed place"), (["add\tx5,x5,x4"], "a thread-local variable"),
-    (["mul\tx5,x5,x6"], "not in RV32I"), (["csrrw\tx0,cycle,x0"], "unreachable"),
-    (["c.swsp\tx1,12(x2)"], "a.c:1: compressed instructions: leave `c` out of -march"),
-    (["lw\tx5,0(x2)"], "a.c:1: P0 takes arguments from the stack"), (["jal\tx0,100400 <Q>"], "leaves the code"),
+    (["mul\tx5,x5,x6"], "the M extension"), (["csrrw\tx0,cycle,x0"], "a control register"), (["unimp"], "unreachable"), (["wfi"], "privileged code"),
+    (["c.lwsp\tx5,12(x2)"], "a.c:1: P0 takes arguments from the stack"),
+    (["lw\tx5,0(x2)"], "a.c:1: P0 takes arguments from the stack"), (["jal\tx0,100400 <Q>"], "jumps to where no instruction"),
     (["jal\tx1,100000 <P0>", "jalr\tx0,0(x1)"], "a.c:1: P0 calls itself"), (["amoadd.d\tx5,x5,(x6)"], "32 bits"),
 ]
 SOURCE = """// A question? test named
@@ -70,14 +74,34 @@ int x, y;
 
 
 def listed(lines):
+    """A listing of P0 with these lines, and then its end."""
+    lines = lines if lines[-1].startswith("jal") else [*lines, "jalr\tx0,0(x1)"]
     rows = "".join(f"  {0x100000 + 4 * at:x}:\t{line}\n" for at, line in enumerate(lines))
     return f"00100000 <P0>:\n/tmp/a.c:1\n{rows}"
+
+
+class Listed:
+    """An image by a listing: each name is a function's, and nothing is undefined."""
+    undefined = ()
+
+    def __init__(self, listing):
+        self.code = instructions.listed(listing)
+        heads = re.findall(r"^([0-9a-f]+) <(.+)>:$", listing, re.MULTILINE)
+        ends = [int(at, 16) for at, _ in heads[1:]] + [self.code[-1].at + 4]
+        self.symbols = [Symbol(int(at, 16), end - int(at, 16), "FUNC", "1", name, name) for (at, name), end in zip(heads, ends)]
+
+    def check_defined(self, code):
+        """Nothing is undefined."""
+
+    def functions(self):
+        """The functions that P0 reaches."""
+        return functions.of_hart(self, self.symbols[0], self.symbols[:1])
 
 
 def cells(listing, fences="all"):
     """The cells of P0, or what is refused."""
     try:
-        return columns.column(0, objects.functions_in(listing), fences).cells
+        return columns.column(Listed(listing).functions(), fences).cells
     except Refused as refused:
         return str(refused)
 
@@ -94,7 +118,7 @@ def sources(count):
     text = c_tests.c_text(source, results)
     count.told("a local is kept", results == [{"r0": "a0"}, {}] and text.count("result_a0") == 2, text)
     count.told("the code's lines", "#line 1 \"a__b_.c\"\n// A question" in text, text)
-    words = c_tests.Words([0, 7, 0, 0, 0, 0, 0], [(4, 4, "x"), (8, 8, "y.0"), (16, 4, "y_0_1"), (20, 4, "null")])
+    words = memory.Memory([0, 7, 0, 0, 0, 0, 0], [Placed(4, 4, "x"), Placed(8, 8, "y.0"), Placed(16, 4, "y_0_1"), Placed(20, 4, "null")])
     words.open({"x": ["null"]})
     words.push_stack(0, 4)
     wanted = ["int null_; int x=null; int y_0; int y_0_1_; int y_0_1; int null; int word24; int stack0_0;"]
@@ -103,34 +127,56 @@ def sources(count):
     count.told("names of words", names == ["x", "x", "y_0_1", "null", "stack0_0"], str(names))
 
 
+def block_parts(name, begin=0, slots="slots"):
+    """The parts of a queue with two slots that begins there."""
+    return [Part(begin + at, 4, f"{name}{part}") for part, at in
+            ((".head", 0), (".tail", 64), (f".{slots}[0]", 128), (f".{slots}[1]", 132))]
+
+
 def queue_users(count):
     """The block that each call passes, and the harts that each queue of a kind has by that."""
-    functions = objects.functions_in(QUEUE_CALLS)
-    made = queues.calls_of(["P0"], functions)
+    made = queues.calls_of(Listed(QUEUE_CALLS).functions())
     send, receive = "lamport_try_send", "lamport_try_receive"
-    count.told("the blocks of calls", made == {(send, 4), (receive, 4032), (send, None)}, str(made))
-
-    def parts_of(name):
-        places = {".head": 0, ".tail": 64, ".slots[0]": 128, ".slots[1]": 132}
-        return [SimpleNamespace(name=name + part, at=at) for part, at in places.items()]
-
-    two = [(4, 192, "a"), (196, 192, "b")]
-    for names, symbols, calls, wanted in (
+    wanted = {Call(send, 4, None), Call(receive, 4032, None), Call(send, None, None)}
+    count.told("the blocks of calls", made == wanted, str(made))
+    two = [Placed(4, 192, "a", block_parts("a")), Placed(196, 192, "b", block_parts("b"))]
+    for names, objects, calls, wanted in (
             ("one there, one back", two, [{(send, 4), (receive, 196)}, {(send, 196), (receive, 4)}],
              [", hart 0 sends, hart 1 receives", ", hart 1 sends, hart 0 receives"]),
             ("one of each", two, [{(send, 4)}, {(receive, 196)}], [", hart 0 sends", ", hart 1 receives"]),
             ("one of two, unknown", two, [{(send, None)}, {(receive, 4)}], [", hart 1 receives", ""]),
             ("the only one, unknown", two[:1], [{(send, None)}, {(receive, 4)}], [", hart 0 sends, hart 1 receives"]),
             ("two senders", two[:1], [{(send, 4)}, {(send, 4), (receive, 4)}], [", hart 1 receives"])):
-        said = [line.partition("2 slots")[2] for line in queues.lines(symbols, parts_of, calls)]
+        calls = [{Call(*call, 8) for call in each} for each in calls]
+        said = [line.partition("2 slots")[2] for line in queues.lines(queues.among(objects, calls), calls)]
         count.told(f"a queue's harts: {names}", said == wanted, str(said))
+    inside = Placed(64, 640, "app", [*block_parts("app.to[0]", 64), *block_parts("app.to[1]", 256), *block_parts("app.back", 448, "words_or_0"),
+                                     Part(0, 4, "app.head"), Part(128, 4, "app.tail")])
+    said = list(queues.lines(queues.among([inside], []), []))
+    wanted = ["queue app.to[0]: Lamport's, block at 128, 2 slots", "queue app.to[1]: Lamport's, block at 320, 2 slots",
+              "queue app.back: FastForward's, block at 512, 2 slots"]
+    count.told("queues in a struct", said == wanted, str(said))
+    calls = [{Call(send, 1024, 8)}, {Call("fastforward_try_receive", 96, 4), Call(receive, 1024, 8)}]
+    pool = [Placed(64, 256, "pool")]
+    found = queues.among(pool, calls)
+    wanted = ["queue in pool + 32: FastForward's, block at 96, 1 slots, hart 1 receives",
+              "queue at 1024: Lamport's, block at 1024, 2 slots, hart 0 sends, hart 1 receives"]
+    count.told("queues that calls pass", list(queues.lines(found, calls)) == wanted, str(list(queues.lines(found, calls))))
+    made = [(each.at, each.size, each.name) for each in queues.fixed(pool, found)]
+    count.told("a queue at a fixed address", made == [(1024, 136, "q1024")], str(made))
+    for block in (60, 4000):
+        try:
+            refused = str(list(queues.fixed(pool, [Queue("at", "slots", block, 2)])))
+        except Refused as error:
+            refused = str(error)
+        count.told(f"a queue at {block}", "make it a global object" in refused, refused)
 
 
 def part(count):
     queue_users(count)
     count.told("calls", cells(CALLS) == MADE, str(cells(CALLS)))
     count.told("calls, full fences", cells(CALLS, "full") == FULL, str(cells(CALLS, "full")))
-    column = columns.column(0, objects.functions_in(CALLS))
+    column = columns.column(Listed(CALLS).functions())
     count.told("calls return past the code", (column.returns, column.stack) == (32, 0), str(column))
     for lines, wanted in COLUMNS:
         made = cells(listed(lines))

@@ -9,7 +9,7 @@ import schedules
 from machine import Machine
 
 ROW = re.compile(r" *([0-9]+)(?: |$)")
-NOTE = re.compile(r"([0-9]+)(?:: (.*))?")
+NOTE = re.compile(r"((?:[\w.+-]+:)?[0-9]+)(?:: (.*))?")
 
 
 def notes_of(test):
@@ -43,7 +43,8 @@ def beside(picture, notes):
     for row in rows:
         shape = ROW.match(row)
         hart, note = notes.get(int(shape[1]), (None, "")) if shape else (None, "")
-        shown = note.partition(":")[0] if note == before.get(hart) else note
+        shape = NOTE.fullmatch(note)
+        shown = shape[1] if shape and note == before.get(hart) else note
         made.append(f"{row.ljust(width)}   P{hart} {shown}" if note else row)
         before[hart] = note
     return picture.replace("\n".join(rows), "\n".join(made), 1)

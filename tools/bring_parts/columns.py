@@ -1,5 +1,4 @@
-"""What a compiler made of a hart's function, as the cells of its column: the function itself, and after it those that
-it calls."""
+"""What a hart's functions are as the cells of its column: its own function, and after it those that it calls."""
 
 import re
 from dataclasses import dataclass
@@ -11,13 +10,19 @@ import assembly
 JUMPS = ("jal", *assembly.BRANCHES)
 TAKEN = {*assembly.THREE_REGISTERS, *assembly.IMMEDIATE, *assembly.SHIFT, *assembly.LOADS, *assembly.STORES,
          *assembly.BRANCHES, *assembly.AMOS, "lui", "jal", "fence", "fence.tso", "ecall", "ebreak"}
-REASONS = [(r"(lr|sc)\.w.*", "ztso has no LR and SC, which compare-and-exchange and atomic bytes need"),
-           (r"jalr|auipc", "a jump to a computed place, or code that depends on where it lies"),
+COMPUTED = ("a jump to a computed place, as a call through a pointer, a virtual function and a table of a switch are: call "
+            "functions by their names")
+REASONS = [(r"(lr|sc)\.w.*", "ztso has no LR and SC, which compare-and-exchange and atomic bytes need: exchange, or add to, a word"),
+           (r"jalr", COMPUTED), (r"auipc", "code that depends on where it lies: compile with -fno-pic -mcmodel=medlow"),
            (r"amo.*\.d.*|l[dw]u|ld|sd", "ztso has words of 32 bits"),
            (r"amo.*", "ztso has the word AMOs of the A extension alone"),
            (r"fence\.i", "ztso has no fence.i"),
-           (r"csr.*|unimp", "a control register, or a place that the compiler takes for unreachable"),
-           (r".*", "not in RV32I and the word AMOs")]
+           (r"(mul|div|rem)\w*", "the M extension: compile with -march=rv32ia"),
+           (r"f.*\.[sdhq](\..*)?|fl[wdh]|fs[wdh]|f[a-z]*csr|c\.f.*", "floating point: compile with -march=rv32ia -mabi=ilp32"),
+           (r"wfi|mret|sret|uret|sfence.*", "an instruction of privileged code, which ztso hasn't: leave it out"),
+           (r"csr.*|rd(cycle|time|instret)h?", "a control register: a hart's number, for one, is a parameter that `init` sets"),
+           (r"(c\.)?unimp", "a place that the compiler takes for unreachable"),
+           (r".*", "not in RV32I and the word AMOs: compile with -march=rv32ia")]
 FENCES = ("all", "full", "none")
 
 
@@ -29,25 +34,26 @@ class Column:
     returns: int
 
 
-def column(hart, functions, fences="all", note=None):
-    """The column of function P`hart`. `note` gives the comment beside an instruction, if there is to be one."""
-    name = f"P{hart}"
-    if name not in functions:
-        raise Refused(f"the compiler made no function {name}")
-    names = called(name, functions)
-    code = [(each, instruction) for each in names for instruction in functions[each]]
-    compressed = next((instruction for _, instruction in code if instruction.name.startswith("c.")), None)
-    if compressed:
-        raise Refused(f"{compressed.where()}: compressed instructions: leave `c` out of -march")
+def reason_of(name):
+    """Why an instruction isn't taken."""
+    return next(reason for form, reason in REASONS if re.fullmatch(form, name))
+
+
+def column(functions, fences="all", note=None, has_stack=False):
+    """The column of a hart by its functions, of which the first is its own. `note` gives the comment beside an instruction,
+    if there is to be one; `has_stack` says that the stack pointer has a value."""
+    name = next(iter(functions))
+    code = [(each, instruction) for each in functions for instruction in functions[each]]
     on_stack = [instruction for _, instruction in code if re.search(r"\bx2\b", instruction.operands)]
     frames = sum(frame_of(instruction) for _, instruction in code)
-    if on_stack and not frames:
+    has_stack |= any("x2" in each.registers_written() and "x2" not in each.registers_read() for each in on_stack)
+    if on_stack and not frames and not has_stack:
         raise Refused(f"{on_stack[0].where()}: {name} takes arguments from the stack: a hart has at most 8 parameters")
-    if circle := first_circle(names, functions):
+    if circle := first_circle(functions):
         where = functions[circle][0].where()
         raise Refused(f"{where}: {circle} calls itself, or is called by what it calls: no stack is large enough")
     cells, size = cells_of(name, code, fences, note)
-    return Column(cells, (frames + 15) // 16 * 16 if on_stack else 0, 4 * size if len(names) > 1 else None)
+    return Column(cells, 0 if has_stack or not on_stack else (frames + 15) // 16 * 16, 4 * size if len(functions) > 1 else None)
 
 
 def frame_of(instruction):
@@ -56,38 +62,18 @@ def frame_of(instruction):
     return int(frame[1]) if frame else 0
 
 
-def goals_of(name, functions, only_calls=False):
-    """The functions that a function jumps to."""
-    found = []
-    for instruction in functions[name]:
-        if instruction.name in JUMPS and (not only_calls or instruction.operands.startswith("x1,")):
-            goal = next((other for other, code in functions.items()
-                         if code[0].at <= instruction.target() <= code[-1].at), None)
-            if goal is None:
-                raise Refused(f"{instruction.where()}: `{instruction.name} {instruction.operands}` leaves the code")
-            found.append(goal)
-    return found
-
-
-def called(name, functions):
-    """The function and all that it jumps to, itself or by others."""
-    done = [name]
-    for each in done:
-        done += [goal for goal in dict.fromkeys(goals_of(each, functions)) if goal not in done]
-    return done
-
-
-def first_circle(names, functions):
+def first_circle(functions):
     """A function that calls itself, by others or not, if there is one."""
-    calls = {name: set(goals_of(name, functions, only_calls=True)) for name in names}
-    jumps = {name: set(goals_of(name, functions)) - {name} for name in names}
-    for name in names:
+    owners = {instruction.at: name for name, code in functions.items() for instruction in code}
+    calls, jumps = ({name: {owners[goal] for each in code if each.is_call() or not only_calls for goal in each.goals() if goal in owners}
+                     for name, code in functions.items()} for only_calls in (True, False))
+    for name in functions:
         reached, todo = set(), list(calls[name])
         while todo:
             other = todo.pop()
             if other not in reached:
                 reached.add(other)
-                todo += calls[other] | jumps[other]
+                todo += calls[other] | jumps[other] - {other}
         if name in reached:
             return name
     return None
@@ -118,7 +104,7 @@ def labelled(statements, goals, note):
     """The cells of statements, each an instruction, its text, and the address that stands at its end or None."""
     for instruction, _, goal in statements:
         if goal not in goals and goal is not None:
-            raise Refused(f"{instruction.where()}: it jumps into an instruction")
+            raise Refused(f"{instruction.where()}: it jumps to where no instruction begins")
     used = {goals[goal] for _, _, goal in statements if goal is not None}
     labels = {at: f"L{at}" if at < len(statements) else "end" for at in used}
     cells = []
@@ -136,7 +122,7 @@ def statement(instruction):
     if re.search(r"\bx[34]\b", operands):
         raise Refused(f"{shown}: a thread-local variable")
     if name not in TAKEN:
-        raise Refused(f"{shown}: {next(reason for form, reason in REASONS if re.fullmatch(form, name))}")
+        raise Refused(f"{shown}: {reason_of(name)}")
     if name == "lui":
         rd, number = operands.split(",")
         operands = f"{rd},{int(number, 0)}"

@@ -8,20 +8,32 @@ import shutil
 import subprocess
 from pathlib import Path
 
-from bring_parts import Refused
+from bring_parts import Refused, columns
+from bring_parts.languages import ASSEMBLY, C, CXX, PLAIN_ASSEMBLY
 
-HERE = Path(__file__).resolve().parent / "c"
+HERE = Path(__file__).resolve().parent
 FLAGS = ("-march=rv32ia -mabi=ilp32 -O2 -g -ffreestanding -fno-pic -mcmodel=medlow -msmall-data-limit=0 "
          "-fno-jump-tables -fdata-sections -fno-asynchronous-unwind-tables -fno-stack-protector").split()
 # gcc makes one function of two that are equal, so that a hart would have none
 FLAGS_OF = {"gcc": ["-fno-ipa-icf"], "clang": ["--target=riscv32-unknown-elf"]}
+# of version 5 binutils 2.40 finds fewer of the calls that were made part of others
+CXX_FLAGS = "-gdwarf-4 -std=c++20 -fno-exceptions -fno-rtti -fno-use-cxa-atexit -nostdinc++".split()
+# of a compiler's flags those that assembly needs too
+SHARED = ("-march", "-mabi", "-g", "--target")
+KINDS = {C: "c", CXX: "c++", ASSEMBLY: "assembler-with-cpp", PLAIN_ASSEMBLY: "assembler"}
 USUAL = {"gcc": ("riscv64-unknown-elf-gcc", "riscv64-linux-gnu-gcc"), "clang": ("clang",)}
 PREFIXES = ("riscv64-unknown-elf-", "riscv64-linux-gnu-")
 BINUTIL = "riscv64-unknown-elf-objdump"
-PACKAGES = {"riscv64-unknown-elf-gcc": "gcc-riscv64-unknown-elf", "riscv64-linux-gnu-gcc": "gcc-riscv64-linux-gnu",
-            "clang": "clang", BINUTIL: "binutils-riscv64-unknown-elf"}
+PACKAGES = {"riscv64-unknown-elf-gcc": "gcc-riscv64-unknown-elf", "riscv64-unknown-elf-g++": "gcc-riscv64-unknown-elf",
+            "riscv64-linux-gnu-gcc": "gcc-riscv64-linux-gnu", "clang": "clang", "clang++": "clang",
+            BINUTIL: "binutils-riscv64-unknown-elf", "rustc": "rustc"}
 SECONDS, FILE_BYTES, LINES = 60, 16 << 20, 12
-NO_HEADER = re.compile(r"fatal error: .*(No such file or directory|file not found)")
+NO_HEADER = re.compile(r"fatal error: '?([^':]+)'?(?:: No such file or directory| file not found)")
+# an instruction that GNU as knows, and not of this machine
+NO_EXTENSION = re.compile(r"(?:.*/)?([^/:]+:[0-9]+): Error: unrecognized opcode `(([\w.]+)[^']*)', extension")
+# the headers of the host's libstdc++, and of a C library for RISC-V without a system
+CXX_ROOT, PICOLIBC = Path("/usr/include"), Path("/usr/lib/picolibc/riscv64-unknown-elf/include")
+PICOLIBC_PACKAGE = "picolibc-riscv64-unknown-elf"
 
 
 class Compiler:
@@ -33,28 +45,52 @@ class Compiler:
         if not self.words:
             raise Refused("--compiler names no command")
         self.family = "clang" if "clang" in Path(self.words[0]).name else "gcc"
-        self.flags = [*FLAGS, *FLAGS_OF[self.family]]
+
+    def flags(self, language=C):
+        """The flags that it always has for a language."""
+        flags = [*FLAGS, *FLAGS_OF[self.family]]
+        if language in (ASSEMBLY, PLAIN_ASSEMBLY):
+            flags = [each for each in flags if each.startswith(SHARED)]
+            if self.family == "gcc":
+                flags[0] += "_zicsr_zifencei"  # what isn't a hart's may use control registers
+        return [*flags, *CXX_FLAGS] if language == CXX else flags
 
     def version(self):
         lines = output([self.words[0], "--version"]).splitlines()
         return lines[0].strip() if lines else "of no version"
 
-    def compile(self, source, module, flags, folders):
-        """Compiles a C file to a module. What a compiler leaves otherwise, as where it crashes, it leaves beside that."""
-        include = [word for folder in (HERE, *folders) for word in ("-I", folder)]
-        words = [*self.words, *self.flags, *flags, *include, "-c", "-o", module, "-x", "c", source]
+    def compile(self, source, module, flags=(), folders=(), language=C):
+        """Compiles a file to a module, and returns the flags by which it did. What a compiler leaves otherwise, as where it
+        crashes, it leaves beside the module."""
+        command = [*self.words]
+        if language == CXX:
+            command[0] = re.sub(r"gcc(?=[-0-9.]*$)", "g++", re.sub(r"clang(?=[-0-9.]*$)", "clang++", command[0]))
+        own = [word for folder in (cxx_headers() if language == CXX else ()) for word in ("-isystem", folder)]
+        include = [word for folder in (HERE / "c", *folders) for word in ("-I", folder)]
+        flags, rest = [*self.flags(language), *flags], ["-c", "-o", module, "-x", KINDS[language], source]
+        variables = {"TMPDIR": str(Path(module).parent)}
         try:
-            output(words, {"TMPDIR": str(Path(module).parent)})
+            output([*command, *flags, *own, *include, *rest], variables)
         except Refused as refused:
-            if NO_HEADER.search("".join(refused.before[:1])):
-                raise Refused(f"{refused}: it looks for headers beside the C file, and there is no C library",
-                              refused.before) from None
-            raise
+            if (missing := missing_header(refused)) and PICOLIBC.is_dir():
+                flags += ["-idirafter", str(PICOLIBC)]
+                return self.again([*command, *flags, *own, *include, *rest], variables, flags, language)
+            raise said_otherwise(refused, missing, language) from None
+        return flags
+
+    @staticmethod
+    def again(words, variables, flags, language):
+        """Compiles once more, with the headers of a C library."""
+        try:
+            output(words, variables)
+        except Refused as refused:
+            raise said_otherwise(refused, missing_header(refused), language) from None
+        return flags
 
     def macros(self, header, folders):
         """The names of the macros that a header leaves defined."""
         include = [word for folder in folders for word in ("-I", folder)]
-        printed = output([*self.words, *self.flags, *include, "-E", "-dM", "-x", "c", header])
+        printed = output([*self.words, *self.flags(), *include, "-E", "-dM", "-x", "c", header])
         return set(re.findall(r"^#define (\w+)", printed, re.MULTILINE))
 
     @staticmethod
@@ -63,30 +99,61 @@ class Compiler:
         output([binutil("as"), "-march=rv32i", "-mabi=ilp32", "-g", "-o", module, source])
 
 
+def cxx_headers():
+    """The folders of libstdc++'s headers, the newest that is there, after what takes the place of its configuration for a
+    system."""
+    found = sorted(CXX_ROOT.glob("c++/[0-9]*"), key=lambda path: int(re.sub(r"\D.*", "", path.name)))
+    if not found:
+        raise Refused("there are no headers of C++: apt-get install libstdc++-12-dev")
+    return [HERE / "cxx", found[-1], *list(CXX_ROOT.glob(f"*/c++/{found[-1].name}"))[:1]]
+
+
+def missing_header(refused):
+    """The header that a compiler didn't find, or None."""
+    shape = NO_HEADER.search("".join(refused.before[:1]))
+    return shape and shape[1]
+
+
+def said_otherwise(refused, missing, language):
+    """What a compiler complains of, with what helps."""
+    if missing and language == CXX and PICOLIBC.is_dir():
+        return Refused(f"{refused}: libstdc++ has this header for systems alone; docs/from-objects.md has libc++", refused.before)
+    if missing and (language == CXX or missing in ("string.h", "stdlib.h", "assert.h", "stdio.h")):
+        return Refused(f"{refused}: {missing} is a C library's: apt-get install {PICOLIBC_PACKAGE} brings headers, and of the functions "
+                       "only memcpy and memset are here", refused.before)
+    if missing:
+        return Refused(f"{refused}: it looks for headers beside the C file, and there is no C library", refused.before)
+    if shape := next(filter(None, map(NO_EXTENSION.match, refused.before)), None):
+        return Refused(f"{shape[1]}: `{shape[2]}`: {columns.reason_of(shape[3])}")
+    return refused
+
+
 def binutil(name):
     """The command of binutils with that name."""
     return next((prefix + name for prefix in PREFIXES if shutil.which(prefix + name)), PREFIXES[0] + name)
 
 
-def limited():
-    """A compiler may write so much, and no more, and no image of its memory where it crashes."""
-    resource.setrlimit(resource.RLIMIT_FSIZE, (FILE_BYTES, FILE_BYTES))
+def limited(file_bytes):
+    """A command may write so much, and no more, and no image of its memory where it crashes."""
+    resource.setrlimit(resource.RLIMIT_FSIZE, (file_bytes, file_bytes))
     resource.setrlimit(resource.RLIMIT_CORE, (0, 0))
 
 
-def output(words, variables=()):
+def output(words, variables=(), seconds=SECONDS, file_bytes=FILE_BYTES):
     """What a command prints; what it complains of is the refusal. Its environment has these variables further."""
     words = [str(word) for word in words]
     try:
         # signals stay ignored as they are here, so that a file that is too large is an error and no signal
         done = subprocess.run(words, stdin=subprocess.DEVNULL, capture_output=True, text=True, errors="replace",
-                              timeout=SECONDS, env={**os.environ, **dict(variables), "LC_ALL": "C"}, preexec_fn=limited,
+                              timeout=seconds, env={**os.environ, **dict(variables), "LC_ALL": "C"}, preexec_fn=lambda: limited(file_bytes),
                               restore_signals=False, check=False)
-    except (FileNotFoundError, PermissionError):
+    except OSError as error:
+        if not isinstance(error, (FileNotFoundError, PermissionError)):
+            raise Refused(f"{words[0]}: {error.strerror}") from None
         package = PACKAGES.get(words[0], PACKAGES[BINUTIL] if words[0].startswith(PREFIXES) else None)
         raise Refused(f"there is no command {words[0]}" + (f": apt-get install {package}" if package else "")) from None
     except subprocess.TimeoutExpired:
-        raise Refused(f"{words[0]} takes more than {SECONDS} seconds") from None
+        raise Refused(f"{words[0]} takes more than {seconds} seconds") from None
     if done.returncode:
         lines = done.stderr.strip().splitlines() or [f"it ended with {done.returncode}, and said nothing"]
         begin = next((at for at, line in enumerate(lines) if "error" in line.lower()), 0)

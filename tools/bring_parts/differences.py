@@ -7,8 +7,8 @@ import tempfile
 from dataclasses import dataclass
 from pathlib import Path
 
-from bring_parts import Refused, answer, c_command, c_lines, compilers, logs, mappings, search, text_of
-from bring_parts.c_command import Way
+from bring_parts import Refused, answer, c_lines, compilers, logs, making, mappings, search, text_of
+from bring_parts.making import Way
 
 import litmus
 
@@ -52,7 +52,7 @@ class Compiled:
         self.path, self.compiler, self.texts, self.found, self.refused = Path(path), compiler, {}, {}, {}
         for name in names:
             try:
-                self.texts[name] = c_command.made(path, Way(compiler, name, lines=True))
+                self.texts[name] = making.of_c(path, Way(compiler, name, lines=True))
                 self.found[name] = search.outcomes(self.texts[name], 4, states)
             except Refused as refused:
                 self.refused[name] = ": ".join([str(refused), *refused.before[:1]])
@@ -151,7 +151,7 @@ def page(program, compiled, found):
 
 
 def mapping_text(name):
-    return text_of(c_command.mapping_of(name))
+    return text_of(making.mapping_of(name))
 
 
 def notes(compiled):

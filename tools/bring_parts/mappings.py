@@ -2,10 +2,10 @@
 
 import re
 from collections import Counter
-from dataclasses import dataclass
+from dataclasses import dataclass, replace
 
-from bring_parts import Refused, c_command, logs, search
-from bring_parts.c_command import Way
+from bring_parts import Refused, languages, logs, making, search
+from bring_parts.languages import C, RUST
 
 import litmus
 
@@ -36,9 +36,14 @@ def joined(values):
     return "-".join(str(logs.signed(value)) for value in values)
 
 
-def compiled(path, compiler, options, states):
-    """What a compiler makes of a file by some options."""
-    text = c_command.made(path, Way(compiler, **options))
+def ways_of(path):
+    """The ways of a file: a mapping has operations of C."""
+    return [(name, options) for name, options in WAYS if languages.language_of(path) in (C, None) or "mapping" not in options]
+
+
+def compiled(path, way, states):
+    """What becomes of a file by one way of compiling it."""
+    text = making.of_c(path, way) if languages.language_of(path) in (C, None) else making.made([path], way)
     test = litmus.read(text)
     codes = [each for code in test.codes for each in code]
     return Compiled(len(codes), Counter(FENCE.findall(litmus.without_comments(text))), codes.count(("fence", True)),
@@ -46,13 +51,14 @@ def compiled(path, compiler, options, states):
 
 
 class Comparison:
-    """A file by one compiler, by each way."""
+    """A file by one compiler, by each way; `way` has what is the same in each."""
 
-    def __init__(self, path, compiler, states):
-        self.compiler, self.ways, self.refused = compiler, {}, {}
-        for name, options in WAYS:
+    def __init__(self, path, way, states):
+        self.compiler = "rustc" if languages.language_of(path) == RUST else way.compiler
+        self.names, self.ways, self.refused = [name for name, _ in ways_of(path)], {}, {}
+        for name, options in ways_of(path):
             try:
-                self.ways[name] = compiled(path, compiler, options, states)
+                self.ways[name] = compiled(path, replace(way, **options), states)
             except Refused as refused:
                 self.refused[name] = ": ".join([str(refused), *refused.before[:1]])
 
@@ -67,7 +73,7 @@ class Comparison:
         return sorted(set(self.ways[name].found.schedules) - set(self.ways[than].found.schedules))
 
     def rows(self):
-        for name, _ in WAYS:
+        for name in self.names:
             if name in self.ways:
                 yield [f"{self.compiler}, {name}", *self.ways[name].row(self.added(name))]
             else:

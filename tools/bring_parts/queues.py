@@ -1,57 +1,126 @@
 """The queues of docs/functions.md in C: the functions that a file calls, and where its queues lie."""
 
 import re
+from dataclasses import dataclass
+
+from bring_parts import ROOT, Refused
+from bring_parts.fields import Part
+from bring_parts.images import DATA
+from bring_parts.memory import Placed
 
 import assembly
 
+# the folder of queue.h, and the functions that it declares
+HEADERS = ROOT / "examples/bare-metal"
+FUNCTIONS = HEADERS / "functions.S"
 # where the parts of a block lie, as queue.h has them; the slots have a name for each kind of queue
-HEAD, TAIL, SLOTS = 0, 64, 128
+TAIL, SLOTS = 64, 128
 KINDS = {"slots": ("Lamport's", "lamport_try_send", "lamport_try_receive"),
          "cached_slots": ("Lamport's with a cached tail", "cached_try_send", "lamport_try_receive"),
          "words_or_0": ("FastForward's", "fastforward_try_send", "fastforward_try_receive")}
 ROLES = ("sends", "receives")
+NONE = ("no queue is named: where the blocks of the calls lie isn't plain from the code. Make each a global object, or pass `&queue` where "
+        "the macro is")
 # what a call may change: ra, t0 to t6, a0 to a7
 CHANGED = {f"x{number}" for number in (1, *range(5, 8), *range(10, 18), *range(28, 32))}
-BLOCK = "x10"
+BLOCK, BYTES = "x10", "x12"
 
 
-def names_in(file):
-    """The functions that a file of assembly defines."""
-    return set(re.findall(r"^\s*\.globl\s+(\w+)", file.read_text(), re.MULTILINE))
+@dataclass(frozen=True)
+class Call:
+    """A call of a function, with the block and the bytes of its slots, or None where that isn't plain from the code."""
+    name: str
+    block: int
+    size: int
 
 
-def lines(symbols, parts_of, calls):
-    """A line for each queue among the objects: where its block lies, and which harts use it. `calls` are those of each
-    hart's code."""
-    found = []
-    for address, _, name in symbols:
-        places = {part.name[len(name):]: part.at for part in parts_of(name)}
-        for slots, (kind, *functions) in KINDS.items():
-            if [places.get(part) for part in (".head", ".tail", f".{slots}[0]")] == [HEAD, TAIL, SLOTS]:
-                count = sum(1 for part in places if re.fullmatch(rf"\.{slots}\[[0-9]+\]", part))
-                found.append((address, functions, f"queue {name}: {kind}, block at {address}, {count} slots"))
-    for address, functions, line in found:
-        for role, function in zip(ROLES, functions):
-            alone = sum(function in each for _, each, _ in found) == 1
-            line += user(role, function, address, alone, calls)
+@dataclass(frozen=True)
+class Queue:
+    """A queue: its name, its kind, its block's address, and how many slots it has."""
+    name: str
+    slots: str
+    block: int
+    count: int
+
+    def line(self):
+        return f"queue {self.name}: {KINDS[self.slots][0]}, block at {self.block}, {self.count} slots"
+
+    def functions(self):
+        """The functions that send and that receive."""
+        return KINDS[self.slots][1:]
+
+
+def names():
+    """The functions that functions.S defines."""
+    return set(re.findall(r"^\s*\.globl\s+(\w+)", FUNCTIONS.read_text(), re.MULTILINE))
+
+
+def lines(found, calls):
+    """A line for each queue: where its block lies, and which harts use it. `calls` are those of each hart's code."""
+    for queue in found:
+        line = queue.line()
+        for role, function in zip(ROLES, queue.functions()):
+            alone = sum(function in each.functions() for each in found) == 1
+            line += user(role, function, queue.block, alone, calls)
         yield line
 
 
+def among(objects, calls):
+    """The queues: those that an object is or has as parts, and those that lie where a call passes a block."""
+    found = [queue for each in objects for queue in declared(each)]
+    known = {queue.block for queue in found}
+    passed = [call for each in calls for call in each if call.block and call.size and call.block not in known]
+    for block in sorted({call.block for call in passed if call.name in names()}):
+        used = {call.name for call in passed if call.block == block}
+        slots = next((slots for slots, (_, send, _) in KINDS.items() if send in used), None) \
+            or next(slots for slots, (_, _, receive) in KINDS.items() if receive in used)
+        inside = next((each for each in objects if each.at <= block < each.at + each.size), None)
+        offset = block - inside.at if inside else 0
+        name = f"in {inside.name}" + f" + {offset}" * bool(offset) if inside else f"at {block}"
+        found.append(Queue(name, slots, block, next(call.size for call in passed if call.block == block) // 4))
+    return found
+
+
+def declared(placed):
+    """The queues that an object is or has as parts."""
+    places = {part.name: placed.at + part.at for part in placed.parts}
+    for head in [name for name in places if name.endswith(".head")]:
+        name = head.removesuffix(".head")
+        for slots in KINDS:
+            if [places.get(f"{name}{part}", 0) - places[head] for part in (".tail", f".{slots}[0]")] == [TAIL, SLOTS]:
+                count = sum(1 for part in places if re.fullmatch(rf"{re.escape(name)}\.{slots}\[[0-9]+\]", part))
+                yield Queue(name, slots, places[head], count)
+
+
+def fixed(objects, found):
+    """The blocks of queues that lie at a fixed address, where no object is."""
+    for queue in found:
+        size = SLOTS + 4 * queue.count
+        if any(each.at <= queue.block < each.at + each.size for each in objects):
+            continue
+        over = next((each for each in objects if queue.block < each.at + each.size and each.at < queue.block + size), None)
+        if over or queue.block + size > DATA:
+            raise Refused(f"the queue at {queue.block:#x} lies " + (f"over {over.name}, which this text has at {over.at}" if over else
+                          f"beyond the {DATA} bytes that ztso has names for") + ": make it a global object, or choose another address")
+        name = f"q{queue.block}"
+        yield Placed(queue.block, size, name, [Part(0, 4, f"{name}.head"), Part(TAIL, 4, f"{name}.tail"),
+                                               *(Part(SLOTS + 4 * at, 4, f"{name}.{queue.slots}[{at}]") for at in range(queue.count))])
+
+
 def user(role, function, address, alone, calls):
-    """The hart that has this role for the queue there. If more than one has it, or a call of its function may be for this queue or for
-    another one, nothing is said."""
-    blocks = [{block for name, block in each if name == function} for each in calls]
+    """The hart that has this role for the queue there. If more than one has it, or a call of its function may be for this
+    queue or for another one, nothing is said."""
+    blocks = [{call.block for call in each if call.name == function} for each in calls]
     harts = [hart for hart, each in enumerate(blocks) if address in each or alone and None in each]
     known = len(harts) == 1 and (alone or not any(None in each for each in blocks))
     return f", hart {harts[0]} {role}" if known else ""
 
 
-def calls_of(names, functions):
-    """The calls and jumps to other functions in the code of these: each with its name and the block that is passed, or None
-    where that isn't plain from the function's own code."""
+def calls_of(functions):
+    """The calls and jumps to other functions in the code of these."""
     starts = {code[0].at: name for name, code in functions.items()}
-    return {(starts[instruction.target()], registers.get(BLOCK))
-            for name in names for instruction, registers in with_registers(functions[name])
+    return {Call(starts[instruction.target()], registers.get(BLOCK), registers.get(BYTES))
+            for code in functions.values() for instruction, registers in with_registers(code)
             if instruction.name == "jal" and instruction.target() in starts}
 
 

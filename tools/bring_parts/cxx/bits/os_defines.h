@@ -1,0 +1,1 @@
+// nothing: there is no operating system

@@ -1,0 +1,115 @@
+"""The instructions of a linked image, as objdump lists them: compressed ones by their long forms, calls as one jump, and
+addresses of data as numbers."""
+
+import re
+from dataclasses import dataclass, replace
+from pathlib import Path
+
+from bring_parts import compressed
+
+import assembly
+
+# where linking places the code
+TEXT = 0x10_0000
+JUMPS = ("jal", *assembly.BRANCHES)
+LINE = re.compile(r" *([0-9a-f]+):\t(\S+)(?:\t([^#<]*))?")
+# the place of an instruction in a source, and of the calls that were made part of others
+PLACE = re.compile(r"( *inlined by )?(\S.*?):([0-9]+)(?: \(discriminator [0-9]+\))?(?: \(.*\))?$")
+# the operands of a call's two instructions
+UPPER, LOWER = re.compile(r"(x[0-9]+),0x([0-9a-f]+)"), re.compile(r"(x[01]),(-?[0-9]+)\((x[0-9]+)\)")
+# the low part of an address in an instruction's operands
+LOW = re.compile(r"(.*?,)(-?[0-9]+)(\(x[0-9]+\))?")
+
+
+@dataclass(frozen=True)
+class Instruction:
+    """An instruction, its address, and the line of a source that it comes from."""
+    at: int
+    name: str
+    operands: str
+    file: str
+    line: int
+
+    def where(self):
+        return f"{self.file}:{self.line}" if self.file else f"at {self.at - TEXT:x}"
+
+    def target(self):
+        """The address that a jump or branch names."""
+        return int(self.operands.split(",")[-1], 16)
+
+    def is_call(self):
+        return self.name in ("jal", "jalr") and self.operands.startswith("x1,")
+
+    def is_return(self):
+        return self.name == "jalr" and self.operands in ("x0,0(x1)", "x0,x1,0")
+
+    def is_end(self):
+        """Whether nothing runs on after it."""
+        return self.name in ("jal", "jalr") and self.operands.startswith("x0,") or self.name in ("ebreak", "unimp", "c.unimp")
+
+    def goals(self):
+        """Where it jumps to in the code."""
+        return [self.target()] if self.name in JUMPS else []
+
+    def registers_read(self):
+        found = re.findall(r"x[0-9]+", self.operands)
+        return found if self.name in (*assembly.STORES, *assembly.BRANCHES) else found[1:]
+
+    def registers_written(self):
+        found = re.findall(r"x[0-9]+", self.operands)
+        return [] if self.name in (*assembly.STORES, *assembly.BRANCHES) else found[:1]
+
+
+def listed(listing, sources=()):
+    """The instructions of a listing of objdump. The line of one is that of these sources if it comes from there, by
+    whatever calls that were made part of others."""
+    found, own, callers = [], ("", 0), []
+    for text in listing.splitlines():
+        if row := LINE.match(text):
+            file, line = next((place for place in [own, *callers] if place[0] in sources), own)
+            found.append(Instruction(int(row[1], 16), row[2], (row[3] or "").strip(), file, line))
+            callers = []
+        elif place := PLACE.match(text):
+            # objdump names the callers at each instruction, and its own place only where it is another
+            there = Path(place[2]).name, int(place[3])
+            own, callers = (own, [*callers, there]) if place[1] else (there, callers)
+    return direct([compressed.expanded(each) for each in found])
+
+
+def direct(code):
+    """The code with each pair of a call, `auipc` and `jalr`, as one `jal`."""
+    made, skip = [], False
+    for first, second in zip(code, [*code[1:], None]):
+        upper = UPPER.fullmatch(first.operands) if first.name == "auipc" else None
+        lower = LOWER.fullmatch(second.operands) if second and second.name == "jalr" else None
+        if skip:
+            skip = False
+        elif upper and lower and upper[1] == lower[3] and lower[1] in ("x0", upper[1]):
+            goal = (first.at + (int(upper[2], 16) << 12) + int(lower[2])) & 0xFFFF_FFFF
+            made.append(replace(first, name="jal", operands=f"{lower[1]},{goal:x}"))
+            skip = True
+        else:
+            made.append(first)
+    return made
+
+
+def absolute(code, relocations):
+    """The code with the addresses of data that it computes from its own place as numbers: what `auipc` and a second
+    instruction make, `lui` and that instruction make too. `relocations` has for an address the kind of the relocation there,
+    and its symbol's value and name."""
+    seconds = {}
+    for each in code:
+        kind, value, _ = relocations.get(each.at, ("", 0, ""))
+        if kind.startswith("R_RISCV_PCREL_LO12"):
+            seconds.setdefault(value, []).append(each)
+    made = {each.at: each for each in code}
+    for first in code:
+        if first.name != "auipc" or first.at not in seconds:
+            continue
+        register, upper = first.operands.split(",")
+        goal = first.at + (int(upper, 0) << 12) + int(LOW.fullmatch(seconds[first.at][0].operands)[2]) + 0x800
+        made[first.at] = replace(first, name="lui", operands=f"{register},{goal >> 12 & 0xF_FFFF:#x}")
+        for each in seconds[first.at]:
+            low = LOW.sub(lambda part, rest=(goal & 0xFFF) - 0x800: f"{part[1]}{rest}{part[3] or ''}", each.operands, count=1)
+            made[each.at] = replace(each, operands=low)
+    return [made[each.at] for each in code]

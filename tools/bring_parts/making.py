@@ -1,0 +1,208 @@
+"""The options of tools/from-c and tools/from-object, and the text that they make by them."""
+
+import re
+import shlex
+import sys
+import tempfile
+from dataclasses import dataclass, replace
+from pathlib import Path
+
+from bring_parts import (ROOT, Refused, c_source, c_tests, columns, compilers, complain, dwarf, languages, litmus_texts, objects, put,
+                         questions, queues, rust, text_of)
+from bring_parts.languages import C, OBJECT, RUST
+
+# the mappings, each of which includes this one at its end
+MAPPINGS, BASE = ROOT / "examples/mappings", "mapping.h"
+# what mapping.h defines
+GUARD = "MAPPING_H"
+LONGEST = 44
+
+
+@dataclass(frozen=True)
+class Way:
+    """How files are compiled and brought."""
+    compiler: str = "gcc"
+    mapping: str = None
+    fences: str = "all"
+    flags: tuple = ()
+    lines: bool = False
+    harts: tuple = ()
+    ask: str = None
+    rustc: str = "rustc"
+    rust_core: str = None
+
+    @staticmethod
+    def of(asked):
+        """By the words of a command line; from-c has some of them."""
+        harts = tuple(filter(None, getattr(asked, "harts", "").split(",")))
+        own = {name: getattr(asked, name) for name in ("ask", "rustc", "rust_core") if hasattr(asked, name)}
+        return Way(asked.compiler, asked.mapping, asked.fences, tuple(asked.flag), asked.lines, harts, **own)
+
+    def words(self, with_folder=False, is_compiled=True):
+        """The options as they are typed, with the folders of files or without, and without a compiler where none is asked."""
+        def file(name):
+            return name if with_folder else Path(name).name
+        words = ["--compiler", self.compiler] if is_compiled else []
+        words += ["--mapping", file(self.mapping)] if self.mapping else []
+        words += ["--rustc", file(self.rustc)] if Path(self.rustc).name != "rustc" else []
+        words += ["--rust-core", file(self.rust_core)] if self.rust_core else []
+        words += ["--ask", file(self.ask)] if self.ask else []
+        words += ["--harts", ",".join(self.harts)] if self.harts else []
+        words += ["--fences", self.fences] if self.fences != "all" else []
+        words += [f"--flag={flag}" for flag in self.flags] + ["--lines"] * self.lines
+        return shlex.join(words)
+
+
+def add_options(words):
+    words.add_argument("-o", dest="output")
+    words.add_argument("--compiler", default="gcc")
+    words.add_argument("--mapping")
+    words.add_argument("--fences", choices=columns.FENCES, default="all")
+    words.add_argument("--flag", action="append", default=[])
+    words.add_argument("--lines", action="store_true")
+
+
+def put_text(tool, asked, make):
+    """Writes the text that is made, where the words of the command line say, and answers the exit status."""
+    try:
+        text = make()
+        if asked.output:
+            put(asked.output, text)
+    except Refused as refused:
+        complain(tool, *([asked.file] if tool == "from-c" else asked.files[:1]), refused, before=refused.before)
+        return 2
+    if not asked.output:
+        sys.stdout.write(text)
+    return 0
+
+
+def mapping_of(name):
+    """The file of a mapping, which may be one of examples/mappings."""
+    for path in (Path(name), MAPPINGS / name):
+        if path.is_file():
+            return path.resolve()
+    names = " ".join(path.name for path in sorted(MAPPINGS.glob("*.h")) if path.name != BASE)
+    raise Refused(f"there is no mapping {name}: examples/mappings has {names}")
+
+
+def read_c(file):
+    """The source in a C file."""
+    return c_source.read(text_of(file), Path(file).name)
+
+
+def of_c(file, way):
+    """The litmus text that a compiler makes of a C file."""
+    return made([file], way, "from-c", C)
+
+
+def made(files, way, tool="from-object", language=None):
+    """The litmus text of files, each of the language that its suffix says, or all of one."""
+    names = " ".join(shlex.quote(Path(file).name) for file in files)
+    with tempfile.TemporaryDirectory() as folder:
+        modules, question, (told, sources) = modules_of(files, way, folder, language)
+        is_compiled = any((language or languages.known(file)) not in (OBJECT, RUST) for file in files)
+        told = [f"tools/{tool} {names} {way.words(is_compiled=is_compiled)}".rstrip(), *told]
+        return litmus_texts.litmus_text(modules, question, way.harts, way.compiler, way.fences,
+                                        noted(sources) if way.lines else None, told, tuple(sources))
+
+
+def modules_of(files, way, folder, language=None):
+    """The objects of files, and what they ask; then the lines that say how they were made, and the sources' texts by their
+    names, that of the question first."""
+    kinds = {file: language or languages.known(file) for file in files}
+    asking = way.ask or next((file for file in files if kinds[file] != OBJECT), None)
+    if asking is None:
+        raise Refused("objects have no comments: --ask FILE names a file whose comments have the question, as "
+                      "`// exists (0:a0=0 /\\ 1:a0=0)`")
+    text = text_of(asking)
+    c = read_c(asking) if kinds.get(asking) == C else None
+    question = of_source(c) if c else questions.of_text(text, asking)
+    modules, told = [], []
+    for at, file in enumerate(files):
+        own = way if kinds[file] != RUST or set(kinds.values()) <= {RUST, OBJECT} else replace(way, flags=())
+        module, said = module_of(file, kinds[file], own, Path(folder, f"module{at}"), c if file == asking else None)
+        modules.append(module)
+        told += [line for line in said if line not in told]
+    others = {Path(file).name: text_of(file) for file in files if kinds[file] != OBJECT and file != asking}
+    return modules, question, (told, {question.file: text, **others})
+
+
+def of_source(source):
+    """The question of a C file, with the registers that keep the locals it asks for."""
+    kept = {(hart, name): register for hart, each in enumerate(c_tests.results_of(source)) for name, register in each.items()}
+    return questions.Question(source.name, source.file, source.settings, source.words, source.ending, kept)
+
+
+def module_of(file, language, way, module, c=None):
+    """The object of a file, and what is said of how it was made. `c` is the source of one in C that asks for locals."""
+    said = []
+    if language == OBJECT:
+        module = Path(file)
+    elif language == RUST:
+        version, flags = rust.compile_to(file, module, way.rustc, way.rust_core, way.flags)
+        said = [version, shlex.join(flags)]
+    else:
+        said = by_compiler(file, language, way, module, c)
+    if language != OBJECT and not module.is_file():
+        raise Refused(f"{way.rustc if language == RUST else way.compiler} makes no object")
+    try:
+        objects.check(module)
+    except Refused as refused:
+        raise Refused(f"{Path(file).name}: {refused}") from None
+    return module, said or [f"{Path(file).name}: by {each}" for each in dwarf.producers_of(module)]
+
+
+def by_compiler(file, language, way, module, c):
+    """Compiles a file, and returns what is said of it."""
+    compiler, written = compilers.Compiler(way.compiler), file
+    if c:
+        written = module.with_name(f"{module.name}.c") / c.file
+        written.parent.mkdir()
+        written.write_text(c_tests.c_text(c, c_tests.results_of(c)))
+    of_mapping = ["-include", str(mapping_of(way.mapping))] if way.mapping and language == C else []
+    # a mapping of one's own finds what it includes
+    folders = [Path(file).resolve().parent, *[MAPPINGS] * bool(of_mapping), queues.HEADERS]
+    missing = missing_rows(compiler, way.mapping, folders) if of_mapping else []
+    try:
+        flags = compiler.compile(written, module, [*way.flags, *of_mapping], folders, language)
+    except Refused as refused:
+        if missing:
+            raise Refused(f"{refused}, and {way.mapping} has no row {', '.join(missing)}", refused.before) from None
+        raise
+    return [compiler.version(), " ".join(each for each in flags if each not in of_mapping)]
+
+
+def missing_rows(compiler, name, folders):
+    """The rows of ztso.h that a mapping doesn't define. It is refused if it doesn't include mapping.h: the compiler's own
+    operations would be taken in place of its rows."""
+    try:
+        defined = compiler.macros(mapping_of(name), folders)
+    except Refused:
+        return []  # the compiler says it again, of the C file
+    if "__STDC__" in defined and GUARD not in defined:
+        raise Refused(f'{name} doesn\'t end with #include "{BASE}", so none of its rows is used')
+    rows = re.findall(r"^#define (\w+)", text_of(MAPPINGS / "ztso.h"), re.MULTILINE)
+    return [row for row in rows if row not in defined]
+
+
+def noted(sources):
+    """What gives for each hart the comments beside its instructions: the number of the line in the first source, and its text
+    where it is another than the one before; lines of others have their names. A cell's comment has no `|` and no `;`."""
+    texts, first = {name: text.split("\n") for name, text in sources.items()}, next(iter(sources))
+
+    def hart():
+        before = None
+
+        def note(instruction):
+            nonlocal before
+            lines, place = texts.get(instruction.file, ()), (instruction.file, instruction.line)
+            if not 1 <= instruction.line <= len(lines):
+                return instruction.where()
+            is_same, before = place == before, place
+            text = re.sub(r"[^\x20-\x7e]", " ", lines[instruction.line - 1]).strip(" ;{}")
+            text = " ".join(text.replace("|", "¦").replace(";", ",").replace("(*", "( *").replace("*)", "* )").split())
+            text = text if len(text) <= LONGEST else text[:LONGEST - 2] + ".."
+            number = str(instruction.line) if instruction.file == first else instruction.where()
+            return number if is_same or not text else f"{number}: {text}"
+        return note
+    return hart

@@ -1,0 +1,138 @@
+"""The words of memory of a litmus text: what each is called, by the objects and their parts that begin there, and what it
+opens as."""
+
+import re
+from collections import Counter
+from dataclasses import dataclass, field
+
+from bring_parts import Refused
+
+# the names that ztso has for words
+LOCATIONS = 1024
+WIDTH = 112
+
+
+@dataclass(frozen=True)
+class Placed:
+    """An object of the data, or a piece of one: its address, its bytes, its name, and its parts by their places in it."""
+    at: int
+    size: int
+    name: str
+    parts: list = field(default_factory=list)
+
+
+class Memory:
+    """The names and opening values of memory's words. Word 0 has a name of its own, since its address is that of a
+    null pointer. `longer` has for an object its author's longer name of it."""
+
+    def __init__(self, values, objects, longer=()):
+        self.values, self.names = values, [None] * len(values)
+        self.longer = {full: name for name, full in dict(longer).items() if full != name}
+        # the word of an object's name, and of its further words; that of a part by its name; and the names of what has
+        # fewer than 4 bytes
+        self.places, self.parts, self.small = {}, {}, {each.name for each in objects if each.size < 4}
+        called = self.called_by_parts(objects)
+        words = [(each.at // 4 + at, each.name, at) for each in objects for at in range((each.size + 3) // 4 or 1)]
+        for place, name, at in sorted(words, key=lambda word: word[2]):
+            self.places.setdefault((name, at), place)
+            if place < len(self.names) and self.names[place] is None:
+                self.names[place] = self.fresh(called.get(place) or re.sub(r"\W", "_", name) + (f"_{at}" if at else ""))
+        for place, name in enumerate(self.names):
+            self.names[place] = name or self.fresh(f"word{4 * place}" if place else "null")
+
+    def called_by_parts(self, objects):
+        """A name for each word by the first part of an object that begins there: `q_tail` for `q.tail`, and `q_slot` for
+        `q.slot[0]`. Notes the parts that have a word for themselves."""
+        called = {}
+        for each in objects:
+            alone = Counter(part.at // 4 for part in each.parts)
+            for part in each.parts:
+                place, offset = divmod(each.at + part.at, 4)
+                if offset:
+                    continue
+                called.setdefault(place, re.sub(r"\W+", "_", re.sub(r"(?<!\])\[0\]$", "", part.name)).strip("_"))
+                if part.size == 4 or alone[part.at // 4] == 1:
+                    self.parts.setdefault(part.name, place)
+                    self.small |= {part.name} if part.size < 4 else set()
+        return called
+
+    def fresh(self, name):
+        """A name that no word has yet."""
+        while name in self.names or name == "not":
+            name += "_"
+        return name
+
+    def shorter(self, text):
+        """A place by the object's name in the text, where it is said by its author's longer one."""
+        for full, name in sorted(self.longer.items(), key=lambda each: -len(each[0])):
+            if text == full or text.startswith((f"{full}.", f"{full}[")):
+                return name + text[len(full):]
+        return text
+
+    def named(self, text, what):
+        """The name of a word that a program calls `x`, `a[2]` or `q.tail`."""
+        text = self.shorter(text)
+        shape = re.fullmatch(r"(\w+)(?:\[([0-9]+)\])?", text)
+        place = self.parts.get(text, self.places.get((shape[1], int(shape[2] or 0))) if shape else None)
+        if place is None and text not in self.names:
+            raise Refused(f"{what} {text}, which is no shared word")
+        return text if place is None else self.names[place]
+
+    def value(self, text, what):
+        """A number, or the name of a word."""
+        return self.named(text, what) if re.match(r"[A-Za-z_]", text) else text
+
+    def is_small(self, text):
+        """Whether what is called so has fewer than 32 bits."""
+        return self.shorter(text) in self.small
+
+    def open(self, settings):
+        for name, values in settings.items():
+            for at, value in enumerate(values):
+                if (self.shorter(name), at) in self.places:
+                    self.values[self.places[self.shorter(name), at]] = self.value(value, f"init sets {name} to")
+
+    def push_stack(self, hart, size):
+        """Room for a hart's stack; returns its upper end."""
+        for at in range(size // 4):
+            self.names.append(self.fresh(f"stack{hart}_{at}"))
+            self.values.append(0)
+        return 4 * len(self.names)
+
+    def check_size(self):
+        if len(self.names) > LOCATIONS:
+            raise Refused(f"{len(self.names)} words of data and stacks: ztso has names for {LOCATIONS}")
+
+    def items(self):
+        """The items of init, some of them on each line."""
+        lines = [""]
+        for name, value in zip(self.names, self.values):
+            item = f"int {name}={value};" if value else f"int {name};"
+            if lines[-1] and len(lines[-1]) + len(item) >= WIDTH:
+                lines.append("")
+            lines[-1] += f" {item}" if lines[-1] else item
+        return lines
+
+
+def short(plain):
+    """The last part of a name that a language has made: `q` of `app::q`, `slots` of `app::Pool<int, 4>::slots`."""
+    while (shorter := re.sub(r"<[^<>]*>|\([^()]*\)|\[abi:\w+\]", "", plain)) != plain:
+        plain = shorter
+    return plain.strip().split("::")[-1].split(" ")[-1] or plain
+
+
+def objects_of(image, parts):
+    """The objects of an image's data, and their authors' names by those that they have in the text: the last part, or all
+    of it where two have the same. The parts of one that a compiler took apart have its name."""
+    found = [(at, size, symbol, re.sub(r"\.[0-9]+$", "", symbol.plain) if parts.is_apart(symbol.name) else symbol.plain)
+             for at, size, symbol in image.data()]
+    plains = {plain for _, _, _, plain in found}
+    count = Counter(map(short, plains))
+    names = {plain: short(plain) if count[short(plain)] == 1 else plain for plain in plains}
+    placed, pieces = [], Counter()
+    for at, size, symbol, plain in found:
+        name, number = names[plain], pieces[plain]
+        pieces[plain] += 1
+        placed.append(Placed(at, size, f"{name}_{number}" if number else name,
+                             parts.of_variable(symbol.name, name, at, size)))
+    return placed, {name: plain for plain, name in names.items()}
