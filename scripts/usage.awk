@@ -29,7 +29,7 @@ function all_commands(    i) {
     for (i = 1; i <= commands; i++) {
         sub(/ --.*/, " ..", form[i])
         sub(/[,:;(].*/, "", prints[i])
-        wrapped(sprintf("  %-27s ", form[i]), prints[i])
+        wrapped(sprintf("  %-28s ", form[i]), prints[i])
     }
     print "`ztso COMMAND --help`: its words and options; more: " ENVIRON["MANUAL"]
     print "litmus tests: " ENVIRON["FRONT"] "litmus"
@@ -40,13 +40,13 @@ function one_command(number,    i, line, command) {
     line = "ztso " form[number]
     for (i = 1; i <= options; i++)
         # an option that has to be given stands in the form already
-        if (takers[i] ~ " " command " " && !index(form[number], first_word(option[i])))
+        if (index(takers[i], " " command " ") && !index(form[number], first_word(option[i])))
             line = line " [" option[i] "]"
     wrapped("usage: ", line)
     wrapped("  reads       ", reads[number])
     wrapped("  prints      ", prints[number])
     for (i = 1; i <= options; i++)
-        if (takers[i] ~ " " command " ")
+        if (index(takers[i], " " command " "))
             wrapped(sprintf("  %-11s ", option[i]), does[i])
     sub(/#.*/, "", page[number])
     print "more: " ENVIRON["MANUAL"] "; " ENVIRON["FRONT"] page[number]

@@ -1,5 +1,6 @@
 # Of the words ARGV[3] and on, by docs/rings.tsv and docs/commands.tsv, the files before them: with WHAT=wrong what is wrong with the first of them
-# that doesn't belong to a job, with WHAT=files the files that they name, one a line, in the order in which they are read.
+# that doesn't belong to a job, with WHAT=files the files that they name, one a line, in the order in which they are read;
+# with WHAT=plain the word ARGV[3] as a terminal may show it.
 # It prints nothing where it can't tell.
 
 # Whether a decimal number is less than another; both are without leading zeros.
@@ -36,6 +37,13 @@ function wrong_place(place, value) {
     if (place == "RING" && !is_number(value, "0", "4294967295"))
         return "`" value "` is no number from 0 to 4294967295, for RING"
     return ""
+}
+
+# A text as a terminal may show it: `?` for each control character, those of two bytes too. awk is called with LC_ALL=C.
+function plain(text) {
+    gsub(/[\001-\037\177]/, "?", text)
+    gsub(/\302[\200-\237]/, "?", text)
+    return text
 }
 
 # Keeps the first thing that is wrong.
@@ -113,6 +121,10 @@ BEGIN {
     last = ARGC - 1
     ARGC = 3
     command = ARGV[3]
+    if (ENVIRON["WHAT"] == "plain") {
+        print plain(command)
+        exit
+    }
     kinds["own"]
 }
 
@@ -135,23 +147,23 @@ $1 == "command" {
 }
 
 # the options of the command, of which another command may have one by the same name for something else
-$1 == "option" && " " $3 " " ~ " " command " " {
+$1 == "option" && index(" " $3 " ", " " command " ") {
     split($2, part, " ")
     value_of[part[1]] = part[2]
     values_of[part[1]] = $4
 }
 
 END {
-    if (last < 3)
+    if (last < 3 || ENVIRON["WHAT"] == "plain")
         exit
     if (!is_known) {
         if (ENVIRON["WHAT"] == "wrong")
-            print "`" command "` is no command"
+            print plain("`" command "` is no command")
         exit
     }
     take_words()
     if (ENVIRON["WHAT"] == "files")
         print_files()
     else if (wrong != "")
-        print wrong
+        print plain(wrong)
 }

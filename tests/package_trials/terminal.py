@@ -48,6 +48,8 @@ WRONG = ((("run",), "FILE is missing"), (("run", "a", "b", "c"), "`c` is one wor
          (("callers", "a", "--slots", "2", "--sender", "64"), "`64` is no number from 0 to 63, for --sender"),
          (("callers", "a", "--kind", "own"), "`own` is none of lamport, cached and fastforward, for --kind"),
          (("callers", "a", "--slots", "2", "--seed", "1", "--runs", "1"), "--length is missing"),
+         (("r[un'", "x"), "`r[un'` is no command"), (("try", "a", "--[seed", "1"), "`--[seed` is no option of try"),
+         (("run", "a", "b", "c\x1b[31m\x07\x9b"), "`c?[31m??` is one word too many"), (("\x1b[2Jrun",), "`?[2Jrun` is no command"),
          (("chart", "a", "b", "--svg", "--svg"), "--svg is given twice"), (("chart", "a", "b", "--svg=1"), "--svg takes no value"))
 DRAWN = ("--seed", "1", "--runs", "10", "--length", "20")
 
@@ -174,6 +176,8 @@ def after_faults(count, place, folder):
     """The first line of the fault's section, and how to read the rest."""
     _, _, shown = at_terminal([place.wrapper, "find", "none"], folder)
     count.same(f"{place.name}, a file that find can't read", shown, "ztso: read failed\n  none isn't there\n")
+    _, _, shown = at_terminal([place.wrapper, "find", "a\x1b[31m\x07\x9bé"], folder)
+    count.same(f"{place.name}, a name with what a terminal obeys", shown, "ztso: read failed\n  a?[31m??é isn't there\n")
     trials = (
         (("asm",), "mov x1,x2\n", 2, UNKNOWN, "2"),
         (("run", "bad.litmus", "none"), "", 2, NO_HEADER, "21"),
