@@ -52,11 +52,11 @@ class Instruction:
         return [self.target()] if self.name in JUMPS else []
 
     def registers_read(self):
-        found = re.findall(r"x[0-9]+", self.operands)
+        found = re.findall(r"\bx[0-9]+", self.operands)
         return found if self.name in (*assembly.STORES, *assembly.BRANCHES) else found[1:]
 
     def registers_written(self):
-        found = re.findall(r"x[0-9]+", self.operands)
+        found = re.findall(r"\bx[0-9]+", self.operands)
         return [] if self.name in (*assembly.STORES, *assembly.BRANCHES) else found[:1]
 
 
