@@ -300,8 +300,8 @@ module _ (B : ℕ) (r : RingBuffer) (is : IsRingBuffer r) (F : List ℕ) (small 
   acts (store w) does role whose keeps allowed ahead = stores-word w does role whose keeps ahead
   acts (exchange a old new) does role whose keeps allowed ahead =
       others role (exchange a old new) refl refl (rests (exchange-stays r is o es e even a old new does (off_shared r (write a 4 new) (off role keeps)))
-      (leaves (exchange a old new) does (λ d x copy from below. off_leaves r (write a 4 new) x (off role keeps)
-      (omega (arith, from, (is.copy d copy).above)) (omega (arith, below, (is.copy d copy).below)))))
+      (leaves (exchange a old new) does (λ d x copy from below. inr (off_leaves r (write a 4 new) x (off role keeps)
+      (omega (arith, from, (is.copy d copy).above)) (omega (arith, below, (is.copy d copy).below))))))
     where
       off : (role : Role) → KeepsProtocolBy k r role s (exchange a old new) → overlaps r (write a 4 new) ≡ false
       off sends keeps = keeps

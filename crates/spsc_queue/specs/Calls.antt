@@ -17,6 +17,7 @@ use Rattle.rv_decode.specs.Listings.{Listed, words_of}
 use Rattle.spsc_queue.specs.Listings.{try_send, try_receive}
 use Rattle.spsc_queue.specs.Cached.{cached_send}
 use Rattle.spsc_queue.specs.FastForward.{fastforward_send, fastforward_receive}
+pub use Rattle.queue_parties.specs.Parties.{Party, the_sender, the_receiver}
 
 -- a block of memory: which kind of queue it is, and whether Lamport's sender keeps a copy of the tail; its base, how many slots it has,
 -- and at which slot its indices stand. The sender's index lies at its base, the copy 4 bytes on, the receiver's index 64 bytes on, the
@@ -70,11 +71,6 @@ buffer q = ring_at q.block q.sender q.receiver
 -- this block after n words went through it
 abbrev pub moved_on : Block → (n : ℕ) → Block
 moved_on k n = record k { start = k.start + n }
-
--- the two parties of a queue
-pub data Party : Type 0 where
-  the_sender : Party
-  the_receiver : Party
 
 -- a party's hart
 abbrev pub party_hart : SpscQueue → Party → ℕ

@@ -5,10 +5,7 @@ use Rattle.step_machine.specs.History.{OpeningValue, history_of}
 use Rattle.step_machine.specs.Legal.{Legal}
 use Rattle.spsc_queue.specs.RingBuffers.{Kind, lamport, fastforward, RingBuffer, IsRingBuffer, IsEmptyAndQuiescent}
 use Rattle.spsc_queue.specs.Protocol.{ProtocolState, at_start, ReceiverState, waiting, holding, SenderState, roomy, KeepsProtocol}
-
--- xs is a beginning of ys
-abbrev pub IsPrefix : List ℕ → List ℕ → Type 0
-IsPrefix xs ys = (rest : List ℕ) × (ys ≡ xs ++ rest)
+pub use Rattle.queue_parties.specs.Positions.{IsPrefix}
 
 -- the entries of a run from where the queue was empty and at rest: they are legal after those before, and keep the protocol
 pub record FollowsSpscProtocol (B : ℕ) (r : RingBuffer) (o : OpeningValue) (before es : List Entry) : Type 0 where

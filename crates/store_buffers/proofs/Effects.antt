@@ -1,24 +1,70 @@
 -- What an entry does to the bytes of memory and to what is pending of a hart.
-use Rattle.std.proofs.Common.{ℕ, ◌+◌, ◌≤◌, ◌≡◌, List, [], ◌∷◌, ◌++◌, length, drop, ◌∙◌, ap, append-nil}
+use Rattle.std.proofs.Common.{ℕ, ◌+◌, ◌-◌, ◌/◌, ◌%◌, ◌<◌, ◌≤◌, ◌≡◌, Bool, true, false, if◌then◌else◌, Option, Some}
+use Rattle.std.proofs.Common.{None, List, [], ◌∷◌, ◌++◌, length, take, drop}
+use Rattle.std.proofs.Common.{refl, ◌∙◌, ap, subst, arith, append-nil}
+use Rattle.std.specs.Prelude.{unwrap_or, slice_index}
+use Rattle.std.specs.Int.{byte_at}
 use Rattle.memory.specs.declared.writes.Write.{Write}
-use Rattle.memory.specs.Writes.{byte_after, joined}
-use Rattle.memory.proofs.Bytes.{joined-same}
+use Rattle.memory.specs.Writes.{write, covers, byte_after, newest_of, joined}
+use Rattle.memory.proofs.Bytes.{joined-same, byte_below, byte_of_joined, covers-from}
 use Rattle.step_machine.specs.declared.events.Entry.{Entry}
 use Rattle.step_machine.specs.History.{OpeningValue}
-use Rattle.step_machine.specs.Entries.{own_store, land_of, write_of, pending, memory_byte, own_stores, lands}
+use Rattle.step_machine.specs.Access.{exchange, access_of}
+use Rattle.step_machine.specs.Entries.{hart_of, written_by, own_store, land_of, write_of, pending, landed, opening_byte, memory_byte, own_stores, lands, read}
+use Rattle.step_machine.specs.Legal.{AllowedBy, Allowed}
 use Rattle.step_machine.proofs.Appended.{pending-last}
 use Rattle.step_machine.proofs.Stays.{memory_byte-other, memory_byte-write}
+use Rattle.store_buffers.specs.StoreBuffers.{memory_number}
 
 -- the number of a few bytes of memory, where nothing is written, and after a write
 module _ (o : OpeningValue) (es : List Entry) (e : Entry) (a width : ℕ) where
-  pub number-quiet : write_of es e ≡ [] → joined (λ i. memory_byte o (es ++ e ∷ []) (a + i)) width ≡ joined (λ i. memory_byte o es (a + i)) width
+  pub number-quiet : write_of es e ≡ [] → memory_number o (es ++ e ∷ []) a width ≡ memory_number o es a width
   number-quiet none = joined-same (λ i. memory_byte o (es ++ e ∷ []) (a + i)) (λ i. memory_byte o es (a + i)) width
       (λ i lt. memory_byte-other o es e (a + i) none)
 
   pub number-after : (w : Write) → write_of es e ≡ w ∷ []
-      → joined (λ i. memory_byte o (es ++ e ∷ []) (a + i)) width ≡ joined (λ i. byte_after w (a + i) (memory_byte o es (a + i))) width
+      → memory_number o (es ++ e ∷ []) a width ≡ joined (λ i. byte_after w (a + i) (memory_byte o es (a + i))) width
   number-after w is = joined-same (λ i. memory_byte o (es ++ e ∷ []) (a + i)) (λ i. byte_after w (a + i) (memory_byte o es (a + i))) width
       (λ i lt. memory_byte-write o es e w (a + i) is)
+
+-- each byte of memory is one
+newest-below : (x d : ℕ) (found : Option ℕ) (ws : List Write) → unwrap_or found d < 256 → unwrap_or (newest_of x found ws) d < 256
+newest-below x d found [] low = low
+newest-below x d found (w ∷ ws) low = at (covers w x) (λ f less. newest-below x d f ws less)
+  where
+    at : (c : Bool) → ((f : Option ℕ) → unwrap_or f d < 256 → unwrap_or (newest_of x f ws) d < 256)
+        → unwrap_or (newest_of x (if c then Some (byte_at (x - w.addr) w.value) else found) ws) d < 256
+    at true more = more (Some (byte_at (x - w.addr) w.value)) (byte_below (x - w.addr) w.value)
+    at false more = more found low
+
+memory-below : (o : OpeningValue) (es : List Entry) (x : ℕ) → memory_byte o es x < 256
+memory-below o es x = newest-below x (opening_byte o x) None (landed es) (byte_below (x % 4) (slice_index o.words (x / 4)))
+
+-- an AMO reads memory's word
+pub amo-read : (B : ℕ) (o : OpeningValue) (es : List Entry) (e : Entry) (a old new : ℕ) → access_of e ≡ exchange a old new → Allowed B o es e
+    → old ≡ memory_number o es a 4
+amo-read B o es e a old new does allowed =
+    let may : AllowedBy B (pending (hart_of e) es) (read o es (hart_of e)) (exchange a old new) =
+    subst (AllowedBy B (pending (hart_of e) es) (read o es (hart_of e))) does allowed in
+    may.1 ∙ ap (λ ws. joined (λ i. unwrap_or (newest_of (a + i) None ws) (memory_byte o es (a + i))) 4) may.0
+
+-- and one that writes the word that it read leaves memory as it was
+pub same-memory : (B : ℕ) (o : OpeningValue) (es : List Entry) (e : Entry) (a old new : ℕ) → access_of e ≡ exchange a old new → new ≡ old → Allowed B o es e
+    → (x : ℕ) → memory_byte o (es ++ e ∷ []) x ≡ memory_byte o es x
+same-memory B o es e a old new does same allowed x =
+    memory_byte-write o es e w x (ap (written_by (take 1 (pending (hart_of e) es))) does) ∙ at (covers w x) refl
+  where
+    w : Write
+    w = write a 4 new
+
+    at : (c : Bool) → covers w x ≡ c → (if c then byte_at (x - a) new else memory_byte o es x) ≡ memory_byte o es x
+    at false off = refl
+    at true on =
+        let from = covers-from w x on in
+        let place : a + (x - a) ≡ x = omega (arith, from.0) in
+        ap (byte_at (x - a)) (same ∙ amo-read B o es e a old new does allowed)
+        ∙ byte_of_joined (λ i. memory_byte o es (a + i)) (λ i. memory-below o es (a + i)) (x - a) (omega (arith, from.0, from.1))
+        ∙ ap (memory_byte o es) place
 
 -- what is pending, after an entry that does nothing to it, a store and a landing
 module _ (es : List Entry) (e : Entry) (h : ℕ) (le : lands h es ≤ length (own_stores h es)) where

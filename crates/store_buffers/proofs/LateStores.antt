@@ -10,7 +10,7 @@ use Rattle.step_machine.specs.declared.events.Entry.{Entry}
 use Rattle.step_machine.specs.Access.{Access, nothing, load, store, exchange, fence, land, access_of}
 use Rattle.step_machine.specs.Entries.{hart_of, stored_by, own_store, own_stores}
 use Rattle.step_machine.proofs.Appended.{stores-append}
-use Rattle.store_buffers.specs.StoreBuffers.{LeavesByteBy, AllLeaveByte}
+use Rattle.store_buffers.specs.StoreBuffers.{LeavesByteBy, LeavesByteAt, AllLeaveByte}
 
 stores-cases : (g : ℕ) (e : Entry) → (own_store g e ≡ []) ⊎ ((w : Write) × (own_store g e ≡ w ∷ []) × (hart_of e ≡ g) × (access_of e ≡ store w))
 stores-cases g e = by (access_of e) refl
@@ -71,3 +71,22 @@ pub all-by-parts : (x : ℕ) (es : List Entry)
     → AllLeaveByte x es
 all-by-parts x [] parts = tt
 all-by-parts x (e ∷ es) parts = (parts [] e es refl, all-by-parts x es (λ es1 e1 es2 is. parts (e ∷ es1) e1 es2 (ap (λ xs. e ∷ xs) is)))
+
+-- and so of one hart's
+pub at-by-parts : (h x : ℕ) (es : List Entry)
+    → ((es1 : List Entry) (e : Entry) (es2 : List Entry) → es ≡ es1 ++ e ∷ es2 → hart_of e ≡ h → LeavesByteBy x (access_of e)) → LeavesByteAt h x es
+at-by-parts h x [] parts = tt
+at-by-parts h x (e ∷ es) parts = (parts [] e es refl, at-by-parts h x es (λ es1 e1 es2 is. parts (e ∷ es1) e1 es2 (ap (λ xs. e ∷ xs) is)))
+
+pub leaves-at : (h x : ℕ) (es1 : List Entry) (e : Entry) (es2 : List Entry) → LeavesByteAt h x (es1 ++ e ∷ es2) → hart_of e ≡ h → LeavesByteBy x (access_of e)
+leaves-at h x [] e es2 all own = all.0 own
+leaves-at h x (d ∷ es1) e es2 all own = leaves-at h x es1 e es2 all.1 own
+
+pub leaves-part : (h x : ℕ) (es fs gs : List Entry) → LeavesByteAt h x (es ++ (fs ++ gs)) → LeavesByteAt h x fs
+leaves-part h x [] [] gs all = tt
+leaves-part h x [] (e ∷ fs) gs all = (all.0, leaves-part h x [] fs gs all.1)
+leaves-part h x (e ∷ es) fs gs all = leaves-part h x es fs gs all.1
+
+pub at-end : (h x : ℕ) (es : List Entry) (e : Entry) → LeavesByteAt h x es → (hart_of e ≡ h → LeavesByteBy x (access_of e)) → LeavesByteAt h x (es ++ e ∷ [])
+at-end h x [] e all last = (last, tt)
+at-end h x (d ∷ es) e all last = (all.0, at-end h x es e all.1 last)

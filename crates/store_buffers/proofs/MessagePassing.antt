@@ -18,6 +18,7 @@ use Rattle.step_machine.proofs.Appended.{stores-append, landed-last, pending-las
 use Rattle.step_machine.proofs.Balanced.{balanced-last, balanced}
 use Rattle.store_buffers.specs.StoreBuffers.{LeavesByte, LeavesByteBy, AllLeaveByte, IsOnlyWriter}
 use Rattle.store_buffers.proofs.Reading.{passed_over, newest-found}
+use Rattle.store_buffers.proofs.Effects.{pending-quiet, same-memory}
 
 view : (o : OpeningValue) (es : List Entry) (a x : ℕ)
     → read_byte o es a x ≡ unwrap_or (newest_of x (newest_of x None (landed es)) (pending a es)) (opening_byte o x)
@@ -29,7 +30,13 @@ one x f w off = passed_over x f (w ∷ []) (All-cons (LeavesByte x) w [] off (Al
 over_end : (x : ℕ) (f : Option ℕ) (ws : List Write) (w : Write) → covers w x ≡ false → newest_of x f (ws ++ w ∷ []) ≡ newest_of x f ws
 over_end x f ws w off = newest_of-append x f ws (w ∷ []) ∙ one x (newest_of x f ws) w off
 
-core : (x : ℕ) (f : Option ℕ) (mine theirs : List Write) (b : Bool) (y : Access) → LeavesByteBy x y → (b ≡ true → theirs ≡ mine)
+-- an access that covers the byte by nothing that it writes
+abbrev WritesPast : ℕ → Access → Type 0
+WritesPast x (store w) = LeavesByte x w
+WritesPast x (exchange a old new) = LeavesByte x (write a 4 new)
+WritesPast x other = Unit {0}
+
+core : (x : ℕ) (f : Option ℕ) (mine theirs : List Write) (b : Bool) (y : Access) → WritesPast x y → (b ≡ true → theirs ≡ mine)
     → (b ≡ false → All (LeavesByte x) theirs) → (y ≡ land → 0 < length theirs)
     → newest_of x (newest_of x f (written_by (take 1 theirs) y)) (drop (landed_by b y) (mine ++ stored_by b y)) ≡ newest_of x f mine
 core x f mine theirs b nothing leaves same other some = ap (newest_of x f) (append-nil mine)
@@ -46,28 +53,42 @@ core x f [] theirs true land leaves same other some = absurd (let none : length 
 core x f (w ∷ ws) theirs true land leaves same other some =
     ap (λ ts. newest_of x (newest_of x f (take 1 ts)) (ws ++ [])) (same refl) ∙ ap (newest_of x (newest_of x f (w ∷ []))) (append-nil ws)
 
-step : (B : ℕ) (o : OpeningValue) (a x : ℕ) (es : List Entry) (e : Entry) → lands a es ≤ length (own_stores a es) → Allowed B o es e → IsOnlyWriter a x es
-    → LeavesByteBy x (access_of e) → read_byte o (es ++ e ∷ []) a x ≡ read_byte o es a x
-step B o a x es e le allowed alone leaves =
-    view o (es ++ e ∷ []) a x ∙ ap (λ g. unwrap_or g (opening_byte o x)) same ∙ sym (view o es a x)
-  where
-    f : Option ℕ
-    f = newest_of x None (landed es)
+module _ (B : ℕ) (o : OpeningValue) (a x : ℕ) (es : List Entry) (e : Entry) (le : lands a es ≤ length (own_stores a es)) (allowed : Allowed B o es e)
+    (alone : IsOnlyWriter a x es) where
+  mine : (hart_of e == a) ≡ true → pending (hart_of e) es ≡ pending a es
+  mine is = ap (λ h. pending h es) (eqb-true (hart_of e) a is)
 
-    mine : (hart_of e == a) ≡ true → pending (hart_of e) es ≡ pending a es
-    mine is = ap (λ h. pending h es) (eqb-true (hart_of e) a is)
+  theirs : (hart_of e == a) ≡ false → All (LeavesByte x) (pending (hart_of e) es)
+  theirs is = alone (hart_of e) (λ e1. grind (arith, is, e1, eq-eqb))
 
-    theirs : (hart_of e == a) ≡ false → All (LeavesByte x) (pending (hart_of e) es)
-    theirs is = alone (hart_of e) (λ e1. grind (arith, is, e1, eq-eqb))
+  some : access_of e ≡ land → 0 < length (pending (hart_of e) es)
+  some is = subst (λ y. AllowedBy B (pending (hart_of e) es) (Rattle.step_machine.specs.Entries.read o es (hart_of e)) y) is allowed
 
-    some : access_of e ≡ land → 0 < length (pending (hart_of e) es)
-    some is = subst (λ y. AllowedBy B (pending (hart_of e) es) (Rattle.step_machine.specs.Entries.read o es (hart_of e)) y) is allowed
+  past : WritesPast x (access_of e) → read_byte o (es ++ e ∷ []) a x ≡ read_byte o es a x
+  past leaves = view o (es ++ e ∷ []) a x ∙ ap (λ g. unwrap_or g (opening_byte o x))
+      (ap (λ ws. newest_of x (newest_of x None ws) (pending a (es ++ e ∷ []))) (landed-last es e)
+      ∙ ap (λ g. newest_of x g (pending a (es ++ e ∷ []))) (newest_of-append x None (landed es) (write_of es e))
+      ∙ ap (newest_of x (newest_of x (newest_of x None (landed es)) (write_of es e))) (pending-last a es e le)
+      ∙ core x (newest_of x None (landed es)) (pending a es) (pending (hart_of e) es) (hart_of e == a) (access_of e)
+      leaves mine theirs some) ∙ sym (view o es a x)
 
-    same : newest_of x (newest_of x None (landed (es ++ e ∷ []))) (pending a (es ++ e ∷ [])) ≡ newest_of x (newest_of x None (landed es)) (pending a es)
-    same = ap (λ ws. newest_of x (newest_of x None ws) (pending a (es ++ e ∷ []))) (landed-last es e)
-        ∙ ap (λ g. newest_of x g (pending a (es ++ e ∷ []))) (newest_of-append x None (landed es) (write_of es e))
-        ∙ ap (newest_of x (newest_of x (newest_of x None (landed es)) (write_of es e))) (pending-last a es e le)
-        ∙ core x (newest_of x None (landed es)) (pending a es) (pending (hart_of e) es) (hart_of e == a) (access_of e) leaves mine theirs some
+  step : LeavesByteBy x (access_of e) → read_byte o (es ++ e ∷ []) a x ≡ read_byte o es a x
+  step leaves = at (access_of e) refl leaves
+    where
+      past-by : (y : Access) → access_of e ≡ y → WritesPast x y → read_byte o (es ++ e ∷ []) a x ≡ read_byte o es a x
+      past-by y does leaves = past (subst (WritesPast x) (sym does) leaves)
+
+      at : (y : Access) → access_of e ≡ y → LeavesByteBy x y → read_byte o (es ++ e ∷ []) a x ≡ read_byte o es a x
+      at nothing does leaves = past-by nothing does tt
+      at (load b width v) does leaves = past-by (load b width v) does tt
+      at (store w) does leaves = past-by (store w) does leaves
+      at (exchange b old new) does (inr leaves) = past-by (exchange b old new) does leaves
+      at (exchange b old new) does (inl same) =
+          ap (λ ws. unwrap_or (newest_of x None ws) (memory_byte o (es ++ e ∷ []) x))
+          (pending-quiet es e a le (ap (stored_by (hart_of e == a)) does) (ap (landed_by (hart_of e == a)) does))
+          ∙ ap (unwrap_or (newest_of x None (pending a es))) (same-memory B o es e b old new does same allowed x)
+      at (fence full) does leaves = past-by (fence full) does tt
+      at land does leaves = past-by land does tt
 
 stored-off : (x : ℕ) (b : Bool) (y : Access) → LeavesByteBy x y → All (LeavesByte x) (stored_by b y)
 stored-off x true (store w) leaves = All-cons (LeavesByte x) w [] leaves (All-nil (LeavesByte x))

@@ -1,0 +1,3 @@
+pub mod Parties
+pub mod Positions
+pub mod Records

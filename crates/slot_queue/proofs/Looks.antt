@@ -1,0 +1,137 @@
+-- What a load of the other's index says, and which counts an access leaves.
+use Rattle.std.proofs.Common.{ℕ, ◌+◌, ◌<◌, ◌≤◌, ◌≡◌, ◌≢◌, ◌==◌, ◌&&◌, ◌⊎◌, inl, inr, Bool, true, false, if◌then◌else◌}
+use Rattle.std.proofs.Common.{List, Some, None, refl, sym, ◌∙◌, ap, subst, arith}
+use Rattle.std.specs.Prelude.{unwrap_or}
+use Rattle.std.proofs.lemmas.Bool.{cases_eq, eqb-true, eq-eqb, ne_eqb}
+use Rattle.memory.proofs.Bytes.{joined-same}
+use Rattle.step_machine.specs.declared.events.Entry.{Entry}
+use Rattle.step_machine.specs.History.{OpeningValue}
+use Rattle.step_machine.specs.Entries.{pending, memory_byte, read_byte, read}
+use Rattle.store_buffers.proofs.Reading.{passed_over}
+use Rattle.queue_parties.specs.Parties.{Party, the_sender, the_receiver, other, QueueCounts, count, with_count, known, with_known}
+use Rattle.queue_parties.proofs.Parties.{both-equal, harts-apart, two, twice, count-set-known, known-set, known-set-other}
+use Rattle.slot_queue.specs.Queues.{Queue, index_word, least, IsQueue}
+use Rattle.slot_queue.specs.Ownership.{hart, index, end, after_load}
+use Rattle.slot_queue.specs.Laws.{moved_on}
+use Rattle.slot_queue.proofs.Codes.{least-near, least-low}
+use Rattle.slot_queue.proofs.Sides.{Side, moved_on-more}
+
+-- ---- what a new count leaves
+
+pub end-set-count : (q : Queue) (r p : Party) (n : ℕ) (c : QueueCounts) → end q p (with_count r n c) ≡ end q p c
+end-set-count q the_sender the_sender n c = refl
+end-set-count q the_sender the_receiver n c = refl
+end-set-count q the_receiver the_sender n c = refl
+end-set-count q the_receiver the_receiver n c = refl
+
+-- how far past what it knows a party owns
+abbrev pub allowance : Queue → Party → ℕ
+allowance q the_sender = q.capacity
+allowance q the_receiver = 0
+
+pub end-is : (q : Queue) (r : Party) (c : QueueCounts) → end q r c ≡ known r c + allowance q r
+end-is q the_sender c = refl
+end-is q the_receiver c = omega arith
+
+pub allowances : (q : Queue) (r : Party) → allowance q r + allowance q (other r) ≡ q.capacity
+allowances q the_sender = omega arith
+allowances q the_receiver = omega arith
+
+-- ---- a party reads the other's index as memory has it
+
+pub reads-other : (q : Queue) (o : OpeningValue) (es : List Entry) (c : QueueCounts) (p : Party) (m : ℕ) → Side q o es c p m → (h : ℕ) → h ≢ hart q p
+    → read o es h (index q p) q.index_width ≡ index_word q m
+reads-other q o es c p m side h apart = joined-same (λ i. read_byte o es h (index q p + i)) (λ i. memory_byte o es (index q p + i)) q.index_width
+    (λ i lt. ap (λ f. unwrap_or f (memory_byte o es (index q p + i))) (passed_over (index q p + i) None (pending h es)
+    (λ k d less. side.others h apart k d less (index q p + i) (omega arith, omega (arith, lt))))) ∙ side.word
+
+-- the window, from both parties' indices
+pub record Bounds (q : Queue) (c : QueueCounts) (p : Party) (m : ℕ) : Type 0 where
+  pub known_there : known (other p) c ≤ m
+  pub there : m ≤ count p c
+  pub count_end : count p c ≤ known p c + allowance q p
+
+pub bounds : (q : Queue) (o : OpeningValue) (es : List Entry) (c : QueueCounts) (p : Party) (m : ℕ) → Side q o es c p m → Bounds q c p m
+bounds q o es c p m side = record {
+  known_there = side.known_less;
+  there = (let more : m ≤ moved_on q p m (pending (hart q p) es) = moved_on-more q p m (pending (hart q p) es) in omega (arith, more, side.count_is));
+  count_end = (let at : end q p c ≡ known p c + allowance q p = end-is q p c in omega (arith, at, side.room));
+}
+
+module _ (q : Queue) (is : IsQueue q) (o : OpeningValue) (es : List Entry) (c : QueueCounts) (m : Party → ℕ)
+    (sides : (p : Party) → Side q o es c p (m p)) (r : Party) where
+  -- the count in memory of the other's index, of which the party knows no more
+  pub known-low : known r c ≤ m (other r)
+  known-low = subst (λ t. known t c ≤ m (other r)) (twice r) (sides (other r)).known_less
+
+  -- and where the index tells all from none, no less
+  pub found : q.capacity < q.modulus → least q (known r c) (index_word q (m (other r))) ≡ m (other r)
+  found tells =
+      let mine : Bounds q c r (m r) = bounds q o es c r (m r) (sides r) in
+      let theirs : Bounds q c (other r) (m (other r)) = bounds q o es c (other r) (m (other r)) (sides (other r)) in
+      let all : allowance q r + allowance q (other r) ≡ q.capacity = allowances q r in
+      least-near q is (known r c) (m (other r)) known-low
+      (omega (arith, known-low, all, mine.known_there, mine.there, mine.count_end, theirs.there, theirs.count_end, tells))
+
+  module _ (a width v : ℕ) (is_read : v ≡ read o es (hart q r) a width) where
+    abbrev c2 : QueueCounts
+    c2 = after_load q r a width v c
+
+    -- either nothing is known that wasn't, or more, and no more than what the index stands for in memory
+    pub looked : (c2 ≡ c) ⊎ ((k : ℕ) × (c2 ≡ with_known r k c) × (known r c ≤ k) × (k ≤ m (other r)))
+    looked = by (a == index q (other r) && width == q.index_width) refl
+      where
+        by : (b : Bool) → (a == index q (other r) && width == q.index_width) ≡ b
+            → ((if b then with_known r (least q (known r c) v) c else c) ≡ c)
+            ⊎ ((k : ℕ) × ((if b then with_known r (least q (known r c) v) c else c) ≡ with_known r k c) × (known r c ≤ k) × (k ≤ m (other r)))
+        by false off = inl refl
+        by true on =
+            let parts = both-equal a (index q (other r)) width q.index_width on in
+            let place : a ≡ index q (other r) = parts.0 in
+            let whole : width ≡ q.index_width = parts.1 in
+            let word : v ≡ index_word q (m (other r)) = is_read ∙ ap (λ x. read o es (hart q r) x width) place
+            ∙ ap (read o es (hart q r) (index q (other r))) whole
+            ∙ reads-other q o es c (other r) (m (other r)) (sides (other r)) (hart q r) (harts-apart q.sender q.receiver is.parties r) in
+            inr (
+              least q (known r c) v,
+              refl,
+              omega arith,
+              subst (λ x. least q (known r c) x ≤ m (other r)) (sym word) (least-low q is (known r c) (m (other r)) known-low),
+            )
+
+    -- so what holds of both indices holds still
+    knows-more : (k : ℕ) → known r c ≤ k → k ≤ m (other r) → (p : Party) → Side q o es (with_known r k c) p (m p)
+    knows-more k from upto p = record {
+      word = (sides p).word;
+      count_is = (sides p).count_is ∙ sym (count-set-known r p k c);
+      known_less = less (two r p);
+      own = (sides p).own;
+      others = (sides p).others;
+      room = (let same : count p (with_known r k c) ≡ count p c = count-set-known r p k c in
+          let more : end q p c ≤ end q p (with_known r k c) = further (two r p) in
+          omega (arith, same, more, (sides p).room));
+    }
+      where
+        less : (p ≡ r) ⊎ (p ≡ other r) → known (other p) (with_known r k c) ≤ m p
+        less (inl same) = subst (λ t. known (other t) (with_known r k c) ≤ m t) (sym same)
+            (let at : known (other r) (with_known r k c) ≡ known (other r) c = known-set-other r k c in omega (arith, at, (sides r).known_less))
+        less (inr same) = subst (λ t. known (other t) (with_known r k c) ≤ m t) (sym same)
+            (subst (λ t. known t (with_known r k c) ≤ m (other r)) (sym (twice r))
+            (let at : known r (with_known r k c) ≡ k = known-set r k c in omega (arith, at, upto)))
+
+        further : (p ≡ r) ⊎ (p ≡ other r) → end q p c ≤ end q p (with_known r k c)
+        further (inl same) = subst (λ t. end q t c ≤ end q t (with_known r k c)) (sym same)
+            (let one : end q r c ≡ known r c + allowance q r = end-is q r c in
+            let new : end q r (with_known r k c) ≡ known r (with_known r k c) + allowance q r = end-is q r (with_known r k c) in
+            let at : known r (with_known r k c) ≡ k = known-set r k c in omega (arith, one, new, at, from))
+        further (inr same) = subst (λ t. end q t c ≤ end q t (with_known r k c)) (sym same)
+            (let one : end q (other r) c ≡ known (other r) c + allowance q (other r) = end-is q (other r) c in
+            let new : end q (other r) (with_known r k c) ≡ known (other r) (with_known r k c) + allowance q (other r) =
+            end-is q (other r) (with_known r k c) in
+            let at : known (other r) (with_known r k c) ≡ known (other r) c = known-set-other r k c in omega (arith, one, new, at))
+
+    pub sides-looked : (p : Party) → Side q o es c2 p (m p)
+    sides-looked p = elim looked [
+      | inl same ↦ subst (λ d. Side q o es d p (m p)) (sym same) (sides p)
+      | inr more ↦ subst (λ d. Side q o es d p (m p)) (sym more.1) (knows-more more.0 more.2 more.3 p)
+    ]
