@@ -1,177 +1,136 @@
--- The example's runs use their queues, and deliver their word.
-use Rattle.std.proofs.Common.{ℕ, zero, suc, ◌+◌, ◌*◌, ◌%◌, ◌^◌, ◌<◌, ◌≡◌, ◌&&◌, Bool, true, false, nat_lt, List, [], ◌∷◌, ◌++◌, length, Some, refl, sym, ap}
-use Rattle.std.proofs.Common.{subst, arith, append-nil, append_assoc}
-use Rattle.std.specs.Prelude.{All}
+-- The example's runs use their queues, and end as said.
+use Rattle.std.proofs.Common.{ℕ, zero, suc, ◌+◌, ◌*◌, ◌%◌, ◌<◌, ◌≤◌, ◌≡◌, ◌≢◌, ◌==◌, ◌&&◌, ◌||◌, Bool, true, false, nat_lt, List, [], ◌∷◌, ◌++◌}
+use Rattle.std.proofs.Common.{length, Option, Some, None, refl, sym, ◌∙◌, ap, subst, arith, append-nil, append_assoc, drop}
+use Rattle.std.specs.Prelude.{slice_index, All}
+use Rattle.std.specs.List.{slice_get}
+use Rattle.std.proofs.lemmas.Bool.{eqb-true}
 use Rattle.std.proofs.lemmas.Bool.Decides.{nat_tests}
-use Rattle.std.proofs.lemmas.List.Elements.{All-nil, All-cons}
+use Rattle.std.proofs.lemmas.List.Elements.{All-head, All-tail}
 use Rattle.rv_decode.specs.Meaning.{meaning}
+use Rattle.rv_decode.specs.Listings.{words_of}
+use Rattle.memory.specs.declared.writes.Write.{Write}
 use Rattle.hart.specs.State.{HartState}
 use Rattle.hart.specs.Steps.{need_of, advanced}
+use Rattle.hart.specs.declared.status.Status.{Status}
 use Rattle.hart.specs.declared.status.Status.TheVariants as status
+use Rattle.hart.specs.declared.need.Need.{Need}
+use Rattle.hart.specs.declared.need.Need.TheVariants as need
 use Rattle.step_machine.specs.declared.events.Entry.{Entry}
-use Rattle.step_machine.specs.History.{history_of}
-use Rattle.step_machine.specs.Entries.{hart_of, own, memory_word}
-use Rattle.step_machine.specs.Paths.{number_read, entry_of, CanMake, MakesEntries, opens_as, Path, state_of}
-use Rattle.step_machine.specs.Legal.{Legal, IsOfHarts, WellFormed}
-use Rattle.spsc_queue.specs.RingBuffers.{Kind, lamport, fastforward}
-use Rattle.rv_decode.specs.Listings.{words_of}
-use Rattle.spsc_queue.specs.Calls.{Party, the_sender, the_receiver, party_hart, copy_in, listing_of, enters, is_in_call, is_sender_in_call, is_receiver_in_call}
-use Rattle.spsc_queue.specs.Calls.{sent_words, received_words, HasFunction, UsesAsSpscQueue}
-use Rattle.spsc_queue.specs.CallEffects.{IsSend, IsReceive}
+use Rattle.step_machine.specs.declared.events.Entry.TheVariants as entry
+use Rattle.step_machine.specs.declared.events.Event.{Event}
+use Rattle.step_machine.specs.declared.events.Event.TheVariants as event
+use Rattle.step_machine.specs.declared.events.Outcome.TheVariants as outcome
+use Rattle.step_machine.specs.History.{OpeningValue, history_of, with_entry}
+use Rattle.step_machine.specs.Entries.{hart_of, pending, own_stores, own_store, lands, memory_word}
+use Rattle.step_machine.specs.Paths.{entry_of, state_of}
+use Rattle.step_machine.specs.Legal.{Allowed, IsOfHarts, WellFormed}
+use Rattle.step_machine.proofs.Acts.{does, land_happens}
+use Rattle.step_machine.proofs.Running.{kept-happens, kept-at_opening}
+use Rattle.step_machine.proofs.Lists.{some_first}
+use Rattle.step_machine.proofs.OwnRuns.{kept-front}
+use Rattle.spsc_queue.specs.RingBuffers.{fastforward, writes_to, IsEmptyAndQuiescent}
+use Rattle.spsc_queue.specs.Calls.{Party, the_sender, the_receiver, party_hart, party_line, listing_of, buffer, enters, is_in_call, sent_words}
+use Rattle.spsc_queue.specs.Calls.{received_words, StandsIn, HasFunction, UsesAsSpscQueue}
+use Rattle.spsc_queue.specs.CallEffects.{IsWholeCall, accesses}
 use Rattle.spsc_queue.specs.Obligations.{obligations_kept}
-use Rattle.spsc_queue.specs.Example.{queue, sender_hart, receiver_hart, opening, entries, before_send, send, before_receive, receive, sender_after}
-use Rattle.spsc_queue.specs.Example.{receiver_after}
+use Rattle.spsc_queue.specs.Example.{value_at, entry_in, entry_by, entries_by, fast, kind_of, caches_of}
+use Rattle.spsc_queue.specs.Example.{Scenario, sends, receives, finds_full}
+use Rattle.spsc_queue.specs.Example.{finds_empty, goes_on, variant, start_of, sender_of, receiver_of, party, queue}
+use Rattle.spsc_queue.specs.Example.{hart_of_party, opening, first_events, lead_events, call_events, before_entries, lead_entries}
+use Rattle.spsc_queue.specs.Example.{call_entries, entries, state_after, answer, access_count, sent, received}
 use Rattle.spsc_queue.proofs.Registers.{thirteen}
 use Rattle.spsc_queue.proofs.Parts.{copied_in}
 use Rattle.spsc_queue.proofs.Words.{both}
 use Rattle.spsc_queue.proofs.Obligations.{obligations_decided}
 
-infixr 5 ◌&◌
-◌&◌ : {A B : Type 0} → A → B → A × B
-a & b = (a, b)
+-- ---- entries that events make are a run, where each event may come
 
-can : {s : HartState} {e : Entry} → s.status ≡ status.Running → e ≡ entry_of (hart_of e) (need_of s) (number_read e) → CanMake s e
-can running made = record { running = running; made = made }
+pub may_want : (B : ℕ) → List Write → Need → Bool
+may_want B ws need.Inner = true
+may_want B ws (need.Load a width) = true
+may_want B ws (need.Store a width w) = nat_lt (length ws) B
+may_want B ws other = false
 
-legal : (k : Kind) (c : Bool) → Legal 4 (history_of (opening k c) (entries k c))
-legal lamport false =
-    tt & refl & refl & tt & tt & tt & tt & omega arith & omega arith & tt & tt & omega arith & omega arith & tt & refl & refl & tt & tt & refl & tt
-    & tt & omega arith & tt & tt & omega arith & tt
-legal lamport true =
-    tt & refl & refl & tt & tt & tt & refl & tt & omega arith & tt & tt & omega arith & omega arith & tt & tt &
-    omega arith & omega arith & omega arith & tt & refl & refl & tt & tt & refl & tt
-    & tt & omega arith & tt & tt & omega arith & tt
-legal fastforward c =
-    tt & refl & tt & refl & tt & tt & tt & omega arith & omega arith & tt & tt & omega arith & omega arith & tt & refl & tt & refl & tt & tt & tt
-    & omega arith & omega arith & tt & tt & omega arith & tt
+pub is_running : Status → Bool
+is_running status.Running = true
+is_running other = false
 
-sender_path : (k : Kind) (c : Bool) → MakesEntries (opens_as 64 (sender_hart k c)) (own 0 (entries k c))
-unfolding need_of advanced meaning
-sender_path lamport false =
-    can refl refl & can refl refl & can refl refl & can refl refl & can refl refl & can refl refl & can refl refl & can refl refl & can refl refl
-    & can refl refl & can refl refl & tt
-sender_path lamport true =
-    can refl refl & can refl refl & can refl refl & can refl refl & can refl refl & can refl refl & can refl refl &
-    can refl refl & can refl refl & can refl refl & can refl refl & can refl refl & can refl refl
-    & can refl refl & can refl refl & tt
-sender_path fastforward c =
-    can refl refl & can refl refl & can refl refl & can refl refl & can refl refl & can refl refl & can refl refl & can refl refl & can refl refl
-    & can refl refl & can refl refl & tt
+pub may_act : (B : ℕ) → List Write → Option HartState → Bool
+may_act B ws None = false
+may_act B ws (Some s) = is_running s.status && may_want B ws (need_of s)
 
-receiver_path : (k : Kind) (c : Bool) → MakesEntries (opens_as 64 (receiver_hart k c)) (own 1 (entries k c))
-unfolding need_of advanced meaning
-receiver_path lamport false =
-    can refl refl & can refl refl & can refl refl & can refl refl & can refl refl & can refl refl & can refl refl & can refl refl & can refl refl
-    & can refl refl & can refl refl & tt
-receiver_path lamport true =
-    can refl refl & can refl refl & can refl refl & can refl refl & can refl refl & can refl refl & can refl refl & can refl refl & can refl refl
-    & can refl refl & can refl refl & tt
-receiver_path fastforward c =
-    can refl refl & can refl refl & can refl refl & can refl refl & can refl refl & can refl refl & can refl refl & can refl refl & can refl refl
-    & can refl refl & can refl refl & tt
+pub is_some : Option HartState → Bool
+is_some None = false
+is_some (Some s) = true
 
-paths : (k : Kind) (c : Bool) (h : ℕ) → h < 2 → Path 64 (history_of (opening k c) (entries k c)) h
-paths k c zero below = sender_path k c
-paths k c (suc zero) below = receiver_path k c
-paths k c (suc (suc h)) below = absurd (omega (arith, below))
+pub may_come : (B M : ℕ) → OpeningValue → List Entry → Event → Bool
+may_come B M o es (event.Act h) = may_act B (pending h es) (state_of M (history_of o es) h)
+may_come B M o es (event.Land h) = is_some (state_of M (history_of o es) h) && nat_lt 0 (length (pending h es))
 
--- each entry is of one of the two harts
-are_two : List Entry → Bool
-are_two [] = true
-are_two (e ∷ es) = nat_lt (hart_of e) 2 && are_two es
+pub all_come : (B M : ℕ) → OpeningValue → List Entry → List Event → Bool
+all_come B M o front [] = true
+all_come B M o front (ev ∷ evs) = may_come B M o front ev && all_come B M o (front ++ entry_by M o front ev ∷ []) evs
 
-all_of : (k : Kind) (c : Bool) (es : List Entry) → are_two es ≡ true → All (IsOfHarts (opening k c)) es
-unfolding are_two
-all_of k c [] l = All-nil (IsOfHarts (opening k c))
-all_of k c (e ∷ es) l = All-cons (IsOfHarts (opening k c)) e es (grind (arith, nat_tests, l)) (all_of k c es (both (nat_lt (hart_of e) 2) (are_two es) l).1)
+module _ (B M : ℕ) (o : OpeningValue) where
+  running : (x : Status) → is_running x ≡ true → x ≡ status.Running
+  unfolding is_running
+  running status.Running is = refl
+  running other is = cc
 
-two : (k : Kind) (c : Bool) → are_two (entries k c) ≡ true
-unfolding are_two
-two lamport false = refl
-two lamport true = refl
-two fastforward c = refl
+  allowed : (es : List Entry) (h : ℕ) (n : Need) → may_want B (pending h es) n ≡ true → Allowed B o es (entry_of h n (value_at o es h n))
+  unfolding may_want
+  allowed es h need.Inner is = tt
+  allowed es h (need.Load a width) is = refl
+  allowed es h (need.Store a width w) is = grind (arith, nat_tests, is)
+  allowed es h other is = cc
 
-run : (k : Kind) (c : Bool) → WellFormed 4 64 (history_of (opening k c) (entries k c))
-run k c = record { legal = legal k c; paths = paths k c; of_harts = all_of k c (entries k c) (two k c) }
+  one_comes : (es : List Entry) (ev : Event) → WellFormed B M (history_of o es) → may_come B M o es ev ≡ true
+      → WellFormed B M (history_of o (es ++ entry_by M o es ev ∷ []))
+  unfolding may_come may_act is_some
+  one_comes es (event.Act h) kept may = at (state_of M (history_of o es) h) refl may
+    where
+      at : (so : Option HartState) → state_of M (history_of o es) h ≡ so → may_act B (pending h es) so ≡ true
+          → WellFormed B M (history_of o (es ++ entry_by M o es (event.Act h) ∷ []))
+      at None is may = cc
+      at (Some s) is may =
+          let parts = both (is_running s.status) (may_want B (pending h es) (need_of s)) may in
+          let e : Entry = entry_of h (need_of s) (value_at o es h (need_of s)) in
+          subst (λ x. WellFormed B M (history_of o (es ++ x ∷ [])))
+          (sym (ap (λ so. entry_in o es h so) is))
+          (kept-happens B M (history_of o es) (event.Act h) (outcome.Did e) (with_entry (history_of o es) e) kept
+          (does B M (history_of o es) h s kept is (running s.status parts.0) (need_of s) (value_at o es h (need_of s)) refl
+          (allowed es h (need_of s) parts.1)))
+  one_comes es (event.Land h) kept may = at (state_of M (history_of o es) h) refl may
+    where
+      at : (so : Option HartState) → state_of M (history_of o es) h ≡ so → (is_some so && nat_lt 0 (length (pending h es))) ≡ true
+          → WellFormed B M (history_of o (es ++ entry.Land h ∷ []))
+      at None is may = cc
+      at (Some s) is may =
+          let parts = both (is_some (Some s)) (nat_lt 0 (length (pending h es))) may in
+          let split = some_first (pending h es) (grind (arith, nat_tests, parts.1)) in
+          kept-happens B M (history_of o es) (event.Land h) (outcome.Did (entry.Land h)) (with_entry (history_of o es) (entry.Land h)) kept
+          (land_happens B M (history_of o es) h s split.0 split.1 kept is split.2)
 
-pub kept : (k : Kind) (c : Bool) → obligations_kept 64 (opening k c) (queue k c) [] (entries k c) ≡ true
-unfolding need_of advanced meaning
-kept lamport false = refl
-kept lamport true = refl
-kept fastforward c = refl
+  all_kept : (es : List Entry) (evs : List Event) → WellFormed B M (history_of o es) → all_come B M o es evs ≡ true
+      → WellFormed B M (history_of o (es ++ entries_by M o es evs))
+  unfolding all_come
+  all_kept es [] kept may = subst (λ xs. WellFormed B M (history_of o xs)) (sym (append-nil es)) kept
+  all_kept es (ev ∷ evs) kept may =
+      let e : Entry = entry_by M o es ev in
+      let parts = both (may_come B M o es ev) (all_come B M o (es ++ e ∷ []) evs) may in
+      subst (λ xs. WellFormed B M (history_of o xs)) (append_assoc es (e ∷ []) (entries_by M o (es ++ e ∷ []) evs))
+      (all_kept (es ++ e ∷ []) evs (one_comes es ev kept parts.0) parts.1)
 
-pub sent : (k : Kind) (c : Bool) → sent_words 64 (opening k c) (queue k c) [] (entries k c) ≡ 99 ∷ []
-unfolding need_of advanced meaning
-sent lamport false = refl
-sent lamport true = refl
-sent fastforward c = refl
+-- a hart that the opening doesn't have stores nothing
+none_stored : (o : OpeningValue) (h : ℕ) (es : List Entry) → length o.harts ≤ h → All (IsOfHarts o) es → own_stores h es ≡ []
+none_stored o h [] out all = refl
+none_stored o h (e ∷ es) out all =
+    let other : (hart_of e == h) ≡ false = grind (arith, nat_tests, All-head (IsOfHarts o) e es all) in
+    ap (λ xs. own_store h e ++ xs) (none_stored o h es out (All-tail (IsOfHarts o) e es all)) ∙ grind (arith, other)
 
-pub received : (k : Kind) (c : Bool) → received_words 64 (opening k c) (queue k c) [] (entries k c) ≡ 99 ∷ []
-unfolding need_of advanced meaning
-received lamport false = refl
-received lamport true = refl
-received fastforward c = refl
+-- ---- what is computed of each run
 
-clear : (k : Kind) (c : Bool) (j : ℕ) → j < 2 → memory_word (opening k c) [] (192 + 4 * ((0 + j) % 2)) ≡ 0
-clear lamport false zero below = refl
-clear lamport false (suc zero) below = refl
-clear lamport true zero below = refl
-clear lamport true (suc zero) below = refl
-clear fastforward c zero below = refl
-clear fastforward c (suc zero) below = refl
-clear k c (suc (suc j)) below = absurd (omega (arith, below))
-
-copies : (k : Kind) (c : Bool) (a : ℕ) → copy_in k c 64 ≡ Some a → (j : ℕ) × (j < 2) × (memory_word (opening k c) [] a ≡ 4 * ((0 + j) % 2))
-copies lamport true a some = (1, omega arith, ap (memory_word (opening lamport true) []) (copied_in lamport true 64 a some).0)
-copies lamport false a some = (0, omega arith, ap (memory_word (opening lamport false) []) (copied_in lamport false 64 a some).0)
-copies fastforward c a some = (0, omega arith, ap (memory_word (opening fastforward c) []) (copied_in fastforward c 64 a some).0)
-
-head_is : (k : Kind) (c : Bool) → memory_word (opening k c) [] 64 ≡ 0
-head_is lamport false = refl
-head_is lamport true = refl
-head_is fastforward c = refl
-
-tail_is : (k : Kind) (c : Bool) → memory_word (opening k c) [] 128 ≡ 0
-tail_is lamport false = refl
-tail_is lamport true = refl
-tail_is fastforward c = refl
-
-whole : (k : Kind) (c : Bool) (p : Party) → 0x00000013 ∷ words_of (listing_of k c p) ≡ (0x00000013 ∷ []) ++ (words_of (listing_of k c p) ++ [])
-whole k c p = ap (λ ws. 0x00000013 ∷ ws) (sym (append-nil (words_of (listing_of k c p))))
-
-small : (k : Kind) (c : Bool) (p : Party) → 4 * length (0x00000013 ∷ words_of (listing_of k c p)) < 2 ^ 32
-small k c p = omega (arith, thirteen k c p)
-
-has : (k : Kind) (c : Bool) (p : Party) → HasFunction (opening k c) (party_hart (queue k c) p) 1 (listing_of k c p)
-has k c the_sender = record {
-  opens = sender_hart k c;
-  is = refl;
-  code = record { front = 0x00000013 ∷ []; back = []; is = whole k c the_sender; place = refl; small = small k c the_sender };
-  registers = refl;
-}
-has k c the_receiver = record {
-  opens = receiver_hart k c;
-  is = refl;
-  code = record { front = 0x00000013 ∷ []; back = []; is = whole k c the_receiver; place = refl; small = small k c the_receiver };
-  registers = refl;
-}
-
-pub uses : (k : Kind) (c : Bool) → UsesAsSpscQueue 4 64 (opening k c) (queue k c) [] (entries k c)
-uses k c = record {
-  shares = record {
-    block = record { aligned = refl; some_slots = omega arith; inside = omega arith; small = omega arith };
-    parties = λ e. omega (arith, e);
-    run = run k c;
-    rest = record { head = head_is k c; tail = tail_is k c; pending = λ h. refl; slots = λ kind. clear k c; copy = copies k c };
-    sends = has k c the_sender;
-    receives = has k c the_receiver;
-  };
-  owed = obligations_decided 64 (opening k c) (queue k c) [] (entries k c) (kept k c);
-}
-
--- ---- its calls
-
-fronts_hold : (List Entry → Bool) → (front es : List Entry) → Bool
+pub fronts_hold : (List Entry → Bool) → (front es : List Entry) → Bool
 fronts_hold P front [] = true
 fronts_hold P front (e ∷ es) = P front && fronts_hold P (front ++ e ∷ []) es
 
@@ -182,63 +141,171 @@ fronts_are P front [] e rest all = subst (λ zs. P zs ≡ true) (sym (append-nil
 fronts_are P front (d ∷ part) e rest all = subst (λ zs. P zs ≡ true) (append_assoc front (d ∷ []) part)
     (fronts_are P (front ++ d ∷ []) part e rest (both (P front) (fronts_hold P (front ++ d ∷ []) (part ++ e ∷ rest)) all).1)
 
-send_within : (k : Kind) (c : Bool) → fronts_hold (λ es. is_sender_in_call 64 (opening k c) (queue k c) [] es) before_send (send k c) ≡ true
-unfolding need_of advanced meaning fronts_hold
-send_within lamport false = refl
-send_within lamport true = refl
-send_within fastforward c = refl
+-- of entries before a run, in it before the call, and of the call
+module _ (x : Scenario) (b l c : List Entry) where
+  abbrev pub o : OpeningValue
+  o = opening x
 
-receive_within : (k : Kind) (c : Bool) → fronts_hold (λ es. is_receiver_in_call 64 (opening k c) (queue k c) [] es) (before_receive k c) (receive k) ≡ true
-unfolding need_of advanced meaning fronts_hold
-receive_within lamport false = refl
-receive_within lamport true = refl
-receive_within fastforward c = refl
+  abbrev pub h : ℕ
+  h = party_hart (queue x) (party x)
 
--- what of a whole call is computed
-record Ends (k : Kind) (c : Bool) (p : Party) (done call : List Entry) (s z : HartState) : Type 0 where
-  entry : state_of 64 (history_of (opening k c) done) (party_hart (queue k c) p) ≡ Some s
-  enters : enters 1 (queue k c).block s ≡ true
-  begun : is_in_call 64 (opening k c) (party_hart (queue k c) p) 1 (queue k c).block [] done ≡ true
-  over : is_in_call 64 (opening k c) (party_hart (queue k c) p) 1 (queue k c).block [] (done ++ call) ≡ false
-  return : state_of 64 (history_of (opening k c) (done ++ call)) (party_hart (queue k c) p) ≡ Some z
+  abbrev pub busy : List Entry → Bool
+  busy es = is_in_call 64 o h 1 (queue x).block b es
 
-send_ends : (k : Kind) (c : Bool) → Ends k c the_sender before_send (send k c) (sender_after k c before_send) (sender_after k c (before_send ++ send k c))
-unfolding need_of advanced meaning
-send_ends lamport false = record { entry = refl; enters = refl; begun = refl; over = refl; return = refl }
-send_ends lamport true = record { entry = refl; enters = refl; begun = refl; over = refl; return = refl }
-send_ends fastforward c = record { entry = refl; enters = refl; begun = refl; over = refl; return = refl }
+  abbrev pub word : ℕ → ℕ
+  word a = memory_word o b a
 
-receive_ends : (k : Kind) (c : Bool) → Ends k c the_receiver (before_receive k c) (receive k) (receiver_after k c (before_receive k c))
-    (receiver_after k c (before_receive k c ++ receive k))
-unfolding need_of advanced meaning
-receive_ends lamport false = record { entry = refl; enters = refl; begun = refl; over = refl; return = refl }
-receive_ends lamport true = record { entry = refl; enters = refl; begun = refl; over = refl; return = refl }
-receive_ends fastforward c = record { entry = refl; enters = refl; begun = refl; over = refl; return = refl }
+  abbrev pub quiet_of : ℕ → List Write
+  quiet_of g = writes_to (buffer (queue x)) (pending g b)
 
-pub is_send : (k : Kind) (c : Bool) → IsSend 64 (opening k c) (queue k c) [] before_send (send k c) (sender_after k c before_send)
-    (sender_after k c (before_send ++ send k c))
-is_send k c =
-    let ends = send_ends k c in
-    record {
-      entry = ends.entry;
-      enters = ends.enters;
-      begun = ends.begun;
-      within = λ part e rest is. fronts_are (λ es. is_sender_in_call 64 (opening k c) (queue k c) [] es) before_send part e rest
-          (subst (λ zs. fronts_hold (λ es. is_sender_in_call 64 (opening k c) (queue k c) [] es) before_send zs ≡ true) is (send_within k c));
-      over = ends.over;
-      return = ends.return;
+  -- the entries come, the call is a call, and where the run begins the block is empty and at rest
+  pub record Computed : Type 0 where
+    pub come : (all_come 4 64 o [] (first_events x) && (all_come 4 64 o b (lead_events x) && all_come 4 64 o (b ++ l) (call_events x))) ≡ true
+    pub kept : obligations_kept 64 o (queue x) b (l ++ c) ≡ true
+    pub sent : sent_words 64 o (queue x) b (l ++ c) ≡ sent x
+    pub received : received_words 64 o (queue x) b (l ++ c) ≡ received x
+    pub within : fronts_hold busy l c ≡ true
+    pub begun : busy l ≡ true
+    pub over : busy (l ++ c) ≡ false
+    pub entry : state_of 64 (history_of o (b ++ l)) h ≡ Some (state_after x (b ++ l))
+    pub enters : enters 1 (queue x).block (state_after x (b ++ l)) ≡ true
+    pub return : state_of 64 (history_of o (b ++ (l ++ c))) h ≡ Some (state_after x (b ++ (l ++ c)))
+    pub answer : slice_index (state_after x (b ++ (l ++ c))).registers 10 ≡ answer x
+    pub accesses : length (accesses h c) ≡ access_count x
+    pub head : word 64 ≡ 4 * (((queue x).block.start + 0) % 2)
+    pub tail : word 128 ≡ 4 * (((queue x).block.start + 0) % 2)
+    pub low : kind_of (variant x) ≡ fastforward → word 192 ≡ 0
+    pub high : kind_of (variant x) ≡ fastforward → word 196 ≡ 0
+    pub copy : ((word 68 == 0) || (word 68 == 4)) ≡ true
+    pub quiet : (quiet_of 0 ≡ []) × (quiet_of 1 ≡ []) × (quiet_of 2 ≡ []) × (quiet_of 3 ≡ [])
+
+pub computed : (x : Scenario) → Computed x (before_entries x) (lead_entries x) (call_entries x)
+unfolding need_of advanced meaning all_come may_come may_act may_want is_running is_some fronts_hold
+computed (sends fast) = search
+computed (receives fast) = search
+computed (finds_full fast) = search
+computed (finds_empty fast) = search
+computed goes_on = search
+computed x = search
+
+-- ---- so each is a run that uses its queue
+
+run : (x : Scenario) → WellFormed 4 64 (history_of (opening x) (before_entries x ++ entries x))
+run x =
+    let two : Bool = all_come 4 64 (opening x) (before_entries x) (lead_events x) && all_come 4 64 (opening x)
+    (before_entries x ++ lead_entries x) (call_events x) in
+    let parts = both (all_come 4 64 (opening x) [] (first_events x)) two (computed x).come in
+    let later = both (all_come 4 64 (opening x) (before_entries x) (lead_events x))
+    (all_come 4 64 (opening x) (before_entries x ++ lead_entries x) (call_events x)) parts.1 in
+    let first = all_kept 4 64 (opening x) [] (first_events x) (kept-at_opening 4 64 (opening x)) parts.0 in
+    subst (λ xs. WellFormed 4 64 (history_of (opening x) xs)) (append_assoc (before_entries x) (lead_entries x) (call_entries x))
+    (all_kept 4 64 (opening x) (before_entries x ++ lead_entries x) (call_events x)
+    (all_kept 4 64 (opening x) (before_entries x) (lead_events x) first later.0) later.1)
+
+first_run : (x : Scenario) → WellFormed 4 64 (history_of (opening x) (before_entries x))
+first_run x = kept-front 4 64 (opening x) (before_entries x) (entries x) (run x)
+
+-- no hart has a store pending where the run begins
+none_pending : (x : Scenario) (h : ℕ) → writes_to (buffer (queue x)) (pending h (before_entries x)) ≡ []
+none_pending x zero = (computed x).quiet.0
+none_pending x (suc zero) = (computed x).quiet.1
+none_pending x (suc (suc zero)) = (computed x).quiet.2
+none_pending x (suc (suc (suc zero))) = (computed x).quiet.3
+none_pending x (suc (suc (suc (suc h)))) =
+    ap (λ ws. writes_to (buffer (queue x)) ws) (ap (λ ws. drop (lands (suc (suc (suc (suc h)))) (before_entries x)) ws)
+    (none_stored (opening x) (suc (suc (suc (suc h)))) (before_entries x) (omega arith) (first_run x).of_harts)
+    ∙ drop_nil (lands (suc (suc (suc (suc h)))) (before_entries x)))
+  where
+    drop_nil : (n : ℕ) → drop n (let none : List Write = [] in none) ≡ []
+    drop_nil zero = refl
+    drop_nil (suc n) = refl
+
+-- either slot, by its offset
+slot_zero : (x : Scenario) → kind_of (variant x) ≡ fastforward → (m : ℕ) → m < 2 → memory_word (opening x) (before_entries x) (192 + 4 * m) ≡ 0
+slot_zero x kind zero below = (computed x).low kind
+slot_zero x kind (suc zero) below = (computed x).high kind
+slot_zero x kind (suc (suc m)) below = absurd (omega (arith, below))
+
+copy_place : (x : Scenario) (b c : Bool) → (memory_word (opening x) (before_entries x) 68 == 0) ≡ b → (memory_word (opening x) (before_entries x) 68 == 4) ≡ c
+    → (b || c) ≡ true → (j : ℕ) × (j < 2) × (memory_word (opening x) (before_entries x) 68 ≡ 4 * ((start_of x + j) % 2))
+copy_place x true c one two is = (start_of x % 2, omega arith, omega (arith, eqb-true (memory_word (opening x) (before_entries x) 68) 0 one))
+copy_place x false true one two is = ((start_of x + 1) % 2, omega arith, omega (arith, eqb-true (memory_word (opening x) (before_entries x) 68) 4 two))
+copy_place x false false one two is = cc
+
+rest : (x : Scenario) → IsEmptyAndQuiescent (buffer (queue x)) (opening x) (before_entries x)
+rest x = record {
+  head = (computed x).head;
+  tail = (computed x).tail;
+  pending = none_pending x;
+  slots = λ kind j below. slot_zero x kind ((start_of x + j) % 2) (omega arith);
+  copy = λ a some.
+      let at : a ≡ 68 = (copied_in (kind_of (variant x)) (caches_of (variant x)) 64 a some).0 in
+      let word : ℕ = memory_word (opening x) (before_entries x) 68 in
+      let place = copy_place x (word == 0) (word == 4) refl refl (computed x).copy in
+      (place.0, place.1, ap (memory_word (opening x) (before_entries x)) at ∙ place.2);
+}
+
+sender_there : (x : Scenario) → slice_get (opening x).harts (sender_of x) ≡ Some (hart_of_party (variant x) the_sender)
+sender_there goes_on = refl
+sender_there x = refl
+
+receiver_there : (x : Scenario) → slice_get (opening x).harts (receiver_of x) ≡ Some (hart_of_party (variant x) the_receiver)
+receiver_there goes_on = refl
+receiver_there x = refl
+
+has : (x : Scenario) (p : Party) → HasFunction (opening x) (party_hart (queue x) p) (party_line (queue x) p)
+    (listing_of (kind_of (variant x)) (caches_of (variant x)) p)
+has x p = record { opens = hart_of_party (variant x) p; is = there p; code = stands p; registers = size p }
+  where
+    there : (p : Party) → slice_get (opening x).harts (party_hart (queue x) p) ≡ Some (hart_of_party (variant x) p)
+    there the_sender = sender_there x
+    there the_receiver = receiver_there x
+
+    stands_after : (p : Party) → StandsIn (0x04000513 ∷ words_of (listing_of (kind_of (variant x)) (caches_of (variant x)) p)) 1
+        (listing_of (kind_of (variant x)) (caches_of (variant x)) p)
+    stands_after p = record {
+      front = 0x04000513 ∷ [];
+      back = [];
+      is = ap (λ zs. 0x04000513 ∷ zs) (sym (append-nil (words_of (listing_of (kind_of (variant x)) (caches_of (variant x)) p))));
+      place = refl;
+      small = omega (arith, thirteen (kind_of (variant x)) (caches_of (variant x)) p);
     }
 
-pub is_receive : (k : Kind) (c : Bool) → IsReceive 64 (opening k c) (queue k c) [] (before_receive k c) (receive k) (receiver_after k c (before_receive k c))
-    (receiver_after k c (before_receive k c ++ receive k))
-is_receive k c =
-    let ends = receive_ends k c in
-    record {
-      entry = ends.entry;
-      enters = ends.enters;
-      begun = ends.begun;
-      within = λ part e rest is. fronts_are (λ es. is_receiver_in_call 64 (opening k c) (queue k c) [] es) (before_receive k c) part e rest
-          (subst (λ zs. fronts_hold (λ es. is_receiver_in_call 64 (opening k c) (queue k c) [] es) (before_receive k c) zs ≡ true) is (receive_within k c));
-      over = ends.over;
-      return = ends.return;
-    }
+    stands : (p : Party) → StandsIn (hart_of_party (variant x) p).code (party_line (queue x) p) (listing_of (kind_of (variant x)) (caches_of (variant x)) p)
+    stands the_sender = stands_after the_sender
+    stands the_receiver = stands_after the_receiver
+
+    size : (p : Party) → length (hart_of_party (variant x) p).registers ≡ 32
+    size the_sender = refl
+    size the_receiver = refl
+
+pub uses : (x : Scenario) → UsesAsSpscQueue 4 64 (opening x) (queue x) (before_entries x) (entries x)
+uses x = record {
+  shares = record {
+    block = record { aligned = refl; some_slots = omega arith; inside = omega arith; small = omega arith };
+    parties = apart x;
+    run = run x;
+    rest = rest x;
+    sends = has x the_sender;
+    receives = has x the_receiver;
+  };
+  owed = obligations_decided 64 (opening x) (queue x) (before_entries x) (entries x) (computed x).kept;
+}
+  where
+    apart : (x : Scenario) → sender_of x ≢ receiver_of x
+    apart goes_on = λ e. omega (arith, e)
+    apart x = λ e. omega (arith, e)
+
+pub is_call : (x : Scenario)
+    → IsWholeCall 64 (opening x) (party_hart (queue x) (party x)) 1 (queue x).block (before_entries x) (lead_entries x)
+    (call_entries x)
+    (state_after x (before_entries x ++ lead_entries x)) (state_after x (before_entries x ++ entries x))
+is_call x = record {
+  entry = (computed x).entry;
+  enters = (computed x).enters;
+  begun = (computed x).begun;
+  within = λ part e rest is. fronts_are (busy x (before_entries x) (lead_entries x) (call_entries x)) (lead_entries x) part e rest
+      (subst (λ zs. fronts_hold (busy x (before_entries x) (lead_entries x) (call_entries x)) (lead_entries x) zs ≡ true) is (computed x).within);
+  over = (computed x).over;
+  return = (computed x).return;
+}

@@ -35,12 +35,13 @@ ghost use Rattle.rv_decode.specs.Listings.{words_of, lines_of};
 ghost use Rattle.spsc_queue.specs.Listings.{try_send, try_receive};
 ghost use Rattle.spsc_queue.specs.Calls.{SpscQueue, Party, the_sender, the_receiver, listing_of, moved_on, ring_at};
 ghost use Rattle.spsc_queue.specs.Calls.{buffer, is_sender_in_call, is_receiver_in_call, sent_words, received_words};
-ghost use Rattle.spsc_queue.specs.Calls.{CallerObligation, UsesAsSpscQueue};
+ghost use Rattle.spsc_queue.specs.Calls.{CallerObligation, UsesAsSpscQueue, party_hart};
 ghost use Rattle.spsc_queue.specs.CallEffects.{IsCallUnderWay, longest, ContinuesCall, IsSend, IsReceive, accesses, completed_word, SendEffect, ReceiveEffect};
-ghost use Rattle.spsc_queue.specs.CallEffects.{SendSoFar, ReceiveSoFar, FoundFull, FoundEmpty};
+ghost use Rattle.spsc_queue.specs.CallEffects.{IsWholeCall, SendSoFar, ReceiveSoFar, FoundFull, FoundEmpty};
 ghost use Rattle.spsc_queue.specs.Obligations.{obligations_kept};
 ghost use Rattle.spsc_queue.specs.ManyQueues.{UsesManyQueues};
 ghost use Rattle.spsc_queue.specs.Example as example;
+ghost use Rattle.spsc_queue.specs.Example.{Scenario};
 
 pub use cached::cached_send_words;
 pub use fastforward::{fastforward_receive_words, fastforward_send_words};
@@ -270,17 +271,22 @@ pub fn laws_of_one_call()
 /// What callers owe can be computed, and can be kept. It does nothing.
 ///
 /// - `decided`: where the computation over a run's entries says so, each entry keeps what is owed.
-/// - `computed`, `met`, `sent` and `received`: it says so of the runs of `specs/Example.antt`, one of each kind, which so
-///   keep all, and one word passes, by whole calls of both functions (`calls_send`, `calls_receive`).
+/// - `computed`, `met`, `calls`, `answers`, `accessed`, `sent` and `received`: it says so of the runs of `specs/Example.antt`, which so
+///   keep all. Each ends with a whole call: one by which a word passes and an index wraps, with a copy of the tail that says that the
+///   queue is full or that there is room; one that finds the queue full, or empty; one after the queue has changed hands.
 pub fn laws_of_obligations()
     ensures decided { (M : ℕ) (o : OpeningValue) (q : SpscQueue) (before es : List Entry) → obligations_kept M o q before es ≡ true
         → (done : List Entry) (e : Entry) (more : List Entry) → es ≡ done ++ e ∷ more → CallerObligation M o q before done e }
-    ensures computed { (k : Kind) (c : Bool) → obligations_kept 64 (example.opening k c) (example.queue k c) [] (example.entries k c) ≡ true }
-    ensures met { (k : Kind) (c : Bool) → UsesAsSpscQueue 4 64 (example.opening k c) (example.queue k c) [] (example.entries k c) }
-    ensures calls_send { (k : Kind) (c : Bool) → IsSend 64 (example.opening k c) (example.queue k c) [] example.before_send (example.send k c)
-        (example.sender_after k c example.before_send) (example.sender_after k c (example.before_send ++ example.send k c)) }
-    ensures calls_receive { (k : Kind) (c : Bool) → IsReceive 64 (example.opening k c) (example.queue k c) [] (example.before_receive k c) (example.receive k)
-        (example.receiver_after k c (example.before_receive k c)) (example.receiver_after k c (example.before_receive k c ++ example.receive k)) }
-    ensures sent { (k : Kind) (c : Bool) → sent_words 64 (example.opening k c) (example.queue k c) [] (example.entries k c) ≡ 99 ∷ [] }
-    ensures received { (k : Kind) (c : Bool) → received_words 64 (example.opening k c) (example.queue k c) [] (example.entries k c) ≡ 99 ∷ [] }
+    ensures computed { (x : Scenario)
+        → obligations_kept 64 (example.opening x) (example.queue x) (example.before_entries x) (example.entries x) ≡ true }
+    ensures met { (x : Scenario) → UsesAsSpscQueue 4 64 (example.opening x) (example.queue x) (example.before_entries x) (example.entries x) }
+    ensures calls { (x : Scenario) → IsWholeCall 64 (example.opening x) (party_hart (example.queue x) (example.party x)) 1 (example.queue x).block
+        (example.before_entries x) (example.lead_entries x) (example.call_entries x)
+        (example.state_after x (example.before_entries x ++ example.lead_entries x)) (example.state_after x (example.before_entries x ++ example.entries x)) }
+    ensures answers { (x : Scenario) → slice_index (example.state_after x (example.before_entries x ++ example.entries x)).registers 10 ≡ example.answer x }
+    ensures accessed { (x : Scenario)
+        → length (accesses (party_hart (example.queue x) (example.party x)) (example.call_entries x)) ≡ example.access_count x }
+    ensures sent { (x : Scenario) → sent_words 64 (example.opening x) (example.queue x) (example.before_entries x) (example.entries x) ≡ example.sent x }
+    ensures received { (x : Scenario)
+        → received_words 64 (example.opening x) (example.queue x) (example.before_entries x) (example.entries x) ≡ example.received x }
 {}

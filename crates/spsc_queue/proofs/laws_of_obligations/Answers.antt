@@ -1,24 +1,27 @@
 use Rattle.spsc_queue.proofs.Obligations.{obligations_decided}
-use Rattle.spsc_queue.proofs.Example.{kept, uses, is_send, is_receive, sent, received}
+use Rattle.spsc_queue.proofs.Example.{computed, uses, is_call}
 use Rattle.spsc_queue.proofs.laws_of_obligations.Goals as goal
 
 pub returns-clause-decided : goal.returns-clause-decided
 returns-clause-decided c = λ M o q before es kept done e more is. obligations_decided M o q before es kept done e more is
 
 pub returns-clause-computed : goal.returns-clause-computed
-returns-clause-computed c = kept
+returns-clause-computed c = λ x. (computed x).kept
 
 pub returns-clause-met : goal.returns-clause-met
 returns-clause-met c = uses
 
-pub returns-clause-calls_send : goal.returns-clause-calls_send
-returns-clause-calls_send c = is_send
+pub returns-clause-calls : goal.returns-clause-calls
+returns-clause-calls c = is_call
 
-pub returns-clause-calls_receive : goal.returns-clause-calls_receive
-returns-clause-calls_receive c = is_receive
+pub returns-clause-answers : goal.returns-clause-answers
+returns-clause-answers c = λ x. (computed x).answer
+
+pub returns-clause-accessed : goal.returns-clause-accessed
+returns-clause-accessed c = λ x. (computed x).accesses
 
 pub returns-clause-sent : goal.returns-clause-sent
-returns-clause-sent c = sent
+returns-clause-sent c = λ x. (computed x).sent
 
 pub returns-clause-received : goal.returns-clause-received
-returns-clause-received c = received
+returns-clause-received c = λ x. (computed x).received
