@@ -45,26 +45,27 @@ pub record IsThreadsRun (B M n : ℕ) (test : LitmusTest) (answer : List ℕ × 
   pub judged : IsJudged M test history (state, answer.1)
   pub written : answer.0 ≡ canon events ++ state
 
--- a run of the test's opening, one event an entry, whose schedule would be refused as an input: it has too many events,
--- or its text too many bytes
-pub record IsTooLong (B M : ℕ) (test : LitmusTest) : Type 0 where
+-- such a run, whose schedule would be refused as an input: it has too many events, or its text too many bytes
+pub record IsTooLong (B M n : ℕ) (test : LitmusTest) : Type 0 where
   pub events : List Event
   pub history : History
   pub ran : Run B M test.opening events history
   pub each : events ≡ map event_of history.entries
+  pub at_most : AtMost n history
+  pub get_on : AllGetOn n M history
   pub many : (MAX_EVENTS < length events) ⊎ (INPUT_BYTES < length (canon events))
 
 -- the bank has lost a hart, though the threads made a run
 abbrev pub HasLost : ℕ → ℕ → ℕ → LitmusTest → Type 0
 HasLost B M n test = (h : ℕ) × IsLost B M n test.opening (seats_of M test.opening) h
 
--- the refusals of threads that have all their seats, and that of a run which is too long
+-- the refusals of threads that have all their seats, and that of a run within n turns which is too long
 abbrev pub RefusesThreads : (B M n : ℕ) → LitmusTest → ℕ → Type 0
 RefusesThreads B M n test number =
     (number ≡ 32)
     ⊎ ((number ≡ 33) × HasLost B M n test
     ⊎ ((number ≡ 35)
-    ⊎ ((number ≡ 37) × IsTooLong B M test)))
+    ⊎ ((number ≡ 37) × IsTooLong B M n test)))
 
 abbrev pub IsThreadsGiven : ℕ → ℕ → ℕ → LitmusTest → Result (List ℕ × Verdict) Refusal → Type 0
 IsThreadsGiven B M n test (Ok answer) = IsThreadsRun B M n test answer
