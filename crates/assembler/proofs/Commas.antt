@@ -1,39 +1,48 @@
 -- Operands between commas, and the blanks round them.
-use Rattle.std.proofs.Common.{◌≡◌, ℕ, ◌<◌, Bool, true, false, List, [], ◌∷◌, ◌++◌, length, map, Some, refl, sym, ap, subst, ◌∙◌, inl, inr, Option, None}
-use Rattle.std.specs.List.{AllByRecursion, slice_split, onto_first, join_with_byte}
-use Rattle.std.proofs.lemmas.List.Splits.{join_with_byte-slice_split}
-use Rattle.std.proofs.lemmas.Bool.{cases_Bool, eqb-true}
+use Rattle.std.proofs.Common.{◌≡◌, ℕ, ◌<◌, Bool, true, false, ◌||◌, List, [], ◌∷◌, ◌++◌, length, map, Some, refl, sym, ap, subst, ◌∙◌, inl, inr, Option, None}
+use Rattle.std.specs.List.{slice_split, onto_first}
+use Rattle.std.proofs.lemmas.Bool.{cases_Bool, eqb-true, or_parts}
 use Rattle.texts.specs.Pieces.{is_blank}
-use Rattle.texts.specs.Cutting.{is_byte, without_front, without_end, trimmed, stripped, NonePass, AreBlanks, IsPadded, onto_kept, before, after}
-use Rattle.texts.proofs.CuttingLaws.{none-append, split_cut, split_none, split_stop, split_after}
-use Rattle.texts.proofs.TrimLaws.{stripped-none, stripped-padded, stripped-trailing, padded_stripped}
+use Rattle.texts.specs.Cutting.{is_byte, without_front, without_end, trimmed, stripped, NonePass, onto_kept, before, after}
+use Rattle.texts.proofs.CuttingLaws.{split_cut, split_none, split_stop, split_after}
+use Rattle.texts.proofs.TrimLaws.{stripped-none, stripped-trailing}
 use Rattle.assembler.specs.Lines.{between_commas}
-use Rattle.assembler.specs.Spelled.{AreListed}
-use Rattle.assembler.specs.Spelled.AreListed.{last, more}
+use Rattle.assembler.specs.Spelled.{operands_in}
 
--- an operand stands for itself
+-- a blank, the end of a line, and what begins a comment or ends a label
+abbrev pub parts_line : ℕ → Bool
+parts_line c = is_blank c || (is_byte 10 c || (is_byte 35 c || is_byte 58 c))
+
+-- these, and a comma
+abbrev pub parts_operands : ℕ → Bool
+parts_operands c = parts_line c || is_byte 44 c
+
+-- an operand that stands for itself
 pub record IsOperand (xs : List ℕ) : Type 0 where
-  pub commas : NonePass (is_byte 44) xs
-  pub blanks : NonePass is_blank xs
+  pub none : NonePass parts_operands xs
   pub some : 0 < length xs
 
-pub two_between : (a b : List ℕ) → IsOperand a → IsOperand b → between_commas (Some (a ++ 44 ∷ b)) ≡ a ∷ b ∷ []
-two_between a b h k = rw (
-  split_stop (is_byte 44) a 44 b h.commas refl,
-  split_none (is_byte 44) b k.commas,
-  stripped-none is_blank a h.blanks,
-  stripped-none is_blank b k.blanks,
-) refl
+pub none_weaker : (p q : ℕ → Bool) → ((c : ℕ) → p c ≡ false → q c ≡ false) → (xs : List ℕ) → NonePass p xs → NonePass q xs
+none_weaker p q weaker [] none = tt
+none_weaker p q weaker (x ∷ xs) none = (weaker x none.0, none_weaker p q weaker xs none.1)
 
-pub three_between : (a b c : List ℕ) → IsOperand a → IsOperand b → IsOperand c → between_commas (Some (a ++ 44 ∷ (b ++ 44 ∷ c))) ≡ a ∷ b ∷ c ∷ []
-three_between a b c h k m = rw (
-  split_stop (is_byte 44) a 44 (b ++ 44 ∷ c) h.commas refl,
-  split_stop (is_byte 44) b 44 c k.commas refl,
-  split_none (is_byte 44) c m.commas,
-  stripped-none is_blank a h.blanks,
-  stripped-none is_blank b k.blanks,
-  stripped-none is_blank c m.blanks,
-) refl
+pub operand_line : (xs : List ℕ) → NonePass parts_operands xs → NonePass parts_line xs
+operand_line xs none = none_weaker parts_operands parts_line (λ c e. (or_parts (parts_line c) (is_byte 44 c) e).0) xs none
+
+no_comma : (xs : List ℕ) → IsOperand xs → NonePass (is_byte 44) xs
+no_comma xs h = none_weaker parts_operands (is_byte 44) (λ c e. (or_parts (parts_line c) (is_byte 44 c) e).1) xs h.none
+
+pub no_blank : (xs : List ℕ) → NonePass parts_line xs → NonePass is_blank xs
+no_blank xs none = none_weaker parts_line is_blank (λ c e. (or_parts (is_blank c) (is_byte 10 c || (is_byte 35 c || is_byte 58 c)) e).0) xs none
+
+alone : (xs : List ℕ) → IsOperand xs → trimmed xs ≡ xs
+alone xs h = stripped-none is_blank xs (no_blank xs (operand_line xs h.none))
+
+pub two_between : (a b : List ℕ) → IsOperand a → IsOperand b → operands_in (a ++ 44 ∷ b) ≡ a ∷ b ∷ []
+two_between a b h k = rw (split_stop (is_byte 44) a 44 b (no_comma a h) refl, split_none (is_byte 44) b (no_comma b k), alone a h, alone b k) refl
+
+pub three_between : (a b c : List ℕ) → IsOperand a → IsOperand b → IsOperand c → operands_in (a ++ 44 ∷ (b ++ 44 ∷ c)) ≡ a ∷ b ∷ c ∷ []
+three_between a b c h k m = rw (split_stop (is_byte 44) a 44 (b ++ 44 ∷ c) (no_comma a h) refl, alone a h, two_between b c k m) refl
 
 -- ---- blanks round the operands
 
@@ -42,18 +51,6 @@ comma = is_byte 44
 
 blank_is_no_comma : (x : ℕ) → is_blank x ≡ true → comma x ≡ true → ⊥
 blank_is_no_comma x blank cut = let f : is_blank 44 ≡ true = subst (λ (c : ℕ). is_blank c ≡ true) (eqb-true x 44 cut) blank in cc
-
-listed_join : (part : List ℕ) (parts : List (List ℕ)) → AreListed (join_with_byte 44 (part ∷ parts)) (map trimmed (part ∷ parts))
-listed_join part [] = last part (trimmed part) (padded_stripped is_blank part)
-listed_join part (next ∷ parts) = more part (trimmed part) (join_with_byte 44 (next ∷ parts))
-    (map trimmed (next ∷ parts)) (padded_stripped is_blank part) (listed_join next parts)
-
-pub listed_split : (text : List ℕ) → AreListed text (map trimmed (slice_split comma text))
-listed_split text =
-    let whole : join_with_byte 44 (slice_split comma text) ≡ text = join_with_byte-slice_split 44 text in
-    let parts = split_cut comma text in
-    subst (λ (t : List ℕ). AreListed t (map trimmed (slice_split comma text))) whole
-    (subst (λ (ps : List (List ℕ)). AreListed (join_with_byte 44 ps) (map trimmed ps)) (sym parts) (listed_join _ _))
 
 abbrev kept_first : ℕ → List (List ℕ) → List (List ℕ)
 kept_first x [] = onto_kept is_blank x [] ∷ []
@@ -96,38 +93,11 @@ trims_ends [] = refl
 trims_ends (part ∷ parts) = rw (stripped-trailing is_blank part, trims_ends parts) refl
 
 -- the blanks round a text are round its first and last operand
-pub split_trimmed : (text : List ℕ) → map trimmed (slice_split comma (trimmed text)) ≡ map trimmed (slice_split comma text)
+pub split_trimmed : (text : List ℕ) → operands_in (trimmed text) ≡ operands_in text
 unfolding stripped
 split_trimmed text =
     let front = without_front text in
     sym (trims_ends (slice_split comma (without_end front))) ∙ (ap (map trimmed) (split_end front) ∙ (trims_ends (slice_split comma front) ∙ split_front text))
-
--- no byte of an operand is a comma
-abbrev pub NoCommas : List (List ℕ) → Type 0
-NoCommas operands = AllByRecursion (λ operand. NonePass comma operand) operands
-
-blanks_no_comma : (text : List ℕ) → AreBlanks text → NonePass comma text
-blanks_no_comma [] h = tt
-blanks_no_comma (x ∷ xs) h = (go (comma x) refl, blanks_no_comma xs h.1)
-  where
-    go : (c : Bool) → comma x ≡ c → comma x ≡ false
-    go true cut = absurd (blank_is_no_comma x h.0 cut)
-    go false on = on
-
-padded_no_comma : (core text : List ℕ) → IsPadded core text → NonePass comma core → NonePass comma text
-padded_no_comma core text pad none = subst (λ (t : List ℕ). NonePass comma t) (sym pad.4)
-    (none-append comma pad.0 (core ++ pad.1) (blanks_no_comma pad.0 pad.2)
-    (none-append comma core pad.1 none (blanks_no_comma pad.1 pad.3)))
-
-pub split_listed : (text : List ℕ) (operands : List (List ℕ)) → AreListed text operands → NoCommas operands
-    → map trimmed (slice_split comma text) ≡ map trimmed operands
-split_listed text operands (last whole operand pad) none =
-    rw (split_none comma whole (padded_no_comma operand whole pad none.0))
-    (ap (λ o. o ∷ []) (stripped-padded is_blank operand whole pad))
-split_listed text operands (more first operand rest others pad listed) none = rw (
-  split_stop comma first 44 rest (padded_no_comma operand first pad none.0) refl,
-  stripped-padded is_blank operand first pad,
-) (ap (λ os. trimmed operand ∷ os) (split_listed rest others listed none.1))
 
 -- ---- the operands of a line, one by one
 

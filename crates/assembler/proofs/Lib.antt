@@ -4,8 +4,7 @@ pub mod ReadAgain
 pub mod RoundTrip
 pub mod Named
 pub mod Rows
-pub mod Leaves
-pub mod Addresses
+pub mod OperandLaws
 pub mod OperandTable
 pub mod StatementGrammar
 pub mod LineGrammar

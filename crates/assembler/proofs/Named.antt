@@ -2,7 +2,6 @@
 use Rattle.std.proofs.Common.{arith, ◌≡◌, ℕ, Bool, true, not, ◌&&◌, List, ◌++◌, length, Some}
 use Rattle.std.specs.Prelude.{nat_lt}
 use Rattle.std.specs.List.{list_all}
-use Rattle.texts.specs.Pieces.{is_blank}
 use Rattle.rv_decode.specs.declared.instruction.BranchOp.{BranchOp}
 use Rattle.rv_decode.specs.declared.instruction.LoadOp.{LoadOp}
 use Rattle.rv_decode.specs.declared.instruction.StoreOp.{StoreOp}
@@ -12,16 +11,12 @@ use Rattle.rv_decode.specs.declared.instruction.RegisterOp.{RegisterOp}
 use Rattle.rv_decode.specs.declared.instruction.AmoOp.{AmoOp}
 use Rattle.assembler.specs.declared.form.Form.{Form}
 use Rattle.assembler.specs.declared.form.Form.TheVariants as form
-use Rattle.texts.specs.Cutting.{is_byte}
+use Rattle.assembler.proofs.Commas.{parts_line}
 use Rattle.assembler.specs.Mnemonics.{form_named}
 use Rattle.assembler.specs.Writing.{branch_name, load_name, store_name, immediate_name, shift_name, register_name, amo_name, order_name}
 
--- a byte that parts no line
-abbrev pub is_plain : ℕ → Bool
-is_plain c = not (is_blank c) && (not (is_byte 10 c) && (not (is_byte 35 c) && not (is_byte 58 c)))
-
 abbrev pub is_word : List ℕ → Bool
-is_word xs = nat_lt 0 (length xs) && list_all is_plain xs
+is_word xs = nat_lt 0 (length xs) && list_all (λ c. not (parts_line c)) xs
 
 abbrev pub IsNameOf : List ℕ → Form → Type 0
 IsNameOf name f = (is_word name ≡ true) × (form_named name ≡ Some f)

@@ -1,10 +1,7 @@
 -- The table of operands: what is made of a list of them is what the grammar says.
-use Rattle.std.proofs.Common.{◌≡◌, ℕ, true, false, List, [], ◌∷◌, length, map, Ok, refl, sym, ap, subst, arith, pos, negsuc}
-use Rattle.std.specs.List.{AllByRecursion, list_all}
-use Rattle.std.proofs.lemmas.List.{length-map}
+use Rattle.std.proofs.Common.{◌≡◌, ℕ, true, false, List, [], ◌∷◌, length, Ok, refl, sym, subst}
 use Rattle.texts.specs.Numbers.{capped_value}
 use Rattle.texts.specs.Grammars.{magnitude, integer}
-use Rattle.texts.specs.Cutting.{trimmed}
 use Rattle.texts.proofs.ResultLaws.{ok_is, bind_ok}
 use Rattle.rv_decode.specs.declared.instruction.Instr.TheVariants as instr
 use Rattle.assembler.specs.declared.faults.AsmFault.{AsmFault}
@@ -12,27 +9,13 @@ use Rattle.assembler.specs.declared.form.Form.{Form}
 use Rattle.assembler.specs.declared.form.Form.TheVariants.{Jalr, Fence, FenceTso, Ecall, Ebreak}
 use Rattle.rv_decode.specs.Registers.{register_named}
 use Rattle.assembler.specs.Sets.{set_named}
-use Rattle.assembler.specs.Operands.{OperandKind, register, upper, amount, short, word, address, pointer, near, far, set, OperandValue, value_in}
+use Rattle.assembler.specs.Operands.{OperandKind, register, short, address, set, OperandValue, value_in}
 use Rattle.assembler.specs.Statements.{Made, one, Maker, operand_row, read_operands, statement_of}
 use Rattle.assembler.specs.Lines.{is_pair}
-use Rattle.assembler.specs.Spelled.{IsSpelled}
 use Rattle.assembler.specs.Grammar.{AreSpelled, Makes}
-use Rattle.assembler.proofs.Leaves.{is_operand_byte, Reads, reads_register, reads_set, reads_number, reads_natural}
-use Rattle.assembler.proofs.Addresses.{reads_target, reads_address}
+use Rattle.assembler.proofs.OperandLaws.{operand_found, operand_only}
 
 -- ---- an operand of each kind
-
-pub reads_kind : (kind : OperandKind) → Reads (value_in kind) (IsSpelled kind)
-reads_kind register = reads_register
-reads_kind upper = reads_natural 1048575
-reads_kind amount = reads_natural 31
-reads_kind short = reads_number (negsuc 2047) (pos 2047)
-reads_kind word = reads_number (negsuc 2147483647) (pos 4294967295)
-reads_kind address = reads_address (negsuc 2047) (pos 2047)
-reads_kind pointer = reads_address (pos 0) (pos 0)
-reads_kind near = reads_target (pos 4096)
-reads_kind far = reads_target (pos 1048576)
-reads_kind set = reads_set
 
 none_in_empty : (kind : OperandKind) (x : OperandValue kind) → value_in kind [] ≡ Ok x → ⊥
 unfolding register_named set_named magnitude integer capped_value
@@ -41,26 +24,19 @@ none_in_empty kind x e = cc
 
 -- ---- operands of such kinds
 
-abbrev pub OperandBytes : List (List ℕ) → Type 0
-OperandBytes operands = AllByRecursion (λ operand. list_all is_operand_byte operand ≡ true) operands
-
 kinds_found : (kinds : List OperandKind) (make : Maker kinds) (list : List (List ℕ)) (made : Made)
     → read_operands kinds make list ≡ Ok made → AreSpelled kinds make list made
 kinds_found [] make [] made e = (refl, sym (ok_is AsmFault make made e))
 kinds_found (kind ∷ kinds) make (a ∷ rest) made e =
     let x = bind_ok (value_in kind a) (λ v. read_operands kinds (make v) rest) made e in
-    (a, rest, x.0, refl, (reads_kind kind).found a x.0 x.1, kinds_found kinds (make x.0) rest made x.2)
+    (a, rest, x.0, refl, operand_found kind a x.0 x.1, kinds_found kinds (make x.0) rest made x.2)
 kinds_found x make y made e = absurd cc
 
 kinds_only : (kinds : List OperandKind) (make : Maker kinds) (list : List (List ℕ)) (made : Made)
-    → AreSpelled kinds make list made → read_operands kinds make (map trimmed list) ≡ Ok made
-kinds_only [] make list made is = subst (λ (os : List (List ℕ)). read_operands [] make (map trimmed os) ≡ Ok made) (sym is.0) (ap Ok (sym is.1))
-kinds_only (kind ∷ kinds) make list made is = grind (arith, reads_kind, kinds_only kinds (make is.2) is.1 made is.5)
-
-kinds_bytes : (kinds : List OperandKind) (make : Maker kinds) (list : List (List ℕ)) (made : Made) → AreSpelled kinds make list made → OperandBytes list
-kinds_bytes [] make list made is = subst OperandBytes (sym is.0) tt
-kinds_bytes (kind ∷ kinds) make list made is =
-    subst OperandBytes (sym is.3) ((reads_kind kind).bytes is.0 is.2 is.4, kinds_bytes kinds (make is.2) is.1 made is.5)
+    → AreSpelled kinds make list made → read_operands kinds make list ≡ Ok made
+kinds_only [] make list made (none, is) = rw (none, is) refl
+kinds_only (kind ∷ kinds) make list made (operand, others, x, same, says, more) =
+    rw same (rw (operand_only kind operand x says) (kinds_only kinds (make x) others made more))
 
 kinds_some : (kinds : List OperandKind) (make : Maker kinds) (made : Made) → read_operands kinds make ([] ∷ []) ≡ Ok made → ⊥
 kinds_some [] make made e = cc
@@ -72,12 +48,9 @@ kinds_some (kind ∷ kinds) make made e = let x = bind_ok (value_in kind []) (λ
 pub found_makes : (form : Form) (list : List (List ℕ)) (made : Made) → statement_of form list ≡ Ok made → Makes form list made
 found_makes form list made e = kinds_found (operand_row form (length list)).kinds (operand_row form (length list)).make list made e
 
--- and what the table says is made of the operands, whatever blanks are round them
-pub only_makes : (form : Form) (list : List (List ℕ)) (made : Made) → Makes form list made → statement_of form (map trimmed list) ≡ Ok made
-only_makes form list made is = grind (arith, length-map, kinds_only)
-
-pub makes_bytes : (form : Form) (list : List (List ℕ)) (made : Made) → Makes form list made → OperandBytes list
-makes_bytes form list made is = kinds_bytes (operand_row form (length list)).kinds (operand_row form (length list)).make list made is
+-- and what the table says is made
+pub only_makes : (form : Form) (list : List (List ℕ)) (made : Made) → Makes form list made → statement_of form list ≡ Ok made
+only_makes form list made is = kinds_only (operand_row form (length list)).kinds (operand_row form (length list)).make list made is
 
 -- an empty text is no operand
 pub makes_of_empty : (form : Form) (made : Made) → statement_of form ([] ∷ []) ≡ Ok made → ⊥

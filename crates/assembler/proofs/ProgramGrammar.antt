@@ -26,7 +26,7 @@ use Rattle.assembler.specs.Drafts.{all_drafted, in_bytes, distance, placed_state
 use Rattle.assembler.specs.Grammar.{IsLine}
 use Rattle.assembler.specs.Program.{AreLines, AreApart, EachOnce, IsFresh, Defines, IsPlaced, ArePlaced, AreInstrs, IsProgram, AreWordsOf}
 use Rattle.assembler.specs.Program.IsPlaced.{nothing, single, double, jumping, branching}
-use Rattle.assembler.proofs.Addresses.{is_reached-only, reached_true}
+use Rattle.assembler.proofs.OperandLaws.{is_reached-only, reached_true}
 use Rattle.assembler.proofs.LabelLaws.{label_is, is_the_label, Apart, fresh_apart, apart_fresh, apart-append}
 use Rattle.assembler.proofs.DraftLaws.{drafted_twice, drafted_added, drafted_faulty}
 use Rattle.assembler.proofs.LineGrammar.{line-found, line-only}

@@ -12,12 +12,15 @@ use Rattle.rv_decode.specs.Fits.{IsSigned}
 use Rattle.rv_decode.specs.declared.instruction.Reg.{Reg}
 use Rattle.rv_decode.specs.Registers.{register_names}
 use Rattle.assembler.specs.Sets.{set_names}
-use Rattle.assembler.specs.Spelled.{IsNumberFrom, IsNumberUpTo, IsRegister, IsSet, IsAddressOperand}
+use Rattle.assembler.specs.Spelled.{a_register, a_set, number_from, natural_to, base, address_from, target_within}
 use Rattle.texts.specs.Grammars.{magnitude, integer}
 use Rattle.texts.proofs.GrammarLaws.{decimal_numeral}
 use Rattle.assembler.specs.Writing.{register_text, address_text, set_text}
 use Rattle.assembler.proofs.Rows.{all_below, below_all, found_in, member_of_row}
-use Rattle.assembler.proofs.StatementGrammar.{padded_self}
+use Rattle.assembler.proofs.OperandLaws.{within-only, is_reached-only}
+use Rattle.assembler.specs.Operands.{bytes, IsInReach}
+use Rattle.texts.specs.Pieces.{is_blank}
+use Rattle.texts.proofs.TrimLaws.{stripped-none, stripped-all}
 
 -- ---- registers and sets
 
@@ -35,7 +38,7 @@ all_numbered : all_below 32 (λ n. is_number (numbered n) n) ≡ true
 unfolding digits
 all_numbered = refl
 
-pub register_spelled : (r : Reg) → IsRegister (register_text r) r
+pub register_spelled : (r : Reg) → a_register.Says (register_text r) r
 register_spelled r =
     member_of_row register_names (register_text r) r.number (is_number_of (numbered r.number) r.number
     (below_all 32 (λ n. is_number (numbered n) n) all_numbered r.number (omega arith)))
@@ -47,7 +50,7 @@ all_sets : all_below 16 is_read_set ≡ true
 unfolding is_read_set
 all_sets = refl
 
-pub set_spelled : (n : ℕ) → n < 16 → IsSet (set_text n) n
+pub set_spelled : (n : ℕ) → n < 16 → a_set.Says (set_text n) n
 unfolding is_read_set
 set_spelled n lt = member_of_row set_names (set_text n) n (is_number_of (found_in set_names (set_text n)) n (below_all 16 is_read_set all_sets n lt))
 
@@ -58,12 +61,23 @@ unfolding integer magnitude
 signed_spelled (pos n) fits = inr (n, inr (decimal_numeral n (omega (arith, ints))), refl)
 signed_spelled (negsuc n) fits = inl (suc n, (decimal (suc n), refl, inr (decimal_numeral (suc n) (omega (arith, ints)))), refl)
 
-pub short_spelled : (z : ℤ) → IsSigned 11 z → IsSigned 31 z → IsNumberFrom (negsuc 2047) (pos 2047) (signed_decimal z) z
-short_spelled z short fits = (signed_spelled z fits, omega (arith, ints), omega (arith, ints))
+pub short_spelled : (z : ℤ) → IsSigned 11 z → IsSigned 31 z → (number_from (negsuc 2047) (pos 2047)).Says (signed_decimal z) z
+short_spelled z short fits = (z, signed_spelled z fits, within-only (negsuc 2047) (pos 2047) z (omega (arith, ints)) (omega (arith, ints)))
 
-pub natural_spelled : (most n : ℕ) → n ≤ most → most < 2 ^ 32 → IsNumberUpTo most (decimal n) n
+pub natural_spelled : (most n : ℕ) → n ≤ most → most < 2 ^ 32 → (natural_to most).Says (decimal n) n
 unfolding integer magnitude
-natural_spelled most n le small = (inr (n, inr (decimal_numeral n (omega arith)), refl), le)
+natural_spelled most n le small = (
+  pos n,
+  (
+    pos n,
+    inr (n, inr (decimal_numeral n (omega arith)), refl),
+    within-only (pos 0) (pos most) (pos n) (omega (arith, ints)) (omega (arith, ints)),
+  ),
+  refl,
+)
+
+pub target_spelled : (bound z : ℤ) → IsSigned 31 z → IsInReach bound (bytes z) → (target_within bound).Says (signed_decimal z) (bytes z)
+target_spelled bound z fits (low, high, even) = inr (z, signed_spelled z fits, rw (is_reached-only bound z low high even) refl)
 
 pub signed_none : (p : ℕ → Bool) → p 45 ≡ false → ((d : ℕ) → d < 10 → p (48 + d) ≡ false) → (z : ℤ) → IsSigned 31 z → NonePass p (signed_decimal z)
 signed_none p sign digit (pos n) fits = decimal_none p digit n (omega (arith, ints))
@@ -74,26 +88,25 @@ signed_some z fits = grind (arith, decimal_nonempty, ints)
 
 -- ---- addresses
 
+base_spelled : (r : Reg) → NonePass is_blank (register_text r) → base.Says (register_text r ++ 41 ∷ []) r
+base_spelled r solid = (register_text r, refl, rw (stripped-none is_blank (register_text r) solid) (register_spelled r))
+
 -- `n(rs1)`
-pub address_spelled : (z : ℤ) (r : Reg) → IsSigned 11 z → IsSigned 31 z → IsAddressOperand (negsuc 2047) (pos 2047) (address_text z r) (r, z)
-address_spelled z r short fits = record {
-  before = signed_decimal z;
-  inside = register_text r;
-  name = register_text r;
-  whole = refl;
-  offset = inr (signed_decimal z, padded_self (signed_decimal z), short_spelled z short fits);
-  padded = padded_self (register_text r);
-  named = register_spelled r;
-}
+pub address_spelled : (z : ℤ) (r : Reg) → IsSigned 11 z → IsSigned 31 z → NonePass is_blank (signed_decimal z) → NonePass is_blank (register_text r)
+    → (address_from (negsuc 2047) (pos 2047)).Says (address_text z r) (r, z)
+address_spelled z r short fits solid solid_register = (
+  (z, r),
+  (
+    signed_decimal z,
+    register_text r ++ 41 ∷ [],
+    refl,
+    rw (stripped-none is_blank (signed_decimal z) solid) (inr (short_spelled z short fits)),
+    base_spelled r solid_register,
+  ),
+  refl,
+)
 
 -- `(rs1)`
-pub pointer_spelled : (r : Reg) → IsAddressOperand (pos 0) (pos 0) (40 ∷ (register_text r ++ 41 ∷ [])) (r, pos 0)
-pointer_spelled r = record {
-  before = [];
-  inside = register_text r;
-  name = register_text r;
-  whole = refl;
-  offset = inl (tt, refl);
-  padded = padded_self (register_text r);
-  named = register_spelled r;
-}
+pub pointer_spelled : (r : Reg) → NonePass is_blank (register_text r)
+    → (address_from (pos 0) (pos 0)).Says (40 ∷ (register_text r ++ 41 ∷ [])) (r, pos 0)
+pointer_spelled r solid = ((pos 0, r), ([], register_text r ++ 41 ∷ [], refl, rw (stripped-all is_blank [] tt) (inl (refl, refl)), base_spelled r solid), refl)

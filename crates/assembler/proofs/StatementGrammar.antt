@@ -1,9 +1,9 @@
 -- What is made of a text is the statement of the grammar, and what the grammar has is made.
-use Rattle.std.proofs.Common.{◌≡◌, ℕ, ◌<◌, Bool, true, false, not, ◌||◌, eqb, List, [], ◌∷◌, ◌++◌, length, map, Option}
+use Rattle.std.proofs.Common.{◌≡◌, ℕ, ◌<◌, true, false, not, eqb, List, [], ◌∷◌, ◌++◌, length, Option}
 use Rattle.std.proofs.Common.{Some, None, Ok, refl, sym, ap, subst, ◌∙◌, inl, inr, arith, append-nil}
 use Rattle.std.specs.Prelude.{◌==◌}
-use Rattle.std.specs.List.{Contains, list_all, slice_split}
-use Rattle.std.proofs.lemmas.Bool.{cases_Bool, ne_eqb, not-true}
+use Rattle.std.specs.List.{Contains, list_all}
+use Rattle.std.proofs.lemmas.Bool.{cases_Bool, eqb-true, ne_eqb, not-true}
 use Rattle.texts.specs.Pieces.{is_blank}
 use Rattle.texts.specs.Cutting.{before, after, without_front, without_end, trimmed, onto_kept, AreBlanks, IsPadded, NonePass, stripped}
 use Rattle.texts.proofs.ResultLaws.{ok_is, bind_ok}
@@ -11,37 +11,45 @@ use Rattle.assembler.specs.declared.form.Form.{Form}
 use Rattle.assembler.specs.Mnemonics.{mnemonics, form_named}
 use Rattle.assembler.specs.Statements.{Made, statement_of}
 use Rattle.assembler.specs.Lines.{operands_of, made_for, made_in}
-use Rattle.assembler.specs.Spelled.{AreListed}
-use Rattle.assembler.specs.Spelled.AreListed.{last, more}
+use Rattle.assembler.specs.Spelled.{operands_in}
 use Rattle.assembler.specs.Grammar.{Makes, IsStatement, IsBody}
 use Rattle.assembler.specs.Grammar.IsStatement.{alone, applied}
 use Rattle.assembler.specs.Grammar.IsBody.{nothing, statement}
 use Rattle.texts.proofs.CuttingLaws.{before-none, after-none, before-stop, after-stop, cut_whole, uncut}
-use Rattle.texts.proofs.TrimLaws.{onto_some, stripped-padded, stripped-all, stripped-trailing, padded_stripped, padded_twice, trailing_split}
+use Rattle.texts.proofs.TrimLaws.{all-append, onto_some, stripped-padded, stripped-all, stripped-none}
+use Rattle.texts.proofs.TrimLaws.{stripped-trailing, padded_stripped, padded_twice, trailing_split}
 use Rattle.assembler.proofs.Rows.{found_in, are_apart, row_of_member, member_of_row, all_rows}
-use Rattle.assembler.proofs.Commas.{comma, NoCommas, listed_split, split_trimmed, split_listed}
-use Rattle.assembler.proofs.Leaves.{is_word_byte, is_operand_byte, all_weaker, none_of_all, not_this, word_solid, word_trimmed}
-use Rattle.assembler.proofs.Addresses.{both_all, empty_text, blanks_of_trimmed}
-use Rattle.assembler.proofs.OperandTable.{OperandBytes, found_makes, only_makes, makes_bytes, makes_of_empty}
+use Rattle.assembler.proofs.Commas.{split_trimmed}
+use Rattle.texts.proofs.GrammarLaws.{all_by_test, none_of_all}
+use Rattle.assembler.proofs.OperandTable.{found_makes, only_makes, makes_of_empty}
 
 -- ---- mnemonics
 
 mnemonics-apart : are_apart mnemonics ≡ true
 mnemonics-apart = refl
 
-mnemonic_words : list_all (λ row. list_all is_word_byte row.0) mnemonics ≡ true
-mnemonic_words = refl
+solid_mnemonics : list_all (λ row. list_all (λ c. not (is_blank c)) row.0) mnemonics ≡ true
+solid_mnemonics = refl
 
 some_mnemonics : list_all (λ row. not (length row.0 == 0)) mnemonics ≡ true
 some_mnemonics = refl
 
-pub mnemonic_word : (name : List ℕ) (form : Form) → Contains mnemonics (name, form) → list_all is_word_byte name ≡ true
-mnemonic_word name form has = all_rows (λ text. list_all is_word_byte text) mnemonics name form mnemonic_words has
+-- no blank stands in it
+mnemonic_solid : (name : List ℕ) (form : Form) → Contains mnemonics (name, form) → NonePass is_blank name
+mnemonic_solid name form has = none_of_all (λ c. not (is_blank c)) is_blank (λ c passes. not-true (is_blank c) passes) name
+    (all_by_test (λ c. not (is_blank c)) name (all_rows (λ text. list_all (λ c. not (is_blank c)) text) mnemonics name form solid_mnemonics has))
 
 mnemonic_some : (name : List ℕ) (form : Form) → Contains mnemonics (name, form) → eqb (length name) 0 ≡ false
 mnemonic_some name form has = not-true (eqb (length name) 0) (all_rows (λ text. not (length text == 0)) mnemonics name form some_mnemonics has)
 
 -- ---- what is made is a statement
+
+empty_text : (t : List ℕ) → eqb (length t) 0 ≡ true → t ≡ []
+empty_text [] e = refl
+empty_text (x ∷ xs) e = absurd (let f : length (x ∷ xs) ≡ 0 = eqb-true (length (x ∷ xs)) 0 e in omega arith)
+
+blanks_of_trimmed : (t : List ℕ) → trimmed t ≡ [] → AreBlanks t
+blanks_of_trimmed t e = grind (arith, padded_stripped is_blank t, all-append is_blank)
 
 pub padded_self : (text : List ℕ) → IsPadded text text
 padded_self text = ([], [], tt, tt, sym (append-nil text))
@@ -59,7 +67,7 @@ pub record Stated (text : List ℕ) (made : Made) : Type 0 where
   pub padded : IsPadded core text
   pub is : IsStatement core made
 
-some_operands : (rest : List ℕ) → eqb (length (trimmed rest)) 0 ≡ false → operands_of (Some rest) ≡ map trimmed (slice_split comma rest)
+some_operands : (rest : List ℕ) → eqb (length (trimmed rest)) 0 ≡ false → operands_of (Some rest) ≡ operands_in rest
 some_operands rest some = rw some (split_trimmed rest)
 
 no_operands : (rest : List ℕ) → eqb (length (trimmed rest)) 0 ≡ true → operands_of (Some rest) ≡ []
@@ -89,9 +97,8 @@ stated text form made has (Some rest) cut e =
         core = text;
         padded = padded_self text;
         is = subst (λ (whole : List ℕ). IsStatement whole made) (sym split.2)
-            (applied (before is_blank text) split.0 rest form (map trimmed (slice_split comma rest)) made has split.1
-            (listed_split rest)
-            (found_makes form (map trimmed (slice_split comma rest)) made (rw (some_operands rest some) at e)));
+            (applied (before is_blank text) split.0 rest form made has split.1
+            (found_makes form (operands_in rest) made (rw (some_operands rest some) at e)));
       }
     ]
 
@@ -117,20 +124,12 @@ body_found text (Some made) e =
 
 -- ---- what the grammar has is made
 
-no_commas : (operands : List (List ℕ)) → OperandBytes operands → NoCommas operands
-no_commas [] h = tt
-no_commas (operand ∷ operands) h = (none_of_all is_operand_byte comma (not_this is_operand_byte 44 refl) operand h.0, no_commas operands h.1)
-
 -- the operands after a mnemonic are not blank
-operands_some : (text : List ℕ) (form : Form) (operands : List (List ℕ)) (made : Made) → AreListed text operands
-    → Makes form operands made → trimmed text ≡ [] → ⊥
+operands_some : (text : List ℕ) (form : Form) (made : Made) → Makes form (operands_in text) made → trimmed text ≡ [] → ⊥
 unfolding stripped
-operands_some text form operands made listed makes blank =
-    let split : map trimmed (slice_split comma text) ≡ map trimmed operands =
-    split_listed text operands listed (no_commas operands (makes_bytes form operands made makes)) in
-    let none : map trimmed (slice_split comma (trimmed text)) ≡ [] ∷ [] = ap (λ t. map trimmed (slice_split comma t)) blank in
-    let one : map trimmed operands ≡ [] ∷ [] = sym split ∙ (sym (split_trimmed text) ∙ none) in
-    makes_of_empty form made (subst (λ (list : List (List ℕ)). statement_of form list ≡ Ok made) one (only_makes form operands made makes))
+operands_some text form made makes blank =
+    let none : operands_in text ≡ [] ∷ [] = sym (split_trimmed text) ∙ ap operands_in blank in
+    makes_of_empty form made (subst (λ (list : List (List ℕ)). statement_of form list ≡ Ok made) none (only_makes form (operands_in text) made makes))
 
 some_length : (xs : List ℕ) → (xs ≡ [] → ⊥) → 0 < length xs
 some_length [] h = absurd (h refl)
@@ -156,29 +155,25 @@ trimmed-applied name blank text some solid kept = grind (arith, onto_some, front
 end_some : (text : List ℕ) → (trimmed text ≡ [] → ⊥) → without_end text ≡ [] → ⊥
 end_some text some none = grind (arith, trailing_split is_blank text, stripped-all is_blank text)
 
-applied_only : (name : List ℕ) (blank : ℕ) (text : List ℕ) (form : Form) (operands : List (List ℕ)) (made : Made)
-    → Contains mnemonics (name, form) → is_blank blank ≡ true → AreListed text operands → Makes form operands made
-    → made_in (trimmed (name ++ blank ∷ text)) ≡ Ok (Some made)
+applied_only : (name : List ℕ) (blank : ℕ) (text : List ℕ) (form : Form) (made : Made) → Contains mnemonics (name, form)
+    → is_blank blank ≡ true → Makes form (operands_in text) made → made_in (trimmed (name ++ blank ∷ text)) ≡ Ok (Some made)
 unfolding made_in form_named
-applied_only name blank text form operands made has is listed makes =
+applied_only name blank text form made has is makes =
     let kept = without_end text in
-    let solid = word_solid name (mnemonic_word name form has) in
+    let solid = mnemonic_solid name form has in
     let long : 0 < length name =
     some_length name (λ e. (let f : eqb (length name) 0 ≡ false = mnemonic_some name form has in
     let g : eqb (length name) 0 ≡ true = ap (λ t. eqb (length t) 0) e in (let h = sym f ∙ g in cc))) in
-    let some : trimmed text ≡ [] → ⊥ = operands_some text form operands made listed makes in
+    let some : trimmed text ≡ [] → ⊥ = operands_some text form made makes in
     let core : trimmed (name ++ blank ∷ text) ≡ name ++ blank ∷ kept = trimmed-applied name blank text long solid (some_length kept (end_some text some)) in
     let whole : eqb (length (name ++ blank ∷ kept)) 0 ≡ false = ne_eqb (length (name ++ blank ∷ kept)) 0 (λ e. absurd_length name (blank ∷ kept) long e) in
     let still : eqb (length (trimmed kept)) 0 ≡ false = ne_eqb (length (trimmed kept)) 0
     (λ e. some (sym (stripped-trailing is_blank text) ∙ empty_length (trimmed kept) e)) in
-    let split : map trimmed (slice_split comma (trimmed text)) ≡ map trimmed operands = split_trimmed text
-    ∙ split_listed text operands listed (no_commas operands (makes_bytes form operands made makes)) in
-    let read : operands_of (Some kept) ≡ map trimmed operands =
-    rw still (ap (λ t. map trimmed (slice_split comma t)) (stripped-trailing is_blank text) ∙ split) in
+    let read : operands_of (Some kept) ≡ operands_in text = rw still (ap operands_in (stripped-trailing is_blank text) ∙ split_trimmed text) in
     let name_is = before-stop is_blank name blank kept solid is in
     let rest_is = after-stop is_blank name blank kept solid is in
     let found : found_in mnemonics name ≡ Some form = row_of_member mnemonics name form mnemonics-apart has in
-    ap made_in core ∙ rw (whole, name_is, rest_is, read, found, only_makes form operands made makes) refl
+    ap made_in core ∙ rw (whole, name_is, rest_is, read, found, only_makes form (operands_in text) made makes) refl
   where
     absurd_length : (xs ys : List ℕ) → 0 < length xs → length (xs ++ ys) ≡ 0 → ⊥
     absurd_length [] ys long e = omega arith
@@ -191,10 +186,9 @@ applied_only name blank text form operands made has is listed makes =
 alone_only : (name : List ℕ) (form : Form) (made : Made) → Contains mnemonics (name, form) → Makes form [] made → made_in (trimmed name) ≡ Ok (Some made)
 unfolding made_in form_named
 alone_only name form made has makes =
-    let word = mnemonic_word name form has in
-    let solid = word_solid name word in
+    let solid = mnemonic_solid name form has in
     let found : found_in mnemonics name ≡ Some form = row_of_member mnemonics name form mnemonics-apart has in
-    ap made_in (word_trimmed name word) ∙ rw (
+    ap made_in (stripped-none is_blank name solid) ∙ rw (
       mnemonic_some name form has,
       before-none is_blank name solid,
       after-none is_blank name solid,
@@ -204,52 +198,9 @@ alone_only name form made has makes =
 
 statement_only : (core : List ℕ) (made : Made) → IsStatement core made → made_in (trimmed core) ≡ Ok (Some made)
 statement_only core made (alone name form result has makes) = alone_only name form result has makes
-statement_only core made (applied name blank text form operands result has is listed makes) =
-    applied_only name blank text form operands result has is listed makes
+statement_only core made (applied name blank text form result has is makes) = applied_only name blank text form result has is makes
 
 pub body_only : (text : List ℕ) (made : Option Made) → IsBody text made → made_in (trimmed text) ≡ Ok made
 unfolding made_in
 body_only text made (nothing blanks are) = rw (stripped-all is_blank blanks are) refl
 body_only text made (statement whole core result pad is) = ap made_in (stripped-padded is_blank core whole pad) ∙ statement_only core result is
-
--- ---- the bytes of a statement
-
-abbrev pub is_code_byte : ℕ → Bool
-is_code_byte c = is_operand_byte c || (c == 44)
-
-operand_code : (c : ℕ) → is_operand_byte c ≡ true → is_code_byte c ≡ true
-operand_code c e = rw e refl
-
-word_code : (c : ℕ) → is_word_byte c ≡ true → is_code_byte c ≡ true
-word_code c e = rw e refl
-
-blank_code : (c : ℕ) → is_blank c ≡ true → is_code_byte c ≡ true
-blank_code c e = grind (arith, is_word_byte, eqb)
-
-pub blanks_code : (text : List ℕ) → AreBlanks text → list_all is_code_byte text ≡ true
-blanks_code [] h = refl
-blanks_code (c ∷ text) h = rw (blank_code c h.0, blanks_code text h.1) refl
-
-padded_code : (core text : List ℕ) → IsPadded core text → list_all is_code_byte core ≡ true → list_all is_code_byte text ≡ true
-padded_code core text pad h = subst (λ (s : List ℕ). list_all is_code_byte s ≡ true) (sym pad.4)
-    (both_all is_code_byte pad.0 (core ++ pad.1) (blanks_code pad.0 pad.2)
-    (both_all is_code_byte core pad.1 h (blanks_code pad.1 pad.3)))
-
-listed_code : (text : List ℕ) (operands : List (List ℕ)) → AreListed text operands → OperandBytes operands → list_all is_code_byte text ≡ true
-listed_code text operands (last whole operand pad) h = padded_code operand whole pad (all_weaker is_operand_byte is_code_byte operand_code operand h.0)
-listed_code text operands (more first operand rest others pad listed) h =
-    both_all is_code_byte first (44 ∷ rest)
-    (padded_code operand first pad (all_weaker is_operand_byte is_code_byte operand_code operand h.0))
-    (rw (listed_code rest others listed h.1) refl)
-
-name_code : (name : List ℕ) (form : Form) → Contains mnemonics (name, form) → list_all is_code_byte name ≡ true
-name_code name form has = all_weaker is_word_byte is_code_byte word_code name (mnemonic_word name form has)
-
-statement_code : (core : List ℕ) (made : Made) → IsStatement core made → list_all is_code_byte core ≡ true
-statement_code core made (alone name form result has makes) = name_code name form has
-statement_code core made (applied name blank text form operands result has is listed makes) =
-    both_all is_code_byte name (blank ∷ text) (name_code name form has)
-    (rw (blank_code blank is, listed_code text operands listed (makes_bytes form operands result makes)) refl)
-
-pub body_code : (text : List ℕ) (made : Option Made) → IsBody text made → list_all is_code_byte text ≡ true
-body_code text made h2 = grind (arith, blanks_code, padded_code, statement_code)

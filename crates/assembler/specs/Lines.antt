@@ -1,6 +1,5 @@
 -- A line's parts: what stands before a comment is a label, or none, and a statement, or none.
-use Rattle.std.specs.Prelude.{ℕ, ◌==◌, Bool, true, false, List, [], ◌∷◌, length, map, Option, Some, None, Result, Ok, Err, if◌then◌else◌}
-use Rattle.std.specs.List.{slice_split}
+use Rattle.std.specs.Prelude.{ℕ, ◌==◌, Bool, true, false, List, [], ◌∷◌, length, Option, Some, None, Result, Ok, Err, if◌then◌else◌}
 use Rattle.std.specs.Option.{option_copied}
 use Rattle.texts.specs.Pieces.{is_blank}
 use Rattle.texts.specs.Results.{◌>>=◌}
@@ -11,6 +10,7 @@ use Rattle.assembler.specs.declared.statement.Operands.{Operands}
 use Rattle.assembler.specs.declared.statement.Statement.{Statement}
 use Rattle.texts.specs.Cutting.{before, after, is_byte, without_front, trimmed}
 use Rattle.assembler.specs.Names.{is_label_name}
+use Rattle.assembler.specs.Spelled.{operands_in}
 use Rattle.assembler.specs.Mnemonics.{form_named}
 use Rattle.assembler.specs.Statements.{Made, statement_of, made_of}
 
@@ -36,7 +36,7 @@ statement_text line = trimmed (parts_of (code_of line)).1
 -- the texts between commas, without the blanks round them
 abbrev pub between_commas : Option (List ℕ) → List (List ℕ)
 between_commas None = []
-between_commas (Some text) = map trimmed (slice_split (is_byte 44) text)
+between_commas (Some text) = operands_in text
 
 abbrev pub some_text : List ℕ → Option (List ℕ)
 some_text text = if length text == 0 then None else Some text

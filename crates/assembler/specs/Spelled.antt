@@ -1,70 +1,78 @@
--- How the parts of a statement are spelled, each a relation between a text and what it says.
-use Rattle.std.specs.Prelude.{◌≡◌, ℕ, ℤ, pos, negsuc, neg_ℤ, ◌≤◌, ◌≤ℤ◌, ◌<ℤ◌, true, ◌⊎◌, List, [], ◌∷◌, ◌++◌}
-use Rattle.std.specs.List.{Contains}
-use Rattle.texts.specs.Grammars.{integer}
-use Rattle.rv_decode.specs.Fits.{IsEven}
+-- How the operands of a statement are spelled: a grammar for each kind.
+use Rattle.std.specs.Prelude.{◌≡◌, ℕ, ℤ, pos, negsuc, int_lt, unsigned_abs, true, ◌||◌, if◌then◌else◌, List, map, Option, Some, None}
+use Rattle.std.specs.List.{Contains, slice_split}
+use Rattle.texts.specs.Pieces.{is_blank}
+use Rattle.texts.specs.Cutting.{is_byte, trimmed}
+use Rattle.texts.specs.Grammars.{Grammar, mapped, filter_mapped, parted, suffixed, absent, surrounded, choice, integer}
 use Rattle.rv_decode.specs.declared.instruction.Reg.{Reg}
-use Rattle.rv_decode.specs.Registers.{register_names}
-use Rattle.assembler.specs.Sets.{set_names}
-use Rattle.assembler.specs.Names.{is_label_name}
-use Rattle.assembler.specs.Operands.{Target, bytes, label, OperandKind, register, upper, amount, short, word, address, pointer, near, far, set, OperandValue}
--- blanks, and a core with blanks round it, are words of texts
-pub use Rattle.texts.specs.Cutting.{AreBlanks, IsPadded}
+use Rattle.rv_decode.specs.Registers.{register_names, register_named}
+use Rattle.assembler.specs.Sets.{set_names, set_named}
+use Rattle.assembler.specs.Names.{is_label_name, goes_on_label_name}
+use Rattle.assembler.specs.Operands.{Target, bytes, label, is_reached}
+use Rattle.assembler.specs.Operands.{OperandKind, register, upper, amount, short, word, address, pointer, near, far, set, OperandValue}
 
--- Operands, parted by commas (44), with blanks round each.
-pub data AreListed : List ℕ → List (List ℕ) → Type 0 where
-  last : (text operand : List ℕ) → IsPadded operand text → AreListed text (operand ∷ [])
-  more : (text operand rest : List ℕ) (operands : List (List ℕ)) → IsPadded operand text → AreListed rest operands
-      → AreListed (text ++ 44 ∷ rest) (operand ∷ operands)
-
--- ---- numbers
-
-abbrev pub IsNumberFrom : (low high : ℤ) → List ℕ → ℤ → Type 0
-IsNumberFrom low high text n = integer.Says text n × (low ≤ℤ n) × (n ≤ℤ high)
-
-abbrev pub IsNumberUpTo : (most : ℕ) → List ℕ → ℕ → Type 0
-IsNumberUpTo most text n = integer.Says text (pos n) × (n ≤ most)
+-- what stands between the commas (44), without the blanks round it
+abbrev pub operands_in : List ℕ → List (List ℕ)
+operands_in text = map trimmed (slice_split (is_byte 44) text)
 
 -- ---- registers and the sets of a fence, each a row of its table
 
-abbrev pub IsRegister : List ℕ → Reg → Type 0
-IsRegister text r = Contains register_names (text, r.number)
+abbrev pub a_register : Grammar Reg
+a_register = record { Says = λ text r. Contains register_names (text, r.number); reads = register_named; bytes = goes_on_label_name }
 
-abbrev pub IsSet : List ℕ → ℕ → Type 0
-IsSet text n = Contains set_names (text, n)
+abbrev pub a_set : Grammar ℕ
+a_set = record { Says = λ text n. Contains set_names (text, n); reads = set_named; bytes = goes_on_label_name }
 
--- ---- addresses, `n(rs1)`, with blanks round the parentheses
+-- ---- numbers
+
+abbrev pub within : (low high : ℤ) → ℤ → Option ℤ
+within low high n = if int_lt n low || int_lt high n then None else Some n
+
+abbrev pub number_from : (low high : ℤ) → Grammar ℤ
+number_from low high = filter_mapped integer (within low high)
+
+abbrev pub natural_to : (most : ℕ) → Grammar ℕ
+natural_to most = mapped (number_from (pos 0) (pos most)) unsigned_abs
+
+-- ---- addresses, `n(rs1)`, with blanks round each part; the parentheses are 40 and 41
 
 -- where the number is left out it is 0
-abbrev pub IsOffset : (low high : ℤ) → List ℕ → ℤ → Type 0
-IsOffset low high text n = (AreBlanks text × (n ≡ pos 0)) ⊎ ((number : List ℕ) × IsPadded number text × IsNumberFrom low high number n)
+abbrev pub offset : (low high : ℤ) → Grammar ℤ
+offset low high = surrounded is_blank (choice (absent (pos 0)) (number_from low high))
 
--- the parentheses are 40 and 41
-pub record IsAddressOperand (low high : ℤ) (text : List ℕ) (at : Reg × ℤ) : Type 0 where
-  pub before : List ℕ
-  pub inside : List ℕ
-  pub name : List ℕ
-  pub whole : text ≡ before ++ 40 ∷ (inside ++ 41 ∷ [])
-  pub offset : IsOffset low high before at.1
-  pub padded : IsPadded name inside
-  pub named : IsRegister name at.0
+abbrev pub base : Grammar Reg
+base = suffixed 41 (surrounded is_blank a_register)
+
+abbrev pub based : ℤ × Reg → Reg × ℤ
+based both = (both.1, both.0)
+
+abbrev pub address_from : (low high : ℤ) → Grammar (Reg × ℤ)
+address_from low high = mapped (parted 40 (offset low high) base) based
 
 -- ---- where a jump or a branch goes: a label, or an even number of bytes within its reach
 
-abbrev pub IsTarget : (bound : ℤ) → List ℕ → Target → Type 0
-IsTarget bound text (label name) = (text ≡ name) × (is_label_name name ≡ true)
-IsTarget bound text (bytes n) = integer.Says text n × (neg_ℤ bound ≤ℤ n) × (n <ℤ bound) × IsEven n
+abbrev pub label_named : List ℕ → Option (List ℕ)
+label_named text = if is_label_name text then Some text else None
+
+abbrev pub a_label : Grammar (List ℕ)
+a_label = record { Says = λ text name. (is_label_name text ≡ true) × (text ≡ name); reads = label_named; bytes = goes_on_label_name }
+
+abbrev pub reached : (bound n : ℤ) → Option Target
+reached bound n = if is_reached bound n then Some (bytes n) else None
+
+abbrev pub target_within : (bound : ℤ) → Grammar Target
+target_within bound = choice (mapped a_label label) (filter_mapped integer (reached bound))
 
 -- ---- an operand of each kind
 
-abbrev pub IsSpelled : (kind : OperandKind) → List ℕ → OperandValue kind → Type 0
-IsSpelled register text x = IsRegister text x
-IsSpelled upper text x = IsNumberUpTo 1048575 text x
-IsSpelled amount text x = IsNumberUpTo 31 text x
-IsSpelled short text x = IsNumberFrom (negsuc 2047) (pos 2047) text x
-IsSpelled word text x = IsNumberFrom (negsuc 2147483647) (pos 4294967295) text x
-IsSpelled address text x = IsAddressOperand (negsuc 2047) (pos 2047) text x
-IsSpelled pointer text x = IsAddressOperand (pos 0) (pos 0) text x
-IsSpelled near text x = IsTarget (pos 4096) text x
-IsSpelled far text x = IsTarget (pos 1048576) text x
-IsSpelled set text x = IsSet text x
+abbrev pub an_operand : (kind : OperandKind) → Grammar (OperandValue kind)
+an_operand register = a_register
+an_operand upper = natural_to 1048575
+an_operand amount = natural_to 31
+an_operand short = number_from (negsuc 2047) (pos 2047)
+an_operand word = number_from (negsuc 2147483647) (pos 4294967295)
+an_operand address = address_from (negsuc 2047) (pos 2047)
+an_operand pointer = address_from (pos 0) (pos 0)
+an_operand near = target_within (pos 4096)
+an_operand far = target_within (pos 1048576)
+an_operand set = a_set

@@ -12,7 +12,7 @@ use Rattle.litmus_reader.specs.Marks.{before_line, from_line}
 use Rattle.litmus_reader.specs.Header.{after_header, after_brace}
 use Rattle.texts.specs.Pieces.{pieces}
 use Rattle.litmus_reader.specs.Locations.{Names}
-use Rattle.litmus_reader.specs.Init.{InitItems, items_at, after_init, no_items, pieces_added}
+use Rattle.litmus_reader.specs.Init.{InitItems, items_at, no_items, pieces_added}
 use Rattle.litmus_reader.specs.Table.{Code, Column, table_at, codes_of}
 use Rattle.litmus_reader.specs.Values.{Values, values_at, padded}
 use Rattle.litmus_reader.specs.Condition.{Condition, condition_in, condition_at}

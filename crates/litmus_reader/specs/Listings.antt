@@ -2,7 +2,7 @@
 use Rattle.std.specs.Prelude.{ℕ, ◌+◌, ◌-◌, List, [], ◌∷◌, ◌++◌, length, take, drop, map, Option, Some, None, Result, Ok, Err}
 use Rattle.std.specs.List.{count_by}
 use Rattle.texts.specs.Results.{◌>>=◌}
-use Rattle.texts.specs.Cutting.{after, is_byte, without_front}
+use Rattle.texts.specs.Cutting.{after, is_byte}
 use Rattle.texts.specs.Pieces.{pieces}
 use Rattle.texts.specs.declared.pieces.Separators.TheVariants.{Byte}
 use Rattle.assembler.specs.Faults.{Refusal}

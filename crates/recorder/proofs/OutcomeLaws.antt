@@ -1,12 +1,12 @@
 -- The texts of outcomes: what is read of words, against what they say, and what is written, read again.
 use Rattle.std.proofs.Common.{◌≡◌, ◌↔◌, inl, inr, ℕ, ◌<◌, ◌≤◌, ◌==◌, Bool, true, false, cond, ◌&&◌, List, [], ◌∷◌, ◌++◌}
 use Rattle.std.proofs.Common.{length, map, take, append_assoc, suc, Option, Some, None, refl, sym, ap, subst, ◌∙◌}
-use Rattle.std.proofs.Common.{arith, rules}
-use Rattle.std.specs.Prelude.{codes, Decides}
+use Rattle.std.proofs.Common.{arith, rules, ltb, not}
+use Rattle.std.specs.Prelude.{codes, Decides, if◌then◌else◌}
 use Rattle.std.specs.Fmt.{decimal}
 use Rattle.std.specs.Str.{bytes_eq}
-use Rattle.std.specs.List.{flat_map}
-use Rattle.std.proofs.lemmas.Bool.{and_parts, eqb-true, eq-eqb}
+use Rattle.std.specs.List.{flat_map, list_all}
+use Rattle.std.proofs.lemmas.Bool.{cases_Bool, and_parts, eqb-true, eq-eqb}
 use Rattle.std.proofs.lemmas.List.{append-nil, take_all}
 use Rattle.std.proofs.lemmas.Slice.Eq.{bytes_eq-Decides}
 use Rattle.hart.specs.declared.status.Stop.{Stop}
@@ -16,18 +16,18 @@ use Rattle.step_machine.specs.declared.events.Entry.{Entry}
 use Rattle.step_machine.specs.declared.events.Entry.TheVariants as entry
 use Rattle.step_machine.specs.declared.events.Outcome.{Outcome}
 use Rattle.step_machine.specs.declared.events.Outcome.TheVariants.{Did, Waited, NothingToLand, Over, NoHart}
-use Rattle.texts.specs.Numbers.{SaysWord, word_of}
+use Rattle.texts.specs.Numbers.{word_of}
 use Rattle.texts.specs.Cutting.{tokens}
 use Rattle.texts.specs.Formats.{DecidesGrammar, or_fault}
-use Rattle.texts.specs.Rows.{IsRowOf, rows_at, of_length, chain_at, are_apart, Written, plain, number, word_text, row_text}
+use Rattle.texts.specs.Rows.{RowPlace, fixed, any, Made, Row, Fill, or_next, IsRowOf, rows_at, of_length, chain_at, are_apart, Written, plain, number, word_text, row_text}
 use Rattle.texts.proofs.ResultLaws.{some, some_is}
-use Rattle.texts.proofs.RowLaws.{rows-settle, rows-of_length, rows-by_name, Solid, AreSolid, decimal_says, decimal_solid, solid_by_test, row-again}
+use Rattle.texts.proofs.RowLaws.{is_low, rows-settle, rows-of_length, rows-by_name, AreSolid, decimal_says, decimal_solid, solid_by_test, row-again}
 use Rattle.recorder.specs.declared.faults.AtByte.{AtByte}
 use Rattle.recorder.specs.declared.faults.ScheduleFault.TheVariants.{BadOutcome}
 use Rattle.recorder.specs.Schedule.{hart_of_event}
 use Rattle.recorder.specs.Reading.{at_byte}
-use Rattle.recorder.specs.Outcomes.{HartOutcome, stop_of, stopped, outcome_rows, may_have, event_outcome, SaysOutcome}
-use Rattle.recorder.specs.Outcomes.{entry_row, outcome_row, outcome_text, IsWidth, IsEntryOf, OutcomeFits, IsOutcomeOf}
+use Rattle.recorder.specs.Outcomes.{HartOutcome, stop_of, outcome_rows, may_have, event_outcome, SaysOutcome}
+use Rattle.recorder.specs.Outcomes.{entry_row, outcome_row, outcome_text, IsEntryOf, OutcomeFits, IsOutcomeOf}
 use Rattle.rv_decode.specs.Word.{IsWord}
 use Rattle.recorder.specs.Outcomes.{HasWords, OutcomeHasWords, is_same_outcome}
 
@@ -70,122 +70,96 @@ outcome_settles fault event words = of_read (rows_at outcome_rows words) (rows-s
 abbrev pub IsOutcomeRow : ℕ → Outcome → List Written → Type 0
 IsOutcomeRow h outcome row = IsRowOf outcome_rows (map word_text row) (h, outcome) × AreSolid row
 
-small : (n : ℕ) → IsWord n → SaysWord (decimal n) n
-small n is = decimal_says n is
+-- what a row makes of words as they are written, whose numbers stand for themselves
+abbrev written_at : (V : Type 0) (places : List RowPlace) → Made places V → List Written → Option V
+written_at V [] makes [] = makes
+written_at V [] makes (word ∷ words) = None
+written_at V (fixed name ∷ places) makes (plain word ∷ words) = if bytes_eq word name then written_at V places makes words else None
+written_at V (any ∷ places) makes (number n ∷ words) = written_at V places (makes n) words
+written_at V (place ∷ places) makes words = None
 
-solid : (n : ℕ) → IsWord n → Solid (decimal n)
-solid n is = decimal_solid n (omega (arith, is))
+abbrev rows_written : {V : Type 0} → List (Row V) → List Written → Option V
+rows_written {V = V} [] words = None
+rows_written {V = V} (row ∷ rows) words = or_next (written_at V row.places row.makes words) (rows_written rows words)
+
+abbrev AreSmall : List Written → Type 0
+AreSmall [] = Unit {0}
+AreSmall (plain word ∷ words) = AreSmall words
+AreSmall (number n ∷ words) = IsWord n × AreSmall words
+
+abbrev are_printed : List Written → Bool
+are_printed [] = true
+are_printed (plain word ∷ words) = (ltb 0 (length word) && list_all (λ c. not (is_low c)) word) && are_printed words
+are_printed (number n ∷ words) = are_printed words
+
+written-fills : (V : Type 0) (places : List RowPlace) (makes : Made places V) (words : List Written) (v : V) → AreSmall words
+    → written_at V places makes words ≡ Some v → Fill V places makes (map word_text words) v
+written-fills V [] makes [] v small e = e
+written-fills V [] makes (word ∷ words) v small e = absurd cc
+written-fills V (fixed name ∷ places) makes [] v small e = absurd cc
+written-fills V (fixed name ∷ places) makes (plain word ∷ words) v small e = elim (cases_Bool (bytes_eq word name)) [
+  | inl is ↦ ((bytes_eq-Decides word name).0 is, written-fills V places makes words v small (rw is at e))
+  | inr other ↦ (let never = rw other at e in absurd cc)
+]
+written-fills V (fixed name ∷ places) makes (number n ∷ words) v small e = absurd cc
+written-fills V (any ∷ places) makes [] v small e = absurd cc
+written-fills V (any ∷ places) makes (plain word ∷ words) v small e = absurd cc
+written-fills V (any ∷ places) makes (number n ∷ words) v small e = (n, decimal_says n small.0, written-fills V places (makes n) words v small.1 e)
+
+written-row : {V : Type 0} (rows : List (Row V)) (words : List Written) (v : V) → AreSmall words → rows_written rows words ≡ Some v
+    → IsRowOf rows (map word_text words) v
+written-row [] words v small e = absurd cc
+written-row {V = V} (row ∷ rows) words v small e =
+    first (written_at V row.places row.makes words) refl (rows_written rows words) (written-row rows words v small) e
+  where
+    first : (read : Option V) → written_at V row.places row.makes words ≡ read → (next : Option V)
+        → (next ≡ Some v → IsRowOf rows (map word_text words) v) → or_next read next ≡ Some v → IsRowOf (row ∷ rows) (map word_text words) v
+    first None is None later f = absurd cc
+    first None is (Some w) later f = inr (later f)
+    first (Some u) is None later f = inl (written-fills V row.places row.makes words v small (is ∙ f))
+    first (Some u) is (Some w) later f = inl (written-fills V row.places row.makes words v small (is ∙ f))
+
+written-solid : (words : List Written) → AreSmall words → are_printed words ≡ true → AreSolid words
+written-solid [] small e = tt
+written-solid (plain word ∷ words) small e =
+    let both = and_parts (ltb 0 (length word) && list_all (λ c. not (is_low c)) word) (are_printed words) e in
+    (solid_by_test word both.0, written-solid words small both.1)
+written-solid (number n ∷ words) small e = (decimal_solid n (omega (arith, small.0)), written-solid words small.1 e)
+
+row_says : (h : ℕ) (outcome : Outcome) → AreSmall (outcome_row h outcome) → are_printed (outcome_row h outcome) ≡ true
+    → rows_written outcome_rows (outcome_row h outcome) ≡ Some (h, outcome) → IsOutcomeRow h outcome (outcome_row h outcome)
+row_says h outcome small printed made =
+    (written-row outcome_rows (outcome_row h outcome) (h, outcome) small made, written-solid (outcome_row h outcome) small printed)
 
 stop_again : (why : Stop) → (stop_of (stop_number why) ≡ Some why) × IsWord (stop_number why)
 stop_again why = grind arith
 
-load_says : (h a width v : ℕ) → IsWord h → IsWidth width → IsWord a → IsWord v
-    → IsOutcomeRow h (Did (entry.Load h a width v)) (entry_row (entry.Load h a width v))
-load_says h a width v hart (inl (inl is)) a' v' = rw is (
-  inr (inr (inl ((refl, (h, small h hart, (a, small a a', (v, small v v', refl))))))),
-  (solid_by_test (codes "load1") refl, (solid h hart, (solid a a', (solid v v', tt)))),
-)
-load_says h a width v hart (inl (inr is)) a' v' = rw is (
-  inr (inr (inr (inl ((refl, (h, small h hart, (a, small a a', (v, small v v', refl)))))))),
-  (solid_by_test (codes "load2") refl, (solid h hart, (solid a a', (solid v v', tt)))),
-)
-load_says h a width v hart (inr is) a' v' = rw is (
-  inr (inl ((refl, (h, small h hart, (a, small a a', (v, small v v', refl)))))),
-  (solid_by_test (codes "load") refl, (solid h hart, (solid a a', (solid v v', tt)))),
-)
-
-store_says : (h a width v : ℕ) → IsWord h → IsWidth width → IsWord a → IsWord v
-    → IsOutcomeRow h (Did (entry.Store h a width v)) (entry_row (entry.Store h a width v))
-store_says h a width v hart (inl (inl is)) a' v' = rw is (
-  inr (inr (inr (inr (inr (inl ((refl, (h, small h hart, (a, small a a', (v, small v v', refl)))))))))),
-  (solid_by_test (codes "store1") refl, (solid h hart, (solid a a', (solid v v', tt)))),
-)
-store_says h a width v hart (inl (inr is)) a' v' = rw is (
-  inr (inr (inr (inr (inr (inr (inl ((refl, (h, small h hart, (a, small a a', (v, small v v', refl))))))))))),
-  (solid_by_test (codes "store2") refl, (solid h hart, (solid a a', (solid v v', tt)))),
-)
-store_says h a width v hart (inr is) a' v' = rw is (
-  inr (inr (inr (inr (inl ((refl, (h, small h hart, (a, small a a', (v, small v v', refl))))))))),
-  (solid_by_test (codes "store") refl, (solid h hart, (solid a a', (solid v v', tt)))),
-)
-
-outcome_row_of : (h : ℕ) (e : Entry) → IsWord h → IsEntryOf h e → HasWords e → IsOutcomeRow h (Did e) (entry_row e)
-outcome_row_of h (entry.Inner g) hart is words = rw (← is) (inl ((refl, (h, small h hart, refl))), (solid_by_test (codes "inner") refl, (solid h hart, tt)))
-outcome_row_of h (entry.Load g a width v) hart (is, width') (a', v') = rw (← is) (load_says h a width v hart width' a' v')
-outcome_row_of h (entry.Store g a width v) hart (is, width') (a', v') = rw (← is) (store_says h a width v hart width' a' v')
-outcome_row_of h (entry.Amo g a old new) hart is (a', old', new') = rw (← is) (
-  inr (inr (inr (inr (inr (inr
-      (inr (inl ((refl, (h, small h hart, (a, small a a', (old, small old old', (new, small new new', refl))))))))))))),
-  (solid_by_test (codes "amo") refl, (solid h hart, (solid a a', (solid old old', (solid new new', tt))))),
-)
-outcome_row_of h (entry.Fence g true) hart is words = rw (← is) (
-  inr (inr (inr (inr (inr (inr (inr (inr (inl ((refl, (h, small h hart, (refl, refl)))))))))))),
-  (solid_by_test (codes "fence") refl, (solid h hart, (solid_by_test (codes "full") refl, tt))),
-)
-outcome_row_of h (entry.Fence g false) hart is words = rw (← is) (
-  inr (inr (inr (inr (inr (inr (inr (inr (inr (inl ((refl, (h, small h hart, (refl, refl))))))))))))),
-  (solid_by_test (codes "fence") refl, (solid h hart, (solid_by_test (codes "part") refl, tt))),
-)
-outcome_row_of h (entry.Next g (Some w)) hart is w' = rw (← is) (
-  inr
-      (inr (inr (inr (inr (inr (inr (inr (inr (inr (inl ((refl, (h, small h hart, (w, small w w', refl)))))))))))))),
-  (solid_by_test (codes "next") refl, (solid h hart, (solid w w', tt))),
-)
-outcome_row_of h (entry.Next g None) hart is words = rw (← is) (
-  inr (inr (inr (inr (inr (inr (inr (inr (inr (inr (inr (inl ((refl, (h, small h hart, (refl, refl))))))))))))))),
-  (solid_by_test (codes "next") refl, (solid h hart, (solid_by_test (codes "end") refl, tt))),
-)
-outcome_row_of h (entry.Took g i w) hart is (i', w') = rw (← is) (
-  inr (inr (inr (inr (inr (inr
-      (inr (inr (inr (inr (inr (inr (inl ((refl, (h, small h hart, (i, small i i', (w, small w w', refl))))))))))))))))),
-  (solid_by_test (codes "took") refl, (solid h hart, (solid i i', (solid w w', tt)))),
-)
-outcome_row_of h (entry.Closed g i) hart is i' = rw (← is) (
-  inr (inr (inr (inr
-      (inr (inr (inr (inr (inr (inr (inr (inr (inr (inl ((refl, (h, small h hart, (i, small i i', refl))))))))))))))))),
-  (solid_by_test (codes "closed") refl, (solid h hart, (solid i i', tt))),
-)
-outcome_row_of h (entry.Ended g) hart is words = rw (← is) (
-  inr (inr
-      (inr (inr (inr (inr (inr (inr (inr (inr (inr (inr (inr (inr (inl ((refl, (h, small h hart, refl))))))))))))))))),
-  (solid_by_test (codes "ended") refl, (solid h hart, tt)),
-)
-outcome_row_of h (entry.Stopped g why) hart is words = let n = stop_number why in
-    let again = stop_again why in
-    let n' = again.1 in
-    rw (← is) (
-      inr (inr (inr (inr (inr (inr (inr (inr (inr (inr
-          (inr (inr (inr (inr (inr (inl ((refl, (h, small h hart, (n, small n n', ap (stopped h) again.0))))))))))))))))))),
-      (solid_by_test (codes "stopped") refl, (solid h hart, (solid n n', tt))),
-    )
-outcome_row_of h (entry.Land g) hart is words = rw (← is) (
-  inr (inr (inr (inr
-      (inr (inr (inr (inr (inr (inr (inr (inr (inr (inr (inr (inr (inl ((refl, (h, small h hart, refl))))))))))))))))))),
-  (solid_by_test (codes "land") refl, (solid h hart, tt)),
-)
+entry_says : (h : ℕ) (e : Entry) → IsWord h → IsEntryOf h e → HasWords e → IsOutcomeRow h (Did e) (entry_row e)
+entry_says h (entry.Inner g) hart is words = rw (← is) (row_says h (Did (entry.Inner h)) (hart, tt) refl refl)
+entry_says h (entry.Load g a width v) hart (is, inl (inl one)) (a', v') = rw (← is, one) (row_says h (Did (entry.Load h a 1 v)) (hart, (a', (v', tt))) refl refl)
+entry_says h (entry.Load g a width v) hart (is, inl (inr two)) (a', v') = rw (← is, two) (row_says h (Did (entry.Load h a 2 v)) (hart, (a', (v', tt))) refl refl)
+entry_says h (entry.Load g a width v) hart (is, inr four) (a', v') = rw (← is, four) (row_says h (Did (entry.Load h a 4 v)) (hart, (a', (v', tt))) refl refl)
+entry_says h (entry.Store g a width v) hart (is, inl (inl one)) (a', v') = rw (← is, one) (row_says h (Did (entry.Store h a 1 v)) (hart, (a', (v', tt))) refl refl)
+entry_says h (entry.Store g a width v) hart (is, inl (inr two)) (a', v') = rw (← is, two) (row_says h (Did (entry.Store h a 2 v)) (hart, (a', (v', tt))) refl refl)
+entry_says h (entry.Store g a width v) hart (is, inr four) (a', v') = rw (← is, four) (row_says h (Did (entry.Store h a 4 v)) (hart, (a', (v', tt))) refl refl)
+entry_says h (entry.Amo g a old new) hart is (a', old', new') = rw (← is) (row_says h (Did (entry.Amo h a old new)) (hart, (a', (old', (new', tt)))) refl refl)
+entry_says h (entry.Fence g true) hart is words = rw (← is) (row_says h (Did (entry.Fence h true)) (hart, tt) refl refl)
+entry_says h (entry.Fence g false) hart is words = rw (← is) (row_says h (Did (entry.Fence h false)) (hart, tt) refl refl)
+entry_says h (entry.Next g (Some w)) hart is w' = rw (← is) (row_says h (Did (entry.Next h (Some w))) (hart, (w', tt)) refl refl)
+entry_says h (entry.Next g None) hart is words = rw (← is) (row_says h (Did (entry.Next h None)) (hart, tt) refl refl)
+entry_says h (entry.Took g i w) hart is (i', w') = rw (← is) (row_says h (Did (entry.Took h i w)) (hart, (i', (w', tt))) refl refl)
+entry_says h (entry.Closed g i) hart is i' = rw (← is) (row_says h (Did (entry.Closed h i)) (hart, (i', tt)) refl refl)
+entry_says h (entry.Ended g) hart is words = rw (← is) (row_says h (Did (entry.Ended h)) (hart, tt) refl refl)
+entry_says h (entry.Stopped g why) hart is words = let again = stop_again why in
+    rw (← is) (row_says h (Did (entry.Stopped h why)) (hart, (again.1, tt)) refl (rw again.0 refl))
+entry_says h (entry.Land g) hart is words = rw (← is) (row_says h (Did (entry.Land h)) (hart, tt) refl refl)
 
 pub outcome_says : (h : ℕ) (outcome : Outcome) → IsWord h → OutcomeFits h outcome → OutcomeHasWords outcome → IsOutcomeRow h outcome (outcome_row h outcome)
-outcome_says h (Did e) hart fits words = outcome_row_of h e hart fits words
-outcome_says h Waited hart fits words = (
-  inr (inr (inr (inr (inr (inr
-      (inr (inr (inr (inr (inr (inr (inr (inr (inr (inr (inr (inl ((refl, (h, small h hart, refl)))))))))))))))))))),
-  (solid_by_test (codes "waited") refl, (solid h hart, tt)),
-)
-outcome_says h NothingToLand hart fits words = (
-  inr (inr (inr (inr (inr (inr (inr
-      (inr (inr (inr (inr (inr (inr (inr (inr (inr (inr (inr (inl ((refl, (h, small h hart, refl))))))))))))))))))))),
-  (solid_by_test (codes "nothing") refl, (solid h hart, tt)),
-)
-outcome_says h Over hart fits words = (
-  inr (inr (inr (inr (inr (inr (inr (inr
-      (inr (inr (inr (inr (inr (inr (inr (inr (inr (inr (inr (inl ((refl, (h, small h hart, refl)))))))))))))))))))))),
-  (solid_by_test (codes "over") refl, (solid h hart, tt)),
-)
-outcome_says h NoHart hart fits words = (
-  inr (inr (inr (inr (inr (inr (inr (inr (inr
-      (inr (inr (inr (inr (inr (inr (inr (inr (inr (inr (inr (inl ((refl, (h, small h hart, refl))))))))))))))))))))))),
-  (solid_by_test (codes "nohart") refl, (solid h hart, tt)),
-)
+outcome_says h (Did e) hart fits words = entry_says h e hart fits words
+outcome_says h Waited hart fits words = row_says h Waited (hart, tt) refl refl
+outcome_says h NothingToLand hart fits words = row_says h NothingToLand (hart, tt) refl refl
+outcome_says h Over hart fits words = row_says h Over (hart, tt) refl refl
+outcome_says h NoHart hart fits words = row_says h NoHart (hart, tt) refl refl
 
 pub outcome_read : (event : Event) (words : List (List ℕ)) (outcome : Outcome)
     → SaysOutcome event words outcome ↔ (event_outcome event (rows_at outcome_rows words) ≡ Some outcome)
