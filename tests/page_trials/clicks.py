@@ -22,10 +22,20 @@ def part(count, page):
 def store_buffering(count, page):
     count.told("the page begins with store buffering", page.run("document.getElementById('shelf').value") == "sb")
     page.event("a0", "a0", "a1", "a1", "l0", "l1")
+    entries = page.texts("#entries li")
+    count.told("a list has what each event did, with the store that lands", entries == [
+        "P0 stores x := 1", "P0 loads y = 0", "P1 stores y := 1", "P1 loads x = 0", "P0 lands x := 1", "P1 lands y := 1"], entries)
     count.told("store buffering by clicks", (page.strip(), page.word()) == ("a0*2 a1*2 l0 l1", "Holds"), page.strip())
     said = page.text("#said")
-    count.told("what an event did is said", said == "P1 lands its oldest store. The run is finished: "
+    count.told("what an event did is said", said == "P1 lands y := 1. The run is finished: "
                "0:x7 = 0, 1:x7 = 0. Holds", said)
+    page.keys("ArrowLeft")
+    said = page.text("#said"), page.texts("#entries li")[-1]
+    count.told("going back is said, and what is to come", said == ("Back to event 5: P0 lands x := 1", "to come: P1 lands y := 1"), said)
+    page.keys("ArrowRight")
+    labels = page.run("[...document.querySelectorAll('#strip button')].map(one => one.getAttribute('aria-label'))")
+    count.told("equal events are said one by one", labels[0] == "a0*2, 1 to 2: P0 stores x := 1; P0 loads y = 0", labels)
+    twice(count, page)
     if page.run("!!document.querySelector('#threads:not([hidden])')"):
         page.click("#threads")
         count.told("a run on threads", page.word() in ("Holds", "Fails") and "threads" in page.note(), page.note())
@@ -33,6 +43,20 @@ def store_buffering(count, page):
     count.told("witnesses say of what", said[0] == "witnesses of 0:x7-1:x7" and "ends with 0:x7 = 0, 1:x7 = 0" in said[1], said)
     page.click("#witnesses button")
     count.told("a witness of the shelf", page.strip() == "a0*2 a1*2 l0 l1" and page.word() == "Holds", page.strip())
+
+
+def twice(count, page):
+    """An event that does the same once more changes what a screen reader is told."""
+    page.over("text", "RISCV twice\n{ }\n P0 ;\n nop ;\n nop ;\nexists (x=0)\n")
+    page.run("document.activeElement.blur()")
+    page.keys("0")
+    once = page.text("#said")
+    page.keys("0")
+    again = page.text("#said")
+    count.told("the same event again is said again", once.strip() == "P0 computes" and again.startswith("P0 computes") and again != once,
+               [once, again])
+    page.choose("sb")
+    page.event("a0", "a0", "a1", "a1", "l0", "l1")
 
 
 def message_passing(count, page):

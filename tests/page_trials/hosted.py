@@ -84,7 +84,7 @@ def part(count, page, program):
     """What the static page alone has: its words, answers as the server's, a worker that is ended, no network."""
     page.open()
     said = page.text("#unproved")
-    count.told("it says that nothing is proved of it", "nothing is proved of this build" in said and page.run(
+    count.told("it says first where it runs, and what is proved", said == "Runs in your browser. The proofs are of the sources: what is this?" and page.run(
         "document.getElementById('unproved').getBoundingClientRect().bottom < innerHeight"), said)
     count.told("and nothing of a page that doesn't begin", not page.text("#slow"))
     same.compare(count, "the browser's workers", same.served_answers(program, same.PART), page.served.ask)

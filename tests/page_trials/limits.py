@@ -5,14 +5,30 @@ import json
 import os
 import re
 import signal
+import subprocess
+import tempfile
 import threading
 import time
 from pathlib import Path
 
+from bring_parts import REFERENCE
 from page_parts.calls import MEMORY
 from page_trials.served import LOOP, SB, Served
 
 RUN = {"text": SB, "buffer": 4}
+# harts that count until another one stores: far more outcomes than are listed
+COUNTS = """RISCV counts
+{ 0:x6=x; 1:x6=x; 2:x5=150; 2:x6=x; }
+ P0               | P1               | P2              ;
+ again:           | again:           | again:          ;
+ addi x5,x5,1     | addi x5,x5,1     | addi x5,x5,-1   ;
+ lw x7,0(x6)      | lw x7,0(x6)      | bne x5,x0,again ;
+ beq x7,x0,again  | beq x7,x0,again  | sw x6,4(x6)     ;
+                  |                  | addi x5,x0,1    ;
+                  |                  | sw x5,0(x6)     ;
+exists (0:x5=1 /\\ 1:x5=1)
+"""
+NOPS = "RISCV nops\n{ 0:x6=x; }\n P0 ;\n nop ;\n nop ;\n nop ;\n sw x5,0(x6) ;\nexists (x=0)\n"
 LONG = {"text": LOOP, "buffer": 4, "seed": "1", "skip": 0, "runs": 100000, "length": 2000}
 
 
@@ -21,6 +37,7 @@ def part(count, program):
     try:
         texts(count, served)
         schedules(count, served)
+        draws(count, served)
         children(count, served)
     finally:
         ends(count, served)
@@ -54,10 +71,43 @@ def schedules(count, served):
                               ("2,001 events to read", "read", {"schedule": "ztso-schedule 1\na0*2001\n"})):
         answer = served.ask(route, **RUN, **more)[1]
         count.told(name, answer.get("fault", {}).get("name") == "TooLong", answer)
+    answer = served.ask("read", **RUN, schedule="ztso-schedule 1\na0*1000 l1 a1*999\n")[1]
+    count.told("just 2,000 events to read", len(answer.get("events", [])) == 2000, answer)
+    for tokens, wanted in (("l0*1996", 3), ("l0*1999", 1), ("l0*1997 a0", 2), ("l0*2000", 0)):
+        answer = served.ask("onward", text=NOPS, buffer=4, tokens=tokens, hart=0)[1]
+        count.told(f"an act goes on after {tokens} as far as the limit", answer == {"count": wanted}, answer)
+    answer = served.ask("seek", **RUN, tokens="l0*2000", place=2000, breaks=[[0, 0]])[1]
+    count.told("the end of just 2,000 events", answer == {"place": 2000}, answer)
     answer = served.ask("read", **RUN, schedule="ztso-schedule 1\na0 b1")[1].get("fault", {})
     count.told("a wrong token", answer.get("number") == 28 and answer["place"] == {"byte": 19}, answer)
     answer = served.ask("read", **RUN, schedule="ztso-schedule 2\na0 load 0 0 0\n")[1].get("fault", {})
     count.told("a record of another run", answer.get("number") == 38 and answer["place"] == {"event": 0}, answer)
+
+
+def draws(count, served):
+    """Just what may be drawn, and one more; and runs whose outcomes aren't listed."""
+    ask = {**RUN, "seed": "1", "skip": 0, "runs": 3, "length": 20}
+    for more, status in (({"skip": 100000}, 200), ({"skip": 100001}, 400), ({"length": 2000}, 200), ({"length": 2001}, 400),
+                         ({"runs": 100001}, 400), ({"runs": 0}, 400), ({"seed": "18446744073709551615"}, 200)):
+        got, answer = served.ask("draw", **ask | more)
+        count.told(f"a draw with {more}", got == status, answer)
+        if got == 200:
+            wanted = by_reference("try", SB, *(f"--{name}={value}" for name, value in {**ask, **more}.items()
+                                              if name in ("seed", "skip", "runs", "length")))
+            made = [" ".join([str(row["count"]), *row["values"], ";", row["tokens"]]) for row in answer["rows"]]
+            count.told(f"which are the reference's, {more}", [*made, f"unfinished {answer['unfinished']}"] == wanted.splitlines(), answer)
+    got, answer = served.ask("draw", text=COUNTS, buffer=4, seed="1", skip=0, runs=6000, length=2000)
+    listed, finished = sum(row["count"] for row in answer["rows"]), 6000 - answer["unfinished"]
+    good = len(answer["rows"]) == 1000 and answer["left"] > 0 and listed + answer["left"] == finished
+    count.told("runs whose outcomes aren't listed are counted", good, (len(answer["rows"]), listed, answer["left"], finished))
+
+
+def by_reference(command, text, *options):
+    """What the second implementation prints for a test."""
+    with tempfile.NamedTemporaryFile("w", suffix=".litmus") as file:
+        file.write(text)
+        file.flush()
+        return subprocess.run([REFERENCE, command, file.name, *options], capture_output=True, text=True, check=False).stdout
 
 
 def started(served):

@@ -30,6 +30,8 @@ SMALL = """[...document.querySelectorAll("button, select, input, summary, textar
     && !one.closest(".unseen") && one.getBoundingClientRect().width).map(one => [one, (one.type === "checkbox" ? one.parentElement
     : one).getBoundingClientRect()]).filter(([, { width, height }]) => width < 24 || height < 24)
     .map(([one, { width, height }]) => `${one.id || one.textContent} ${width} x ${height}`)"""
+GOES_ON = """(() => { const box = document.getElementById("chart");
+    return [box.scrollWidth > box.clientWidth, !document.getElementById("goes-on").hidden]; })()"""
 CONTROLS = ("button", "combobox", "textbox", "checkbox", "region", "dialog", "image", "img")
 
 
@@ -58,6 +60,8 @@ def part(count, page):
     count.told("nor is a short word broken there", not broken and not page.wide(), broken)
     phone(count, page)
     page.browser.size(1280, 800)
+    pictures(count, page)
+    about(count, page)
     page.choose("sb")
 
 
@@ -71,6 +75,38 @@ def phone(count, page):
     found = page.run("""(() => { const box = document.getElementById("chart"), rows = document.querySelector(".rows");
         return [box.scrollWidth > box.clientWidth, rows.clientHeight / 2 >= 24]; })()""")
     count.told("nor a row of the picture, which is scrolled", found == [True, True] and not page.wide(), found)
+    seen = page.run(GOES_ON)
+    page.run("document.getElementById('chart').scrollLeft = 9999")
+    page.browser.until("document.getElementById('goes-on').hidden", 5)
+    count.told("a picture that goes on says so, until it is scrolled to its end", seen == [True, True], seen)
+
+
+def pictures(count, page):
+    """The picture fits its box where it is a little too wide, in any window, and rows lead where they did."""
+    page.choose("iriw")
+    page.paste("a0 a1*2 a2 a3*2 l0 l2")
+    for width, fits in ((1280, True), (1024, False), (1920, True), (1280, True)):
+        page.browser.size(width, 900)
+        page.browser.until(f"{GOES_ON}[0] === {str(not fits).lower()} && {GOES_ON}[1] === {str(not fits).lower()}", 5)
+    size = page.run("[document.querySelector('#chart img').getBoundingClientRect().width, document.querySelector('.rows').clientHeight]")
+    count.told("a picture of four harts fits 1,280 pixels", size[0] < 900 and 8 * 12 < size[1] < 8 * 20, size)
+    count.told("and what is veiled keeps its colours", "grayscale" not in page.run(
+        "getComputedStyle(document.querySelector('.veil')).backdropFilter"))
+
+
+def about(count, page):
+    """The legend, and the links to the project and to the help."""
+    page.click("#signs")
+    words = page.text("#legend")
+    count.told("a legend", page.run("document.getElementById('legend').open") and all(
+        one in words for one in ("act", "land", "pending", "[3]", "[own 1]", "Holds", "witness")), words)
+    page.press("0")
+    page.press("Escape")
+    count.told("under which no key acts", page.run("!document.querySelector('dialog[open]')") and page.place() == "8 of 8 events", page.place())
+    links = page.run("[...document.querySelectorAll('header a')].map(one => [one.textContent, one.getAttribute('href')])")
+    count.told("links to the help and the project", links == [["Help", "guide.html"], ["Project", "project.html"]], links)
+    heads = page.run("Promise.all(['guide.html', 'project.html'].map(one => fetch(one).then(got => got.text())))")
+    count.told("which are there", "<h1 id=\"the-page" in heads[0] and "<h1 id=\"ztso\"" in heads[1], [head[:300] for head in heads])
 
 
 def shown(page):

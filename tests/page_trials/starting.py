@@ -11,7 +11,7 @@ from page_parts import ROOT, TOOLS, programs
 from page_trials.served import SB, Served
 
 NEEDED = ("tools/page", "tools/page_parts", "tools/bring_parts", "tools/from-c", "tools/from-herd", "tools/reference",
-          "examples/mappings", "docs/errors.md", "docs/rings.tsv", "litmus")
+          "examples/mappings", "docs/errors.md", "docs/page.md", "README.md", "docs/rings.tsv", "litmus")
 
 
 def part(count, program):
@@ -57,8 +57,10 @@ def written(count, top):
     for name in ("a folder is written", "and written anew"):
         done = write("--wasm", wasm, out)
         page = (out / "index.html").read_text()
-        good = "nothing is proved of this build" in page and "default-src 'none'" in page
+        good = '<p id="unproved">Runs in your browser. The proofs are of the sources: <a href="guide.html#' in page
+        good = good and "default-src 'none'" in page
         files = (out / "ztso.wasm").read_bytes() == b"\0asm" and not (out / "page.html").exists()
+        files = files and 'id="the-page-by-a-link">' in (out / "guide.html").read_text()
         count.told(name, done.returncode == 0 and good and files, done)
     left = sorted(path.name for path in top.iterdir())
     count.told("nothing is left beside it, and nothing lost", left == ["other", "out", "some.wasm"] and (other / "mine").exists(), left)
@@ -99,6 +101,7 @@ def found(count, program, stand_in):
     served = Served(script(stand_in, f"""case "$* " in
         'find --buffer 1 '*) echo 'ztso: all 23 states seen, none shows it' >&2; exit 1 ;;
         'find --buffer 2 '*) echo 'ztso: cut at 100 states' >&2; exit 5 ;;
+        'find --buffer 16 '*) printf 'ztso-schedule 1\\na0*2000\\n' ;;
         find*) printf 'ztso-schedule 1\\na0*2 a1*2 l0 l1\\n' ;;
         chart*\\ --memory\\ *) echo 'rows of memory' ;;
         *) exec '{program or programs.REFERENCE}' "$@" ;;
@@ -110,6 +113,8 @@ def found(count, program, stand_in):
         count.told("a picture of some rows", "rows of memory\n" in (answer.get("svg"), answer.get("text")), answer)
         answer = served.ask("find", text=SB, buffer=4)[1]
         count.told("the shortest schedule", answer == {"tokens": "a0*2 a1*2 l0 l1"}, answer)
+        answer = served.ask("find", text=SB, buffer=16)[1]
+        count.told("one of just 2,000 events", answer == {"tokens": "a0*2000"}, answer)
         answer = served.ask("find", text=SB, buffer=1)[1]
         count.told("how many states had none", answer == {"states": 23, "cut": False}, answer)
         answer = served.ask("find", text=SB, buffer=2)[1]

@@ -28,6 +28,7 @@ def part(count, page):
     with tempfile.TemporaryDirectory(prefix="ztso-page-") as folder:
         saved(count, page, Path(folder))
         dropped(count, page, Path(folder))
+        of_others(count, page, Path(folder))
 
 
 def typed(count, page):
@@ -50,6 +51,20 @@ def typed(count, page):
     page.click("#harts .event:not([aria-disabled=true])")
     broken = page.run("document.querySelectorAll('main [onclick], main script').length + (document.title === 'broken')")
     count.told("tags in a name stay text", broken == 0 and "<b onclick=x>" in page.text("#question"), broken)
+
+
+def of_others(count, page, folder):
+    """A text of several faults: the assembler's comes first, with what the mnemonic is of, and from-herd's after it."""
+    page.over("text", "RISCV T\n{ 0:x6=x; }\n P0 ;\n sd x5,0(x6) ;\nexists (x=0)\n")
+    said = page.texts("#fault p")
+    count.told("what a mnemonic of RV64 is of", said[0].startswith("Line 4, P0:") and said[1] == "sd is RV64: this machine has RV32I.", said)
+    path = folder / "both.litmus"
+    path.write_text("RISCV T\n{ 0:x6=x; }\n P0 ;\n sd x5,0(x6) ;\n lw.aq x5,0(x6) ;\nexists (x=0)\n")
+    drop(page, path)
+    said = page.texts("#fault p, #refused p")
+    count.told("the assembler's fault is before from-herd's", said[1] == "sd is RV64: this machine has RV32I."
+               and said[-1].startswith("both.litmus: "), said)
+    page.choose("sb")
 
 
 def sizes(count, page):
@@ -75,7 +90,10 @@ def pasted(count, page):
     page.paste("a0 b1")
     count.told("a pasted fault", "28 at byte 19" in page.note(), page.note())
     page.paste("#run=abc")
-    count.told("a link that isn't whole", "isn't a whole link" in page.note(), page.note())
+    count.told("a link that isn't whole", "isn't a whole link" in page.text("#damaged") and page.run(
+        "document.getElementById('damaged').getBoundingClientRect().bottom < 120"), page.text("#damaged"))
+    page.paste("a0 a1 l0")
+    count.told("is forgotten after another one", not page.text("#damaged"), page.text("#damaged"))
     page.run("location.reload()")
     page.browser.until("document.readyState === 'complete'")
     page.idle()
@@ -84,7 +102,6 @@ def pasted(count, page):
 
 def links(count, page):
     page.keys("ArrowLeft")
-    page.click("#saving summary")
     page.click("#link")
     page.browser.until("document.getElementById('note').textContent.startsWith('Copied')")
     link = page.run("navigator.clipboard.readText()")
@@ -118,7 +135,8 @@ def hostile_links(count, page):
             ("a text that is none", run | {"text": {"length": 1}}), ("no run", []), ("nothing", None), ("no JSON", b"RISCV"),
             ("40 MB of one letter", json.dumps(run | {"text": "x" * 40_000_000}).encode())):
         page.paste(link_of(content))
-        count.told(f"a link with {name}", "isn't a whole link" in page.note() and page.strip() == "a0 a1 l0", page.note() + page.strip())
+        count.told(f"a link with {name}", "isn't a whole link" in page.text("#damaged") and page.strip() == "a0 a1 l0",
+                   page.text("#damaged") + page.strip())
     count.told("which takes no time", time.monotonic() - begun < 20, time.monotonic() - begun)
     for place in (-1, 3, 1e99, "1", None):
         page.paste(link_of(run | {"place": place}))

@@ -3,6 +3,8 @@ compare-mappings. Litmus texts and schedules are read by tools/reference, and by
 
 import argparse
 import os
+import shlex
+import shutil
 import subprocess
 import sys
 from pathlib import Path
@@ -48,6 +50,15 @@ class Words(argparse.ArgumentParser):
 
     def format_help(self):
         return self.text.strip() + "\n"
+
+
+def typed(tool):
+    """How a tool is typed in this folder: its path, or its command where it is installed on the PATH."""
+    path = TOOLS / tool
+    if not CHOOSER.exists() and shutil.which(f"ztso-{tool}"):
+        return f"ztso-{tool}"
+    near = Path("tools", tool)
+    return str(near) if near.exists() and near.samefile(path) else shlex.quote(str(path))
 
 
 def text_of(path, most=MOST):

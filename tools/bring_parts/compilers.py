@@ -93,6 +93,11 @@ class Compiler:
         printed = output([*self.words, *self.flags(), *include, "-E", "-dM", "-x", "c", header])
         return set(re.findall(r"^#define (\w+)", printed, re.MULTILINE))
 
+    def preprocessed(self, source, folders):
+        """A C file after its macros are expanded."""
+        include = [word for folder in folders for word in ("-I", folder)]
+        return output([*self.words, *self.flags(), *include, "-E", "-P", source])
+
     @staticmethod
     def assemble(source, module):
         """Assembles a file of RV32I."""

@@ -2,30 +2,34 @@
 picture, and all that makes it again, as a text and as one page of HTML."""
 
 import html
+import re
 import shlex
 import tempfile
 from dataclasses import dataclass
 from pathlib import Path
 
-from bring_parts import Refused, answer, c_lines, compilers, logs, making, mappings, search, text_of
+from bring_parts import Refused, answer, c_lines, compilers, languages, making, mappings, text_of, typed
 from bring_parts.making import Way
+from bring_parts.mappings import FULL, KEPT, RVWMO, ZTSO
 
 import litmus
 
 # the mappings with which one's own are compared
-THEIRS = ("rvwmo.h", "ztso.h")
+THEIRS = (RVWMO, ZTSO)
+HEADS = ("compiled by", "instructions", "fences", "full", "AMOs", "outcomes", "states", "condition")
 STYLE = """body{font:15px/1.5 system-ui,sans-serif;max-width:75em;margin:2em auto;padding:0 1em}
-pre{background:#8881;padding:.7em;overflow:auto;font-size:13px}svg{max-width:100%;height:auto}
+pre{background:#8881;padding:.7em;overflow:auto;font-size:13px}.wide{overflow-x:auto}svg{max-width:100%;min-width:48em;height:auto}
 table{border-collapse:collapse}td,th{border:1px solid #8886;padding:.2em .6em;text-align:left}
 @media(prefers-color-scheme:dark){body{background:#0d1117;color:#e6edf3}a{color:#79b8ff}}"""
 
 
 @dataclass(frozen=True)
 class Difference:
-    """An outcome that some mappings show of a C file by one compiler, and others don't: the tokens of a shortest
-    schedule by the first of `show`, with its text."""
+    """An outcome that some ways show of a C file by one compiler, and others don't: the tokens of a shortest
+    schedule by the first of `show`, with how it is compiled and its text."""
     path: Path
     compiler: str
+    way: Way
     show: tuple
     lack: tuple
     values: tuple
@@ -34,7 +38,7 @@ class Difference:
     # what is said of those that don't show it, and whether one of their searches was cut
     told: str
     is_cut: bool
-    is_own: bool
+    is_new: bool
 
     def head(self):
         cut = ", whose search was cut" * self.is_cut
@@ -45,56 +49,26 @@ class Difference:
         return f"ztso-schedule 1\n{self.tokens}\n"
 
 
-class Compiled:
-    """A C file by one compiler and each mapping: the text with C's lines, and its outcomes, or why it is refused."""
+def of(comparison, own):
+    """What is new in a file by one compiler, or lost: by each mapping of one's own beside the others, without the fences
+    that aren't full, and by ztso.h in place of rvwmo.h."""
+    for name in own:
+        yield from between(comparison, name, THEIRS)
+    for name, than in ((FULL, KEPT), (ZTSO, RVWMO)):
+        yield from (one for one in between(comparison, name, (than,)) if one.is_new)
 
-    def __init__(self, path, compiler, names, states):
-        self.path, self.compiler, self.texts, self.found, self.refused = Path(path), compiler, {}, {}, {}
-        for name in names:
-            try:
-                self.texts[name] = making.of_c(path, Way(compiler, name, lines=True))
-                self.found[name] = search.outcomes(self.texts[name], 4, states)
-            except Refused as refused:
-                self.refused[name] = ": ".join([str(refused), *refused.before[:1]])
 
-    def is_same(self):
-        """Whether each mapping makes the same code, so that nothing is compared. A text's comment names the mapping."""
-        return len(self.texts) > 1 and len({text.partition("*)")[2] for text in self.texts.values()}) == 1
-
-    def lefts(self):
-        """The condition's left sides."""
-        text = next(iter(self.texts.values()))
-        names = logs.names_in(text)
-        return [names.get(left, left) for left, _ in litmus.read(text).lefts]
-
-    def differences(self, own):
-        """Where this mapping and the others differ: what it shows alone, and then what it lacks."""
-        others = [name for name in self.found if name != own]
-        if own not in self.found:
-            return
-        ours = self.found[own].schedules
-        for values in sorted({values for name in (own, *others) for values in self.found[name].schedules}):
-            having = tuple(name for name in others if values in self.found[name].schedules)
-            lacking = tuple(name for name in others if name not in having)
-            if values in ours and lacking:
-                yield self.difference((own, *having), lacking, values, True)
-            elif values not in ours:
-                yield self.difference(having, (own, *lacking), values, False)
-
-    def difference(self, show, lack, values, is_own):
-        found = [self.found[name] for name in lack]
-        told = ", ".join(f"by {name} in {each.states} states" for name, each in zip(lack, found))
-        return Difference(self.path, self.compiler, show, lack, values, self.found[show[0]].schedules[values],
-                          self.texts[show[0]], told, any(each.cut for each in found), is_own)
-
-    def rows(self):
-        yield "| mapping | outcomes | states |"
-        yield "|---|---|---|"
-        for name, found in self.found.items():
-            shown = " ".join(map(mappings.joined, sorted(found.schedules)))
-            yield f"| {name} | {shown} | {found.states}{', then it stopped' * found.cut} |"
-        for name, reason in self.refused.items():
-            yield f"| {name} | refused: {reason} | |"
+def between(comparison, name, others):
+    """Where a way's outcomes and those of others differ."""
+    found = {each: comparison.ways[each].found for each in dict.fromkeys((name, *others)) if each in comparison.ways}
+    if name not in found:
+        return
+    for values in sorted({values for each in found.values() for values in each.schedules}):
+        show = [each for each in found if values in found[each].schedules]
+        if lack := [each for each in found if each not in show]:
+            told = ", ".join(f"by {each} in {found[each].states} states" for each in lack)
+            yield Difference(comparison.path, comparison.compiler, comparison.names[show[0]], tuple(show), tuple(lack), values, found[show[0]].schedules[values], comparison.ways[show[0]].text, told,
+                             any(found[each].cut for each in lack), name in show)
 
 
 def pictures(program, difference):
@@ -111,12 +85,21 @@ def pictures(program, difference):
     return as_text, as_svg.partition("?>")[2].strip()
 
 
+def scaling(svg):
+    """The picture with a viewBox, so that its whole is seen where it is made smaller."""
+    size = re.search(r"<svg\b[^>]*?\bwidth=['\"]([0-9]+)['\"] height=['\"]([0-9]+)['\"]", svg)
+    if not size or "viewBox" in size[0]:
+        return svg
+    return svg.replace("<svg", f"<svg viewBox='0 0 {size[1]} {size[2]}'", 1)
+
+
 def commands(difference):
-    """What makes the text and the picture again."""
-    way = Way(difference.compiler, difference.show[0], lines=True)
-    yield f"tools/from-c {shlex.quote(str(difference.path))} {way.words(True)} -o shown.litmus"
+    """What makes the text and the picture again, in the folder where this is said."""
+    is_c, is_rust = mappings.is_c(difference.path), languages.language_of(difference.path) == languages.RUST
+    words = difference.way.words(True, is_compiled=not is_rust)
+    yield f"{typed('from-c' if is_c else 'from-object')} {shlex.quote(str(difference.path))} {words} -o shown.litmus"
     yield f"printf 'ztso-schedule 1\\n{difference.tokens}\\n' > shown.schedule"
-    yield "tools/chart-lines shown.litmus shown.schedule --memory"
+    yield f"{typed('chart-lines')} shown.litmus shown.schedule --memory"
 
 
 def as_text(program, difference):
@@ -127,44 +110,71 @@ def as_text(program, difference):
                       *(f"    {line}".rstrip() for line in lines), ""])
 
 
-def page(program, compiled, found):
-    """One page of HTML with all differences, and what they come from. It needs nothing else."""
-    def pre(text):
-        return f"<pre>{html.escape(text)}</pre>"
+def pre(text):
+    return f"<pre>{html.escape(text)}</pre>"
 
-    names = list(dict.fromkeys(name for each in compiled for name in (*each.found, *each.refused)))
+
+def folded(head, text):
+    return f"<details><summary>{html.escape(head)}</summary>{pre(text)}</details>"
+
+
+def table(comparisons):
+    """The rows of a file, each with its code folded."""
+    heads = "".join(f"<th>{html.escape(head)}" for head in (*HEADS, "code"))
+    rows = []
+    for each in comparisons:
+        for name, cells in zip(each.names, each.rows()):
+            code = folded("code", each.ways[name].text) if name in each.ways else ""
+            rows.append("<tr>" + "".join(f"<td>{html.escape(str(cell))}" for cell in cells) + f"<td>{code}")
+    return f"<div class=wide><table><tr>{heads}{''.join(rows)}</table></div>"
+
+
+def shown(program, difference):
+    """An outcome with its picture."""
+    text, svg = pictures(program, difference)
+    return [f"<h3>{html.escape(difference.head())}</h3><p>Not shown {html.escape(difference.told)}.</p>",
+            f"<div class=wide>{scaling(svg)}</div>", pre(text), pre("\n".join(commands(difference)))]
+
+
+def page(program, comparisons, found):
+    """One page of HTML with a part for each file, and what they come from. It needs nothing else."""
+    files = {each.path: [other for other in comparisons if other.path == each.path] for each in comparisons}
     parts = ["<!doctype html><html lang=en><meta charset=utf-8><meta name=viewport content='width=device-width'>",
              f"<title>Mappings compared</title><style>{STYLE}</style><h1>Mappings compared</h1>",
-             *(f"<p>{html.escape(note)}</p>" for note in (summary(compiled, found), *notes(compiled))),
-             "<p>Outcomes come from a search of all states of a machine of FIFO store buffers of 4 stores. Of an outcome that "
-             "isn't shown nothing is claimed.</p>", "<h2>Compilers</h2>",
-             pre("\n".join(f"{name}: {compilers.Compiler(name).version()}" for name in
-                           dict.fromkeys(each.compiler for each in compiled)))]
-    for difference in found:
-        text, svg = pictures(program, difference)
-        parts += [f"<h2>{html.escape(difference.head())}</h2><p>Not shown {html.escape(difference.told)}.</p>",
-                  svg, pre(text), pre("\n".join(commands(difference))),
-                  f"<details><summary>{html.escape(difference.path.name)}</summary>{pre(text_of(difference.path))}</details>",
-                  f"<details><summary>its code by {html.escape(difference.show[0])}</summary>{pre(difference.text)}</details>"]
-    parts += [f"<h2>Mappings</h2>{''.join(f'<h3>{html.escape(name)}</h3>' + pre(mapping_text(name)) for name in names)}"]
+             f"<p>{html.escape(summary(comparisons, found))}</p>",
+             "<p>Outcomes come from a search of all states of a machine of FIFO store buffers of 4 stores; one with a + isn't "
+             "shown by the compiler's own code. Of an outcome that isn't shown nothing is claimed. Commands are those of the "
+             "folder in which this page was made.</p>"]
+    for path, of_file in files.items():
+        parts += [f"<h2>{html.escape(path.name)}</h2>", folded("source", text_of(path)), table(of_file), "<ul>",
+                  *(f"<li>{html.escape(line)}" for each in of_file for line in each.told()), "</ul>",
+                  *(part for one in found if one.path == path for part in shown(program, one))]
+    mapped = dict.fromkeys(name for each in comparisons for name, way in each.names.items() if way.mapping)
+    parts += ["<h2>Mappings</h2>", *(folded(name, text_of(making.mapping_of(name))) for name in mapped), "<h2>Compilers</h2>",
+              pre("\n".join(f"{name}: {version_of(name)}" for name in dict.fromkeys(each.compiler for each in comparisons)))]
     return "\n".join(parts) + "\n"
 
 
-def mapping_text(name):
-    return text_of(making.mapping_of(name))
+def summary(comparisons, found):
+    """How many outcomes are new, in how many files."""
+    by = counted(len({each.compiler for each in comparisons}), "compiler")
+    new = {(one.path, one.compiler, one.values) for one in found if one.is_new}
+    files = counted(len({each.path for each in comparisons}), "file")
+    line = (f"{counted(len(new), 'new outcome')} in {len({path for path, *_ in new})} of {files} by {by}" if new else
+            f"no new outcome in {files} by {by}")
+    lost = sum(not one.is_new for one in found)
+    line += f"; {counted(lost, 'outcome')} that another mapping shows and yours doesn't" if lost else ""
+    refused = sum(bool(each.refused) for each in comparisons)
+    return line + (f"; {refused} of {counted(len(comparisons), 'compilation')} refused, whole or in part" if refused else "")
 
 
-def notes(compiled):
-    """What is said of files in which no row of a mapping differs."""
-    for each in compiled:
-        if each.is_same():
-            yield (f"{each.path.name} by {each.compiler}: each mapping makes the same code. A mapping takes the functions of "
-                   "<stdatomic.h>, not operators such as `x = 1` of an atomic object")
+def version_of(compiler):
+    """What a compiler says of its version."""
+    try:
+        return compilers.Compiler(compiler).version()
+    except Refused as refused:
+        return str(refused)
 
 
-def summary(compiled, found):
-    """How many there are of each kind."""
-    more, fewer = (sum(each.is_own == is_own for each in found) for is_own in (True, False))
-    whole = sum(not each.refused for each in compiled)
-    return (f"{whole} of {len(compiled)} compilations are taken by each mapping: {more} outcomes that yours shows and another "
-            f"doesn't, {fewer} that another shows and yours doesn't")
+def counted(number, word):
+    return f"{number} {word}{'s' * (number != 1)}"

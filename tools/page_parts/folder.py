@@ -5,7 +5,7 @@ import json
 import re
 import shutil
 
-from page_parts import ROOT, faults, questions, shelf
+from page_parts import ROOT, faults, guide, questions, shelf
 from page_parts.server import SITE
 
 STATIC = SITE.parent / "static"
@@ -13,8 +13,7 @@ STATIC = SITE.parent / "static"
 POLICY = ("default-src 'none'; script-src 'self' blob: 'wasm-unsafe-eval'; style-src 'self'; img-src 'self' blob:; "
           "connect-src 'self'; worker-src blob:; base-uri 'none'; form-action 'none'; "
           "require-trusted-types-for 'script'; trusted-types ztso")
-UNPROVED = ("Compiled by rustc from the sources that are proved; nothing is proved of this build. What matters, judge by the "
-            "proved program: save test and schedule, <code>./prove</code>, <code>./ztso run</code>.")
+UNPROVED = ('Runs in your browser. The proofs are of the sources: <a href="guide.html#the-page-by-a-link">what is this?</a>')
 SLOW = ("The page hasn't begun. It needs scripts and a web host: in its folder, "
         "<code>python3 -m http.server --bind 127.0.0.1</code> is one.")
 # what stands in page.html, and what stands in its place
@@ -31,6 +30,8 @@ def write(out, wasm):
     (out / "page.html").rename(out / "index.html")
     replace(out / "index.html", PAGE)
     shutil.copyfile(wasm, out / "ztso.wasm")
+    for name in guide.PAGES:
+        (out / name).write_bytes(guide.page(name))
     (out / "known.json").write_text(json.dumps(known(), ensure_ascii=False))
     for path in out.iterdir():
         path.chmod(0o644)

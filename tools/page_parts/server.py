@@ -10,7 +10,7 @@ from http import HTTPStatus
 from http.server import BaseHTTPRequestHandler, ThreadingHTTPServer
 from pathlib import Path
 
-from page_parts import answers, bringing, faults, questions, shelf
+from page_parts import answers, bringing, faults, guide, questions, shelf
 from page_parts.calls import Calls, Failed, Gone
 
 ADDRESS = "127.0.0.1"
@@ -42,6 +42,8 @@ class Handler(BaseHTTPRequestHandler):
         elif name in FILES:
             path, kind = FILES[name]
             self.send(HTTPStatus.OK, f"{kind}; charset=utf-8", path.read_bytes())
+        elif name in guide.PAGES:
+            self.send(HTTPStatus.OK, "text/html; charset=utf-8", guide.page(name))
         elif name is not None:
             self.refuse(HTTPStatus.NOT_FOUND)
 

@@ -51,6 +51,12 @@ export function stopAll() {
 
 export const isStopped = error => error.name === "AbortError";
 
+// a link that isn't whole, until something else is done
+export function damaged(words) {
+  by("damaged").hidden = !words;
+  by("damaged").textContent = words ?? "";
+}
+
 export function trouble(words) {
   by("trouble").hidden = !words;
   by("trouble").textContent = words ?? "";

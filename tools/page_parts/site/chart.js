@@ -6,12 +6,14 @@ import { by, el } from "./dom.js";
 import { rowsOf } from "./rows.js";
 import { about } from "./schedules.js";
 import { known, state } from "./state.js";
-import { told } from "./words.js";
+import { entriesOf, told } from "./words.js";
 
 const HINT = "Click an instruction to execute it. A store then waits in its hart's buffer, until you let it land.";
 
 // fingers need rows of 24 pixels
 const NARROW = matchMedia("(max-width: 860px), (pointer: coarse)"), LEAST = 24;
+// the picture's own margin, and the bar's room
+const MARGIN = 24;
 
 // the picture that is shown: of which run, its rows with their places, where they end, and its veil
 let shown = null;
@@ -27,6 +29,8 @@ export async function showChart() {
   if (!state.events.length) {
     shown = null;
     box.replaceChildren(el("p", { class: "quiet" }, HINT));
+    by("entries").replaceChildren();
+    showGoesOn();
     return;
   }
   if (key !== shown?.key) {
@@ -39,9 +43,26 @@ export async function showChart() {
 }
 
 NARROW.addEventListener("change", () => shown && showChart());
+by("chart").addEventListener("scroll", showGoesOn);
+
+// in another width the picture that is there has another size
+new ResizeObserver(async () => {
+  const box = by("chart"), { key, answer, room } = shown ?? {};
+  if (!answer || room === box.clientWidth) return;
+  await put(box, key, answer);
+  if (shown) veil(box);
+}).observe(by("chart"));
+
+// whether a part of the picture is out of sight on the right
+function showGoesOn() {
+  const box = by("chart"), goesOn = box.scrollWidth - box.clientWidth - box.scrollLeft > MARGIN;
+  box.classList.toggle("goes-on", goesOn);
+  by("goes-on").hidden = !goesOn;
+}
 
 async function put(box, key, answer) {
-  const { rows, pitch, scale } = rowsOf(answer, NARROW.matches ? LEAST : 0), top = rows[0]?.top ?? 0, end = rows.length ? rows.at(-1).top + pitch : 0;
+  const room = box.clientWidth;
+  const { rows, pitch, scale } = rowsOf(answer, NARROW.matches ? LEAST : 0, room), top = rows[0]?.top ?? 0, end = rows.length ? rows.at(-1).top + pitch : 0;
   const cover = el("div", { class: "veil" }), bar = el("div", { class: "bar" }), area = el("div", { class: "rows" });
   Object.assign(area.style, { top: `${top}px`, height: `${end - top}px` });
   bar.style.height = `${pitch}px`;
@@ -52,17 +73,18 @@ async function put(box, key, answer) {
   });
   const drawn = answer.svg === undefined ? el("pre", {}, answer.text) : await image(answer.svg);
   if (answer.svg === undefined) drawn.style.lineHeight = `${pitch}px`;
-  else drawn.width = Math.round(drawn.naturalWidth * scale);
+  else drawn.style.width = `${drawn.naturalWidth * scale}px`;
   for (const id of ["save-picture", "save-image"]) by(id).hidden = answer.svg === undefined;
-  shown = { key, svg: answer.svg, rows, end, cover };
+  shown = { key, answer, room, svg: answer.svg, rows, end, cover, entries: entriesOf(answer.outcomes) };
   box.replaceChildren(el("div", { class: "picture" }, drawn, cover, bar, area));
+  showGoesOn();
 }
 
 // an image runs no script and loads nothing
 async function image(svg) {
   if (address) URL.revokeObjectURL(address);
   address = URL.createObjectURL(new Blob([svg], { type: "image/svg+xml" }));
-  const made = el("img", { src: address, alt: "The run as a picture; the list of events says the same" });
+  const made = el("img", { src: address, alt: "The run as a picture; the list after it says what each event did" });
   waiting(1);
   await made.decode().catch(() => {});
   waiting(-1);
@@ -70,6 +92,7 @@ async function image(svg) {
 }
 
 function veil(box) {
+  by("entries").replaceChildren(...shown.entries.map((words, at) => el("li", {}, at < state.place ? words : `to come: ${words}`)));
   const { rows, end, cover } = shown, isAtEnd = state.place === state.events.length;
   const top = rows.find(row => row.place > state.place)?.top ?? end;
   cover.hidden = isAtEnd;

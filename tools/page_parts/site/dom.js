@@ -48,6 +48,7 @@ export function menu(id) {
   });
 }
 
+// a screen reader says what changes, so the same words once more have another blank
 export function say(words) {
-  by("said").textContent = words;
+  by("said").textContent = by("said").textContent === words ? `${words}\u00a0` : words;
 }

@@ -11,6 +11,13 @@ import { keep, known, state } from "./state.js";
 // the editor's width goes by steps, so that it doesn't move with each letter
 const STEP = 8;
 
+// mnemonics of other machines, with what they are of
+const OTHERS = [
+  [/^(l[dq]|s[dq]|lwu|(add|sub|sll|srl|sra)i?w|negw|sext\.w|(amo\w+|lr|sc)\.d(\..*)?)$/, "RV64"],
+  [/^(lr|sc)\.w(\..*)?$/, "LR and SC"], [/^(mul|div|rem)\w*$/, "the M extension"],
+  [/^(f[ls][wdq]|f\w+\.[sdqwx](\..*)?)$/, "floating point"], [/^(csr\w*|rd(cycle|time|instret)h?)$/, "control registers"],
+  [/^c\.\w+$/, "compressed instructions"], [/^amo\w+\.[bh](\..*)?$/, "AMOs of bytes"]];
+
 // the text whose machine is shown
 let shown = "";
 
@@ -70,11 +77,19 @@ function showFault({ line, number: refusal, name, words, place, cell }) {
   by("fault").replaceChildren(
     el("p", {}, el("strong", {}, `${where}${refusal ? `${name} (${refusal}) ` : ""}`),
       cell ? el("code", {}, cell.text) : ""),
+    ...ofOthers(cell).map(text => el("p", {}, ...prose(text))),
     ...(cell ? cell.words : words.length ? words : [line]).map(text => el("p", {}, ...prose(text))));
   by("lone").replaceChildren();
   showQuestion("");
   number(place.line);
   if (place.line && document.activeElement !== by("text")) by("text").scrollTop = (place.line - 5) * LINE;
+}
+
+// what a mnemonic is of that this machine doesn't have
+function ofOthers(cell) {
+  const mnemonic = /^(?:[\w.]+:)?\s*([a-z][\w.]*)/.exec(cell?.text ?? "")?.[1] ?? "";
+  const of = OTHERS.find(([form]) => form.test(mnemonic))?.[1];
+  return of ? [`\`${mnemonic}\` is ${of}: this machine has RV32I${of === "RV64" ? "" : " and the AMOs of words"}.`] : [];
 }
 
 // why something that was brought isn't taken, beside the text that stays

@@ -1,7 +1,7 @@
 // Files that are opened or dropped: litmus texts, texts of herd's, C, schedules. Who answers is given their text, never a
 // name or a path. Why a file isn't taken is said beside the text that stays.
 
-import { ask, isStopped, waiting } from "./ask.js";
+import { ask, damaged, isStopped, waiting } from "./ask.js";
 import { by, el } from "./dom.js";
 import { forgetRefused, refuse } from "./editor.js";
 import { replace } from "./own.js";
@@ -20,6 +20,7 @@ let source = null;
 export async function openFiles(files) {
   const isSchedule = file => file.name.endsWith(".schedule");
   forgetRefused();
+  damaged();
   waiting(1);
   try {
     for (const file of [...files].sort((one, other) => isSchedule(one) - isSchedule(other))) await openFile(file);

@@ -9,7 +9,7 @@ const PRESSED = { ArrowLeft: "back", ArrowRight: "forward", Home: "to-start", En
 const FOCUSED = { t: "shelf", e: "text" };
 
 export function onKey(pressed) {
-  if (pressed.ctrlKey || pressed.metaKey || pressed.altKey || by("help").open) return;
+  if (pressed.ctrlKey || pressed.metaKey || pressed.altKey || document.querySelector("dialog[open]")) return;
   if (pressed.target.matches("textarea, select, input:not([type=checkbox])")) {
     if (pressed.key === "Escape") pressed.target.blur();
     return;

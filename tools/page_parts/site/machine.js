@@ -4,8 +4,10 @@ import { by, el, say } from "./dom.js";
 import { numberPlaces } from "./gutter.js";
 import { hartCards } from "./harts.js";
 import { known } from "./state.js";
-import { locationAt, many, nameOf, told } from "./words.js";
+import { entriesOf, locationAt, many, nameOf } from "./words.js";
 
+// as many events are said one by one
+const SAID = 8;
 const PARTS = ["machine", "run", "draw", "witnesses"];
 
 // what is shown of a text that has no machine yet can't be used
@@ -25,14 +27,17 @@ export function showMachine() {
   by("memory").replaceChildren(el("span", { class: "quiet" }, "memory"), ...memory(last));
   numberPlaces();
   for (const id of PARTS) by(id).inert = false;
-  if (last && view.outcomes.length > last.outcomes.length) sayEvent(view);
+  if (before) sayMove(view, view.outcomes.length - before.outcomes.length);
   known.before = view;
   if (key) refocus(key);
 }
 
-function sayEvent({ outcomes, verdict }) {
-  const end = verdict === "Unfinished" ? "" : `. The run is finished: ${values().join(", ")}. ${verdict}`;
-  say(told(outcomes.at(-1)) + end);
+// what the events did that are new, or where the run is after it went back
+function sayMove({ outcomes, verdict }, more) {
+  const entries = entriesOf(outcomes), end = verdict === "Unfinished" ? "" : `. The run is finished: ${values().join(", ")}. ${verdict}`;
+  if (more > SAID) say(`${many(more, "event")}, the last: ${entries.at(-1)}${end}`);
+  else if (more > 0) say(entries.slice(-more).join("; ") + end);
+  else if (more < 0) say(entries.length ? `Back to event ${entries.length}: ${entries.at(-1)}` : "Back to the start");
 }
 
 // long code is scrolled to its current line

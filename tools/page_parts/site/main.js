@@ -1,7 +1,7 @@
 // The page asks the program, by the module source.js. What is shown of a run is what the program answered; nothing here
 // computes a step. This module gives each control what it does, and begins.
 
-import { isStopped, trouble, waiting } from "./ask.js";
+import { damaged, isStopped, trouble, waiting } from "./ask.js";
 import { placeOf, showChart } from "./chart.js";
 import { by, menu, onPress } from "./dom.js";
 import { drawRuns, stepRow } from "./draws.js";
@@ -74,7 +74,7 @@ function onButtons() {
     paste: () => showPasting(by("pasting").hidden), load, link: copyLink,
     "save-schedule": saveSchedule, "save-test": saveTest, "save-picture": savePicture, "save-image": saveImage,
     find, threads,
-    open: () => by("file").click(), keys: () => by("help").showModal() };
+    open: () => by("file").click(), keys: () => by("help").showModal(), signs: () => by("legend").showModal() };
   for (const [id, does] of Object.entries(presses)) onPress(id, hand(does), () => sayWhy(whyNot(id)));
   menu("saving");
 }
@@ -96,6 +96,7 @@ function onInputs() {
   }));
   by("shelf").addEventListener("change", hand(() => {
     forgetSource();
+    damaged();
     return choose(by("shelf").value);
   }));
   for (const id of ["compiler", "fences", "mapping"]) by(id).addEventListener("change", hand(compileAnew));

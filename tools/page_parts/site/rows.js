@@ -1,10 +1,12 @@
 // Where the rows of a picture stand, and the place in the schedule that each leads to. A row's number is that of what
 // happened: an event that did nothing has none. Where rows must be higher than the program draws them, the picture is
-// stretched.
+// stretched; where it is a little wider than its room, it is made smaller.
 
 import { idle } from "./words.js";
 
 const TEXT = { pitch: 17 }, SVG = { pitch: 22, above: 16 };
+// a picture that is too wide is made as small as this, so that it fits; a wider one goes on
+const SMALLEST = 0.68;
 
 // numbers with the tops of their rows
 function ofText(text) {
@@ -28,9 +30,17 @@ function ofSvg(svg) {
   });
 }
 
-export function rowsOf({ svg, text, outcomes }, least) {
+const widthOf = svg => Number(/<svg [^>]*\bwidth='(\d+)'/.exec(svg)?.[1] ?? 0);
+
+function scaleOf(svg, pitch, least, room) {
+  if (least > pitch || svg === undefined) return Math.max(1, least / pitch);
+  const fits = room / widthOf(svg);
+  return fits < 1 && fits >= SMALLEST ? fits : 1;
+}
+
+export function rowsOf({ svg, text, outcomes }, least, room) {
   const places = outcomes.flatMap((outcome, at) => idle(outcome) ? [] : [at + 1]);
-  const [found, { pitch }] = svg === undefined ? [ofText(text), TEXT] : [ofSvg(svg), SVG], scale = Math.max(1, least / pitch);
+  const [found, { pitch }] = svg === undefined ? [ofText(text), TEXT] : [ofSvg(svg), SVG], scale = scaleOf(svg, pitch, least, room);
   const rows = found.map(([number, top]) => ({ place: places[number - 1], top: top * scale })).filter(row => row.place);
   return { rows, pitch: pitch * scale, scale };
 }

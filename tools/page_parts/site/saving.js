@@ -1,7 +1,7 @@
 // Schedules and runs come in and go out: copied, pasted, saved, and as links. A link has the whole run after its `#`,
 // which a browser sends nowhere.
 
-import { ask, waiting } from "./ask.js";
+import { ask, damaged, waiting } from "./ask.js";
 import { svg } from "./chart.js";
 import { by, el } from "./dom.js";
 import { forgetRefused } from "./editor.js";
@@ -41,8 +41,11 @@ export function showPasting(shows) {
 export async function load() {
   const text = by("pasted").value.trim();
   try {
-    if (text.includes(MARK)) await loadLink(text);
-    else await loadSchedule(text.startsWith("ztso-schedule") ? text : HEAD + text);
+    if (text.includes(MARK)) {
+      if (!await loadLink(text)) return;
+    } else {
+      await loadSchedule(text.startsWith("ztso-schedule") ? text : HEAD + text);
+    }
     showPasting(false);
   } catch (error) {
     if (!error.fault) throw error;
@@ -51,6 +54,7 @@ export async function load() {
 }
 
 export async function loadSchedule(schedule) {
+  damaged();
   const { events } = await ask("read", { text: state.text, buffer: state.buffer, schedule });
   note();
   await setEvents(events);
@@ -118,6 +122,8 @@ export async function copyLink() {
   }
   const opens = el("a", { href: link, target: "_blank", rel: "noopener" }, "Open it in another tab");
   await copy(link, WORDS.linked, opens, ".");
+  // the note may be out of sight
+  if (by("pasting").hidden) sayWhy("Copied as a link: the test, the run and the place in it.");
 }
 
 // the run that a link holds, or null
@@ -135,10 +141,8 @@ export async function runOf(link) {
 
 export async function loadLink(link) {
   const run = await runOf(link);
-  if (!run) {
-    note("This isn't a whole link of such a page.");
-    return false;
-  }
+  damaged(run ? "" : "This link is damaged: it isn't a whole link of such a page, and nothing of it is shown. Copy it once more, whole.");
+  if (!run) return false;
   forgetRefused();
   state.buffer = run.buffer;
   by("buffer").value = String(run.buffer);

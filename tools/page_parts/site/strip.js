@@ -3,10 +3,12 @@
 import { by, el } from "./dom.js";
 import { groups, token } from "./schedules.js";
 import { known, state } from "./state.js";
-import { idle, told } from "./words.js";
+import { entriesOf, idle } from "./words.js";
 
 // of a long schedule the part round the place is shown
 const BEFORE = 60, AFTER = 40;
+// of equal events as many are said one by one
+const SAID = 8;
 
 // the runs of equal events, cut at the place
 function pieces() {
@@ -16,12 +18,12 @@ function pieces() {
 }
 
 export function showStrip() {
-  const [done, later] = pieces();
+  const [done, later] = pieces(), entries = entriesOf(known.view.outcomes);
   const hidden = Math.max(0, done.length - BEFORE);
   by("strip").replaceChildren(...[
     rest(done.slice(0, hidden)),
-    ...done.slice(hidden).map((one, at, all) => item(one, at === all.length - 1 ? "now" : null)),
-    ...later.slice(0, AFTER).map(one => item(one, "later")),
+    ...done.slice(hidden).map((one, at, all) => item(one, at === all.length - 1 ? "now" : null, entries)),
+    ...later.slice(0, AFTER).map(one => item(one, "later", entries)),
     rest(later.slice(AFTER))].filter(one => one));
   const now = by("strip").querySelector(".now");
   if (now) by("strip").scrollTop = now.offsetTop - by("strip").offsetTop - 30;
@@ -32,11 +34,12 @@ function rest(groups) {
   return count ? el("li", { class: "quiet" }, `.. ${count} more ..`) : null;
 }
 
-function item({ event, from, count }, kind) {
+function item({ event, from, count }, kind, entries) {
   const end = from + count, outcomes = known.view.outcomes.slice(from, end);
   const isIdle = outcomes.length === count && outcomes.every(idle);
   const places = count > 1 ? `${from + 1} to ${end}` : `${end}`;
-  const words = outcomes.length ? `${places}: ${told(outcomes.at(-1))}` : `${places}, to come`;
+  const did = entries.slice(from, end), more = did.length - SAID;
+  const words = did.length ? `${places}: ${did.slice(0, SAID).join("; ")}${more > 0 ? `; and ${more} more` : ""}` : `${places}, to come`;
   return el("li", { class: [kind, isIdle ? "idle" : null].filter(one => one).join(" ") },
     el("button", { "data-key": `to ${end}`, title: words, "aria-label": `${token(event, count)}, ${words}`,
       "aria-current": kind === "now" ? "step" : null }, token(event, count)));

@@ -52,6 +52,17 @@ export function told(outcome) {
   return `P${hart} ${VERBS[plain(kind)] ?? said(outcome)}${object}`;
 }
 
+// what each event did, one after the other. A landing names the store that lands, which is its hart's oldest
+export function entriesOf(outcomes) {
+  const pending = {};
+  return outcomes.map(outcome => {
+    const [kind, hart] = outcome.split(" "), waiting = pending[hart] ??= [];
+    if (plain(kind) === "store") waiting.push(said(outcome));
+    const landed = kind === "land" ? waiting.shift() : undefined;
+    return landed === undefined ? told(outcome) : `P${hart} lands ${landed}`;
+  });
+}
+
 export const idle = outcome => /^(waited|nothing|over|nohart) /.test(outcome);
 
 export const many = (count, one) => `${count} ${one}${count === 1 ? "" : "s"}`;
