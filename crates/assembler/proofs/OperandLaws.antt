@@ -28,7 +28,7 @@ use Rattle.assembler.specs.Names.{is_label_name, begins_label_name, goes_on_labe
 use Rattle.assembler.specs.Operands.{known_register, in_range, number_in, natural_in, closed, in_parentheses, or_zero}
 use Rattle.assembler.specs.Operands.{Target, bytes, label, is_reached, in_reach, IsInReach, known_set}
 use Rattle.assembler.specs.Operands.{OperandKind, register, upper, amount, short, word, address, pointer, near, far, set, OperandValue, value_in}
-use Rattle.assembler.specs.Spelled.{a_register, a_set, within, number_from, natural_to, offset, base, based}
+use Rattle.assembler.specs.Spelled.{a_register, a_set, within, number_from, natural_to, displacement, base, based}
 use Rattle.assembler.specs.Spelled.{address_from, a_label, reached, target_within, an_operand}
 use Rattle.assembler.proofs.Rows.{found_in, are_apart, row_of_member, member_of_row, all_rows}
 
@@ -89,7 +89,7 @@ natural_settles most = settles_mapped (number_from (pos 0) (pos most)) unsigned_
 some_text : (t rest : List ℕ) (c : ℕ) → t ≡ [] → t ≡ c ∷ rest → ⊥
 some_text t rest c none some = cc
 
-offset_settles : (low high : ℤ) → Settles (offset low high)
+offset_settles : (low high : ℤ) → Settles (displacement low high)
 offset_settles low high = settles_padded is_blank _ (settles_either (absent (pos 0)) (number_from low high) apart
     (settles_absent (pos 0)) (number_settles low high))
   where
@@ -101,7 +101,7 @@ unfolding integer magnitude
 no_parenthesis = refl
 
 address_settles : (low high : ℤ) → Settles (address_from low high)
-address_settles low high = settles_mapped _ based (settles_parted 40 (offset low high) base no_parenthesis (offset_settles low high)
+address_settles low high = settles_mapped _ based (settles_parted 40 (displacement low high) base no_parenthesis (offset_settles low high)
     (settles_ended 41 _ refl (settles_padded is_blank a_register register_settles)))
 
 -- ---- targets
@@ -196,7 +196,7 @@ both_ok r n = grind arith
 
 address_ok : (low high : ℤ) (front : List ℕ) (o : Option (List ℕ))
     → result_ok (in_parentheses o >>= λ a. or_zero low high (trimmed front) >>= λ z. Ok (a, z))
-    ≡ option_map based (option_and_then (λ r. option_zip ((offset low high).reads front) (base.reads r)) o)
+    ≡ option_map based (option_and_then (λ r. option_zip ((displacement low high).reads front) (base.reads r)) o)
 address_ok low high front None = refl
 address_ok low high front (Some inner) = both_ok (in_parentheses (Some inner)) (or_zero low high (trimmed front))
     ∙ rw (offset_ok low high (trimmed front), closed_ok (before (is_byte 41) inner) (after (is_byte 41) inner)) refl

@@ -37,8 +37,8 @@ natural_to most = mapped (number_from (pos 0) (pos most)) unsigned_abs
 -- ---- addresses, `n(rs1)`, with blanks round each part; the parentheses are 40 and 41
 
 -- where the number is left out it is 0
-abbrev pub offset : (low high : ℤ) → Grammar ℤ
-offset low high = surrounded is_blank (choice (absent (pos 0)) (number_from low high))
+abbrev pub displacement : (low high : ℤ) → Grammar ℤ
+displacement low high = surrounded is_blank (choice (absent (pos 0)) (number_from low high))
 
 abbrev pub base : Grammar Reg
 base = suffixed 41 (surrounded is_blank a_register)
@@ -47,7 +47,7 @@ abbrev pub based : ℤ × Reg → Reg × ℤ
 based both = (both.1, both.0)
 
 abbrev pub address_from : (low high : ℤ) → Grammar (Reg × ℤ)
-address_from low high = mapped (parted 40 (offset low high) base) based
+address_from low high = mapped (parted 40 (displacement low high) base) based
 
 -- ---- where a jump or a branch goes: a label, or an even number of bytes within its reach
 

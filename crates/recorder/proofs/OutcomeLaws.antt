@@ -19,7 +19,8 @@ use Rattle.step_machine.specs.declared.events.Outcome.TheVariants.{Did, Waited, 
 use Rattle.texts.specs.Numbers.{word_of}
 use Rattle.texts.specs.Cutting.{tokens}
 use Rattle.texts.specs.Formats.{DecidesGrammar, or_fault}
-use Rattle.texts.specs.Rows.{RowPlace, fixed, any, Made, Row, Fill, or_next, IsRowOf, rows_at, of_length, chain_at, are_apart, Written, plain, number, word_text, row_text}
+use Rattle.texts.specs.Rows.{RowPlace, fixed, any, Made, Row, Fill, or_next, IsRowOf, rows_at, of_length, chain_at}
+use Rattle.texts.specs.Rows.{are_apart, Written, plain, number, word_text, row_text}
 use Rattle.texts.proofs.ResultLaws.{some, some_is}
 use Rattle.texts.proofs.RowLaws.{is_low, rows-settle, rows-of_length, rows-by_name, AreSolid, decimal_says, decimal_solid, solid_by_test, row-again}
 use Rattle.recorder.specs.declared.faults.AtByte.{AtByte}
@@ -136,11 +137,15 @@ stop_again why = grind arith
 
 entry_says : (h : ℕ) (e : Entry) → IsWord h → IsEntryOf h e → HasWords e → IsOutcomeRow h (Did e) (entry_row e)
 entry_says h (entry.Inner g) hart is words = rw (← is) (row_says h (Did (entry.Inner h)) (hart, tt) refl refl)
-entry_says h (entry.Load g a width v) hart (is, inl (inl one)) (a', v') = rw (← is, one) (row_says h (Did (entry.Load h a 1 v)) (hart, (a', (v', tt))) refl refl)
-entry_says h (entry.Load g a width v) hart (is, inl (inr two)) (a', v') = rw (← is, two) (row_says h (Did (entry.Load h a 2 v)) (hart, (a', (v', tt))) refl refl)
+entry_says h (entry.Load g a width v) hart (is, inl (inl one)) (a', v') =
+    rw (← is, one) (row_says h (Did (entry.Load h a 1 v)) (hart, (a', (v', tt))) refl refl)
+entry_says h (entry.Load g a width v) hart (is, inl (inr two)) (a', v') =
+    rw (← is, two) (row_says h (Did (entry.Load h a 2 v)) (hart, (a', (v', tt))) refl refl)
 entry_says h (entry.Load g a width v) hart (is, inr four) (a', v') = rw (← is, four) (row_says h (Did (entry.Load h a 4 v)) (hart, (a', (v', tt))) refl refl)
-entry_says h (entry.Store g a width v) hart (is, inl (inl one)) (a', v') = rw (← is, one) (row_says h (Did (entry.Store h a 1 v)) (hart, (a', (v', tt))) refl refl)
-entry_says h (entry.Store g a width v) hart (is, inl (inr two)) (a', v') = rw (← is, two) (row_says h (Did (entry.Store h a 2 v)) (hart, (a', (v', tt))) refl refl)
+entry_says h (entry.Store g a width v) hart (is, inl (inl one)) (a', v') =
+    rw (← is, one) (row_says h (Did (entry.Store h a 1 v)) (hart, (a', (v', tt))) refl refl)
+entry_says h (entry.Store g a width v) hart (is, inl (inr two)) (a', v') =
+    rw (← is, two) (row_says h (Did (entry.Store h a 2 v)) (hart, (a', (v', tt))) refl refl)
 entry_says h (entry.Store g a width v) hart (is, inr four) (a', v') = rw (← is, four) (row_says h (Did (entry.Store h a 4 v)) (hart, (a', (v', tt))) refl refl)
 entry_says h (entry.Amo g a old new) hart is (a', old', new') = rw (← is) (row_says h (Did (entry.Amo h a old new)) (hart, (a', (old', (new', tt)))) refl refl)
 entry_says h (entry.Fence g true) hart is words = rw (← is) (row_says h (Did (entry.Fence h true)) (hart, tt) refl refl)
