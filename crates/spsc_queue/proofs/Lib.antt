@@ -36,5 +36,6 @@ pub mod OneCall
 pub mod CutCalls
 pub mod UnderWay
 pub mod Obligations
+pub mod Decided
 pub mod Example
 pub mod ManyQueues

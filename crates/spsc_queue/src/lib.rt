@@ -271,12 +271,15 @@ pub fn laws_of_one_call()
 /// What callers owe can be computed, and can be kept. It does nothing.
 ///
 /// - `decided`: where the computation over a run's entries says so, each entry keeps what is owed.
+/// - `complete`: and it says so of each run in which that is kept.
 /// - `computed`, `met`, `calls`, `answers`, `accessed`, `sent` and `received`: it says so of the runs of `specs/Example.antt`, which so
 ///   keep all. Each ends with a whole call: one by which a word passes and an index wraps, with a copy of the tail that says that the
 ///   queue is full or that there is room; one that finds the queue full, or empty; one after the queue has changed hands.
 pub fn laws_of_obligations()
     ensures decided { (M : ℕ) (o : OpeningValue) (q : SpscQueue) (before es : List Entry) → obligations_kept M o q before es ≡ true
         → (done : List Entry) (e : Entry) (more : List Entry) → es ≡ done ++ e ∷ more → CallerObligation M o q before done e }
+    ensures complete { (B M : ℕ) (o : OpeningValue) (q : SpscQueue) (before es : List Entry) → UsesAsSpscQueue B M o q before es
+        → obligations_kept M o q before es ≡ true }
     ensures computed { (x : Scenario)
         → obligations_kept 64 (example.opening x) (example.queue x) (example.before_entries x) (example.entries x) ≡ true }
     ensures met { (x : Scenario) → UsesAsSpscQueue 4 64 (example.opening x) (example.queue x) (example.before_entries x) (example.entries x) }

@@ -1,9 +1,13 @@
 use Rattle.spsc_queue.proofs.Obligations.{obligations_decided}
+use Rattle.spsc_queue.proofs.Decided.{obligations_said}
 use Rattle.spsc_queue.proofs.Example.{computed, uses, is_call}
 use Rattle.spsc_queue.proofs.laws_of_obligations.Goals as goal
 
 pub returns-clause-decided : goal.returns-clause-decided
 returns-clause-decided c = λ M o q before es kept done e more is. obligations_decided M o q before es kept done e more is
+
+pub returns-clause-complete : goal.returns-clause-complete
+returns-clause-complete c = λ B M o q before es uses. obligations_said B M o q before es uses
 
 pub returns-clause-computed : goal.returns-clause-computed
 returns-clause-computed c = λ x. (computed x).kept
