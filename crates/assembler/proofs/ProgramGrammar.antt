@@ -11,7 +11,7 @@ use Rattle.std.specs.Prelude.{IfOk, OnOk}
 use Rattle.std.specs.declared.vec.Vec.{Vec}
 use Rattle.std.specs.declared.alloc.Global.{Global}
 use Rattle.texts.specs.Results.{GivesUpToMemory}
-use Rattle.texts.proofs.ResultLaws.{ok_is, bind_ok}
+use Rattle.texts.proofs.ResultLaws.{ok_is, bind_ok, some_is}
 use Rattle.rv_decode.specs.declared.instruction.Instr.{Instr}
 use Rattle.rv_decode.specs.declared.instruction.Instr.TheVariants as instr
 use Rattle.assembler.specs.declared.faults.AsmFault.{AsmFault}
@@ -124,16 +124,10 @@ record DefinesFrom (at : ℕ) (all : List Line) (name : List ℕ) (place : ℕ) 
   defined : line.label ≡ Some name
   counted : place ≡ at + word_count above
 
-abbrev place_some : ℕ → Option ℕ
-place_some place = Some place
-
-some_place : (a b : ℕ) → place_some a ≡ place_some b → a ≡ b
-some_place a b e = cc
-
 defines_from : (name : List ℕ) (at : ℕ) (all : List Line) (place : ℕ) → place_from name at all ≡ Some place → DefinesFrom at all name place
 defines_from name at [] place e = absurd cc
 defines_from name at (line ∷ all) place e = elim (cases_Bool (is_label name line.label)) [
-  | inl here ↦ (let same : at ≡ place = some_place at place (rw here at e) in record {
+  | inl here ↦ (let same : at ≡ place = some_is at place (rw here at e) in record {
     above = [];
     line = line;
     below = all;
@@ -324,9 +318,6 @@ pub program_only : (text : List ℕ) (instrs : List Instr) → IsProgram text in
 unfolding assembled
 program_only text instrs is = rw (all_only [] (lines text) is.all is.written is.made.once (none_above is.all)) (finished_only is.all instrs is.made)
 
-some_is : (i j : Instr) → some_instr i ≡ some_instr j → i ≡ j
-some_is i j e = cc
-
 pub same_instrs : (a b : List Instr) → map some_instr a ≡ map some_instr b → a ≡ b
 same_instrs [] [] e = refl
 same_instrs (i ∷ a) (j ∷ b) e =
@@ -366,9 +357,7 @@ found_program refusal_of text (Err error) e = tt
 pub only_program : {E : Type 0} (refusal_of : E → Option Refusal) (text : List ℕ) (instrs : List Instr)
     (result : Result Words E) → GivesUpToMemory refusal_of meanings result (assembled text) → IsProgram text instrs
     → GivesUpToMemory refusal_of meanings result (Ok (map some_instr instrs))
-only_program refusal_of text instrs result e is =
-    subst (λ (answer : Result (List (Option Instr)) Refusal). GivesUpToMemory refusal_of meanings result answer)
-    (program_only text instrs is) e
+only_program refusal_of text instrs result e is = rw (program_only text instrs is) at e
 
 -- ---- a draft's line and its end
 
@@ -381,9 +370,7 @@ found_line refusal_of above new text (Err error) e = tt
 pub only_line : {X E : Type 0} (refusal_of : E → Option Refusal) (above new : List Line) (text : List ℕ)
     (result : Result X E) → GivesUpToMemory refusal_of (λ x. new) result (drafted above text) → (more : Line)
     → IsLine text more → IsFresh above more → GivesUpToMemory refusal_of (λ x. new) result (Ok (above ++ more ∷ []))
-only_line refusal_of above new text result e more is fresh =
-    subst (λ (answer : Result (List Line) Refusal). GivesUpToMemory refusal_of (λ x. new) result answer)
-    (drafted-only above text more is fresh) e
+only_line refusal_of above new text result e more is fresh = rw (drafted-only above text more is fresh) at e
 
 pub found_instrs : {E : Type 0} (refusal_of : E → Option Refusal) (all : List Line) (result : Result Words E)
     → EachOnce all → GivesUpToMemory refusal_of meanings result (all_instructions all)
@@ -396,6 +383,4 @@ found_instrs refusal_of all (Err error) once e = tt
 pub only_instrs : {E : Type 0} (refusal_of : E → Option Refusal) (all : List Line) (instrs : List Instr)
     (result : Result Words E) → GivesUpToMemory refusal_of meanings result (all_instructions all) → AreInstrs all instrs
     → GivesUpToMemory refusal_of meanings result (Ok (map some_instr instrs))
-only_instrs refusal_of all instrs result e are =
-    subst (λ (answer : Result (List (Option Instr)) Refusal). GivesUpToMemory refusal_of meanings result answer)
-    (finished_only all instrs are) e
+only_instrs refusal_of all instrs result e are = rw (finished_only all instrs are) at e

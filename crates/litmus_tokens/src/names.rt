@@ -65,8 +65,5 @@ fn word_of(number: i64) -> Option<u32>
 pub fn word_in(text: &[u8]) -> Option<u32>
     ensures { result ≡ a_word.reads text.now }
 {
-    match integer(text) {
-        Some(number) => word_of(number),
-        None => None,
-    }
+    word_of(integer(text)?)
 }

@@ -53,10 +53,7 @@ fn worth_in(text: &[u8]) -> Option<Worth<'_>>
     if is_name(text) {
         return Some(Worth::Address(text));
     }
-    match word_in(text) {
-        Some(word) => Some(Worth::Number(word)),
-        None => None,
-    }
+    Some(Worth::Number(word_in(text)?))
 }
 
 fn location_named(name: &[u8]) -> Option<Spot<'_>>
@@ -94,10 +91,7 @@ fn location_in(text: &[u8]) -> Option<Spot<'_>>
 fn register_of<'a>(hart: Option<u64>, register: Option<Reg>) -> Option<Spot<'a>>
     ensures { option_map place_of result ≡ option_map register_at (option_zip hart register) }
 {
-    match (hart, register) {
-        (Some(hart), Some(register)) => Some(Spot::Register { hart, register }),
-        _ => None,
-    }
+    Some(Spot::Register { hart: hart?, register: register? })
 }
 
 /// A register of a hart, or a location.
@@ -115,10 +109,7 @@ fn spot_in(text: &[u8]) -> Option<Spot<'_>>
 fn put<'a>(spot: Option<Spot<'a>>, worth: Option<Worth<'a>>) -> Option<Setting<'a>>
     ensures { option_map equation_of result ≡ option_zip (option_map place_of spot.entry) (option_map value_of worth.entry) }
 {
-    match (spot, worth) {
-        (Some(spot), Some(worth)) => Some(Setting { spot, worth }),
-        _ => None,
-    }
+    Some(Setting { spot: spot?, worth: worth? })
 }
 
 #[tactic(auto, unfolding(crate::specs::Settings::setting))]
@@ -126,10 +117,7 @@ fn setting_of(text: &[u8]) -> Option<Setting<'_>>
     ensures { option_map equation_of result ≡ setting.reads text.now }
 {
     let (left, right) = cut_at(text, b'=');
-    match right {
-        Some(right) => put(spot_in(left), worth_in(right)),
-        None => None,
-    }
+    put(spot_in(left), worth_in(right?))
 }
 
 /// The setting that the text says: `H:reg=value`, `name=value` or `[name]=value`, where a value is a
@@ -171,10 +159,7 @@ fn after_int(text: &[u8]) -> Option<&[u8]>
 fn declared_in(text: &[u8]) -> Option<Spot<'_>>
     ensures { option_map place_of result ≡ declared.reads text.now }
 {
-    match after_int(core(text)) {
-        Some(name) => location_named(core(name)),
-        None => None,
-    }
+    location_named(core(after_int(core(text))?))
 }
 
 #[tactic(auto, unfolding(crate::specs::Settings::item_place))]

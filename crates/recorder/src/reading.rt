@@ -82,7 +82,7 @@ pub(crate) fn tokens_within(
 /// right after a token's letter or its `*`; else, at the token's first byte, `BadToken` for another
 /// wrong shape, `BadHart` for a hart from 64 on, and `BadCount` for a count of 0, for one over
 /// [`MAX_EVENTS`] and where the events so far pass it.
-#[tactic(auto, using(crate::proofs::TextLaws::found_tokens, crate::proofs::TextLaws::only_tokens, crate::proofs::TextLaws::found_harts, crate::proofs::TextLaws::found_few))]
+#[tactic(auto, using(texts::proofs::FormatLaws::found_of, texts::proofs::FormatLaws::found_as, texts::proofs::FormatLaws::only_of, crate::proofs::TextLaws::tokens_settled, crate::proofs::TextLaws::found_harts, crate::proofs::TextLaws::tokens_few))]
 pub fn read_tokens(alloc: Global, text: &str) -> Result<Vec<Event>, ScheduleError>
     ensures found { IfOk result (λ events. IsTokensOf text.now events.items) }
     ensures only { (events : List Event) → IsTokensOf text.now events → GivesUpToMemory refusal_of (λ read. read.items) result (Ok events) }
@@ -110,7 +110,7 @@ fn plain_in(alloc: Global, text: &[u8]) -> Result<Vec<Event>, ScheduleError>
 ///
 /// Another first line is `BadHead` at byte 0, also that of a record; then the first faulty token is
 /// answered as [`read_tokens`] answers it, its place counted from the schedule's first byte.
-#[tactic(auto, using(crate::proofs::HeadLaws::found_plain, crate::proofs::HeadLaws::only_plain, crate::proofs::HeadLaws::plain_harts, crate::proofs::HeadLaws::plain_few))]
+#[tactic(auto, using(texts::proofs::FormatLaws::found_of, texts::proofs::FormatLaws::found_as, texts::proofs::FormatLaws::only_of, crate::proofs::HeadLaws::plain_settles, crate::proofs::HeadLaws::plain_harts, crate::proofs::HeadLaws::plain_few))]
 pub fn read_plain(alloc: Global, text: &str) -> Result<Vec<Event>, ScheduleError>
     ensures found { IfOk result (λ events. IsPlainOf text.now events.items) }
     ensures only { (events : List Event) → IsPlainOf text.now events → GivesUpToMemory refusal_of (λ read. read.items) result (Ok events) }

@@ -128,7 +128,7 @@ pub(crate) fn record_in(alloc: Global, text: &[u8]) -> Result<Vec<(Event, Outcom
 /// letter, its `*` or the token; else, at the line's first byte, `BadToken`, `BadHart` and `BadCount` as
 /// [`crate::read_tokens`] answers them, and `BadOutcome` where no outcome's text follows, one of another
 /// hart, or one that the event can't have.
-#[tactic(auto, using(crate::proofs::HeadLaws::found_record, crate::proofs::HeadLaws::only_record, crate::proofs::HeadLaws::record_harts, crate::proofs::HeadLaws::record_few))]
+#[tactic(auto, using(texts::proofs::FormatLaws::found_of, texts::proofs::FormatLaws::found_as, texts::proofs::FormatLaws::only_of, crate::proofs::HeadLaws::record_settles, crate::proofs::HeadLaws::record_harts, crate::proofs::HeadLaws::record_few))]
 pub fn read_record(alloc: Global, text: &str) -> Result<Vec<(Event, Outcome)>, ScheduleError>
     ensures found { IfOk result (λ steps. IsRecordOf text.now steps.items) }
     ensures only { (steps : List Step) → IsRecordOf text.now steps → GivesUpToMemory refusal_of (λ read. read.items) result (Ok steps) }

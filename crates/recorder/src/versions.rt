@@ -69,7 +69,7 @@ fn schedule_in(alloc: Global, text: &[u8]) -> Result<Schedule, ScheduleError>
 /// Another first line is `BadHead` at byte 0; then the first faulty token or line is answered as
 /// [`crate::read_tokens`] or [`crate::read_record`] answers it, its place counted from the text's first
 /// byte.
-#[tactic(auto, using(crate::proofs::HeadLaws::found_value, crate::proofs::HeadLaws::only_value, crate::proofs::HeadLaws::schedule_harts, crate::proofs::HeadLaws::schedule_few))]
+#[tactic(auto, using(texts::proofs::FormatLaws::found_of, texts::proofs::FormatLaws::found_as, texts::proofs::FormatLaws::only_of, crate::proofs::HeadLaws::value_settles, crate::proofs::HeadLaws::schedule_OfHarts, crate::proofs::HeadLaws::schedule_few))]
 pub fn read_either(alloc: Global, text: &str) -> Result<Schedule, ScheduleError>
     ensures found { IfOk result (λ schedule. SaysSchedule text.now (schedule_value schedule)) }
     ensures only { (parsed : ScheduleValue) → SaysSchedule text.now parsed → GivesUpToMemory refusal_of schedule_value result (Ok parsed) }
@@ -98,7 +98,7 @@ fn events_read(alloc: Global, text: &str) -> Result<Vec<Event>, ScheduleError>
 /// The events of a schedule of either version. What a record says of their outcomes is left out.
 ///
 /// A text is refused as [`read_either`] refuses it.
-#[tactic(auto, using(crate::proofs::HeadLaws::found_schedule, crate::proofs::HeadLaws::only_schedule))]
+#[tactic(auto, using(texts::proofs::FormatLaws::found_of, texts::proofs::FormatLaws::found_as, texts::proofs::FormatLaws::only_of, crate::proofs::HeadLaws::schedule_settles))]
 pub fn read_schedule(alloc: Global, text: &str) -> Result<Vec<Event>, ScheduleError>
     ensures found { IfOk result (λ events. IsScheduleOf text.now events.items) }
     ensures only { (events : List Event) → IsScheduleOf text.now events → GivesUpToMemory refusal_of (λ read. read.items) result (Ok events) }
