@@ -77,6 +77,10 @@ def from_c(text, status, part, **more):
     return Row("from-c", text, status, part, **more)
 
 
+def from_object(text, status, part, name, **more):
+    return Row("from-object", text, status, part, **more, name=name)
+
+
 HERD = [
     herd("", 2, "it is empty"),
     herd(None, 2, "No such file"),
@@ -173,6 +177,19 @@ SOURCES = [
     from_c(C + filled("/* ", 300000), 2, ""),
     from_c(C.replace("0:a0", filled("1", 9000) + ":a0"), 2, "no operator"),
     from_c(C.replace("0:a0", "x[" + filled("1", 9000) + "]"), 2, "no operator"),
+    from_object(C, 2, "input.txt: its suffix is none of", "input.txt"),
+    from_object("", 2, "no comment has a condition", "input.cpp"),
+    from_object(b"\xff", 2, "no UTF-8", "input.rs"),
+    from_object(b"\x7fELF", 2, "objects have no comments: --ask FILE", "input.o"),
+    from_object(b"\x7fELF", 2, "input.o: no ELF object", "input.o", words=("--ask", ROOT / "examples/cpp/dekker.cpp")),
+    from_object(C, 2, "there is no command no-such-rustc", "input.rs", words=("--rustc", "no-such-rustc")),
+    from_object(C, 2, "has no riscv32ia.json: tools/make-rust-core", "input.rs", words=("--rust-core", ROOT / "docs")),
+    from_object(C, 2, "there is no command no-such-compiler", "input.cpp", words=("--compiler", "no-such-compiler")),
+    from_object(C, 2, "no comment has a condition", "input.s", words=("--ask", ROOT / "README.md")),
+    from_object(filled("# exists ", 300000), 2, "no operator", "input.s"),
+    from_object("// exists " + filled("a::", 300000) + "\n", 2, "no operator", "input.cpp"),
+    from_object(C.replace("exists", f"init {ESCAPE}\n// exists"), 2, "`?[31m?2J?` is no item", "input.cpp"),
+    Row("make-rust-core", None, 2, "there is no command no-such-rustc", words=("--rustc", "no-such-rustc")),
     to_log(SB, 2, "no line", stdin=TABLE.replace("x7=0", "x7=" + filled("1", 9000))),
     to_log(SB, 2, "no line", stdin=filled("1", 9000) + TABLE),
     from_c(filled("P0(P0(", 300000) + "\n// exists (0:a0=0)\n", 2, "no function P0"),

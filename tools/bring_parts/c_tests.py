@@ -13,8 +13,8 @@ def results_of(source):
     """For each hart the locals that the condition asks for, each with the register that keeps it."""
     found = [{} for _ in source.functions]
     for left in source.ending.lefts():
-        hart, colon, name = left.partition(":")
-        if not colon:
+        hart, _, name = left.partition(":")
+        if not hart.isdigit():
             continue
         if int(hart) >= len(found):
             raise Refused(f"the condition asks for {left}, and there is no P{hart}")

@@ -163,5 +163,5 @@ def output(words, variables=(), seconds=SECONDS, file_bytes=FILE_BYTES):
         lines = done.stderr.strip().splitlines() or [f"it ended with {done.returncode}, and said nothing"]
         begin = next((at for at, line in enumerate(lines) if "error" in line.lower()), 0)
         lines = [each.replace("\t", " ") for each in lines[begin:]]
-        raise Refused(f"{words[0]} fails", [*lines[:LINES], *["[..]"] * (len(lines) > LINES)])
+        raise Refused(f"{Path(words[0]).name} fails", [*lines[:LINES], *["[..]"] * (len(lines) > LINES)])
     return done.stdout

@@ -10,8 +10,8 @@ from dataclasses import dataclass, replace
 from bring_parts import Refused
 
 NAME = r"[A-Za-z_]\w*"
-# a location, and the part of an object that C names
-PLACE = rf"{NAME}(?:\[[0-9]{{1,9}}\]|\.{NAME}){{0,9}}"
+# a location, and the part of an object that a program names
+PLACE = rf"{NAME}(?:::{NAME}){{0,9}}(?:\[[0-9]{{1,9}}\]|\.{NAME}){{0,9}}"
 KEYWORD = re.compile(r"^[ \t]*(locations|filter|exists|~[ \t]*exists|forall)(?!\w)", re.MULTILINE)
 PIECE = re.compile(rf"""
     (?P<blank>\s+) |

@@ -114,7 +114,7 @@ class Information:
         location = next((each.attributes["location"] for each in self.variables
                          if "location" in each.attributes and self.origin(each) is entry), "")
         found, offset, address = [], 0, None
-        shape = re.search(r"\((DW_OP_addrx?[: ].*)\)", location)
+        shape = re.search(r"\((DW_OP_.*)\)", location)
         for step in shape[1].split("; ") if shape else []:
             name, *operands = re.split(r"[: <>]+", step.strip())
             if name == "DW_OP_addr":

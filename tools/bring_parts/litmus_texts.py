@@ -48,9 +48,9 @@ def harts_of(image, information, named):
 
 
 def storage_for(pointed, folder):
-    """A module of objects of these names and sizes."""
+    """A module of objects of these names and sizes. A type's size is a multiple of its alignment."""
     source, module = Path(folder, "storage.s"), Path(folder, "storage")
-    source.write_text("".join(f'.section .bss.{name},"aw",@nobits\n.balign 16\n.globl {name}\n.type {name},@object\n.size {name},{size}\n'
+    source.write_text("".join(f'.section .bss.{name},"aw",@nobits\n.balign {max(4, size & -size)}\n.globl {name}\n.type {name},@object\n.size {name},{size}\n'
                               f'{name}: .zero {size}\n' for name, size in pointed.items()))
     compilers.Compiler.assemble(source, module)
     return module
@@ -120,8 +120,8 @@ def litmus_text(modules, question, named, compiler, fences, note, told, sources=
 def check_asked(question, linked):
     """Refuses what the condition asks of harts and can't be known."""
     for left in question.ending.lefts():
-        number, colon, name = left.partition(":")
-        if not colon or name.startswith(":") or (int(number), name) in question.kept:
+        number, _, name = left.partition(":")
+        if not number.isdigit() or (int(number), name) in question.kept:
             continue
         if int(number) >= len(linked.harts):
             raise Refused(f"{ASKED} {left}, and there is no P{number}")
@@ -142,8 +142,8 @@ def opening(hart, registers, column, words):
 def condition(question, words):
     """The condition with registers by number and objects by the names of their words."""
     def left_of(left):
-        hart, colon, name = left.partition(":")
-        if colon and not name.startswith(":"):
+        hart, _, name = left.partition(":")
+        if hart.isdigit():
             kept = question.kept.get((int(hart), name), name)
             return f"{hart}:x{arguments.register_of(f'{hart}:{kept}')}"
         return words.named(left, ASKED)

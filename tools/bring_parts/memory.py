@@ -72,7 +72,7 @@ class Memory:
     def named(self, text, what):
         """The name of a word that a program calls `x`, `a[2]` or `q.tail`."""
         text = self.shorter(text)
-        shape = re.fullmatch(r"(\w+)(?:\[([0-9]+)\])?", text)
+        shape = re.fullmatch(r"(.+?)(?:\[([0-9]+)\])?", text)
         place = self.parts.get(text, self.places.get((shape[1], int(shape[2] or 0))) if shape else None)
         if place is None and text not in self.names:
             raise Refused(f"{what} {text}, which is no shared word")
