@@ -21,7 +21,7 @@ use Rattle.store_buffers.proofs.LateStores.{late-stores, all-by-parts, at-by-par
 use Rattle.queue_parties.specs.Parties.{Party, the_sender, the_receiver, other, QueueCounts, count, known}
 use Rattle.queue_parties.proofs.Parties.{Whose, mine, theirs, whose, two, twice, Grows, counts-append, keeps-at}
 use Rattle.slot_queue.specs.Queues.{Queue, IsByteOf, IsQueue}
-use Rattle.slot_queue.specs.Ownership.{party_of, hart, end, after_access, after_entry, counts_after, KeepsAccess, KeepsEntry, KeepsOwnership}
+use Rattle.slot_queue.specs.Ownership.{party_of, hart, end, after_access, counts_next, counts_after, KeepsAccess, KeepsEntry, KeepsOwnership}
 use Rattle.slot_queue.specs.Laws.{FollowsOwnership}
 use Rattle.slot_queue.proofs.Runs.{window}
 use Rattle.slot_queue.proofs.Publication.{follows-front, published}
@@ -52,19 +52,19 @@ module _ (B : ℕ) (q : Queue) (start : QueueCounts) (o : OpeningValue) (before 
       c1 = counts_after q start done
 
       d1 : QueueCounts
-      d1 = after_entry q c1 e1
+      d1 = counts_next q c1 e1
 
       parts : fr ++ gs ≡ done ++ e1 ∷ es2
       parts = ap (λ xs. fr ++ xs) split ∙ sym (append_assoc fr es1 (e1 ∷ es2))
 
       keeps : KeepsAccess q (party_of q (hart_of e1)) c1 (access_of e1)
-      keeps = keeps-at (after_entry q) (KeepsEntry q) start done e1 es2 (subst (KeepsOwnership q start) parts f.keeps)
+      keeps = keeps-at (counts_next q) (KeepsEntry q) start done e1 es2 (subst (KeepsOwnership q start) parts f.keeps)
 
       parts2 : fr ++ gs ≡ (done ++ e1 ∷ []) ++ es2
       parts2 = parts ∙ sym (append_assoc done (e1 ∷ []) es2)
 
       d1_is : counts_after q start (done ++ e1 ∷ []) ≡ d1
-      d1_is = counts-append (after_entry q) start done (e1 ∷ [])
+      d1_is = counts-append (counts_next q) start done (e1 ∷ [])
 
       by : Whose q.sender q.receiver (hart_of e1) → LeavesByteBy x (access_of e1)
       by (theirs far party) = off-access c1 (access_of e1) (subst (λ t. KeepsAccess q t c1 (access_of e1)) party keeps)
@@ -80,12 +80,12 @@ module _ (B : ℕ) (q : Queue) (start : QueueCounts) (o : OpeningValue) (before 
           twice_owned r same party owns =
               let is_d1 : after_access q (Some r) (access_of e1) c1 ≡ d1 = ap (λ t. after_access q t (access_of e1) c1) (sym party) in
               let more : count p (counts_after q start fr) ≤ count p c1 =
-              (subst (Grows (counts_after q start fr)) (sym (counts-append (after_entry q) start fr es1))
+              (subst (Grows (counts_after q start fr)) (sym (counts-append (counts_next q) start fr es1))
               (grows-after q (counts_after q start fr) es1)).counts p in
               not-owned q f.queue x p c1 d1 (counts_after q start (fr ++ gs)) k owns.position
               (subst (Window q) d1_is (window-of B q start o before (done ++ e1 ∷ []) (follows-front B q start o before (done ++ e1 ∷ []) es2
               (subst (FollowsOwnership B q start o before) parts2 f))))
-              (subst (Grows d1) (ap (λ d. counts_after q d es2) (sym d1_is) ∙ sym (counts-append (after_entry q) start (done ++ e1 ∷ []) es2)
+              (subst (Grows d1) (ap (λ d. counts_after q d es2) (sym d1_is) ∙ sym (counts-append (counts_next q) start (done ++ e1 ∷ []) es2)
               ∙ ap (counts_after q start) (sym parts2)) (grows-after q d1 es2))
               of_k owns.byte (omega (arith, past, more)) (subst (λ t. count t c1 ≤ owns.position) same owns.from)
               (subst (λ t. owns.position < end q t d1) same (subst (λ d. owns.position < end q r d) is_d1 owns.before)) given
@@ -110,10 +110,10 @@ module _ (B : ℕ) (q : Queue) (start : QueueCounts) (o : OpeningValue) (before 
   run : FollowsOwnership B q start o before es
   run = whole_front es (e ∷ fs) refl
 
-  past_entry : count p c < count p (after_entry q c e)
+  past_entry : count p c < count p (counts_next q c e)
   past_entry =
-      let more : k < count p (after_entry q c e) =
-      subst (λ d. k < count p d) (counts-append (after_entry q) start es (e ∷ [])) past in
+      let more : k < count p (counts_next q c e) =
+      subst (λ d. k < count p d) (counts-append (counts_next q) start es (e ∷ [])) past in
       omega (arith, from, more)
 
   moves : MovesCount q is p (party_of q (hart_of e)) c (access_of e)
@@ -122,12 +122,12 @@ module _ (B : ℕ) (q : Queue) (start : QueueCounts) (o : OpeningValue) (before 
   -- the position was the party's
   pub owned : k < end q p c
   owned =
-      let more : k < count p (after_entry q c e) = subst (λ d. k < count p d) (counts-append (after_entry q) start es (e ∷ [])) past in
+      let more : k < count p (counts_next q c e) = subst (λ d. k < count p d) (counts-append (counts_next q) start es (e ∷ [])) past in
       let w : Window q (counts_after q start (es ++ e ∷ [])) = window-of B q start o before (es ++ e ∷ [])
       (whole_front (es ++ e ∷ []) fs (sym (append_assoc es (e ∷ []) fs))) in
-      let room : count p (after_entry q c e) ≤ end q p (after_entry q c e) =
-      subst (λ d. count p d ≤ end q p d) (counts-append (after_entry q) start es (e ∷ [])) (w.within p) in
-      let same : end q p (after_entry q c e) ≡ end q p c = moves.same_end in
+      let room : count p (counts_next q c e) ≤ end q p (counts_next q c e) =
+      subst (λ d. count p d ≤ end q p d) (counts-append (counts_next q) start es (e ∷ [])) (w.within p) in
+      let same : end q p (counts_next q c e) ≡ end q p c = moves.same_end in
       omega (arith, more, room, same)
 
   module _ (x : ℕ) (of_k : IsByteOf q k x) where
@@ -158,12 +158,12 @@ module _ (B : ℕ) (q : Queue) (start : QueueCounts) (o : OpeningValue) (before 
             d1 = counts_after q start (es1 ++ e1 ∷ [])
 
             d1_is : d1 ≡ after_access q (party_of q g) (store w) c1
-            d1_is = counts-append (after_entry q) start es1 (e1 ∷ []) ∙ ap (λ h. after_access q (party_of q h) (access_of e1) c1) of_g
+            d1_is = counts-append (counts_next q) start es1 (e1 ∷ []) ∙ ap (λ h. after_access q (party_of q h) (access_of e1) c1) of_g
                 ∙ ap (λ y. after_access q (party_of q g) y c1) does
 
             keeps : KeepsAccess q (party_of q g) c1 (store w)
             keeps = subst (λ y. KeepsAccess q (party_of q g) c1 y) does (subst (λ h. KeepsAccess q (party_of q h) c1 (access_of e1)) of_g
-                (keeps-at (after_entry q) (KeepsEntry q) start es1 e1 es2 (subst (KeepsOwnership q start) split run.keeps)))
+                (keeps-at (counts_next q) (KeepsEntry q) start es1 e1 es2 (subst (KeepsOwnership q start) split run.keeps)))
 
             by : Whose q.sender q.receiver g → LeavesByte x w
             by (theirs far party) = off-byte q is x k of_k w (subst (λ t. KeepsAccess q t c1 (store w)) party keeps)
@@ -188,7 +188,7 @@ module _ (B : ℕ) (q : Queue) (start : QueueCounts) (o : OpeningValue) (before 
                         front = whole_front (es1 ++ e1 ∷ []) (es2 ++ e ∷ fs) (ap (λ xs. xs ++ e ∷ fs) split2 ∙ append_assoc (es1 ++ e1 ∷ []) es2 (e ∷ fs))
 
                         grows : Grows d1 c
-                        grows = subst (Grows d1) (sym (counts-append (after_entry q) start (es1 ++ e1 ∷ []) es2) ∙ ap (counts_after q start) (sym split2))
+                        grows = subst (Grows d1) (sym (counts-append (counts_next q) start (es1 ++ e1 ∷ []) es2) ∙ ap (counts_after q start) (sym split2))
                             (grows-after q d1 es2)
 
                         before_d1 : owns.position < end q (other p) d1
@@ -232,7 +232,7 @@ module _ (B : ℕ) (q : Queue) (start : QueueCounts) (o : OpeningValue) (before 
       leave : AllLeaveByte x (e ∷ fs)
       leave =
           let join : (es ++ e ∷ []) ++ fs ≡ es ++ e ∷ fs = append_assoc es (e ∷ []) fs in (
-            moves.leaves x k of_k (keeps-at (after_entry q) (KeepsEntry q) start es e fs f.keeps),
+            moves.leaves x k of_k (keeps-at (counts_next q) (KeepsEntry q) start es e fs f.keeps),
             leave-after B q start o before (es ++ e ∷ []) fs (subst (FollowsOwnership B q start o before) (sym join) f) p k past x of_k
                 (subst (λ xs. count (other p) (counts_after q start xs) ≤ k + gap q p) (sym join) given) left,
           )
@@ -276,22 +276,22 @@ module _ (B : ℕ) (q : Queue) (start : QueueCounts) (o : OpeningValue) (before 
       parts = ap (λ xs. fr ++ xs) split ∙ sym (append_assoc fr es1 (e ∷ es2))
 
       keeps : KeepsAccess q (party_of q (hart_of e)) c1 (access_of e)
-      keeps = keeps-at (after_entry q) (KeepsEntry q) start (fr ++ es1) e es2 (subst (KeepsOwnership q start) parts f.keeps)
+      keeps = keeps-at (counts_next q) (KeepsEntry q) start (fr ++ es1) e es2 (subst (KeepsOwnership q start) parts f.keeps)
 
-      later : Grows (after_entry q c1 e) (counts_after q start (fr ++ gs))
-      later = subst (Grows (after_entry q c1 e)) (sym (counts-append (after_entry q) start (fr ++ es1) (e ∷ es2)) ∙ ap (counts_after q start) (sym parts))
-          (grows-after q (after_entry q c1 e) es2)
+      later : Grows (counts_next q c1 e) (counts_after q start (fr ++ gs))
+      later = subst (Grows (counts_next q c1 e)) (sym (counts-append (counts_next q) start (fr ++ es1) (e ∷ es2)) ∙ ap (counts_after q start) (sym parts))
+          (grows-after q (counts_next q c1 e) es2)
 
       earlier : Grows (counts_after q start fr) c1
-      earlier = subst (Grows (counts_after q start fr)) (sym (counts-append (after_entry q) start fr es1)) (grows-after q (counts_after q start fr) es1)
+      earlier = subst (Grows (counts_after q start fr)) (sym (counts-append (counts_next q) start fr es1)) (grows-after q (counts_after q start fr) es1)
 
       by_receiver : party_of q (hart_of e) ≡ Some the_receiver → LeavesByteBy x (access_of e)
       by_receiver party = elim (access-byte q f.queue x k of_k the_receiver c1 (access_of e) (subst (λ t. KeepsAccess q t c1 (access_of e)) party keeps)) [
         | inl leaves ↦ leaves
         | inr owns ↦ absurd (
-            let is_d : after_access q (Some the_receiver) (access_of e) c1 ≡ after_entry q c1 e = ap (λ t. after_access q t (access_of e) c1) (sym party) in
-            let below : owns.position < (after_entry q c1 e).known_published = subst (λ d. owns.position < d.known_published) is_d owns.before in
-            let more : (after_entry q c1 e).known_published ≤ (counts_after q start (fr ++ gs)).known_published = later.knows the_receiver in
+            let is_d : after_access q (Some the_receiver) (access_of e) c1 ≡ counts_next q c1 e = ap (λ t. after_access q t (access_of e) c1) (sym party) in
+            let below : owns.position < (counts_next q c1 e).known_published = subst (λ d. owns.position < d.known_published) is_d owns.before in
+            let more : (counts_next q c1 e).known_published ≤ (counts_after q start (fr ++ gs)).known_published = later.knows the_receiver in
             let on : (counts_after q start fr).taken ≤ c1.taken = earlier.counts the_receiver in
             not-yet q f.queue x (counts_after q start fr) k owns.position
             (window B q start o before fr (follows-front B q start o before fr gs f)) of_k owns.byte sent

@@ -18,7 +18,7 @@ use Rattle.store_buffers.proofs.Reading.{newest-first}
 use Rattle.queue_parties.specs.Parties.{Party, other, QueueCounts, count, with_known, known}
 use Rattle.queue_parties.proofs.Parties.{Whose, mine, theirs, whose, harts-apart, two, known-set, count-set-known, counts-append}
 use Rattle.slot_queue.specs.Queues.{Queue, index_word, least, IsQueue}
-use Rattle.slot_queue.specs.Ownership.{hart, index, moved, after_load, after_access, after_entry, counts_after}
+use Rattle.slot_queue.specs.Ownership.{hart, index, moved, after_load, after_access, counts_next, counts_after}
 use Rattle.slot_queue.specs.Laws.{FollowsOwnership, moved_on}
 use Rattle.slot_queue.proofs.Sides.{IsClean, Side, clean-word}
 use Rattle.slot_queue.proofs.Looks.{reads-other, found}
@@ -88,7 +88,7 @@ look B q start o before es e f tells p v by does = by_whose (whose q.sender q.re
     by_whose (mine r at party) = elim (two p r) [
       | inr same ↦ absurd (harts-apart q.sender q.receiver f.queue.parties p (sym by ∙ at ∙ ap (hart q) same))
       | inl same ↦
-          let is : counts_after q start (es ++ e ∷ []) ≡ with_known p (m (other p)) c = counts-append (after_entry q) start es (e ∷ [])
+          let is : counts_after q start (es ++ e ∷ []) ≡ with_known p (m (other p)) c = counts-append (counts_next q) start es (e ∷ [])
           ∙ ap (λ t. after_access q t (access_of e) c) (party ∙ ap (λ s. Some s) same) ∙ ap (λ y. after_access q (Some p) y c) does ∙ found_there in
           ap (λ d. moved_on q (other p) (known p d) (pending (hart q (other p)) (before ++ es))) is
           ∙ ap (λ k. moved_on q (other p) k (pending (hart q (other p)) (before ++ es))) (known-set p (m (other p)) c)

@@ -19,7 +19,7 @@ use Rattle.queue_parties.proofs.Parties.{Grows, grows-same, grows-on, grows-coun
 use Rattle.queue_parties.proofs.Positions.{far, slot-within}
 use Rattle.slot_queue.specs.Queues.{Queue, least, IsByteOf, IsQueue, KeepsOff}
 use Rattle.slot_queue.specs.Ownership.{party_of, index, end}
-use Rattle.slot_queue.specs.Ownership.{is_index_store, moved, after_load, after_store, after_access, after_entry, counts_after, MayStore, KeepsAccess, OwnsByte}
+use Rattle.slot_queue.specs.Ownership.{is_index_store, moved, after_load, after_store, after_access, counts_next, counts_after, MayStore, KeepsAccess, OwnsByte}
 use Rattle.slot_queue.specs.Laws.{FollowsOwnership}
 use Rattle.slot_queue.proofs.Sides.{moved-more, indices-apart, stores-leave}
 use Rattle.slot_queue.proofs.Looks.{Bounds, bounds}
@@ -48,11 +48,11 @@ module _ (q : Queue) where
   grows-access (Some r) land c = grows-same c
   grows-access None x c = grows-same c
 
-  pub grows-entry : (c : QueueCounts) (e : Entry) → Grows c (after_entry q c e)
+  pub grows-entry : (c : QueueCounts) (e : Entry) → Grows c (counts_next q c e)
   grows-entry c e = grows-access (party_of q (hart_of e)) (access_of e) c
 
   pub grows-after : (c : QueueCounts) (es : List Entry) → Grows c (counts_after q c es)
-  grows-after c es = grows-from (after_entry q) grows-entry c es
+  grows-after c es = grows-from (counts_next q) grows-entry c es
 
 -- ---- the window of each party
 

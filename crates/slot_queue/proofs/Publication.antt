@@ -17,7 +17,7 @@ use Rattle.step_machine.proofs.Balanced.{balanced}
 use Rattle.queue_parties.specs.Parties.{Party, other, QueueCounts, count, known}
 use Rattle.queue_parties.proofs.Parties.{Whose, mine, theirs, whose, two, twice, counts-append, keeps-front, keeps-back}
 use Rattle.slot_queue.specs.Queues.{Queue, IsQueue}
-use Rattle.slot_queue.specs.Ownership.{party_of, hart, after_load, after_entry, counts_after, MayStore, KeepsAccess, KeepsEntry, KeepsOwnership}
+use Rattle.slot_queue.specs.Ownership.{party_of, hart, after_load, counts_next, counts_after, MayStore, KeepsAccess, KeepsEntry, KeepsOwnership}
 use Rattle.slot_queue.specs.Laws.{FollowsOwnership, moved_on}
 use Rattle.slot_queue.proofs.Sides.{Leaves, Side, off-leaves, stores-leave, moved-leaves, moved-same, moved_on-more}
 use Rattle.slot_queue.proofs.Runs.{unmoved, one-on, memory_counts, memory_at, memory-last, holds-after, sides-of}
@@ -151,8 +151,8 @@ module _ (B : ℕ) (q : Queue) (is : IsQueue q) (o : OpeningValue) (p : Party) (
       let m2 : Party → ℕ = λ t. moved_on q t (m t) (write_of (at ++ gs) e) in
       subst (λ xs. Ahead xs (memory_counts q m2 ((at ++ gs) ++ e ∷ []) fs p)) (append_assoc (at ++ gs) (e ∷ []) fs)
       (subst (λ ys. Ahead (ys ++ fs) (memory_counts q m2 ys fs p)) place
-      (ahead-after on longer (after_entry q c e) m2 fs
-      (subst (λ ys. (t : Party) → Side q o ys (after_entry q c e) t (m2 t)) (sym place)
+      (ahead-after on longer (counts_next q c e) m2 fs
+      (subst (λ ys. (t : Party) → Side q o ys (counts_next q c e) t (m2 t)) (sym place)
       (one-on B q is o (at ++ gs) e (λ g. balanced B (history_of o (at ++ gs)) g legal) c m keeps.0 later.0 sides))
       (subst (λ ys. Legal B (history_of o ys)) (sym place) (LegalAfter-append B o [] (at ++ gs) (e ∷ []) legal (later.0, tt)))
       (subst (λ ys. LegalAfter B o ys fs) (sym place) later.1) keeps.1
@@ -164,7 +164,7 @@ follows-front B q start o before es fs f = record {
   queue = f.queue;
   legal = LegalAfter-front B o [] (before ++ es) fs (subst (LegalAfter B o []) (sym (append_assoc before es fs)) f.legal);
   rest = f.rest;
-  keeps = keeps-front (after_entry q) (KeepsEntry q) start es fs f.keeps;
+  keeps = keeps-front (counts_next q) (KeepsEntry q) start es fs f.keeps;
 }
 
 -- Of a run in three parts, es, gs and fs: once the other party knows of more than the party's count after es, what the hart had stored
@@ -204,7 +204,7 @@ published-on B q start o before es gs done fs split f p more one made j more_kno
     legal = LegalAfter-front B o [] (at ++ gs) fs whole
 
     keeps : KeepsOwnership q c fs
-    keeps = keeps-back (after_entry q) (KeepsEntry q) start done fs f.keeps
+    keeps = keeps-back (counts_next q) (KeepsEntry q) start done fs f.keeps
 
     end : Side q o ((at ++ gs) ++ fs) (counts_after q c fs) p (memory_counts q m (at ++ gs) fs p)
     end = holds-after B q f.queue o (at ++ gs) c m fs sides legal (LegalAfter-back B o [] (at ++ gs) fs whole) keeps p
@@ -213,7 +213,7 @@ published-on B q start o before es gs done fs split f p more one made j more_kno
     ahead = ahead-after B q f.queue o p at n more one gs made c m fs sides legal (LegalAfter-back B o [] (at ++ gs) fs whole) keeps j
 
     knows : known (other p) (counts_after q start (done ++ fs)) ≤ memory_counts q m (at ++ gs) fs p
-    knows = subst (λ d. known (other p) d ≤ memory_counts q m (at ++ gs) fs p) (sym (counts-append (after_entry q) start done fs)) end.known_less
+    knows = subst (λ d. known (other p) d ≤ memory_counts q m (at ++ gs) fs p) (sym (counts-append (counts_next q) start done fs)) end.known_less
 
     there : (at ++ gs) ++ fs ≡ before ++ (done ++ fs)
     there = ap (λ xs. xs ++ fs) (sym place) ∙ append_assoc before done fs

@@ -19,7 +19,7 @@ use Rattle.queue_parties.proofs.Parties.{Whose, mine, theirs, whose, harts-apart
 use Rattle.queue_parties.proofs.Parties.{count-set-other, known-set-count, count-set-known, keeps-front}
 use Rattle.slot_queue.specs.Queues.{Queue, index_word, IsQueue, IsAtRest, KeepsOff}
 use Rattle.slot_queue.specs.Ownership.{party_of, hart, index, end}
-use Rattle.slot_queue.specs.Ownership.{after_load, after_store, moved, after_access, after_entry, counts_after}
+use Rattle.slot_queue.specs.Ownership.{after_load, after_store, moved, after_access, counts_next, counts_after}
 use Rattle.slot_queue.specs.Ownership.{MayStore, KeepsAccess, KeepsEntry, KeepsOwnership}
 use Rattle.slot_queue.specs.Laws.{FollowsOwnership, moved_on}
 use Rattle.slot_queue.proofs.Sides.{Leaves, IsClean, Side, off-leaves, stores-clean, stores-leave, stores-room, moved-leaves, moved-same}
@@ -189,7 +189,7 @@ module _ (B : ℕ) (q : Queue) (is : IsQueue q) (o : OpeningValue) (es : List En
       by land does keeps allowed = lands-by does allowed c m sides
 
   pub one-on : (c : QueueCounts) (m : Party → ℕ) → KeepsAccess q (party_of q (hart_of e)) c (access_of e) → Allowed B o es e → Held c m
-      → Holds (after_entry q c e) m
+      → Holds (counts_next q c e) m
   one-on c m keeps allowed sides = acts (access_of e) refl allowed (whose q.sender q.receiver (hart_of e)) c m keeps allowed sides
 
 -- ---- whole runs
@@ -213,9 +213,9 @@ pub holds-after : (B : ℕ) (q : Queue) (is : IsQueue q) (o : OpeningValue) (bef
 unfolding memory_counts
 holds-after B q is o before c m [] sides legal later keeps p = subst (λ xs. Side q o xs c p (m p)) (sym (append-nil before)) (sides p)
 holds-after B q is o before c m (e ∷ es) sides legal later keeps p =
-    subst (λ xs. Side q o xs (counts_after q (after_entry q c e) es) p (memory_counts q (λ t. moved_on q t (m t) (write_of before e)) (before ++ e ∷ []) es p))
+    subst (λ xs. Side q o xs (counts_after q (counts_next q c e) es) p (memory_counts q (λ t. moved_on q t (m t) (write_of before e)) (before ++ e ∷ []) es p))
     (append_assoc before (e ∷ []) es)
-    (holds-after B q is o (before ++ e ∷ []) (after_entry q c e) (λ t. moved_on q t (m t) (write_of before e)) es
+    (holds-after B q is o (before ++ e ∷ []) (counts_next q c e) (λ t. moved_on q t (m t) (write_of before e)) es
     (one-on B q is o before e (λ h. balanced B (history_of o before) h legal) c m keeps.0 later.0 sides)
     (LegalAfter-append B o [] before (e ∷ []) legal (later.0, tt)) later.1 keeps.1 p)
 

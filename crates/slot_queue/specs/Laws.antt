@@ -9,7 +9,7 @@ use Rattle.store_buffers.specs.StoreBuffers.{LeavesByteAt}
 use Rattle.queue_parties.specs.Parties.{Party, the_receiver, QueueCounts, count, known}
 use Rattle.queue_parties.specs.Positions.{numbers_from, records_passed}
 use Rattle.slot_queue.specs.Queues.{Queue, IsQueue, IsAtRest, slot_of, IsByteOf}
-use Rattle.slot_queue.specs.Ownership.{hart, after_entry, moved, KeepsOwnership}
+use Rattle.slot_queue.specs.Ownership.{hart, counts_next, moved, KeepsOwnership}
 
 -- the entries of a run from where the queue was at rest with these counts: they are legal after those before, and keep the protocol
 pub record FollowsOwnership (B : ℕ) (q : Queue) (start : QueueCounts) (o : OpeningValue) (before es : List Entry) : Type 0 where
@@ -34,11 +34,11 @@ slot_record q o es h k = read o es h (slot_of q k) q.width
 -- the records past which a party moves its count, each as its hart reads it where it does so: those that the sender publishes, and
 -- those that the receiver takes
 abbrev pub records_by : Queue → Party → OpeningValue → QueueCounts → (before es : List Entry) → List ℕ
-records_by q p o c before es = records_passed (after_entry q) (count p) (λ front e k. slot_record q o front (hart q p) k) c before es
+records_by q p o c before es = records_passed (counts_next q) (count p) (λ front e k. slot_record q o front (hart q p) k) c before es
 
 -- the records of which the receiver learns, each as its hart reads it just after the load by which it learns of it
 abbrev pub records_learned : Queue → OpeningValue → QueueCounts → (before es : List Entry) → List ℕ
-records_learned q o c before es = records_passed (after_entry q) (known the_receiver) (λ front e k. slot_record q o (front ++ e ∷ []) q.receiver k) c before es
+records_learned q o c before es = records_passed (counts_next q) (known the_receiver) (λ front e k. slot_record q o (front ++ e ∷ []) q.receiver k) c before es
 
 -- the records that are published from position k on where the run begins
 abbrev pub records_waiting : Queue → OpeningValue → QueueCounts → (before : List Entry) → (k : ℕ) → List ℕ

@@ -55,11 +55,11 @@ after_access q (Some p) (store w) c = after_store q p w c
 after_access q (Some p) (exchange a old new) c = after_store q p (write a 4 new) (after_load q p a 4 old c)
 after_access q p x c = c
 
-abbrev pub after_entry : Queue → QueueCounts → Entry → QueueCounts
-after_entry q c e = after_access q (party_of q (hart_of e)) (access_of e) c
+abbrev pub counts_next : Queue → QueueCounts → Entry → QueueCounts
+counts_next q c e = after_access q (party_of q (hart_of e)) (access_of e) c
 
 abbrev pub counts_after : Queue → QueueCounts → List Entry → QueueCounts
-counts_after q c es = counts_from (after_entry q) c es
+counts_after q c es = counts_from (counts_next q) c es
 
 -- ---- which stores are allowed. Loads are free
 
@@ -89,4 +89,4 @@ abbrev pub KeepsEntry : Queue → QueueCounts → Entry → Type 0
 KeepsEntry q c e = KeepsAccess q (party_of q (hart_of e)) c (access_of e)
 
 abbrev pub KeepsOwnership : Queue → QueueCounts → List Entry → Type 0
-KeepsOwnership q c es = KeepsEach (after_entry q) (KeepsEntry q) c es
+KeepsOwnership q c es = KeepsEach (counts_next q) (KeepsEntry q) c es

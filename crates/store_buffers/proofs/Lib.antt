@@ -3,3 +3,4 @@ pub mod Effects
 pub mod Performed
 pub mod MessagePassing
 pub mod LateStores
+pub mod OwnEntries

@@ -1,0 +1,24 @@
+//! The queues of `spsc_queue` as instances of the protocols of `slot_queue` and `slots_that_tell`, so that the laws of these hold
+//! of them too.
+//!
+//! The contract is that of [`laws_of_instances`]. This crate runs nothing.
+
+#![tactic(auto)]
+
+ghost use Rattle.std.specs.Prelude.{ℕ, ◌≡◌, List};
+ghost use Rattle.step_machine.specs.declared.events.Entry.{Entry};
+ghost use Rattle.step_machine.specs.History.{OpeningValue};
+ghost use Rattle.queue_parties.specs.Parties.{all_at};
+ghost use Rattle.spsc_queue.specs.RingBuffers.{RingBuffer, lamport};
+ghost use Rattle.spsc_queue.specs.Laws.{FollowsSpscProtocol};
+ghost use Rattle.slot_queue.specs.Laws.{FollowsOwnership};
+ghost use Rattle.queue_instances.specs.LamportRings.{queue_of};
+
+/// Of each run that keeps the protocol of a queue of `spsc_queue`, from where that was empty and at rest. It does nothing.
+///
+/// - `lamport_ring`: Lamport's, with a copy of the tail or without, keeps the protocol of ownership.
+#[tactic(auto, using(crate::proofs::LamportRings::lamport_owns))]
+pub fn laws_of_instances()
+    ensures lamport_ring { (B : ℕ) (r : RingBuffer) (o : OpeningValue) (before es : List Entry) → r.kind ≡ lamport
+        → FollowsSpscProtocol B r o before es → FollowsOwnership B (queue_of r) (all_at r.start) o before es }
+{}
