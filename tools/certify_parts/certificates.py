@@ -152,8 +152,9 @@ class Writer:
         return written(constant - following.moved[which] * (kind == "A") - begins, terms)
 
 
-def text(queues, programs, searches):
+def text(queues, found):
+    """The certificate of all queues and harts."""
     lines = ["ztso-queues 1", *(queue.text() for queue in queues)]
-    for program, search in zip(programs, searches):
-        lines += Writer(program, search).lines()
+    for hart in found:
+        lines += Writer(hart.program, hart.search).lines()
     return "\n".join(lines) + "\n"

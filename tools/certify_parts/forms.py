@@ -65,10 +65,10 @@ def variable_of(kind, which, factor=1, constant=0):
     return form(constant, {(kind, which): factor})
 
 
-def bounds(value, ranges):
-    """The least and the greatest number of a form, if it doesn't wrap and each variable has a range; else None. The
-    numbers are those of a sum of whole numbers, where a factor from 2^31 on counts as negative."""
-    low = high = value.constant
+def bounds(value, ranges, is_exact=False):
+    """The least and the greatest number of a form, if each variable has a range; else None. The numbers are those of a sum
+    of whole numbers, where a factor from 2^31 on counts as negative, and of an exact form its constant too."""
+    low = high = signed(value.constant) if is_exact else value.constant
     for variable, m in value.terms:
         if variable not in ranges:
             return None

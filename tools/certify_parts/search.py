@@ -157,7 +157,7 @@ class Search:
             kind == "A" for kind, _ in (value.count if isinstance(value, Word) else value).variables()))
         self.number += 1
         if self.number > MOST_STATES or time.monotonic() > self.ends:
-            raise Refused("too many states")
+            raise Refused(None, "no end was found")
         if len(groups) < APART and self.is_early(state):
             groups.append(Group([state], state))
             return state

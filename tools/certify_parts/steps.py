@@ -25,7 +25,11 @@ SMALL_MASK = 16
 
 
 class Refused(Exception):
-    """Why an instruction isn't shown to keep the protocol."""
+    """Why an instruction isn't shown to keep the protocol, and at which pc it stands; None where the search ended otherwise."""
+
+    def __init__(self, pc, why):
+        super().__init__(pc, why)
+        self.pc, self.why = pc, why
 
 
 class Split(Exception):
@@ -75,7 +79,7 @@ class Program:
         self.parties = [queue.party(hart) for queue in queues]
         self.stored = set()    # words that it may store to, apart from queues
         self.live, self.edges = live, {}
-        self.unowned = {}      # by a queue: why a load of it isn't shown to be of an owned slot
+        self.unowned = {}      # by a queue: the first pc of which a load of its slots isn't shown to be of owned ones
         registers = tuple(number(test.harts[hart].registers.get(which, 0)) if which in live[0] or not which else None for which in range(32))
         words = tuple(number(test.words.get(place, 0)) for place in kept)
         shares = tuple(None if party is None else Share(queue.start, *[queue.start % queue.period()] * 2, *[queue.first_owned(party)] * 2)
@@ -104,7 +108,7 @@ class Program:
 
     def word_known(self, word, state):
         """A word whose count is known up to the modulus."""
-        found = bounds(self.by_position(word.count, word.queue), self.ranges(state))
+        found = bounds(self.by_position(word.count, word.queue), self.ranges(state), True)
         return self.queues[word.queue].word(found[0]) % SIZE if found and found[0] == found[1] else None
 
     def by_position(self, value, which):
@@ -204,7 +208,7 @@ class Program:
             counts = [self.count_of(value, queue, which) for value in (x, y)]
             if None not in counts:
                 difference = counts[0].minus(counts[1])
-                limits = bounds(difference, self.ranges(state))
+                limits = bounds(difference, self.ranges(state), True)
                 if limits:
                     zeros = [m for m in range(limits[0] // queue.modulus * queue.modulus, limits[1] + 1, queue.modulus) if m >= limits[0]]
                     if not zeros:
@@ -238,7 +242,7 @@ class Program:
         others = {name: limits for name, limits in ranges.items() if name != open_ones[0]}
 
         def is_equal(at):
-            return bounds(difference, {**others, open_ones[0]: (at, at)})[0] % queue.modulus == 0
+            return bounds(difference, {**others, open_ones[0]: (at, at)}, True)[0] % queue.modulus == 0
 
         answer = is_equal(first)
         for at in range(first + 1, min(last, first + MOST_TRIED) + 1):
@@ -420,7 +424,7 @@ class Program:
             if queue.meets_slots(low, high - low + width):
                 is_inside = queue.slots <= low and high + width <= queue.slots + queue.size * queue.width
                 if not is_inside or not self.owns(which, value, width, state):
-                    self.unowned.setdefault(which, f"pc {state.pc}: a load that isn't known to be of an owned slot")
+                    self.unowned.setdefault(which, state.pc)
                     if not is_inside:
                         self.refuse_looks(state, low, high, width)
                 return None, None
@@ -436,7 +440,7 @@ class Program:
         """A load that may be of the other's index, whole, would move what is known."""
         for queue, party in zip(self.queues, self.parties):
             if party is not None and width == queue.index_width and low <= queue.other(party) <= high:
-                raise Refused(f"pc {state.pc}: a load that may be of the other's index")
+                raise Refused(state.pc, f"a load that may be of the other's index")
 
     def own_word(self, state, place, width, is_signed):
         which = self.at.get(place & ~3)
@@ -464,15 +468,15 @@ class Program:
             if not queue.meets(low, high - low + width):
                 continue
             if party is None:
-                raise Refused(f"pc {state.pc}: a store that may be to the queue, by another hart")
+                raise Refused(state.pc, f"a store that may be to the queue, by another hart")
             if low == high and (low, width) == (queue.own(party), queue.index_width):
                 return state.words, (which, self.moved(which, value, state))
             if low < queue.slots or high + width > queue.slots + queue.size * queue.width:
-                raise Refused(f"pc {state.pc}: a store " + (
+                raise Refused(state.pc, f"a store " + (
                     "to an address that is not known" if low < high else "to an index of the queue that isn't the own one, whole, or across an end of the slots"))
             share = state.shares[which]
             if not self.owns(which, value_of_place, width, state):
-                raise Refused(f"pc {state.pc}: a store to a slot that isn't known to be owned, where the own position is "
+                raise Refused(state.pc, f"a store to a slot that isn't known to be owned, where the own position is "
                               f"{self.told(share.first, share.last)} and {self.told(share.low, share.high)} are known to be owned")
             return state.words, None
         if low == high:
@@ -521,7 +525,7 @@ class Program:
             raise Split(("A", which), share.low)
         if value is not None and share.first < share.last <= share.first + MOST_TRIED and step is None:
             raise Split(("p", which), share.first)
-        raise Refused(f"pc {state.pc}: the own index isn't known to move on by at most {share.low}, which are owned there")
+        raise Refused(state.pc, f"the own index isn't known to move on by at most {share.low}, which are owned there")
 
     def is_index(self, value, queue, state):
         """Whether a value is below the end of the words of an index; asks for a split where it is for some numbers."""
@@ -533,7 +537,7 @@ class Program:
 
     def step_of(self, value, modulus, state):
         """A form modulo the words of an index, where it is a number."""
-        found = bounds(value, self.ranges(state))
+        found = bounds(value, self.ranges(state), True)
         if found is None:
             return None
         if found[0] == found[1]:
@@ -550,7 +554,7 @@ class Program:
         if pc == 4 * len(self.code):
             return []
         if pc % 4 or pc > 4 * len(self.code):
-            raise Refused(f"pc {pc}: outside of the code")
+            raise Refused(pc, f"outside of the code")
         word = self.code[pc // 4]
         kind, to, third = word & 127, word >> 7 & 31, word >> 12 & 7
         x, y = registers[word >> 15 & 31], registers[word >> 20 & 31]
@@ -572,7 +576,7 @@ class Program:
         if kind == JALR:
             goal = self.place(x, state)
             if goal is None:
-                raise Refused(f"pc {pc}: a jump to a place that is not known")
+                raise Refused(pc, f"a jump to a place that is not known")
             return [self.put(state, to, number(pc + 4), (goal + given) % SIZE & ~1)]
         if kind == BRANCH:
             return self.branched(state, word, third, x, y)
@@ -588,7 +592,7 @@ class Program:
             return [self.exchanged(state, word >> 27, to, x, y)]
         if kind == SYSTEM:
             return self.called(state)
-        raise Refused(f"pc {pc}: the word {word:08x}")
+        raise Refused(pc, f"the word {word:08x}")
 
     def offset(self, value, given, state):
         if isinstance(value, Word):
@@ -613,10 +617,10 @@ class Program:
     def exchanged(self, state, operation, to, x, y):
         place = self.place(x, state)
         if place is None:
-            raise Refused(f"pc {state.pc}: an AMO at an address that is not known")
+            raise Refused(state.pc, f"an AMO at an address that is not known")
         old, looked = self.loaded(state, number(place), 4, False)
         if looked is not None:
-            raise Refused(f"pc {state.pc}: an AMO on the other's index")
+            raise Refused(state.pc, f"an AMO on the other's index")
         new = y if operation == 1 else self.computed("add", old, y, state)[0] if operation == 0 and old is not None else None
         words, move = self.store(state, number(place), 4, new)
         return self.put(state._replace(words=words), to, old, move=move)
@@ -629,7 +633,7 @@ class Program:
         if call == 1:
             state = state._replace(registers=state.registers[:10] + (None, None) + state.registers[12:])
         elif call not in (2, 3):
-            raise Refused(f"pc {state.pc}: an environment call that is not known")
+            raise Refused(state.pc, f"an environment call that is not known")
         return [self.put(state, 0, None)]
 
     def put(self, state, to, value, pc=None, fresh=None, looked=None, move=None):

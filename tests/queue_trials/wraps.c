@@ -1,0 +1,11 @@
+/* The wrong one: a queue of 5 slots whose count runs on and is divided: it fails where the count wraps. And free slots by a limit. */
+#include <stdatomic.h>
+#define N 8
+struct { atomic_uint head, tail; int slot[N]; } q;
+void P0(void) { for (int i = 0;; i++) { unsigned h = atomic_load_explicit(&q.head, memory_order_relaxed);
+  while (h - atomic_load_explicit(&q.tail, memory_order_acquire) > N) {}
+  q.slot[h % N] = i; atomic_store_explicit(&q.head, h + 1, memory_order_release); } }
+int P1(void) { int s = 0; for (;;) { unsigned t = atomic_load_explicit(&q.tail, memory_order_relaxed);
+  if (t == atomic_load_explicit(&q.head, memory_order_acquire)) continue;
+  s += q.slot[t % N]; atomic_store_explicit(&q.tail, t + 1, memory_order_release); if (s == 5000) return s; } }
+/* exists (1:x10=0) */
