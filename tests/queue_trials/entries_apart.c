@@ -1,4 +1,6 @@
-/* As io_uring's rings: head, tail and mask in one struct, entries of two words in an array of their own, several at once. */
+/* Head, tail and mask in one struct, entries of two words in an array of their own, several at once.
+   queue: head=ring_tail,tail=ring_head,slots=entries_0_data,size=4,width=8
+   answer: covered */
 #include <stdatomic.h>
 struct entry { unsigned data, result; };
 struct { atomic_uint head, tail; unsigned mask; } ring = { .mask = 3 };
