@@ -1,0 +1,160 @@
+"""The text of a certificate: for each hart the states that were found, and how each instruction leads from them into them.
+
+A certificate's variables begin at 0; a step adds one, which comes first. docs/queues.md has the grammar.
+"""
+
+from .forms import SIZE, Word, signed
+
+
+def written(constant, terms):
+    """A form in the text, as `12+4*0+1*2`: a number, and of each variable, by its place, how often it is taken."""
+    parts = [str(constant)] if constant or not any(terms.values()) else []
+    return "+".join([*parts, *(f"{m}*{at}" for at, m in sorted(terms.items()) if m)])
+
+
+class Layout:
+    """A state's variables in the certificate, each with what it begins at in the search: of each queue the turns and the position of the own count,
+    and how much is owned, as far as these aren't known; then the others."""
+
+    def __init__(self, program, state):
+        self.program, self.state, self.variables, self.begins, self.most = program, state, [], {}, {}
+        for which, share in enumerate(state.shares):
+            if share and share.count is None:
+                self.add(("n", which), 0, None)
+            if share and share.first < share.last:
+                self.add(("p", which), share.first, share.last)
+            if share and share.low < share.high:
+                self.add(("A", which), share.low, share.high)
+        for which, (low, high) in enumerate(state.others):
+            self.add(("z", which), low, high)
+
+    def add(self, variable, low, high):
+        self.variables.append(variable)
+        self.begins[variable], self.most[variable] = low, None if high is None else high - low
+
+    def half(self, variable, at, is_high):
+        """The layout where a variable is at most `at`, or more, and that number as the certificate counts."""
+        other = Layout(self.program, self.state)
+        other.begins, other.most = dict(self.begins), dict(self.most)
+        limit = at - self.begins[variable]
+        if is_high:
+            other.begins[variable], other.most[variable] = at + 1, self.most[variable] - limit - 1
+        else:
+            other.most[variable] = limit
+        return other, limit
+
+    def named(self, variable, lift=0):
+        """A variable of the search: a number and the multiples of the certificate's variables, after `lift` new ones."""
+        kind, which = variable
+        at = self.variables.index(variable) + lift if variable in self.variables else None
+        share = self.state.shares[which] if kind != "z" else None
+        if kind == "n":
+            if at is None:
+                return share.count, {}
+            begin, terms = self.named(("p", which), lift)
+            return begin, {**terms, at: self.program.queues[which].period()}
+        if at is None:
+            return (share.first if kind == "p" else share.low), {}
+        return self.begins[variable], {at: 1}
+
+    def form(self, value, modulus):
+        """A form of the search, with numbers below the modulus."""
+        constant, terms = signed(value.constant), {}
+        for variable, m in value.terms:
+            begin, parts = self.named(variable)
+            constant += signed(m) * begin
+            for at, factor in parts.items():
+                terms[at] = terms.get(at, 0) + signed(m) * factor
+        return written(constant % modulus, {at: m % modulus for at, m in terms.items()})
+
+    def value(self, value):
+        if isinstance(value, Word):
+            return f"@{value.queue}:{self.form(value.count, self.program.queues[value.queue].modulus)}"
+        return self.form(value, SIZE)
+
+    def lines(self):
+        if self.variables:
+            yield " ".join(["most", *("-" if self.most[variable] is None else str(self.most[variable]) for variable in self.variables)])
+        for name, values in (("reg", self.state.registers), ("word", self.state.words)):
+            for which, value in enumerate(values):
+                if value is not None and (which or name == "word"):
+                    yield f"{name} {which} {self.value(value)}"
+        for which, share in enumerate(self.state.shares):
+            if share:
+                yield f"share {which} {written(*self.named(('n', which)))} {written(*self.named(('A', which)))}"
+
+
+class Writer:
+    """Writes the part of a hart."""
+
+    def __init__(self, program, search):
+        self.program, self.search = program, search
+        self.states = search.states()
+        self.numbers = {state: at for at, state in enumerate(self.states)}
+        self.layouts = [Layout(program, state) for state in self.states]
+
+    def covering(self, state):
+        for group in reversed(self.search.groups[self.search.key(state)]):
+            if self.search.covers(group.state, state):
+                return self.numbers[group.state]
+        raise AssertionError(f"no state covers {state}")
+
+    def lines(self):
+        yield "hart"
+        if self.program.kept:
+            yield " ".join(map(str, ("own", *self.program.kept)))
+        at = self.covering(self.program.start)
+        yield " ".join(map(str, ("open", at, *(self.opening(variable, at) for variable in self.layouts[at].variables))))
+        for state, layout in zip(self.states, self.layouts):
+            yield f"state {state.pc}"
+            yield from layout.lines()
+            yield from self.tree(self.program.tree(state), layout)
+
+    def opening(self, variable, at):
+        kind, which = variable
+        start = self.program.start.shares[which]
+        if kind == "n":
+            return start.count // self.program.queues[which].period()
+        return (start.low if kind == "A" else start.first) - self.layouts[at].begins[variable]
+
+    def tree(self, tree, layout):
+        if tree[0] == "split":
+            for is_high in (False, True):
+                half, limit = layout.half(tree[1], tree[2], is_high)
+                if not is_high:
+                    yield f"split {layout.variables.index(tree[1])} {limit}"
+                yield from self.tree(tree[3 + is_high], half)
+            return
+        moved = [step for following in tree[2] for step in following.moved if step]
+        yield f"leaf {moved[0] if moved else 0}"
+        for following in tree[2]:
+            to = self.covering(following.state)
+            yield " ".join(["to", str(to), *(self.put(variable, to, following, layout) for variable in self.layouts[to].variables)])
+
+    def put(self, variable, to, following, layout):
+        """A variable of the state that is reached, by those of the leaf and the one that comes with the step."""
+        kind, which = variable
+        begins = self.layouts[to].begins[variable]
+        if kind in "np":
+            share, queue = layout.state.shares[which], self.program.queues[which]
+            turns, rest = divmod(layout.begins.get(("p", which), share.first) + following.moved[which], queue.period())
+            if kind == "p":
+                constant, terms = layout.named(variable, 1)
+                return written(constant + following.moved[which] - turns * queue.period() - begins, terms)
+            at = layout.variables.index(variable) + 1 if variable in layout.variables else None
+            return written(turns + (share.count // queue.period() if at is None else 0), {} if at is None else {at: 1})
+        if kind == "A" and following.looked[which]:
+            return written(layout.named(variable, 1)[0] - begins, {0: 1})
+        old = following.kept[which] if kind == "z" else which
+        if old is None:
+            return written(-begins, {0: 1})
+        constant, terms = layout.named((kind, old), 1)
+        return written(constant - following.moved[which] * (kind == "A") - begins, terms)
+
+
+def text(queues, found):
+    """The certificate of all queues and harts."""
+    lines = ["ztso-queues 1", *(queue.text() for queue in queues)]
+    for hart in found:
+        lines += Writer(hart.program, hart.search).lines()
+    return "\n".join(lines) + "\n"

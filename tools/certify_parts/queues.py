@@ -1,0 +1,113 @@
+"""A queue between two harts as two counts: where its parts lie, and which words of its indices stand for which counts."""
+
+from math import gcd
+from typing import NamedTuple
+
+from .forms import SIZE
+
+
+class Wrong(Exception):
+    """What is wrong with the description of a queue."""
+
+
+class Queue(NamedTuple):
+    """An index of `index_width` bytes holds `base + scale * ((n + offset) mod modulus)` for the count n; position k lies in
+    slot k mod `size`, and at most `capacity` positions are in use."""
+
+    sender: int
+    receiver: int
+    head: int
+    tail: int
+    index_width: int
+    slots: int
+    size: int
+    width: int
+    capacity: int
+    base: int
+    scale: int
+    offset: int
+    modulus: int
+    start: int
+
+    def word(self, count):
+        return self.base + self.scale * ((count + self.offset) % self.modulus)
+
+    def is_linear(self):
+        """Whether the word of a count is a linear form of it modulo 2^32."""
+        return self.index_width == 4 and (self.scale * self.modulus) % SIZE == 0
+
+    def period(self):
+        """The positions of a count modulo this are told apart: they say which slot it has, and which word if words aren't linear."""
+        return self.size if self.is_linear() else self.size * self.modulus // gcd(self.size, self.modulus)
+
+    def party(self, hart):
+        """0 of the sender, 1 of the receiver, None of another hart."""
+        return 0 if hart == self.sender else 1 if hart == self.receiver else None
+
+    def own(self, party):
+        return self.tail if party else self.head
+
+    def other(self, party):
+        return self.head if party else self.tail
+
+    def first_owned(self, party):
+        return 0 if party else self.capacity
+
+    def known_less(self, party):
+        """The other's count, as it is known, is the own count and all that is owned, less this."""
+        return 0 if party else self.capacity
+
+    def meets(self, place, width):
+        """Whether an access of these bytes touches a byte of the queue."""
+        return self.meets_slots(place, width) or any(
+            place < index + self.index_width and index < place + width for index in (self.head, self.tail))
+
+    def meets_slots(self, place, width):
+        return place < self.slots + self.size * self.width and self.slots < place + width
+
+    def text(self):
+        return " ".join(map(str, ("queue", *self)))
+
+    def check_opening(self, test):
+        """Wrong, unless both indices open as the word of the count at which the queue begins."""
+        word = self.word(self.start) % 256 ** self.index_width
+        for name, place in (("head", self.head), ("tail", self.tail)):
+            opens = test.number(place, self.index_width)
+            if opens != word:
+                raise Wrong(f"the {name} opens as {opens}, and not as {word}, which stands for {self.start} records")
+
+
+NUMBERS = {"size": None, "width": 4, "bytes": 4, "scale": 1, "base": 0, "offset": 0, "sender": 0, "receiver": 1}
+KEYS = ("head", "tail", "slots", "index", "modulus", *NUMBERS)
+
+
+def described(places, given):
+    """The queue of a description: its places, and what else is given."""
+    missing = [name for name in ("head", "tail", "slots") if name not in places] + ["size"] * ("size" not in given)
+    if missing:
+        raise Wrong(f"a queue needs {missing[0]}=")
+    for name, value in given.items():
+        if name not in KEYS:
+            raise Wrong(f"a queue has no {name}: it has {', '.join(KEYS)}")
+        if name != "index" and not value.isdigit():
+            raise Wrong(f"{name} takes a number")
+    if given.get("index", "counting") not in ("counting", "wrapping"):
+        raise Wrong("index is counting or wrapping")
+    numbers = {name: int(given.get(name, value)) for name, value in NUMBERS.items() if name in given or value is not None}
+    size, width = numbers["size"], numbers["bytes"]
+    if size < 1 or numbers["width"] < 1 or numbers["scale"] < 1 or width not in (1, 2, 4):
+        raise Wrong("size, width and scale are at least 1, and an index has 1, 2 or 4 bytes")
+    if given.get("index") == "wrapping":
+        modulus = int(given.get("modulus", size))
+    else:
+        modulus = int(given.get("modulus", 256 ** width // numbers["scale"]))
+    if modulus < 2 or numbers["scale"] * modulus > 256 ** width:
+        raise Wrong("the words of the index don't fit into its bytes, or there is one of them")
+    if numbers["sender"] == numbers["receiver"]:
+        raise Wrong("the sender and the receiver are two harts")
+    queue = Queue(numbers["sender"], numbers["receiver"], places["head"], places["tail"], width, places["slots"], size, numbers["width"],
+                  size - 1 if modulus == size else size, numbers["base"], numbers["scale"], numbers["offset"], modulus, 0)
+    parts = sorted([(queue.head, width), (queue.tail, width), (queue.slots, size * queue.width)])
+    if any(first + length > second for (first, length), (second, _) in zip(parts, parts[1:])):
+        raise Wrong("the head, the tail and the slots meet")
+    return queue

@@ -1,0 +1,443 @@
+"""What one instruction of a hart makes of an abstract state, and what it owes to the queues.
+
+`execute` either answers the states after the instruction, or asks by `Split` that the numbers of a variable be parted first,
+or refuses by `Refused` what isn't shown to keep the protocol.
+"""
+
+from typing import NamedTuple
+
+from .forms import SIZE, Word, bounds, form, number, numbers_of, signed, variable_of
+from .values import MOST_TRIED, ZERO, Share, Split, State, Values
+
+# the kinds of instructions, by their low seven bits
+LOAD, FENCE, IMMEDIATE, AUIPC, STORE, AMO, REGISTER, LUI, BRANCH, JALR, JAL, SYSTEM = (
+    0x03, 0x0F, 0x13, 0x17, 0x23, 0x2F, 0x33, 0x37, 0x63, 0x67, 0x6F, 0x73)
+NAMES = ("add", "sll", "slt", "sltu", "xor", "srl", "or", "and")
+
+
+class Refused(Exception):
+    """Why an instruction isn't shown to keep the protocol, and at which pc it stands; None where the search ended otherwise."""
+
+    def __init__(self, pc, why):
+        super().__init__(pc, why)
+        self.pc, self.why = pc, why
+
+
+class Next(NamedTuple):
+    """A state after a step, and where its variables come from: of each queue by how much the own count moved, and whether what is owned is new;
+    of each ("z", k) a variable of the state before, or None where it is new."""
+
+    state: State
+    moved: tuple
+    looked: tuple
+    kept: tuple
+
+
+class Program(Values):
+    """One hart's code with what holds of all its states."""
+
+    def __init__(self, test, queues, hart, kept, live):
+        self.hart, self.code = hart, test.harts[hart].code
+        super().__init__(queues, hart)
+        self.kept = kept
+        self.at = {place: which for which, place in enumerate(kept)}
+        self.stored = set()    # words that it may store to, apart from queues
+        self.live, self.edges = live, {}
+        self.unowned = {}      # by a queue: the first pc of which a load of its slots isn't shown to be of owned ones
+        registers = tuple(number(test.harts[hart].registers.get(which, 0)) if which in live[0] or not which else None for which in range(32))
+        words = tuple(number(test.words.get(place, 0)) for place in kept)
+        shares = tuple(None if party is None else Share(queue.start, *[queue.start % queue.period()] * 2, *[queue.first_owned(party)] * 2)
+                       for queue, party in zip(queues, self.parties))
+        self.start = State(0, registers, words, shares, ())
+
+    # ---- memory
+
+    def own_index(self, which, state):
+        queue, share = self.queues[which], state.shares[which]
+        if queue.is_linear():
+            return variable_of("n", which, queue.scale, queue.base + queue.scale * queue.offset)
+        turn = (share.first + queue.offset) // queue.modulus
+        if turn != (share.last + queue.offset) // queue.modulus:
+            raise Split(("p", which), (turn + 1) * queue.modulus - queue.offset - 1)
+        return variable_of("p", which, queue.scale, queue.base + queue.scale * (queue.offset - turn * queue.modulus))
+
+    def other_index(self, which):
+        queue = self.queues[which]
+        count = form(-queue.known_less(self.parties[which]), {("n", which): 1, ("A", which): 1})
+        return count.times(queue.scale).plus(number(queue.base + queue.scale * queue.offset)) if queue.is_linear() else Word(which, count)
+
+    def place(self, value, state):
+        """The number that a jump or an AMO asks for, or None."""
+        found = self.known(value, state)
+        if found is None and value is not None:
+            self.split_to_know(value, state)
+        return found
+
+    def limits(self, value, state):
+        """The least and the greatest address that a value may be."""
+        found = self.known(value, state)
+        if found is not None:
+            return found, found
+        if value is None or isinstance(value, Word):
+            if value is not None:
+                self.split_to_know(value, state)
+            return 0, SIZE - 1
+        return numbers_of(value, self.ranges(state)) or self.parted(value, state) or (0, SIZE - 1)
+
+    def parted(self, value, state):
+        self.split_where(lambda found: found // SIZE, value, state)
+
+    def positions(self, which, value, width, state):
+        """From how many positions past the own count on an access of slots is of, and up to where, or None."""
+        queue, share = self.queues[which], state.shares[which]
+        turn = share.first // queue.size
+        if turn != share.last // queue.size:
+            raise Split(("p", which), (turn + 1) * queue.size - 1)
+        start = variable_of("p", which, queue.width, queue.slots - queue.width * queue.size * turn)
+        found = bounds(value.minus(start), self.ranges(state))
+        if found is None or found[0] != found[1]:
+            self.split_to_know(value.minus(start), state, 64)
+            return None
+        distance = signed(found[0])
+        first, last = distance // queue.width, (distance + width - 1) // queue.width
+        low, high = share.first - queue.size * turn, share.last - queue.size * turn
+        for edge in {first, last}:
+            # the place is a turn behind where the position is small
+            if low + edge < 0 <= high + edge:
+                raise Split(("p", which), share.first - low - edge - 1)
+            if low + edge < queue.size <= high + edge:
+                raise Split(("p", which), share.first - low + queue.size - edge - 1)
+        return first % queue.size, last % queue.size
+
+    def owns(self, which, value, width, state):
+        """Whether an access of slots is of owned ones; asks for a split where it is for some numbers."""
+        share, found = state.shares[which], self.positions(which, value, width, state)
+        if found is None or max(found) >= share.high:
+            return False
+        if max(found) >= share.low:
+            raise Split(("A", which), max(found))
+        return True
+
+    def loaded(self, state, value, width, is_signed):
+        """What a load reads: a value, and the queue whose other index it looked at, or None."""
+        low, high = self.limits(value, state)
+        for which, (queue, party) in enumerate(zip(self.queues, self.parties)):
+            if party is None or not queue.meets(low, high - low + width):
+                continue
+            if queue.meets_slots(low, high - low + width):
+                is_inside = queue.slots <= low and high + width <= queue.slots + queue.size * queue.width
+                if not is_inside or not self.owns(which, value, width, state):
+                    self.unowned.setdefault(which, state.pc)
+                    if not is_inside:
+                        self.refuse_looks(state, low, high, width)
+                return None, None
+            if (low, high, width) == (queue.own(party), queue.own(party), queue.index_width):
+                return self.extended(self.own_index(which, state), width, is_signed, state), None
+            if (low, high, width) == (queue.other(party), queue.other(party), queue.index_width):
+                return (None if is_signed and width < 4 else self.other_index(which)), which
+            self.refuse_looks(state, low, high, width)
+            return None, None
+        return (self.own_word(state, low, width, is_signed) if low == high else None), None
+
+    def refuse_looks(self, state, low, high, width):
+        """A load that may be of the other's index, whole, would move what is known."""
+        for queue, party in zip(self.queues, self.parties):
+            if party is not None and width == queue.index_width and low <= queue.other(party) <= high:
+                raise Refused(state.pc, "a load that may be of the other's index")
+
+    def own_word(self, state, place, width, is_signed):
+        which = self.at.get(place & ~3)
+        if which is None:
+            return None
+        value = state.words[which]
+        if width == 4:
+            return value if place % 4 == 0 else None
+        found = self.known(value, state)
+        if found is None or place % 4 + width > 4:
+            return None
+        part = found >> 8 * (place % 4) & (256 ** width - 1)
+        return number(signed(part, 8 * width) if is_signed else part)
+
+    def extended(self, value, width, is_signed, state):
+        if width == 4 or not is_signed:
+            return value
+        found = self.known(value, state)
+        return None if found is None else number(signed(found, 8 * width))
+
+    def store(self, state, value_of_place, width, value):
+        """The words after a store, and by how much it moves the own count of which queue, or None."""
+        low, high = self.limits(value_of_place, state)
+        for which, (queue, party) in enumerate(zip(self.queues, self.parties)):
+            if not queue.meets(low, high - low + width):
+                continue
+            if party is None:
+                raise Refused(state.pc, "a store that may be to the queue, by another hart")
+            if low == high and (low, width) == (queue.own(party), queue.index_width):
+                return state.words, (which, self.moved(which, value, state))
+            if low < queue.slots or high + width > queue.slots + queue.size * queue.width:
+                raise Refused(state.pc, "a store " + (
+                    "to an address that is not known" if low < high else "to an index of the queue that isn't the own one, whole, or across an end of the slots"))
+            share = state.shares[which]
+            if not self.owns(which, value_of_place, width, state):
+                raise Refused(state.pc, f"a store to a slot that isn't known to be owned, where the own position is "
+                              f"{self.told(share.first, share.last)} and {self.told(share.low, share.high)} are known to be owned")
+            return state.words, None
+        if low == high:
+            self.stored.update(range(low & ~3, low + width, 4))
+            return self.written(state, low, width, value), None
+        self.stored.update(range(low & ~3, high + width, 4))
+        return tuple(None if low < place + 4 and place < high + width else word for place, word in zip(self.kept, state.words)), None
+
+    @staticmethod
+    def told(first, last):
+        return str(first) if first == last else f"{first} to {last}"
+
+    def written(self, state, place, width, value):
+        words = list(state.words)
+        for at in range(place & ~3, place + width, 4):
+            which = self.at.get(at)
+            if which is None:
+                continue
+            if (at, width) == (place, 4):
+                words[which] = value
+                continue
+            old, new = self.known(words[which], state), self.known(value, state)
+            if old is None or new is None or place + width > at + 4:
+                words[which] = None
+                continue
+            shift, mask = 8 * (place % 4), 256 ** width - 1
+            words[which] = number(old & ~(mask << shift) | (new & mask) << shift)
+        return tuple(words)
+
+    def moved(self, which, value, state):
+        """By how much a store of this value to the own index moves the own count."""
+        queue, share, step = self.queues[which], state.shares[which], None
+        found = self.known(value, state)
+        if found is not None and queue.index_width < 4:
+            value = number(found % 256 ** queue.index_width)
+        if isinstance(value, Word):
+            step = self.step_of(value.count.minus(variable_of("n", which)), queue.modulus, state) if value.queue == which else None
+        elif value is not None and (queue.is_linear() or self.is_index(value, queue, state)):
+            scaled = value.minus(self.own_index(which, state))
+            if all(signed(m) % queue.scale == 0 for m in (scaled.constant, *(m for _, m in scaled.terms))):
+                step = self.step_of(form(signed(scaled.constant) // queue.scale, {variable: signed(m) // queue.scale for variable, m in scaled.terms}),
+                                    queue.modulus, state)
+        if step is not None and step <= share.low:
+            return step
+        if value is not None and share.low < share.high:
+            raise Split(("A", which), share.low)
+        if value is not None and share.first < share.last <= share.first + MOST_TRIED and step is None:
+            raise Split(("p", which), share.first)
+        raise Refused(state.pc, f"the own index isn't known to move on by at most {share.low}, which are owned there")
+
+    def is_index(self, value, queue, state):
+        """Whether a value is below the end of the words of an index; asks for a split where it is for some numbers."""
+        end = queue.base + queue.scale * queue.modulus
+        found = bounds(value, self.ranges(state))
+        if found and found[0] < end <= found[1]:
+            self.split_where(lambda each: each < end, value, state)
+        return found is not None and 0 <= found[0] and found[1] < end
+
+    def step_of(self, value, modulus, state):
+        """A form modulo the words of an index, where it is a number."""
+        found = bounds(value, self.ranges(state), True)
+        if found is None:
+            return None
+        if found[0] == found[1]:
+            return found[0] % modulus
+        if all(limits[1] - limits[0] <= 64 for variable, limits in self.ranges(state).items() if variable in value.variables()):
+            self.split_to_know(value, state, 64)
+        return None
+
+    # ---- whole instructions
+
+    def execute(self, state):
+        """The states after the instruction: none where the hart has ended."""
+        pc, registers = state.pc, state.registers
+        if pc == 4 * len(self.code):
+            return []
+        if pc % 4 or pc > 4 * len(self.code):
+            raise Refused(pc, "outside of the code")
+        word = self.code[pc // 4]
+        kind, to, third = word & 127, word >> 7 & 31, word >> 12 & 7
+        x, y = registers[word >> 15 & 31], registers[word >> 20 & 31]
+        upper, given = word & 0xFFFFF000, signed(word >> 20, 12)
+        if kind == LUI:
+            return [self.put(state, to, number(upper))]
+        if kind == AUIPC:
+            return [self.put(state, to, number(pc + upper))]
+        if kind in (IMMEDIATE, REGISTER):
+            y = y if kind == REGISTER else number(word >> 20 & 31 if third in (1, 5) else given)
+            name = "sub" if kind == REGISTER and third == 0 and word >> 30 & 1 else "sra" if third == 5 and word >> 30 & 1 else NAMES[third]
+            value, fresh = self.computed(name, x, y, state)
+            return [self.put(state, to, value, fresh=fresh)]
+        if kind == FENCE:
+            return [self.put(state, 0, None)]
+        if kind == JAL:
+            offset = signed((word >> 31) << 20 | (word >> 12 & 255) << 12 | (word >> 20 & 1) << 11 | (word >> 21 & 1023) << 1, 21)
+            return [self.put(state, to, number(pc + 4), pc + offset)]
+        if kind == JALR:
+            goal = self.place(x, state)
+            if goal is None:
+                raise Refused(pc, "a jump to a place that is not known")
+            return [self.put(state, to, number(pc + 4), (goal + given) % SIZE & ~1)]
+        if kind == BRANCH:
+            return self.branched(state, word, third, x, y)
+        if kind == LOAD:
+            width = 1 << (third & 3)
+            value, looked = self.loaded(state, self.offset(x, given, state), width, third < 2)
+            return [self.put(state, to, value, looked=looked)]
+        if kind == STORE:
+            place = self.offset(x, signed(word >> 25 << 5 | to, 12), state)
+            words, move = self.store(state, place, 1 << third, y)
+            return [self.put(state._replace(words=words), 0, None, move=move)]
+        if kind == AMO:
+            return [self.exchanged(state, word >> 27, to, x, y)]
+        if kind == SYSTEM:
+            return self.called(state)
+        raise Refused(pc, f"the word {word:08x}")
+
+    def offset(self, value, given, state):
+        if isinstance(value, Word):
+            found = self.known(value, state)
+            return None if found is None else number(found + given)
+        return None if value is None else value.plus(number(given))
+
+    def branched(self, state, word, third, x, y):
+        offset = signed((word >> 31) << 12 | (word >> 7 & 1) << 11 | (word >> 25 & 63) << 5 | (word >> 8 & 15) << 1, 13)
+        answer = self.compared(third, x, y, state)
+        found = []
+        for taken in (True, False):
+            if answer in (None, taken):
+                after = state
+                # where two registers are equal and nothing is known of one, it is what the other is
+                if third < 2 and taken == (third == 0) and (x is None) != (y is None):
+                    which, value = (word >> 15 & 31, y) if x is None else (word >> 20 & 31, x)
+                    after = state._replace(registers=state.registers[:which] + (value,) + state.registers[which + 1:])
+                found.append(self.put(after, 0, None, state.pc + (offset if taken else 4)))
+        return found
+
+    def exchanged(self, state, operation, to, x, y):
+        place = self.place(x, state)
+        if place is None:
+            raise Refused(state.pc, "an AMO at an address that is not known")
+        old, looked = self.loaded(state, number(place), 4, False)
+        if looked is not None:
+            raise Refused(state.pc, "an AMO on the other's index")
+        new = y if operation == 1 else self.computed("add", old, y, state)[0] if operation == 0 and old is not None else None
+        words, move = self.store(state, number(place), 4, new)
+        return self.put(state._replace(words=words), to, old, move=move)
+
+    def called(self, state):
+        """An environment call: by its number in a7."""
+        call = self.known(state.registers[17], state)
+        if call == 93:
+            return []
+        if call == 1:
+            state = state._replace(registers=state.registers[:10] + (None, None) + state.registers[12:])
+        elif call not in (2, 3):
+            raise Refused(state.pc, "an environment call that is not known")
+        return [self.put(state, 0, None)]
+
+    def put(self, state, to, value, pc=None, fresh=None, looked=None, move=None):
+        """The state after an instruction that leaves this value in a register: with a new variable for it, after a look at the other's index,
+        or after a store that moved an own count."""
+        others, shares, registers, words = state.others, list(state.shares), list(state.registers), state.words
+        kept = list(range(len(others)))
+        if fresh:
+            value, others, kept = variable_of("z", len(others)), others + (fresh,), kept + [None]
+        if looked is not None:
+            share = shares[looked]
+            old = ("A", looked)
+            registers = [self.without(each, old, share) for each in registers]
+            words = tuple(self.without(each, old, share) for each in words)
+            shares[looked] = share._replace(high=self.queues[looked].capacity)
+        if to:
+            registers[to] = value
+        if move:
+            which, step = move
+            share, period = shares[which], self.queues[which].period()
+            turn = period * ((share.first + step) // period)
+            if turn != period * ((share.last + step) // period):
+                raise Split(("p", which), turn + period - step - 1)
+            registers, words = ([self.rebased(each, which, step, turn) for each in values] for values in (registers, words))
+            shares[which] = Share(None if share.count is None else share.count + step, share.first + step - turn, share.last + step - turn,
+                                  share.low - step, share.high - step)
+        pc = (state.pc + 4 if pc is None else pc) % SIZE
+        needed = self.live[pc // 4] if pc <= 4 * len(self.code) else ()
+        registers = (ZERO, *(value if which in needed else None for which, value in enumerate(registers) if which))
+        after = State(pc, registers, tuple(words), tuple(shares), others)
+        return self.tidied(after, kept, move, looked)
+
+    def without(self, value, variable, share):
+        """A value in which no variable stands for what was owned before a look."""
+        if value is None or variable not in (value.count if isinstance(value, Word) else value).variables():
+            return value
+        if share.low < share.high:
+            return None
+        if isinstance(value, Word):
+            return Word(value.queue, value.count.put(variable, number(share.low)))
+        return value.put(variable, number(share.low))
+
+    def rebased(self, value, which, step, turn):
+        """A value by the counts after the own one moved on."""
+        if value is None:
+            return None
+        if isinstance(value, Word):
+            return Word(value.queue, self.rebased(value.count, which, step, turn))
+        value = value.put(("n", which), variable_of("n", which, 1, -step)).put(("p", which), variable_of("p", which, 1, turn - step))
+        return value.put(("A", which), variable_of("A", which, 1, step))
+
+    def tidied(self, state, kept, move, looked):
+        """The state without the variables ("z", k) that nothing names, or that are a number."""
+        used = {variable for value in (*state.registers, *state.words) if value is not None
+                for variable in (value.count if isinstance(value, Word) else value).variables() if variable[0] == "z"}
+        stay = [which for which, (low, high) in enumerate(state.others) if low < high and ("z", which) in used]
+        new = {("z", old): variable_of("z", at) for at, old in enumerate(stay)}
+
+        def renamed(value):
+            if value is None:
+                return None
+            if isinstance(value, Word):
+                return Word(value.queue, renamed(value.count))
+            found = form(value.constant)
+            for variable, m in value.terms:
+                each = new.get(variable) or (number(state.others[variable[1]][0]) if variable[0] == "z" else variable_of(*variable))
+                found = found.plus(each.times(m))
+            return found
+
+        if state.others:
+            state = state._replace(registers=tuple(map(renamed, state.registers)), words=tuple(map(renamed, state.words)),
+                                   others=tuple(state.others[which] for which in stay))
+        moves = tuple(move[1] if move and move[0] == which else 0 for which in range(len(self.queues)))
+        return Next(state, moves, tuple(looked == which for which in range(len(self.queues))), tuple(kept[which] for which in stay))
+
+    def halves(self, state, split):
+        """The state where a variable is at most `at`, and where it is more."""
+        kind, which = split.variable
+        for low, high in ((None, split.at), (split.at + 1, None)):
+            if kind == "z":
+                first, last = state.others[which]
+                limits = first if low is None else low, last if high is None else high
+                yield state._replace(others=state.others[:which] + (limits,) + state.others[which + 1:])
+            else:
+                share, names = state.shares[which], ("first", "last") if kind == "p" else ("low", "high")
+                share = share._replace(**{name: limit for name, limit in zip(names, (low, high)) if limit is not None})
+                yield state._replace(shares=state.shares[:which] + (share,) + state.shares[which + 1:])
+
+    def tree(self, state):
+        """The case tree of a state: ("leaf", the state, what follows) or ("split", variable, at, tree, tree)."""
+        try:
+            return "leaf", state, self.execute(state)
+        except Split as split:
+            self.edges.setdefault(split.variable, set()).add(split.at)
+            left, right = self.halves(state, split)
+            return "split", split.variable, split.at, self.tree(left), self.tree(right)
+
+
+def leaves(tree):
+    if tree[0] == "leaf":
+        yield tree
+    else:
+        yield from leaves(tree[3])
+        yield from leaves(tree[4])

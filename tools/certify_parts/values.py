@@ -1,0 +1,312 @@
+"""Abstract states, and what is known of their values: numbers, compares and operations.
+
+A question that has one answer for some numbers of a variable and another for others is answered by `Split`.
+"""
+
+from typing import NamedTuple
+
+from .forms import SIZE, Word, bounds, form, number, numbers_of, signed, variable_of
+
+ZERO = number(0)
+OPERATIONS = {
+    "add": lambda a, b: a + b, "sub": lambda a, b: a - b, "sll": lambda a, b: a << (b & 31), "slt": lambda a, b: int(signed(a) < signed(b)),
+    "sltu": lambda a, b: int(a < b), "xor": lambda a, b: a ^ b, "srl": lambda a, b: a >> (b & 31), "sra": lambda a, b: signed(a) >> (b & 31),
+    "or": lambda a, b: a | b, "and": lambda a, b: a & b}
+COMPARES = {0: lambda a, b: a == b, 1: lambda a, b: a != b, 4: lambda a, b: signed(a) < signed(b), 5: lambda a, b: signed(a) >= signed(b),
+            6: lambda a, b: a < b, 7: lambda a, b: a >= b}
+# up to so many numbers of a variable are tried one by one
+MOST_TRIED = 4200
+SMALL_MASK = 16
+
+
+class Split(Exception):
+    """The numbers of a variable are to be parted after `at`."""
+
+    def __init__(self, variable, at):
+        super().__init__(variable, at)
+        self.variable, self.at = variable, at
+
+
+class Share(NamedTuple):
+    """What a state says of a queue of which its hart is a party: the own count if it is known, bounds of the count modulo the period, and of
+    how many positions are owned."""
+
+    count: object
+    first: int
+    last: int
+    low: int
+    high: int
+
+
+class State(NamedTuple):
+    pc: int
+    registers: tuple
+    words: tuple      # of the hart's own words, in the order of `Program.kept`
+    shares: tuple     # a Share for each queue, or None where the hart is no party
+    others: tuple     # the ranges of the variables ("z", k)
+
+
+class Values:
+    """What is known of the values of a hart's states."""
+
+    def __init__(self, queues, hart):
+        self.queues, self.parties = queues, [queue.party(hart) for queue in queues]
+
+    def ranges(self, state):
+        found = {("z", which): limits for which, limits in enumerate(state.others)}
+        for which, share in enumerate(state.shares):
+            if share:
+                found["A", which], found["p", which] = (share.low, share.high), (share.first, share.last)
+                if share.count is not None:
+                    found["n", which] = share.count, share.count
+        return found
+
+    def known(self, value, state):
+        """The number that a value is, or None."""
+        if isinstance(value, Word):
+            return self.word_known(value, state)
+        if value is None:
+            return None
+        found = bounds(value, self.ranges(state))
+        return found[0] % SIZE if found and found[0] == found[1] else None
+
+    def word_known(self, word, state):
+        """A word whose count is known up to the modulus."""
+        found = bounds(self.by_position(word.count, word.queue), self.ranges(state), True)
+        return self.queues[word.queue].word(found[0]) % SIZE if found and found[0] == found[1] else None
+
+    def by_position(self, value, which):
+        """A form in which the position stands for the own count: the same modulo the period."""
+        return value.put(("n", which), variable_of("p", which)) if dict(value.terms).get(("n", which)) == 1 else value
+
+    def low_bits(self, value, state):
+        """How many of its low bits are known, and these."""
+        found = self.known(value, state)
+        if found is not None:
+            return 32, found
+        if value is None or isinstance(value, Word):
+            return 0, 0
+        bits, total, ranges = 32, value.constant, self.ranges(state)
+        for variable, m in value.terms:
+            kind, which = variable
+            if variable in ranges and ranges[variable][0] == ranges[variable][1]:
+                total += m * ranges[variable][0]
+            elif kind == "n" and state.shares[which].first == state.shares[which].last:
+                total += m * state.shares[which].first
+                factor = m * self.queues[which].period()
+                bits = min(bits, (factor & -factor).bit_length() - 1)
+            else:
+                bits = min(bits, (m & -m).bit_length() - 1)
+        return bits, total & ((1 << bits) - 1)
+
+    def split_to_know(self, value, state, most=MOST_TRIED):
+        """Asks for the split that makes a value a number, if a few numbers of its variables are all that is open."""
+        terms = value.terms if value is not None and not isinstance(value, Word) else value.count.terms if value else ()
+        ranges = self.ranges(state)
+        open_ones = [(ranges[variable][1] - ranges[variable][0], variable) for variable, _ in terms
+                     if variable in ranges and ranges[variable][0] < ranges[variable][1]]
+        closed = all(variable in ranges or isinstance(value, Word) and variable == ("n", value.queue) for variable, _ in terms)
+        if closed and open_ones and min(open_ones)[0] <= most:
+            variable = min(open_ones)[1]
+            raise Split(variable, ranges[variable][0])
+
+    # ---- compares
+
+    def compared(self, kind, x, y, state):
+        """Whether a compare holds: True, False or None where it isn't known; asks for a split where one would tell."""
+        if x is None or y is None:
+            return None
+        if isinstance(x, Word) or isinstance(y, Word):
+            return self.words_compared(kind, x, y, state)
+        ranges, holds = self.ranges(state), COMPARES[kind]
+        if kind < 2:
+            x, y = x.minus(y), ZERO
+        found = [numbers_of(value, ranges) for value in (x, y)]
+        if kind < 2 and found[0] is None and (b := bounds(x, ranges)) and not any(b[0] <= m * SIZE <= b[1] for m in range(b[0] // SIZE, b[1] // SIZE + 2)):
+            return kind == 1
+        if None not in found:
+            corners = {holds(a, b) for a in found[0] for b in found[1]}
+            if len(corners) == 1 and (kind > 1 or not found[0][0] <= 0 <= found[0][1] or found[0][0] == found[0][1]) and \
+                    (kind not in (4, 5) or all(a >> 31 == b >> 31 for a, b in found)):
+                return corners.pop()
+        if kind < 2:
+            bits, low = self.low_bits(x, state)
+            if bits and low:
+                return kind == 1
+        self.split_compare(kind, x, y, state)
+        return None
+
+    def split_compare(self, kind, x, y, state):
+        """Asks for the split of the one open variable after which the compare has one answer."""
+        ranges = self.ranges(state)
+        variables = {variable for value in (x, y) for variable in value.variables()}
+        if not all(variable in ranges for variable in variables):
+            return
+        open_ones = sorted((ranges[variable][1] - ranges[variable][0], variable) for variable in variables if ranges[variable][0] < ranges[variable][1])
+        if not open_ones or open_ones[0][0] > MOST_TRIED:
+            return
+        variable = open_ones[0][1]
+        first, last = ranges[variable]
+        if len(open_ones) > 1:
+            raise Split(variable, first)
+        others = {name: limits for name, limits in ranges.items() if name != variable}
+
+        def holds(at):
+            here = {**others, variable: (at, at)}
+            a, b = (bounds(value, here)[0] % SIZE for value in (x, y))
+            return COMPARES[kind](a, b)
+
+        answer = holds(first)
+        for at in range(first + 1, last + 1):
+            if holds(at) != answer:
+                raise Split(variable, at - 1)
+
+    def words_compared(self, kind, x, y, state):
+        """A compare of what indices hold: of two words of one queue, or a word and a number, by their counts."""
+        found = [self.known(value, state) for value in (x, y)]
+        if None not in found:
+            return COMPARES[kind](*found)
+        which = x.queue if isinstance(x, Word) else y.queue
+        queue = self.queues[which]
+        if kind < 2:
+            counts = [self.count_of(value, queue, which) for value in (x, y)]
+            if None not in counts:
+                difference = counts[0].minus(counts[1])
+                limits = bounds(difference, self.ranges(state), True)
+                if limits:
+                    zeros = [m for m in range(limits[0] // queue.modulus * queue.modulus, limits[1] + 1, queue.modulus) if m >= limits[0]]
+                    if not zeros:
+                        return kind == 1
+                    if limits[0] == limits[1]:
+                        return kind == 0
+                    self.split_compare_words(difference, queue, state)
+        else:
+            for value, known in zip((x, y), found):
+                if known is None:
+                    self.split_to_know(value, state)
+        return None
+
+    def count_of(self, value, queue, which):
+        """A form of a count that a value is the word of, with the position for the own count, or None."""
+        if isinstance(value, Word):
+            return self.by_position(value.count, which)
+        index = value.minus(number(queue.base))
+        if any(signed(m) % queue.scale for m in (index.constant, *(m for _, m in index.terms))):
+            return None
+        return form(signed(index.constant) // queue.scale - queue.offset, {variable: signed(m) // queue.scale for variable, m in index.terms})
+
+    def split_compare_words(self, difference, queue, state):
+        ranges = self.ranges(state)
+        open_ones = [variable for variable in difference.variables() if ranges[variable][0] < ranges[variable][1]]
+        if len(open_ones) != 1:
+            if open_ones and ranges[open_ones[0]][1] - ranges[open_ones[0]][0] <= MOST_TRIED:
+                raise Split(open_ones[0], ranges[open_ones[0]][0])
+            return
+        first, last = ranges[open_ones[0]]
+        others = {name: limits for name, limits in ranges.items() if name != open_ones[0]}
+
+        def is_equal(at):
+            return bounds(difference, {**others, open_ones[0]: (at, at)}, True)[0] % queue.modulus == 0
+
+        answer = is_equal(first)
+        for at in range(first + 1, min(last, first + MOST_TRIED) + 1):
+            if is_equal(at) != answer:
+                raise Split(open_ones[0], at - 1)
+
+    # ---- operations
+
+    def computed(self, name, x, y, state):
+        """What an operation makes: a value, and the range of a new variable where it stands for ("z", new)."""
+        if isinstance(x, Word) or isinstance(y, Word):
+            x, y = (number(self.known(value, state)) if isinstance(value, Word) and self.known(value, state) is not None else value for value in (x, y))
+            if isinstance(x, Word) or isinstance(y, Word):
+                if name in ("add", "or", "xor", "sub") and y == ZERO:
+                    return x, None
+                if name in ("add", "or", "xor") and x == ZERO:
+                    return y, None
+                self.split_to_know(x if isinstance(x, Word) else y, state)
+                return None, None
+        if name == "and" and ZERO in (x, y):
+            return ZERO, None
+        if x is None or y is None:
+            return self.masked(x, y, state) if name == "and" else (None, None)
+        if name == "add":
+            return x.plus(y), None
+        if name == "sub":
+            return x.minus(y), None
+        b = self.known(y, state)
+        if name == "sll" and b is not None:
+            return x.times(1 << (b & 31)), None
+        if name == "xor" and b == SIZE - 1:
+            return number(-1).minus(x), None
+        if name in ("or", "xor") and ZERO in (x, y):
+            return (y if x == ZERO else x), None
+        if name in ("slt", "sltu"):
+            answer = self.compared(4 if name == "slt" else 6, x, y, state)
+            return (None, None) if answer is None else (number(int(answer)), None)
+        a = self.known(x, state)
+        if a is not None and b is not None:
+            return number(OPERATIONS[name](a, b)), None
+        if name == "and":
+            return self.masked(x, y, state)
+        if name in ("srl", "sra") and b is not None and b & 31 == 0:
+            return x, None
+        self.split_to_know(x, state, 64)
+        self.split_to_know(y, state, 64)
+        return None, None
+
+    def masked(self, x, y, state):
+        for value, mask in ((x, y), (y, x)):
+            mask = None if mask is None else self.known(mask, state)
+            if mask is None:
+                continue
+            bits, low = self.low_bits(value, state)
+            if mask < 1 << bits:
+                return number(low & mask), None
+            if value is not None and mask & (mask + 1) == 0 and not isinstance(value, Word):
+                rest = self.remainder(value, mask + 1, state)
+                if rest is not None:
+                    return rest, None
+                self.split_to_know(value, state, 64)
+            if mask < SMALL_MASK and mask & (mask + 1) == 0:
+                return None, (0, mask)
+        return None, None
+
+    def remainder(self, value, modulus, state):
+        """A form modulo a power of two as a form of variables with ranges, or None; asks for the split after which it doesn't wrap."""
+        rest = number(value.constant)
+        for variable, m in value.terms:
+            kind, which = variable
+            if kind == "n" and state.shares[which].count is None:
+                if m * self.queues[which].period() % modulus:
+                    return None
+                variable = "p", which
+            rest = rest.plus(variable_of(*variable, m))
+        rest = form(signed(rest.constant), {variable: m % modulus if m % modulus <= modulus // 2 else m % modulus - modulus for variable, m in rest.terms})
+        limits = bounds(rest, self.ranges(state))
+        if limits is None:
+            return None
+        if limits[0] // modulus == limits[1] // modulus:
+            return rest.plus(number(-(limits[0] // modulus) * modulus))
+        self.split_where(lambda found: found // modulus, rest, state)
+        return None
+
+    def split_where(self, part, value, state):
+        """Asks for a split of the one open variable of a form, where `part` of its number changes."""
+        ranges = self.ranges(state)
+        if not all(variable in ranges for variable in value.variables()):
+            return
+        open_ones = [variable for variable in value.variables() if ranges[variable][0] < ranges[variable][1]]
+        if not open_ones:
+            return
+        variable = min(open_ones, key=lambda each: ranges[each][1] - ranges[each][0])
+        first, last = ranges[variable]
+        if last - first > MOST_TRIED:
+            return
+        if len(open_ones) > 1:
+            raise Split(variable, first)
+        others = {name: limits for name, limits in ranges.items() if name != variable}
+        begin = part(bounds(value, {**others, variable: (first, first)})[0])
+        for at in range(first + 1, last + 1):
+            if part(bounds(value, {**others, variable: (at, at)})[0]) != begin:
+                raise Split(variable, at - 1)
