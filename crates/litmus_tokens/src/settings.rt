@@ -91,7 +91,10 @@ fn location_in(text: &[u8]) -> Option<Spot<'_>>
 fn register_of<'a>(hart: Option<u64>, register: Option<Reg>) -> Option<Spot<'a>>
     ensures { option_map place_of result ≡ option_map register_at (option_zip hart register) }
 {
-    Some(Spot::Register { hart: hart?, register: register? })
+    Some(Spot::Register {
+        hart: hart?,
+        register: register?,
+    })
 }
 
 /// A register of a hart, or a location.
@@ -109,7 +112,10 @@ fn spot_in(text: &[u8]) -> Option<Spot<'_>>
 fn put<'a>(spot: Option<Spot<'a>>, worth: Option<Worth<'a>>) -> Option<Setting<'a>>
     ensures { option_map equation_of result ≡ option_zip (option_map place_of spot.entry) (option_map value_of worth.entry) }
 {
-    Some(Setting { spot: spot?, worth: worth? })
+    Some(Setting {
+        spot: spot?,
+        worth: worth?,
+    })
 }
 
 #[tactic(auto, unfolding(crate::specs::Settings::setting))]
