@@ -1,0 +1,160 @@
+-- What forms come to at most, and between which words they lie.
+use Rattle.std.proofs.Common.{ℕ, ◌+◌, ◌-◌, ◌*◌, ◌%◌, ◌^◌, ◌<◌, ◌≤◌, ◌≡◌, ◌==◌, ◌&&◌, if◌then◌else◌, Bool, true, false}
+use Rattle.std.proofs.Common.{Option, Some, None, List, [], ◌∷◌, refl, sym, ◌∙◌, ap, subst, arith}
+use Rattle.std.specs.Prelude.{map, nat_le}
+use Rattle.std.proofs.lemmas.Bool.{and_parts, eqb-true, leb-true}
+use Rattle.std.proofs.lemmas.Nat.{mul-le}
+use Rattle.std.proofs.Math.Nat.{mul-zero, mod-mod, mod-eq_of_lt, add-mul, zero-mul, mod-lt}
+use Rattle.queue_certificates.specs.Forms.{Form, dot, value_of, IsAtMost, InRanges, most_of_multiple, added}
+use Rattle.queue_certificates.specs.Forms.{most_of_sum, most, fits_in, are_in, Bounds, kept, settled, reduced}
+use Rattle.queue_certificates.specs.Forms.{remainder, risings, fallings, between, bounds_of}
+use Rattle.queue_certificates.proofs.Forms.{values_of, mod-sum, mod-product}
+
+pub record IsSum (a b : Option ℕ) (n : ℕ) : Type 0 where
+  pub left : ℕ
+  pub right : ℕ
+  pub left_is : a ≡ Some left
+  pub right_is : b ≡ Some right
+  pub sum : left + right ≡ n
+
+added-parts : (a b : Option ℕ) (n : ℕ) → added a b ≡ Some n → IsSum a b n
+added-parts None b n is = absurd (cc)
+added-parts (Some x) None n is = absurd (cc)
+added-parts (Some x) (Some y) n is = record { left = x; right = y; left_is = refl; right_is = refl; sum = (let e : x + y ≡ n = cc in e) }
+
+multiple-below : (r : Option ℕ) (m x b : ℕ) → IsAtMost r x → most_of_multiple r m ≡ Some b → m * x ≤ b
+multiple-below (Some n) m x b low is = let e : m * n ≡ b = cc in let le : m * x ≤ m * n = mul-le m x m n (omega arith) low in omega (arith, e, le)
+multiple-below None m x b low is = by (m == 0) refl is
+  where
+    by : (t : Bool) → (m == 0) ≡ t → (if t then Some 0 else None) ≡ Some b → m * x ≤ b
+    by true none is = let z : m * x ≡ 0 = ap (λ k. k * x) (eqb-true m 0 none) ∙ zero-mul x in omega (arith, z)
+    by false some is = absurd (cc)
+
+pub dot-below : (rs : List (Option ℕ)) (ms xs : List ℕ) (b : ℕ) → InRanges rs xs → most_of_sum rs ms ≡ Some b → dot ms xs ≤ b
+dot-below rs [] xs b ranges is = omega arith
+dot-below rs (m ∷ ms) [] b ranges is = omega arith
+dot-below [] (m ∷ ms) (x ∷ xs) b ranges is = absurd ranges
+dot-below (r ∷ rs) (m ∷ ms) (x ∷ xs) b ranges is =
+    let s = added-parts (most_of_multiple r m) (most_of_sum rs ms) b is in
+    let one : m * x ≤ s.left = multiple-below r m x s.left ranges.0 s.left_is in
+    let more : dot ms xs ≤ s.right = dot-below rs ms xs s.right ranges.1 s.right_is in omega (arith, one, more, s.sum)
+
+pub value-below : (rs : List (Option ℕ)) (f : Form) (xs : List ℕ) (b : ℕ) → InRanges rs xs → most rs f ≡ Some b → value_of f xs ≤ b
+value-below rs f xs b ranges is =
+    let s = added-parts (Some f.constant) (most_of_sum rs f.factors) b is in
+    let one : f.constant ≡ s.left = (let e : Some f.constant ≡ Some s.left = s.left_is in cc) in
+    let more : dot f.factors xs ≤ s.right = dot-below rs f.factors xs s.right ranges s.right_is in omega (arith, one, more, s.sum)
+
+pub fits-below : (b r : Option ℕ) (x : ℕ) → fits_in b r ≡ true → ((n : ℕ) → b ≡ Some n → x ≤ n) → IsAtMost r x
+fits-below b None x ok below = tt
+fits-below None (Some n) x ok below = absurd (cc)
+fits-below (Some m) (Some n) x ok below = let le : m ≤ n = leb-true m n ok in let low : x ≤ m = below m refl in omega (arith, le, low)
+
+pub forms-in : (rs : List (Option ℕ)) (gs : List Form) (ts : List (Option ℕ)) (xs : List ℕ) → InRanges rs xs
+    → are_in rs gs ts ≡ true → InRanges ts (values_of gs xs)
+forms-in rs [] [] xs ranges ok = tt
+forms-in rs [] (t ∷ ts) xs ranges ok = absurd (cc)
+forms-in rs (g ∷ gs) [] xs ranges ok = absurd (cc)
+forms-in rs (g ∷ gs) (t ∷ ts) xs ranges ok =
+    let parts = and_parts (fits_in (most rs g) t) (are_in rs gs ts) ok in
+    (fits-below (most rs g) t (value_of g xs) parts.0 (λ n is. value-below rs g xs n ranges is), forms-in rs gs ts xs ranges parts.1)
+
+kept-dot : (rs : List (Option ℕ)) (ms xs : List ℕ) → InRanges rs xs → dot (kept rs ms) xs ≡ dot ms xs
+kept-dot [] ms xs ranges = refl
+kept-dot (r ∷ rs) [] xs ranges = refl
+kept-dot (r ∷ rs) (m ∷ ms) [] ranges = refl
+kept-dot (None ∷ rs) (m ∷ ms) (x ∷ xs) ranges = ap (λ n. m * x + n) (kept-dot rs ms xs ranges.1)
+kept-dot (Some n ∷ rs) (m ∷ ms) (x ∷ xs) ranges = by (n == 0) refl ∙ ap (λ n. m * x + n) (kept-dot rs ms xs ranges.1)
+  where
+    by : (t : Bool) → (n == 0) ≡ t → (if t then 0 else m) * x + dot (kept rs ms) xs ≡ m * x + dot (kept rs ms) xs
+    by false some = refl
+    by true none =
+        let z : n ≡ 0 = eqb-true n 0 none in let low : x ≤ n = ranges.0 in let zero-x : x ≡ 0 = omega (arith, z, low) in
+        ap (λ y. y + dot (kept rs ms) xs) (zero-mul x ∙ sym (ap (λ y. m * y) zero-x ∙ mul-zero m))
+
+pub value-settled : (rs : List (Option ℕ)) (f : Form) (xs : List ℕ) → InRanges rs xs → value_of (settled rs f) xs ≡ value_of f xs
+value-settled rs f xs ranges = ap (λ n. f.constant + n) (kept-dot rs f.factors xs ranges)
+
+-- ---- remainders as forms
+
+reduced-dot : (n : ℕ) (ms xs : List ℕ) → dot (map (λ m. m % n) ms) xs % n ≡ dot ms xs % n
+reduced-dot n [] xs = refl
+reduced-dot n (m ∷ ms) [] = refl
+reduced-dot n (m ∷ ms) (x ∷ xs) = mod-sum (m % n * x) (dot (map (λ m. m % n) ms) xs) (m * x) (dot ms xs) n
+    (mod-product (m % n) m x n (mod-mod m n)) (reduced-dot n ms xs)
+
+pub value-remainder : (rs : List (Option ℕ)) (f : Form) (n : ℕ) (g : Form) (xs : List ℕ) → InRanges rs xs → remainder rs f n ≡ Some g
+    → (value_of g xs ≡ value_of f xs % n) × (1 ≤ n)
+value-remainder rs f n g xs ranges is = by (nat_le 1 n && fits_in (most rs (reduced n f)) (Some (n - 1))) refl is
+  where
+    by : (t : Bool) → (nat_le 1 n && fits_in (most rs (reduced n f)) (Some (n - 1))) ≡ t → (if t then Some (reduced n f) else None) ≡ Some g
+        → (value_of g xs ≡ value_of f xs % n) × (1 ≤ n)
+    by false more is = absurd (cc)
+    by true ok is =
+        let parts = and_parts (nat_le 1 n) (fits_in (most rs (reduced n f)) (Some (n - 1))) ok in
+        let some : 1 ≤ n = leb-true 1 n parts.0 in
+        let low : value_of (reduced n f) xs ≤ n - 1 = fits-below (most rs (reduced n f)) (Some (n - 1))
+        (value_of (reduced n f) xs) parts.1 (λ m at. value-below rs (reduced n f) xs m ranges at) in
+        let same : value_of (reduced n f) xs % n ≡ value_of f xs % n =
+        mod-sum (f.constant % n) (dot (map (λ m. m % n) f.factors) xs) f.constant (dot f.factors xs) n (mod-mod f.constant n) (reduced-dot n f.factors xs) in
+        (subst (λ h. value_of h xs ≡ value_of f xs % n) (let e : reduced n f ≡ g = cc in e) (sym (mod-eq_of_lt (omega (arith, low, some))) ∙ same), some)
+
+-- ---- bounds of a word
+
+abbrev rising : ℕ → ℕ
+rising m = if nat_le (2 ^ 31) (m % 2 ^ 32) then 0 else m % 2 ^ 32
+
+abbrev falling : ℕ → ℕ
+falling m = if nat_le (2 ^ 31) (m % 2 ^ 32) then 2 ^ 32 - m % 2 ^ 32 else 0
+
+balanced : (m : ℕ) → (m + falling m) % 2 ^ 32 ≡ rising m % 2 ^ 32
+balanced m = by (nat_le (2 ^ 31) (m % 2 ^ 32))
+  where
+    by : (t : Bool) → (m + (if t then 2 ^ 32 - m % 2 ^ 32 else 0)) % 2 ^ 32 ≡ (if t then 0 else m % 2 ^ 32) % 2 ^ 32
+    by true = omega arith
+    by false = omega arith
+
+all-balanced : (ms xs : List ℕ) → (dot ms xs + dot (fallings ms) xs) % 2 ^ 32 ≡ dot (risings ms) xs % 2 ^ 32
+all-balanced [] xs = refl
+all-balanced (m ∷ ms) [] = refl
+all-balanced (m ∷ ms) (x ∷ xs) =
+    (let turned : m * x + dot ms xs + (falling m * x + dot (fallings ms) xs) ≡ (m + falling m) * x + (dot ms xs + dot (fallings ms) xs) =
+    (let e : (m + falling m) * x ≡ m * x + falling m * x = add-mul m (falling m) x in omega (arith, e)) in ap (λ y. y % 2 ^ 32) turned)
+    ∙ mod-sum ((m + falling m) * x) (dot ms xs + dot (fallings ms) xs) (rising m * x) (dot (risings ms) xs) (2 ^ 32)
+    (mod-product (m + falling m) (rising m) x (2 ^ 32) (balanced m)) (all-balanced ms xs)
+
+in-between : (v c up down rise fall : ℕ) → v < 2 ^ 32 → (v + fall) % 2 ^ 32 ≡ (c + rise) % 2 ^ 32 → fall ≤ down → rise ≤ up → down ≤ c → c + up + 1 ≤ 2 ^ 32
+    → (c - down ≤ v) × (v ≤ c + up)
+in-between v c up down rise fall small same f r d u = (omega arith, omega arith)
+
+pub value-between : (rs : List (Option ℕ)) (f : Form) (xs : List ℕ) (b : Bounds) → InRanges rs xs → bounds_of rs f ≡ Some b
+    → (b.low ≤ value_of f xs % 2 ^ 32) × (value_of f xs % 2 ^ 32 ≤ b.high)
+value-between rs f xs b ranges is = by (most_of_sum rs (risings f.factors)) (most_of_sum rs (fallings f.factors)) refl refl is
+  where
+    c : ℕ
+    c = f.constant % 2 ^ 32
+
+    level : (value_of f xs % 2 ^ 32 + dot (fallings f.factors) xs) % 2 ^ 32 ≡ (f.constant % 2 ^ 32 + dot (risings f.factors) xs) % 2 ^ 32
+    level =
+        let all : (dot f.factors xs + dot (fallings f.factors) xs) % 2 ^ 32 ≡ dot (risings f.factors) xs % 2 ^ 32 =
+        all-balanced f.factors xs in
+        omega (arith, all)
+
+    by : (up down : Option ℕ) → most_of_sum rs (risings f.factors) ≡ up → most_of_sum rs (fallings f.factors) ≡ down
+        → between (f.constant % 2 ^ 32) up down ≡ Some b
+        → (b.low ≤ value_of f xs % 2 ^ 32) × (value_of f xs % 2 ^ 32 ≤ b.high)
+    by None down u d is = absurd (cc)
+    by (Some up) None u d is = absurd (cc)
+    by (Some up) (Some down) u d is = at (nat_le down (f.constant % 2 ^ 32) && nat_le (f.constant % 2 ^ 32 + up + 1) (2 ^ 32)) refl is
+      where
+        at : (t : Bool) → (nat_le down (f.constant % 2 ^ 32) && nat_le (f.constant % 2 ^ 32 + up + 1) (2 ^ 32)) ≡ t
+            → (if t then Some (record { low = f.constant % 2 ^ 32 - down; high = f.constant % 2 ^ 32 + up }) else None) ≡ Some b
+            → (b.low ≤ value_of f xs % 2 ^ 32) × (value_of f xs % 2 ^ 32 ≤ b.high)
+        at false off is = absurd (cc)
+        at true ok is =
+            let parts = and_parts (nat_le down (f.constant % 2 ^ 32)) (nat_le (f.constant % 2 ^ 32 + up + 1) (2 ^ 32)) ok in
+            let at = in-between (value_of f xs % 2 ^ 32) (f.constant % 2 ^ 32) up down (dot (risings f.factors) xs) (dot (fallings f.factors) xs)
+            (mod-lt (value_of f xs) (omega arith)) level (dot-below rs (fallings f.factors) xs down ranges d) (dot-below rs (risings f.factors) xs up ranges u)
+            (leb-true down (f.constant % 2 ^ 32) parts.0) (leb-true (f.constant % 2 ^ 32 + up + 1) (2 ^ 32) parts.1) in
+            subst (λ z. (z.low ≤ value_of f xs % 2 ^ 32) × (value_of f xs % 2 ^ 32 ≤ z.high))
+            (let e : record { low = f.constant % 2 ^ 32 - down; high = f.constant % 2 ^ 32 + up } ≡ b = cc in e) at

@@ -1,0 +1,121 @@
+-- What sums, multiples and substituted forms come to.
+use Rattle.std.proofs.Common.{ℕ, zero, suc, ◌+◌, ◌-◌, ◌*◌, ◌%◌, ◌<◌, ◌≤◌, ◌≡◌, ◌==◌, true, List, [], ◌∷◌, get_or, refl, sym, ◌∙◌, ap, arith}
+use Rattle.std.specs.Prelude.{map}
+use Rattle.std.proofs.lemmas.Bool.{and_parts, eqb-true}
+use Rattle.std.proofs.lemmas.Nat.{mul-mod_first}
+use Rattle.std.proofs.Math.Nat.{mul-add, add-mul, zero-mul, mul-zero, mul_assoc, mul_comm, add-mod, mod-zero, zero-mod}
+use Rattle.queue_certificates.specs.Forms.{Form, dot, value_of, number, first_variable, sums, plus, times, lifted}
+use Rattle.queue_certificates.specs.Forms.{combined, substituted, factor_at, raised, vanishes, agree, is_same}
+
+abbrev pub values_of : List Form → List ℕ → List ℕ
+values_of gs xs = map (λ g. value_of g xs) gs
+
+pub dot-none : (ms : List ℕ) → dot ms [] ≡ 0
+dot-none [] = refl
+dot-none (m ∷ ms) = refl
+
+pub dot-sums : (ms ns xs : List ℕ) → dot (sums ms ns) xs ≡ dot ms xs + dot ns xs
+dot-sums [] ns xs = omega arith
+dot-sums (m ∷ ms) [] xs = omega arith
+dot-sums (m ∷ ms) (n ∷ ns) [] = omega arith
+dot-sums (m ∷ ms) (n ∷ ns) (x ∷ xs) = grind (arith, add-mul m n x, dot-sums ms ns xs)
+
+pub dot-times : (k : ℕ) (ms xs : List ℕ) → dot (map (λ m. k * m) ms) xs ≡ k * dot ms xs
+dot-times k [] xs = sym (mul-zero k)
+dot-times k (m ∷ ms) [] = sym (mul-zero k)
+dot-times k (m ∷ ms) (x ∷ xs) = grind (arith, mul-add k (m * x) (dot ms xs), mul_assoc k m x, dot-times k ms xs)
+
+pub value-plus : (f g : Form) (xs : List ℕ) → value_of (plus f g) xs ≡ value_of f xs + value_of g xs
+value-plus f g xs = let s : dot (sums f.factors g.factors) xs ≡ dot f.factors xs + dot g.factors xs = dot-sums f.factors g.factors xs in omega (arith, s)
+
+pub value-times : (k : ℕ) (f : Form) (xs : List ℕ) → value_of (times k f) xs ≡ k * value_of f xs
+value-times k f xs = ap (λ d. k * f.constant + d) (dot-times k f.factors xs) ∙ sym (mul-add k f.constant (dot f.factors xs))
+
+pub value-number : (n : ℕ) (xs : List ℕ) → value_of (number n) xs ≡ n
+value-number n xs = omega arith
+
+pub value-lifted : (f : Form) (y : ℕ) (xs : List ℕ) → value_of (lifted f) (y ∷ xs) ≡ value_of f xs
+value-lifted f y xs = let z : 0 * y ≡ 0 = zero-mul y in omega (arith, z)
+
+pub value-first : (y : ℕ) (xs : List ℕ) → value_of first_variable (y ∷ xs) ≡ y
+value-first y xs = omega arith
+
+value-combined : (ms : List ℕ) (gs : List Form) (xs : List ℕ) → value_of (combined ms gs) xs ≡ dot ms (values_of gs xs)
+value-combined [] gs xs = refl
+value-combined (m ∷ ms) [] xs = refl
+value-combined (m ∷ ms) (g ∷ gs) xs = value-plus (times m g) (combined ms gs) xs
+    ∙ ap (λ n. n + value_of (combined ms gs) xs) (value-times m g xs) ∙ ap (λ n. m * value_of g xs + n) (value-combined ms gs xs)
+
+pub value-substituted : (f : Form) (gs : List Form) (xs : List ℕ) → value_of (substituted f gs) xs ≡ value_of f (values_of gs xs)
+value-substituted f gs xs = value-plus (number f.constant) (combined f.factors gs) xs
+    ∙ ap (λ n. value_of (number f.constant) xs + n) (value-combined f.factors gs xs)
+    ∙ ap (λ n. n + dot f.factors (values_of gs xs)) (value-number f.constant xs)
+
+-- ---- a variable that is less by so much
+
+abbrev pub less_at : (j by : ℕ) → List ℕ → List ℕ
+less_at j by [] = []
+less_at zero by (x ∷ xs) = (x - by) ∷ xs
+less_at (suc j) by (x ∷ xs) = x ∷ less_at j by xs
+
+dot-raised : (ms : List ℕ) (j by : ℕ) (xs : List ℕ) → by ≤ get_or xs j 0 → 0 < by → factor_at ms j * by + dot ms (less_at j by xs) ≡ dot ms xs
+dot-raised [] j by xs le some = let z : 0 * by ≡ 0 = zero-mul by in omega (arith, z)
+dot-raised (m ∷ ms) j by [] le some = absurd (omega (arith, le, some))
+dot-raised (m ∷ ms) zero by (x ∷ xs) le some =
+    let whole : by + (x - by) ≡ x = omega (arith, le) in
+    let both : m * by + m * (x - by) ≡ m * x = sym (mul-add m by (x - by)) ∙ ap (λ n. m * n) whole in omega (arith, both)
+dot-raised (m ∷ ms) (suc j) by (x ∷ xs) le some =
+    let rest : factor_at ms j * by + dot ms (less_at j by xs) ≡ dot ms xs = dot-raised ms j by xs le some in
+    omega (arith, rest)
+
+pub value-raised : (f : Form) (j by : ℕ) (xs : List ℕ) → by ≤ get_or xs j 0 → 0 < by → value_of (raised j by f) (less_at j by xs) ≡ value_of f xs
+value-raised f j by xs le some =
+    let d : factor_at f.factors j * by + dot f.factors (less_at j by xs) ≡ dot f.factors xs =
+    dot-raised f.factors j by xs le some in
+    omega (arith, d)
+
+-- ---- remainders
+
+pub mod-sum : (a b c d n : ℕ) → a % n ≡ c % n → b % n ≡ d % n → (a + b) % n ≡ (c + d) % n
+mod-sum a b c d n first second = add-mod a b n ∙ ap (λ x. (x + b % n) % n) first ∙ ap (λ x. (c % n + x) % n) second ∙ sym (add-mod c d n)
+
+pub mod-product : (a c x n : ℕ) → a % n ≡ c % n → (a * x) % n ≡ (c * x) % n
+mod-product a c x n same = sym (mul-mod_first a x n) ∙ ap (λ y. (y * x) % n) same ∙ mul-mod_first c x n
+
+pub dot-vanishes : (n : ℕ) (ms xs : List ℕ) → vanishes n ms ≡ true → dot ms xs % n ≡ 0 % n
+dot-vanishes n [] xs ok = refl
+dot-vanishes n (m ∷ ms) [] ok = refl
+dot-vanishes n (m ∷ ms) (x ∷ xs) ok =
+    let parts = and_parts (m % n == 0) (vanishes n ms) ok in
+    mod-sum (m * x) (dot ms xs) (0 * x) 0 n (mod-product m 0 x n (eqb-true (m % n) 0 parts.0 ∙ sym (zero-mod n))) (dot-vanishes n ms xs parts.1)
+    ∙ (let none : 0 * x ≡ 0 = zero-mul x in let z : 0 * x + 0 ≡ 0 = omega (arith, none) in ap (λ y. y % n) z)
+
+dot-agrees : (n : ℕ) (ms ks xs : List ℕ) → agree n ms ks ≡ true → dot ms xs % n ≡ dot ks xs % n
+dot-agrees n [] ks xs ok = sym (dot-vanishes n ks xs ok)
+dot-agrees n (m ∷ ms) [] xs ok = dot-vanishes n (m ∷ ms) xs ok
+dot-agrees n (m ∷ ms) (k ∷ ks) [] ok = refl
+dot-agrees n (m ∷ ms) (k ∷ ks) (x ∷ xs) ok =
+    let parts = and_parts (m % n == k % n) (agree n ms ks) ok in
+    mod-sum (m * x) (dot ms xs) (k * x) (dot ks xs) n (mod-product m k x n (eqb-true (m % n) (k % n) parts.0)) (dot-agrees n ms ks xs parts.1)
+
+pub same-value : (n : ℕ) (f g : Form) (xs : List ℕ) → is_same n f g ≡ true → value_of f xs % n ≡ value_of g xs % n
+same-value n f g xs ok =
+    let parts = and_parts (f.constant % n == g.constant % n) (agree n f.factors g.factors) ok in
+    mod-sum f.constant (dot f.factors xs) g.constant (dot g.factors xs) n (eqb-true (f.constant % n) (g.constant % n) parts.0)
+    (dot-agrees n f.factors g.factors xs parts.1)
+
+pub same-exactly : (f g : Form) (xs : List ℕ) → is_same 0 f g ≡ true → value_of f xs ≡ value_of g xs
+same-exactly f g xs ok = sym (mod-zero (value_of f xs)) ∙ same-value 0 f g xs ok ∙ mod-zero (value_of g xs)
+
+-- where the factors vanish, the value is the constant's remainder
+pub constant-value : (n : ℕ) (f : Form) (xs : List ℕ) → vanishes n f.factors ≡ true → value_of f xs % n ≡ f.constant % n
+constant-value n f xs ok = mod-sum f.constant (dot f.factors xs) f.constant 0 n refl (dot-vanishes n f.factors xs ok)
+    ∙ (let z : f.constant + 0 ≡ f.constant = omega arith in ap (λ y. y % n) z)
+
+pub times-value : (k : ℕ) (f : Form) (xs : List ℕ) (x n : ℕ) → x ≡ value_of f xs % n → (x * k) % n ≡ value_of (times k f) xs % n
+times-value k f xs x n is = ap (λ y. (y * k) % n) is ∙ mul-mod_first (value_of f xs) k n
+    ∙ ap (λ y. y % n) ((let turned : value_of f xs * k ≡ k * value_of f xs = mul_comm (value_of f xs) k in turned) ∙ sym (value-times k f xs))
+
+pub plus-value : (f g : Form) (xs : List ℕ) (x y n : ℕ) → x ≡ value_of f xs % n → y ≡ value_of g xs % n → (x + y) % n ≡ value_of (plus f g) xs % n
+plus-value f g xs x y n one two = ap (λ z. (z + y) % n) one ∙ ap (λ z. (value_of f xs % n + z) % n) two ∙ sym (add-mod (value_of f xs) (value_of g xs) n)
+    ∙ ap (λ z. z % n) (sym (value-plus f g xs))

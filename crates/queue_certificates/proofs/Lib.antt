@@ -1,0 +1,11 @@
+mod OneSlotQueue
+mod Forms
+mod Bounds
+mod Values
+mod Results
+mod States
+mod Accesses
+mod Stores
+mod Steps
+mod Certified
+mod EveryRun

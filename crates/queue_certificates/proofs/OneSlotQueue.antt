@@ -1,0 +1,120 @@
+-- A certificate that is accepted: of two harts that pass words for ever through one slot, with counters that wrap at 2 ^ 32.
+use Rattle.std.proofs.Common.{ℕ, ◌≡◌, List, [], ◌∷◌, Option, Some, None, refl, true}
+use Rattle.rv_decode.specs.Meaning.{meaning}
+use Rattle.owned_run.proofs.OneSlot.{q}
+use Rattle.owned_run.proofs.OneSlotText.{text}
+use Rattle.queue_certificates.specs.Forms.{Form, number}
+use Rattle.queue_certificates.specs.States.{Value, any, linear}
+use Rattle.queue_certificates.specs.Certificates.{Arrow, Cases, leaf, split, ListedState, HartPart, QueueCertificate, accepts, accepts_loads}
+
+abbrev form : ℕ → List ℕ → Form
+form c ms = record { constant = c; factors = ms }
+
+abbrev listed : ℕ → List (Option ℕ) → List Value → Form → Form → Cases → ListedState
+listed pc ranges registers own owned cases = record {
+  known = record { pc = pc; ranges = ranges; registers = registers; words = []; shares = (record { own = own; owned = owned }) ∷ [] };
+  cases = cases;
+}
+
+abbrev arrow : ℕ → List Form → Arrow
+arrow to forms = record { to = to; forms = forms }
+
+abbrev part_0 : HartPart
+part_0 = record {
+  own = [];
+  first = 0;
+  numbers = 0 ∷ 1 ∷ [];
+  states =
+      listed 0 (None ∷ Some 1 ∷ [])
+      ((linear (form 0 ([]))) ∷ any ∷ any ∷ (linear (form 7 ([]))) ∷ any ∷ any ∷ any ∷ any ∷ any ∷ any ∷ any ∷ any
+      ∷ any ∷ any ∷ any ∷ any ∷ any ∷ any ∷ any ∷ any ∷ any ∷ any ∷ any ∷ any ∷ any ∷ any ∷ any ∷ any ∷ any ∷ any
+      ∷ any ∷ any ∷ []) (form 0 (1 ∷ [])) (form 0 (0 ∷ 1 ∷ []))
+      (leaf (number 0) (arrow 1 ((form 0 (0 ∷ 1 ∷ [])) ∷ (form 0 (0 ∷ 0 ∷ 1 ∷ [])) ∷ []) ∷ []))
+      ∷ listed 4 (None ∷ Some 1 ∷ [])
+      ((linear (form 0 ([]))) ∷ (linear (form 0 (1 ∷ []))) ∷ any ∷ (linear (form 7 ([]))) ∷ any ∷ any ∷ any ∷ any
+      ∷ any ∷ any ∷ any ∷ any ∷ any ∷ any ∷ any ∷ any ∷ any ∷ any ∷ any ∷ any ∷ any ∷ any ∷ any ∷ any ∷ any ∷ any
+      ∷ any ∷ any ∷ any ∷ any ∷ any ∷ any ∷ []) (form 0 (1 ∷ [])) (form 0 (0 ∷ 1 ∷ []))
+      (leaf (number 0) (arrow 2 ((form 0 (0 ∷ 1 ∷ [])) ∷ (form 0 (1 ∷ [])) ∷ []) ∷ []))
+      ∷ listed 8 (None ∷ Some 1 ∷ [])
+      ((linear (form 0 ([]))) ∷ (linear (form 0 (1 ∷ []))) ∷ (linear (form 4294967295 (1 ∷ 1 ∷ [])))
+      ∷ (linear (form 7 ([]))) ∷ any ∷ any ∷ any ∷ any ∷ any ∷ any ∷ any ∷ any ∷ any ∷ any ∷ any ∷ any ∷ any ∷ any
+      ∷ any ∷ any ∷ any ∷ any ∷ any ∷ any ∷ any ∷ any ∷ any ∷ any ∷ any ∷ any ∷ any ∷ any ∷ []) (form 0 (1 ∷ []))
+      (form 0 (0 ∷ 1 ∷ []))
+      (split 1 0 (leaf (number 0) (arrow 0 ((form 0 (0 ∷ 1 ∷ [])) ∷ (form 0 ([])) ∷ []) ∷ []))
+      (leaf (number 0) (arrow 3 ((form 0 (0 ∷ 1 ∷ [])) ∷ (form 0 ([])) ∷ []) ∷ [])))
+      ∷ listed 12 (None ∷ Some 0 ∷ [])
+      ((linear (form 0 ([]))) ∷ (linear (form 0 (1 ∷ []))) ∷ any ∷ (linear (form 7 ([]))) ∷ any ∷ any ∷ any ∷ any
+      ∷ any ∷ any ∷ any ∷ any ∷ any ∷ any ∷ any ∷ any ∷ any ∷ any ∷ any ∷ any ∷ any ∷ any ∷ any ∷ any ∷ any ∷ any
+      ∷ any ∷ any ∷ any ∷ any ∷ any ∷ any ∷ []) (form 0 (1 ∷ [])) (form 1 (0 ∷ 1 ∷ []))
+      (leaf (number 0) (arrow 4 ((form 0 (0 ∷ 1 ∷ [])) ∷ (form 0 (0 ∷ 0 ∷ 1 ∷ [])) ∷ []) ∷ []))
+      ∷ listed 16 (None ∷ Some 0 ∷ [])
+      ((linear (form 0 ([]))) ∷ (linear (form 0 (1 ∷ []))) ∷ any ∷ (linear (form 7 ([]))) ∷ any ∷ any ∷ any ∷ any
+      ∷ any ∷ any ∷ any ∷ any ∷ any ∷ any ∷ any ∷ any ∷ any ∷ any ∷ any ∷ any ∷ any ∷ any ∷ any ∷ any ∷ any ∷ any
+      ∷ any ∷ any ∷ any ∷ any ∷ any ∷ any ∷ []) (form 0 (1 ∷ [])) (form 1 (0 ∷ 1 ∷ []))
+      (leaf (number 0) (arrow 5 ((form 0 (0 ∷ 1 ∷ [])) ∷ (form 0 (0 ∷ 0 ∷ 1 ∷ [])) ∷ []) ∷ []))
+      ∷ listed 20 (None ∷ Some 0 ∷ [])
+      ((linear (form 0 ([]))) ∷ (linear (form 1 (1 ∷ []))) ∷ any ∷ (linear (form 7 ([]))) ∷ any ∷ any ∷ any ∷ any
+      ∷ any ∷ any ∷ any ∷ any ∷ any ∷ any ∷ any ∷ any ∷ any ∷ any ∷ any ∷ any ∷ any ∷ any ∷ any ∷ any ∷ any ∷ any
+      ∷ any ∷ any ∷ any ∷ any ∷ any ∷ any ∷ []) (form 0 (1 ∷ [])) (form 1 (0 ∷ 1 ∷ []))
+      (leaf (number 1) (arrow 6 ((form 1 (0 ∷ 1 ∷ [])) ∷ (form 0 (0 ∷ 0 ∷ 1 ∷ [])) ∷ []) ∷ []))
+      ∷ listed 24 (None ∷ Some 1 ∷ [])
+      ((linear (form 0 ([]))) ∷ any ∷ any ∷ (linear (form 7 ([]))) ∷ any ∷ any ∷ any ∷ any ∷ any ∷ any ∷ any ∷ any
+      ∷ any ∷ any ∷ any ∷ any ∷ any ∷ any ∷ any ∷ any ∷ any ∷ any ∷ any ∷ any ∷ any ∷ any ∷ any ∷ any ∷ any ∷ any
+      ∷ any ∷ any ∷ []) (form 0 (1 ∷ [])) (form 0 (0 ∷ 1 ∷ []))
+      (leaf (number 0) (arrow 0 ((form 0 (0 ∷ 1 ∷ [])) ∷ (form 0 (0 ∷ 0 ∷ 1 ∷ [])) ∷ []) ∷ [])) ∷ [];
+}
+
+abbrev part_1 : HartPart
+part_1 = record {
+  own = [];
+  first = 0;
+  numbers = 0 ∷ 0 ∷ [];
+  states =
+      listed 0 (None ∷ Some 1 ∷ [])
+      ((linear (form 0 ([]))) ∷ any ∷ any ∷ any ∷ any ∷ any ∷ any ∷ any ∷ any ∷ any ∷ any ∷ any ∷ any ∷ any ∷ any
+      ∷ any ∷ any ∷ any ∷ any ∷ any ∷ any ∷ any ∷ any ∷ any ∷ any ∷ any ∷ any ∷ any ∷ any ∷ any ∷ any ∷ any ∷ [])
+      (form 0 (1 ∷ [])) (form 0 (0 ∷ 1 ∷ []))
+      (leaf (number 0) (arrow 1 ((form 0 (0 ∷ 1 ∷ [])) ∷ (form 0 (0 ∷ 0 ∷ 1 ∷ [])) ∷ []) ∷ []))
+      ∷ listed 4 (None ∷ Some 1 ∷ [])
+      ((linear (form 0 ([]))) ∷ (linear (form 0 (1 ∷ []))) ∷ any ∷ any ∷ any ∷ any ∷ any ∷ any ∷ any ∷ any ∷ any
+      ∷ any ∷ any ∷ any ∷ any ∷ any ∷ any ∷ any ∷ any ∷ any ∷ any ∷ any ∷ any ∷ any ∷ any ∷ any ∷ any ∷ any ∷ any
+      ∷ any ∷ any ∷ any ∷ []) (form 0 (1 ∷ [])) (form 0 (0 ∷ 1 ∷ []))
+      (leaf (number 0) (arrow 2 ((form 0 (0 ∷ 1 ∷ [])) ∷ (form 0 (1 ∷ [])) ∷ []) ∷ []))
+      ∷ listed 8 (None ∷ Some 1 ∷ [])
+      ((linear (form 0 ([]))) ∷ (linear (form 0 (1 ∷ []))) ∷ (linear (form 0 (1 ∷ 1 ∷ []))) ∷ any ∷ any ∷ any ∷ any
+      ∷ any ∷ any ∷ any ∷ any ∷ any ∷ any ∷ any ∷ any ∷ any ∷ any ∷ any ∷ any ∷ any ∷ any ∷ any ∷ any ∷ any ∷ any
+      ∷ any ∷ any ∷ any ∷ any ∷ any ∷ any ∷ any ∷ []) (form 0 (1 ∷ [])) (form 0 (0 ∷ 1 ∷ []))
+      (split 1 0 (leaf (number 0) (arrow 0 ((form 0 (0 ∷ 1 ∷ [])) ∷ (form 0 ([])) ∷ []) ∷ []))
+      (leaf (number 0) (arrow 3 ((form 0 (0 ∷ 1 ∷ [])) ∷ (form 0 ([])) ∷ []) ∷ [])))
+      ∷ listed 12 (None ∷ Some 0 ∷ [])
+      ((linear (form 0 ([]))) ∷ (linear (form 0 (1 ∷ []))) ∷ any ∷ any ∷ any ∷ any ∷ any ∷ any ∷ any ∷ any ∷ any
+      ∷ any ∷ any ∷ any ∷ any ∷ any ∷ any ∷ any ∷ any ∷ any ∷ any ∷ any ∷ any ∷ any ∷ any ∷ any ∷ any ∷ any ∷ any
+      ∷ any ∷ any ∷ any ∷ []) (form 0 (1 ∷ [])) (form 1 (0 ∷ 1 ∷ []))
+      (leaf (number 0) (arrow 4 ((form 0 (0 ∷ 1 ∷ [])) ∷ (form 0 (0 ∷ 0 ∷ 1 ∷ [])) ∷ []) ∷ []))
+      ∷ listed 16 (None ∷ Some 0 ∷ [])
+      ((linear (form 0 ([]))) ∷ (linear (form 0 (1 ∷ []))) ∷ any ∷ any ∷ any ∷ any ∷ any ∷ any ∷ any ∷ any ∷ any
+      ∷ any ∷ any ∷ any ∷ any ∷ any ∷ any ∷ any ∷ any ∷ any ∷ any ∷ any ∷ any ∷ any ∷ any ∷ any ∷ any ∷ any ∷ any
+      ∷ any ∷ any ∷ any ∷ []) (form 0 (1 ∷ [])) (form 1 (0 ∷ 1 ∷ []))
+      (leaf (number 0) (arrow 5 ((form 0 (0 ∷ 1 ∷ [])) ∷ (form 0 (0 ∷ 0 ∷ 1 ∷ [])) ∷ []) ∷ []))
+      ∷ listed 20 (None ∷ Some 0 ∷ [])
+      ((linear (form 0 ([]))) ∷ (linear (form 1 (1 ∷ []))) ∷ any ∷ any ∷ any ∷ any ∷ any ∷ any ∷ any ∷ any ∷ any
+      ∷ any ∷ any ∷ any ∷ any ∷ any ∷ any ∷ any ∷ any ∷ any ∷ any ∷ any ∷ any ∷ any ∷ any ∷ any ∷ any ∷ any ∷ any
+      ∷ any ∷ any ∷ any ∷ []) (form 0 (1 ∷ [])) (form 1 (0 ∷ 1 ∷ []))
+      (leaf (number 1) (arrow 6 ((form 1 (0 ∷ 1 ∷ [])) ∷ (form 0 (0 ∷ 0 ∷ 1 ∷ [])) ∷ []) ∷ []))
+      ∷ listed 24 (None ∷ Some 1 ∷ [])
+      ((linear (form 0 ([]))) ∷ any ∷ any ∷ any ∷ any ∷ any ∷ any ∷ any ∷ any ∷ any ∷ any ∷ any ∷ any ∷ any ∷ any
+      ∷ any ∷ any ∷ any ∷ any ∷ any ∷ any ∷ any ∷ any ∷ any ∷ any ∷ any ∷ any ∷ any ∷ any ∷ any ∷ any ∷ any ∷ [])
+      (form 0 (1 ∷ [])) (form 0 (0 ∷ 1 ∷ []))
+      (leaf (number 0) (arrow 0 ((form 0 (0 ∷ 1 ∷ [])) ∷ (form 0 (0 ∷ 0 ∷ 1 ∷ [])) ∷ []) ∷ [])) ∷ [];
+}
+
+abbrev certificate : QueueCertificate
+certificate = record { queues = (record { queue = q; start = 0 }) ∷ []; harts = part_0 ∷ part_1 ∷ [] }
+
+one_slot_accepted : accepts text certificate ≡ true
+unfolding meaning
+one_slot_accepted = refl
+
+one_slot_loads : accepts_loads text certificate 0 1 ≡ true
+unfolding meaning
+one_slot_loads = refl

@@ -1,0 +1,187 @@
+-- What single stores of a hart come to.
+use Rattle.std.proofs.Common.{ℕ, ◌+◌, ◌-◌, ◌*◌, ◌%◌, ◌^◌, ◌<◌, ◌≤◌, ◌≡◌, ◌&&◌, inl, inr, if◌then◌else◌, Bool, true}
+use Rattle.std.proofs.Common.{false, Option, Some, None, List, refl, sym, ◌∙◌, ap, subst, arith}
+use Rattle.std.specs.Prelude.{nat_lt, nat_le}
+use Rattle.std.specs.Int.{byte_at}
+use Rattle.std.proofs.lemmas.Bool.{and_parts, or_cases, ltb-true, leb-true}
+use Rattle.std.proofs.Math.Nat.{mod-eq_of_lt}
+use Rattle.rv_decode.specs.declared.instruction.StoreOp.{StoreOp}
+use Rattle.rv_decode.specs.declared.instruction.StoreOp.TheVariants as store_op
+use Rattle.hart.specs.Effects.{stored, store_width}
+use Rattle.memory.specs.declared.writes.Write.{Write}
+use Rattle.memory.specs.Writes.{write, covers}
+use Rattle.memory.proofs.Bytes.{joined-same, covers-yes, covers-from, word_of_bytes}
+use Rattle.step_machine.specs.Access.{store}
+use Rattle.slot_queue.specs.Queues.{Queue, IsQueue, KeepsOff, index_word, slot_of}
+use Rattle.queue_parties.specs.Parties.{Party, the_sender, the_receiver, QueueCounts, count, with_count}
+use Rattle.slot_queue.specs.Ownership.{index, end, moved, FillsOwned, KeepsAccess, after_access}
+use Rattle.queue_parties.proofs.Parties.{count-set}
+use Rattle.slot_queue.proofs.Looks.{end-set-count}
+use Rattle.owned_run.specs.Certified.{View, number_in, view_then, OwnsSlotsOf}
+use Rattle.owned_run.proofs.Accesses.{moves, fills, off, loads_owned}
+use Rattle.queue_certificates.specs.Forms.{Form, value_of, number, plus, times, minus, is_same, most, fits_in, remainder, InRanges, Bounds}
+use Rattle.queue_certificates.specs.States.{Value, any, linear, index_for, Share, Has, HasShare}
+use Rattle.queue_certificates.specs.Steps.{is_apart, is_off, position_at, offset_at, is_slot, is_owned, moved_share}
+use Rattle.queue_certificates.proofs.Bounds.{value-below, fits-below, value-remainder}
+use Rattle.queue_certificates.proofs.Forms.{value-plus, value-times, value-number, same-value, same-exactly}
+use Rattle.queue_certificates.proofs.Values.{within}
+
+-- ---- bytes
+
+pub apart-from : (b : Bounds) (width a from count x v : ℕ) → is_apart b width from count ≡ true → b.low ≤ a → a ≤ b.high → from ≤ x → x < from + count
+    → covers (write a width v) x ≡ false
+apart-from b width a from count x v ok low high above below = by (covers (write a width v) x) refl
+  where
+    by : (t : Bool) → covers (write a width v) x ≡ t → t ≡ false
+    by false is = refl
+    by true on = absurd (let w = covers-from (write a width v) x on in elim (or_cases (nat_le (b.high + width) from) (nat_le (from + count) b.low) ok) [
+      | inl under ↦ (let u : b.high + width ≤ from = leb-true (b.high + width) from under in omega (arith, u, high, above, w.1))
+      | inr over ↦ (let u : from + count ≤ b.low = leb-true (from + count) b.low over in omega (arith, u, low, below, w.0))
+    ])
+
+pub stored-number : (m : View) (a v : ℕ) → v < 2 ^ 32 → number_in (view_then (store (write a 4 v)) m) a 4 ≡ v
+stored-number m a v small = joined-same (λ i. view_then (store (write a 4 v)) m (a + i)) (λ i. byte_at i v) 4 same ∙ word_of_bytes v small
+  where
+    same : (i : ℕ) → i < 4 → view_then (store (write a 4 v)) m (a + i) ≡ byte_at i v
+    same i less =
+        let on : covers (write a 4 v) (a + i) ≡ true = covers-yes (write a 4 v) (a + i) (omega arith) (omega (arith, less)) in
+        ap (λ c. if c then byte_at (a + i - a) v else m (a + i)) on ∙ ap (λ j. byte_at j v) (omega arith)
+
+pub left-number : (m : View) (w : Write) (a : ℕ) → ((x : ℕ) → a ≤ x → x < a + 4 → covers w x ≡ false) → number_in (view_then (store w) m) a 4 ≡ number_in m a 4
+left-number m w a leaves = joined-same (λ i. view_then (store w) m (a + i)) (λ i. m (a + i)) 4
+    (λ i less. ap (λ c. if c then byte_at (a + i - w.addr) w.value else m (a + i)) (leaves (a + i) (omega arith) (omega (arith, less))))
+
+pub stored-whole : (op : StoreOp) (x : ℕ) → x < 256 ^ store_width op → stored op x ≡ x
+stored-whole store_op.Byte x small = mod-eq_of_lt (omega (arith, small))
+stored-whole store_op.Half x small = mod-eq_of_lt (omega (arith, small))
+stored-whole store_op.Word x small = refl
+
+pub stored-word : (op : StoreOp) (x : ℕ) → store_width op ≡ 4 → stored op x ≡ x
+stored-word store_op.Byte x wide = absurd (omega (arith, wide))
+stored-word store_op.Half x wide = absurd (omega (arith, wide))
+stored-word store_op.Word x wide = refl
+
+pub keeps-off : (q : Queue) (b : Bounds) (width a v : ℕ) → is_off q b width ≡ true → b.low ≤ a → a ≤ b.high → KeepsOff q (write a width v)
+keeps-off q b width a v ok low high x on =
+    let p = and_parts (is_apart b width q.head q.index_width && is_apart b width q.tail q.index_width) (is_apart b width q.slots (q.size * q.width)) ok in
+    let f = and_parts (is_apart b width q.head q.index_width) (is_apart b width q.tail q.index_width) p.0 in record {
+      head = λ in'. clash (apart-from b width a q.head q.index_width x v f.0 low high in'.0 in'.1);
+      tail = λ in'. clash (apart-from b width a q.tail q.index_width x v f.1 low high in'.0 in'.1);
+      slots = λ in'. clash (apart-from b width a q.slots (q.size * q.width) x v p.1 low high in'.0 in'.1);
+    }
+  where
+    clash : covers (write a width v) x ≡ false → ⊥
+    clash not = (let no : true ≡ false = sym on ∙ not in cc)
+
+-- a load beside the slots
+pub off-slots : (q : Queue) (p : Party) (c : QueueCounts) (b : Bounds) (width a : ℕ)
+    → is_apart b width q.slots (q.size * q.width) ≡ true → b.low ≤ a → a ≤ b.high → OwnsSlotsOf q p c a width
+off-slots q p c b width a ok low high x within slots =
+    absurd (elim (or_cases (nat_le (b.high + width) q.slots) (nat_le (q.slots + q.size * q.width) b.low) ok) [
+      | inl under ↦ (let u : b.high + width ≤ q.slots = leb-true (b.high + width) q.slots under in omega (arith, u, high, within.1, slots.0))
+      | inr over ↦ (let u : q.slots + q.size * q.width ≤ b.low = leb-true (q.slots + q.size * q.width) b.low over in omega (arith, u, low, within.0, slots.1))
+    ])
+
+-- ---- what a store makes of a share
+
+same-count : (p : Party) (c : QueueCounts) (n : ℕ) → n ≡ count p c → with_count p n c ≡ c
+same-count the_sender c n same = ap (λ k. with_count the_sender k c) same
+same-count the_receiver c n same = ap (λ k. with_count the_receiver k c) same
+
+module _ (q : Queue) (is : IsQueue q) (p : Party) (c : QueueCounts) (xs : List ℕ) (s : Share) (has : HasShare q p c xs s) where
+  -- a position whose slot has these bytes
+  pub record Owned (a width : ℕ) : Type 0 where
+    pub position : ℕ
+    pub from : count p c ≤ position
+    pub before : position < end q p c
+    pub low : slot_of q position ≤ a
+    pub high : a + width ≤ slot_of q position + q.width
+
+  module _ (queues : ℕ → Queue) (rs : List (Option ℕ)) (ranges : InRanges rs xs) where
+    pub owned-at : (place : Value) (a width : ℕ) → Has queues xs place a → is_owned rs q s place width ≡ true → Owned a width
+    owned-at any a width at ok = absurd (cc)
+    owned-at (index_for i f) a width at ok = absurd (cc)
+    owned-at (linear f) a width at ok = by (remainder rs (plus s.own (number j)) q.size) refl p1.1
+      where
+        j : ℕ
+        j = position_at q s.own.constant f.constant
+
+        p1 : ((nat_lt (position_at q s.own.constant f.constant) s.owned.constant && nat_le (offset_at q f.constant + width) q.width) ≡ true)
+            × (is_slot rs q f (offset_at q f.constant) (remainder rs (plus s.own (number (position_at q s.own.constant f.constant))) q.size) ≡ true)
+        p1 = and_parts (nat_lt (position_at q s.own.constant f.constant) s.owned.constant && nat_le (offset_at q f.constant + width) q.width)
+            (is_slot rs q f (offset_at q f.constant) (remainder rs (plus s.own (number (position_at q s.own.constant f.constant))) q.size)) ok
+
+        by : (o : Option Form)
+            → remainder rs (plus s.own (number (position_at q s.own.constant f.constant))) q.size ≡ o
+            → is_slot rs q f (offset_at q f.constant) o ≡ true → Owned a width
+        by None is ok = absurd (cc)
+        by (Some g) is ok =
+            let p2 = and_parts (nat_lt (position_at q s.own.constant f.constant) s.owned.constant) (nat_le (offset_at q f.constant + width) q.width) p1.0 in
+            let less : position_at q s.own.constant f.constant < s.owned.constant = ltb-true (position_at q s.own.constant f.constant) s.owned.constant p2.0 in
+            let fit : offset_at q f.constant + width ≤ q.width = leb-true (offset_at q f.constant + width) q.width p2.1 in
+            let t : Form = plus (times q.width g) (number (q.slots + offset_at q f.constant)) in
+            let p3 = and_parts (is_same (2 ^ 32) f (plus (times q.width g) (number (q.slots + offset_at q f.constant))))
+            (fits_in (most rs (plus (times q.width g) (number (q.slots + offset_at q f.constant)))) (Some (2 ^ 32 - 1))) ok in
+            let r = value-remainder rs (plus s.own (number (position_at q s.own.constant f.constant))) q.size g xs ranges is in
+            let sum : value_of (plus s.own (number (position_at q s.own.constant f.constant))) xs
+            ≡ value_of s.own xs + position_at q s.own.constant f.constant =
+            value-plus s.own (number (position_at q s.own.constant f.constant)) xs
+            ∙ ap (λ n. value_of s.own xs + n) (value-number (position_at q s.own.constant f.constant) xs) in
+            let slot : slot_of q (value_of s.own xs + position_at q s.own.constant f.constant) ≡ q.slots + q.width * value_of g xs =
+            ap (λ n. q.slots + q.width * n) (ap (λ n. n % q.size) (sym sum) ∙ sym r.0) in
+            let whole : value_of (plus (times q.width g) (number (q.slots + offset_at q f.constant))) xs
+            ≡ q.width * value_of g xs + (q.slots + offset_at q f.constant) =
+            value-plus (times q.width g) (number (q.slots + offset_at q f.constant)) xs
+            ∙ ap (λ n. n + value_of (number (q.slots + offset_at q f.constant)) xs) (value-times q.width g xs)
+            ∙ ap (λ n. q.width * value_of g xs + n) (value-number (q.slots + offset_at q f.constant) xs) in
+            let small : value_of (plus (times q.width g) (number (q.slots + offset_at q f.constant))) xs ≤ 2 ^ 32 - 1 =
+            fits-below (most rs (plus (times q.width g) (number (q.slots + offset_at q f.constant))))
+            (Some (2 ^ 32 - 1)) (value_of (plus (times q.width g) (number (q.slots + offset_at q f.constant))) xs)
+            p3.1
+            (λ n at. value-below rs (plus (times q.width g) (number (q.slots + offset_at q f.constant))) xs n ranges at) in
+            let place : a ≡ value_of (plus (times q.width g) (number (q.slots + offset_at q f.constant))) xs =
+            at ∙ same-value (2 ^ 32) f (plus (times q.width g) (number (q.slots + offset_at q f.constant))) xs p3.0
+            ∙ mod-eq_of_lt (omega (arith, small)) in
+            record {
+              position = value_of s.own xs + position_at q s.own.constant f.constant;
+              from = omega (arith, has.own);
+              before = omega (arith, has.upto, less);
+              low = omega (arith, slot, place, whole);
+              high = omega (arith, slot, place, whole, fit);
+            }
+
+    pub owned-slots : (place : Value) (a width : ℕ) → Has queues xs place a → is_owned rs q s place width ≡ true → OwnsSlotsOf q p c a width
+    owned-slots place a width at ok = let o = owned-at place a width at ok in loads_owned q is p c a width o.position o.from o.before o.low o.high
+
+  pub record Stored (w : Write) (t : Share) : Type 0 where
+    pub may : KeepsAccess q (Some p) c (store w)
+    pub share : HasShare q p (after_access q (Some p) (store w) c) xs t
+
+  stays : (w : Write) → FillsOwned q p c w × (moved q p (count p c) w ≡ count p c) → Stored w s
+  stays w f = record {
+    may = inr f.0;
+    share = subst (λ d. HasShare q p d xs s) (sym (same-count p c (moved q p (count p c) w) f.1)) has;
+  }
+
+  pub stays-off : (w : Write) → KeepsOff q w → Stored w s
+  stays-off w keeps = stays w (off q is p c w keeps)
+
+  pub stays-filled : (queues : ℕ → Queue) (rs : List (Option ℕ)) → InRanges rs xs → (place : Value) (a width v : ℕ)
+      → Has queues xs place a → is_owned rs q s place width ≡ true → Stored (write a width v) s
+  stays-filled queues rs ranges place a width v at ok =
+      let o = owned-at queues rs ranges place a width at ok in
+      stays (write a width v) (fills q is p c (write a width v) o.position o.from o.before o.low o.high)
+
+  pub moves-on : (w : Write) (d : Form) → w.addr ≡ index q p → w.width ≡ q.index_width → w.value ≡ index_word q (value_of (plus s.own d) xs)
+      → is_same 0 (plus d (minus s.owned d)) s.owned ≡ true → value_of d xs < q.modulus → Stored w (moved_share s d)
+  moves-on w d place width word ok near =
+      let sum : value_of s.owned xs ≡ value_of d xs + value_of (minus s.owned d) xs =
+      sym (same-exactly (plus d (minus s.owned d)) s.owned xs ok) ∙ value-plus d (minus s.owned d) xs in
+      let at : value_of (plus s.own d) xs ≡ count p c + value_of d xs = value-plus s.own d xs ∙ ap (λ n. n + value_of d xs) (sym has.own) in
+      let m = moves q is p c w (value_of d xs) place width (word ∙ ap (index_word q) at) near (omega (arith, has.own, has.upto, sum)) in record {
+        may = inl m.0;
+        share = record {
+          own = count-set p (moved q p (count p c) w) c ∙ m.1 ∙ sym at;
+          upto = end-set-count q p p (moved q p (count p c) w) c ∙ (omega (arith, has.upto, has.own, sum, at));
+        };
+      }

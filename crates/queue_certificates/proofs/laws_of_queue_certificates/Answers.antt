@@ -1,0 +1,14 @@
+use Rattle.queue_certificates.proofs.EveryRun.{accepted_runs, accepted_loads, accepted_deliveries, accepted_states}
+use Rattle.queue_certificates.proofs.laws_of_queue_certificates.Goals as goal
+
+pub returns-clause-every_run : goal.returns-clause-every_run
+returns-clause-every_run c = accepted_runs
+
+pub returns-clause-reads_owned : goal.returns-clause-reads_owned
+returns-clause-reads_owned c = accepted_loads
+
+pub returns-clause-delivered : goal.returns-clause-delivered
+returns-clause-delivered c = accepted_deliveries
+
+pub returns-clause-in_states : goal.returns-clause-in_states
+returns-clause-in_states c = accepted_states

@@ -1,0 +1,240 @@
+-- A certificate of the queues of a text: of each hart states that are closed under its instructions. And when it is accepted.
+use Rattle.std.specs.Prelude.{map, ℕ, zero, suc, ◌≡◌, ◌+◌, ◌-◌, ◌*◌, ◌%◌, ◌^◌, ◌<◌, ◌≤◌, ◌==◌, ◌&&◌, ◌||◌, not, nat_le}
+use Rattle.std.specs.Prelude.{nat_lt, if◌then◌else◌, Bool, true, false, Option, None, Some, List, [], ◌∷◌, length}
+use Rattle.std.specs.Prelude.{get_or, slice_index, slice_set}
+use Rattle.hart.specs.State.{HartState}
+use Rattle.hart.specs.declared.status.Status.TheVariants as status
+use Rattle.step_machine.specs.History.{HartOpeningValue, OpeningValue}
+use Rattle.step_machine.specs.Entries.{opening_byte}
+use Rattle.store_buffers.specs.StoreBuffers.{memory_number}
+use Rattle.slot_queue.specs.Queues.{Queue, index_word}
+use Rattle.queue_parties.specs.Parties.{Party, all_at}
+use Rattle.slot_queue.specs.Ownership.{party_of, end}
+use Rattle.owned_run.specs.Certified.{View, AllCounts, number_in, OpenQueues, IsCertified, LoadsAreOwned}
+use Rattle.queue_certificates.specs.Forms.{Form, value_of, number, substituted, is_same, raised, settled, are_in}
+use Rattle.queue_certificates.specs.States.{Value, any, linear, index_for, Share, no_share, KnownState, value_by, state_by, is_within, Means}
+use Rattle.queue_certificates.specs.Steps.{all_below, follow, instruction_at, loads_owned}
+
+-- where a state goes on: to the state of this number, whose variables are these forms over those of the leaf, after one that comes
+-- with the step
+pub record Arrow : Type 0 where
+  pub to : ℕ
+  pub forms : List Form
+
+-- a state by cases: variable j is at most v, or it is v + 1 more than a variable. What can only be 0 then is left out. A leaf takes
+-- the instruction: how many positions it hands over, if it stores to an own index, and where each state that may follow is found
+pub data Cases : Type 0 where
+  leaf : (handed : Form) (arrows : List Arrow) → Cases
+  split : (j v : ℕ) (low high : Cases) → Cases
+
+pub record ListedState : Type 0 where
+  pub known : KnownState
+  pub cases : Cases
+
+-- a hart's part: the addresses of words that it alone writes, the state in which it opens with the numbers of its variables, and all
+-- its states
+pub record HartPart : Type 0 where
+  pub own : List ℕ
+  pub first : ℕ
+  pub numbers : List ℕ
+  pub states : List ListedState
+
+pub record OpenedQueue : Type 0 where
+  pub queue : Queue
+  pub start : ℕ
+
+pub record QueueCertificate : Type 0 where
+  pub queues : List OpenedQueue
+  pub harts : List HartPart
+
+abbrev pub no_queue : OpenedQueue
+no_queue = record {
+  queue = record {
+    sender = 0;
+    receiver = 0;
+    head = 0;
+    tail = 0;
+    index_width = 0;
+    slots = 0;
+    size = 0;
+    width = 0;
+    capacity = 0;
+    base = 0;
+    scale = 0;
+    offset = 0;
+    modulus = 0;
+  };
+  start = 0;
+}
+
+abbrev pub no_part : HartPart
+no_part = record { own = []; first = 0; numbers = []; states = [] }
+
+abbrev pub nowhere : ListedState
+nowhere = record { known = record { pc = 0; ranges = []; registers = []; words = []; shares = [] }; cases = leaf (number 0) [] }
+
+abbrev pub queue_at : QueueCertificate → ℕ → Queue
+queue_at c i = (get_or c.queues i no_queue).queue
+
+abbrev pub start_at : QueueCertificate → ℕ → ℕ
+start_at c i = (get_or c.queues i no_queue).start
+
+abbrev pub part_of : QueueCertificate → ℕ → HartPart
+part_of c h = get_or c.harts h no_part
+
+abbrev pub own_of : QueueCertificate → ℕ → List ℕ
+own_of c h = (part_of c h).own
+
+abbrev pub state_at : QueueCertificate → (h n : ℕ) → ListedState
+state_at c h n = get_or (part_of c h).states n nowhere
+
+-- ---- what it means
+
+-- the byte at x is of one of hart h's own words
+abbrev pub IsOwn : QueueCertificate → (h x : ℕ) → Type 0
+IsOwn c h x = (j : ℕ) × (j < length (own_of c h)) × (slice_index (own_of c h) j ≤ x) × (x < slice_index (own_of c h) j + 4)
+
+-- a hart that runs is in one of its states
+abbrev pub IsInState : QueueCertificate → (h : ℕ) → HartState → View → AllCounts → Type 0
+IsInState c h s m cs = s.status ≡ status.Running
+    → (n : ℕ) × (n < length (part_of c h).states) × Means (queue_at c) (length c.queues) (own_of c h) h (state_at c h n).known s m cs
+
+abbrev pub Opens : (M : ℕ) → OpeningValue → QueueCertificate → Type 0
+Opens M o c = OpenQueues M o (length c.queues) (queue_at c) (λ i. ⊥) (λ i k m. Unit {0}) (start_at c)
+
+abbrev pub Certifies : (M : ℕ) → OpeningValue → QueueCertificate → Type 0
+Certifies M o c = IsCertified M o (length c.queues) (queue_at c) (λ i. ⊥) (λ i k m. Unit {0}) (start_at c) (IsOwn c) (IsInState c)
+
+abbrev pub CertifiesLoads : (M : ℕ) → OpeningValue → QueueCertificate → (i : ℕ) → Party → Type 0
+CertifiesLoads M o c i p = LoadsAreOwned M o (length c.queues) (queue_at c) (λ i. ⊥) (λ i k m. Unit {0}) (IsInState c) i p
+
+-- ---- arrows
+
+abbrev pub all_within : (ℕ → Queue) → List (Option ℕ) → List Value → List Value → (List Form) → Bool
+all_within queues rs vs [] gs = true
+all_within queues rs [] (w ∷ ws) gs = is_within queues rs any (value_by (λ f. substituted f gs) w) && all_within queues rs [] ws gs
+all_within queues rs (v ∷ vs) (w ∷ ws) gs = is_within queues rs v (value_by (λ f. substituted f gs) w) && all_within queues rs vs ws gs
+
+abbrev pub is_share : Share → Share → List Form → Bool
+is_share s t gs = is_same 0 s.own (substituted t.own gs) && is_same 0 s.owned (substituted t.owned gs)
+
+-- all that state k says, state t says with these forms for its variables
+abbrev pub leads_to : (ℕ → Queue) → (N : ℕ) → KnownState → KnownState → List Form → Bool
+leads_to queues N k t gs = (k.pc == t.pc) && are_in k.ranges gs t.ranges && all_within queues k.ranges k.registers t.registers gs
+    && all_within queues k.ranges k.words t.words gs && all_below N (λ i. is_share (get_or k.shares i no_share) (get_or t.shares i no_share) gs)
+
+-- the same of what is left without variables that can only be 0
+abbrev pub arrow_leads : (ℕ → Queue) → (N : ℕ) → KnownState → KnownState → List Form → Bool
+arrow_leads queues N k t gs = leads_to queues N (state_by (settled k.ranges) k.ranges k) t (map (settled k.ranges) gs)
+
+-- ---- cases
+
+abbrev pub at_most : ℕ → Option ℕ → Option ℕ
+at_most v None = Some v
+at_most v (Some n) = if nat_le n v then Some n else Some v
+
+abbrev pub beyond : ℕ → Option ℕ → Option ℕ
+beyond v None = None
+beyond v (Some n) = Some (n - (v + 1))
+
+abbrev pub may_exceed : ℕ → Option ℕ → Bool
+may_exceed v None = true
+may_exceed v (Some n) = nat_lt v n
+
+abbrev pub range_changed : List (Option ℕ) → (j : ℕ) → (Option ℕ → Option ℕ) → List (Option ℕ)
+range_changed [] j t = []
+range_changed (r ∷ rs) zero t = t r ∷ rs
+range_changed (r ∷ rs) (suc j) t = r ∷ range_changed rs j t
+
+abbrev pub with_low : KnownState → (j v : ℕ) → KnownState
+with_low k j v = state_by (settled (range_changed k.ranges j (at_most v))) (range_changed k.ranges j (at_most v)) k
+
+abbrev pub with_high : KnownState → (j v : ℕ) → KnownState
+with_high k j v = state_by (λ f. settled (range_changed k.ranges j (beyond v)) (raised j (v + 1) f)) (range_changed k.ranges j (beyond v)) k
+
+module _ (c : QueueCertificate) (h : ℕ) (code : List ℕ) where
+  abbrev pub next_states : KnownState → (d : Form) → Option (List KnownState)
+  next_states k d = follow (queue_at c) (length c.queues) (own_of c) (length c.harts) h k d (instruction_at code k.pc)
+
+  abbrev pub each_leads : List KnownState → List Arrow → Bool
+  each_leads [] arrows = true
+  each_leads (k ∷ ks) [] = false
+  each_leads (k ∷ ks) (a ∷ arrows) = nat_lt a.to (length (part_of c h).states)
+      && arrow_leads (queue_at c) (length c.queues) k (state_at c h a.to).known a.forms && each_leads ks arrows
+
+  abbrev pub all_lead : Option (List KnownState) → List Arrow → Bool
+  all_lead None arrows = false
+  all_lead (Some ks) arrows = each_leads ks arrows
+
+  abbrev pub is_closed : KnownState → Cases → Bool
+  is_closed k (leaf d arrows) = all_lead (next_states k d) arrows
+  is_closed k (split j v low high) = is_closed (with_low k j v) low
+      && (not (may_exceed v (get_or k.ranges j (Some 0))) || is_closed (with_high k j v) high)
+
+  -- and of each load of queue i's slots
+  abbrev pub owns_loads : (i : ℕ) → KnownState → Cases → Bool
+  owns_loads i k (leaf d arrows) = loads_owned (queue_at c) (length c.queues) (own_of c) (length c.harts) h k i (instruction_at code k.pc)
+  owns_loads i k (split j v low high) = owns_loads i (with_low k j v) low
+      && (not (may_exceed v (get_or k.ranges j (Some 0))) || owns_loads i (with_high k j v) high)
+
+-- ---- the opening
+
+abbrev pub is_value : (ℕ → Queue) → List ℕ → Value → ℕ → Bool
+is_value queues xs any x = true
+is_value queues xs (linear f) x = x == value_of f xs % 2 ^ 32
+is_value queues xs (index_for i f) x = x == index_word (queues i) (value_of f xs)
+
+abbrev pub is_at_most : Option ℕ → ℕ → Bool
+is_at_most None x = true
+is_at_most (Some n) x = nat_le x n
+
+abbrev pub are_in_ranges : List (Option ℕ) → List ℕ → Bool
+are_in_ranges [] [] = true
+are_in_ranges [] (x ∷ xs) = false
+are_in_ranges (r ∷ rs) [] = false
+are_in_ranges (r ∷ rs) (x ∷ xs) = is_at_most r x && are_in_ranges rs xs
+
+abbrev pub opens_share : Queue → Option Party → (start : ℕ) → Share → List ℕ → Bool
+opens_share q None start s xs = true
+opens_share q (Some p) start s xs = (start == value_of s.own xs) && (end q p (all_at start) == value_of s.own xs + value_of s.owned xs)
+
+abbrev pub opens_in : OpeningValue → QueueCertificate → (h : ℕ) → HartOpeningValue → KnownState → List ℕ → Bool
+opens_in o c h x k xs = are_in_ranges k.ranges xs && (k.pc == 0)
+    && all_below (length k.registers) (λ j. is_value (queue_at c) xs (get_or k.registers j any) (slice_index (slice_set x.registers 0 0) j))
+    && all_below (length (own_of c h)) (λ j. is_value (queue_at c) xs (get_or k.words j any) (number_in (opening_byte o) (slice_index (own_of c h) j) 4))
+    && all_below (length c.queues) (λ i. opens_share (queue_at c i) (party_of (queue_at c i) h) (start_at c i) (get_or k.shares i no_share) xs)
+
+-- ---- queues
+
+abbrev pub are_apart : (a m b n : ℕ) → Bool
+are_apart a m b n = nat_le (a + m) b || nat_le (b + n) a
+
+-- it is a queue, whose index tells all in use from none and lies in a word
+abbrev pub is_queue : Queue → Bool
+is_queue q = not (q.sender == q.receiver) && are_apart q.head q.index_width q.tail q.index_width
+    && are_apart q.head q.index_width q.slots (q.size * q.width) && are_apart q.tail q.index_width q.slots (q.size * q.width)
+    && nat_le 1 q.size && nat_le q.capacity q.size && nat_le 1 q.modulus && nat_le 1 q.scale && nat_le 1 q.index_width
+    && nat_lt (q.base + q.scale * (q.modulus - 1)) (256 ^ q.index_width) && nat_le q.index_width 4 && nat_lt q.capacity q.modulus
+
+abbrev pub opens_empty : OpeningValue → Queue → (start : ℕ) → Bool
+opens_empty o q start = (memory_number o [] q.head q.index_width == index_word q start)
+    && (memory_number o [] q.tail q.index_width == index_word q start)
+
+-- ---- all of it
+
+abbrev pub accepts_hart : OpeningValue → QueueCertificate → (h : ℕ) → HartOpeningValue → HartPart → Bool
+accepts_hart o c h x part = nat_le 32 (length x.registers) && nat_lt part.first (length part.states)
+    && opens_in o c h x (state_at c h part.first).known part.numbers
+    && all_below (length part.states) (λ n. is_closed c h x.code (state_at c h n).known (state_at c h n).cases)
+
+abbrev pub no_hart : HartOpeningValue
+no_hart = record { code = []; registers = []; inbox = [] }
+
+abbrev pub accepts : OpeningValue → QueueCertificate → Bool
+accepts o c = all_below (length c.queues) (λ i. is_queue (queue_at c i) && opens_empty o (queue_at c i) (start_at c i))
+    && all_below (length o.harts) (λ h. accepts_hart o c h (get_or o.harts h no_hart) (part_of c h))
+
+-- in its states the hart loads of queue i's slots only owned ones
+abbrev pub accepts_loads : OpeningValue → QueueCertificate → (i h : ℕ) → Bool
+accepts_loads o c i h = all_below (length (part_of c h).states)
+    (λ n. owns_loads c h (get_or o.harts h no_hart).code i (state_at c h n).known (state_at c h n).cases)

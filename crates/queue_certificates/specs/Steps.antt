@@ -1,0 +1,299 @@
+-- What an instruction makes of a known state: the states that may follow, or nothing where it isn't shown that it may be executed.
+use Rattle.std.specs.Prelude.{ℕ, ℤ, zero, suc, ◌+◌, ◌-◌, ◌*◌, ◌/◌, ◌%◌, ◌^◌, ◌==◌, ◌&&◌, ◌||◌, not, nat_le, nat_lt}
+use Rattle.std.specs.Prelude.{if◌then◌else◌, Bool, true, false, Option, None, Some, List, [], ◌∷◌, map, length, get_or}
+use Rattle.std.specs.Prelude.{set, slice_index}
+use Rattle.rv_decode.specs.Meaning.{meaning}
+use Rattle.rv_decode.specs.declared.instruction.Reg.{Reg}
+use Rattle.rv_decode.specs.declared.instruction.LoadOp.{LoadOp}
+use Rattle.rv_decode.specs.declared.instruction.LoadOp.TheVariants as load
+use Rattle.rv_decode.specs.declared.instruction.AmoOp.{AmoOp}
+use Rattle.rv_decode.specs.declared.instruction.AmoOp.TheVariants as amo
+use Rattle.rv_decode.specs.declared.instruction.Instr.{Instr}
+use Rattle.rv_decode.specs.declared.instruction.Instr.TheVariants.{Lui, Auipc, Jal, Jalr, Branch, Load, Store}
+use Rattle.rv_decode.specs.declared.instruction.Instr.TheVariants.{Immediate, Shift, Register, Fence, FenceTso, Ecall}
+use Rattle.rv_decode.specs.declared.instruction.Instr.TheVariants.{Ebreak, Amo}
+use Rattle.hart.specs.Effects.{word, next_pc, address, load_width, store_width}
+use Rattle.slot_queue.specs.Queues.{Queue}
+use Rattle.queue_parties.specs.Parties.{Party, the_sender, the_receiver, other}
+use Rattle.slot_queue.specs.Ownership.{party_of, index}
+use Rattle.queue_certificates.specs.Forms.{Form, number, first_variable, plus, times, remainder, lifted, is_same, most, fits_in, Bounds, minus}
+use Rattle.queue_certificates.specs.States.{Value, any, linear, index_for, Share, no_share, KnownState, value_by, share_by, state_by, plain, is_within}
+use Rattle.queue_certificates.specs.Results.{Result, just, exactly, known, bounds, sum_of, of_immediate, of_shift, of_registers, is_branch_taken}
+
+-- at each number below n; and the last number below n at which it is so
+abbrev pub all_below : ℕ → (ℕ → Bool) → Bool
+all_below zero f = true
+all_below (suc n) f = f n && all_below n f
+
+abbrev pub last_below : ℕ → (ℕ → Bool) → Option ℕ
+last_below zero f = None
+last_below (suc n) f = if f n then Some n else last_below n f
+
+abbrev pub is_just : Option ℕ → ℕ → Bool
+is_just None n = false
+is_just (Some m) n = m == n
+
+-- `width` bytes from somewhere among these addresses on meet none of `count` bytes at a
+abbrev pub is_apart : Bounds → (width a count : ℕ) → Bool
+is_apart b width a count = nat_le (b.high + width) a || nat_le (a + count) b.low
+
+abbrev pub is_off : Queue → Bounds → (width : ℕ) → Bool
+is_off q b width = is_apart b width q.head q.index_width && is_apart b width q.tail q.index_width && is_apart b width q.slots (q.size * q.width)
+
+-- The address, a form, is of the slot of the position that is j further than the own count, and `offset` bytes into it: j is the
+-- least at which the constants agree
+abbrev pub position_at : Queue → (own a : ℕ) → ℕ
+position_at q own a = ((a % 2 ^ 32 - q.slots) / q.width + (q.size - own % q.size)) % q.size
+
+abbrev pub offset_at : Queue → (a : ℕ) → ℕ
+offset_at q a = (a % 2 ^ 32 - q.slots) % q.width
+
+abbrev pub is_slot : List (Option ℕ) → Queue → Form → (offset : ℕ) → Option Form → Bool
+is_slot rs q f offset None = false
+is_slot rs q f offset (Some g) = is_same (2 ^ 32) f (plus (times q.width g) (number (q.slots + offset)))
+    && fits_in (most rs (plus (times q.width g) (number (q.slots + offset)))) (Some (2 ^ 32 - 1))
+
+-- these bytes are of the slot of a position that the party owns
+abbrev pub is_owned : List (Option ℕ) → Queue → Share → Value → (width : ℕ) → Bool
+is_owned rs q s any width = false
+is_owned rs q s (index_for i f) width = false
+is_owned rs q s (linear f) width = nat_lt (position_at q s.own.constant f.constant) s.owned.constant && nat_le (offset_at q f.constant + width) q.width
+    && is_slot rs q f (offset_at q f.constant) (remainder rs (plus s.own (number (position_at q s.own.constant f.constant))) q.size)
+
+-- what the word of the other's index stands for is this much more than the own count and what is owned, as a remainder
+abbrev pub behind : Queue → Party → ℕ
+behind q the_sender = q.modulus - q.capacity % q.modulus
+behind q the_receiver = 0
+
+abbrev pub anywhere : Option Bounds → Bounds
+anywhere None = record { low = 0; high = 2 ^ 32 - 1 }
+anywhere (Some b) = b
+
+abbrev pub is_one : Bounds → Bool
+is_one b = b.low == b.high
+
+-- it is of the own index or of the other's, whole
+abbrev pub is_whole : Queue → Option Party → (Party → Party) → (a width : ℕ) → Bool
+is_whole q None t a width = false
+is_whole q (Some p) t a width = (a == index q (t p)) && (width == q.index_width)
+
+-- it isn't of the other's index, whole
+abbrev pub misses : Queue → Option Party → Bounds → (width : ℕ) → Bool
+misses q None b width = true
+misses q (Some p) b width = nat_lt b.high (index q (other p)) || nat_lt (index q (other p)) b.low || not (width == q.index_width)
+
+abbrev pub back_of : Queue → Option Party → ℕ
+back_of q None = 0
+back_of q (Some p) = behind q p
+
+-- what is owned after a look: at least as much as before, at most all
+abbrev pub owned_then : Share → Form
+owned_then s = plus (number s.owned.constant) first_variable
+
+abbrev pub looked_share : Share → Share
+looked_share s = record { own = lifted s.own; owned = owned_then s }
+
+-- and after it hands over this many
+abbrev pub moved_share : Share → (d : Form) → Share
+moved_share s d = record { own = plus s.own d; owned = minus s.owned d }
+
+-- the registers and the pc after it
+abbrev pub written : List Value → (n : ℕ) → Value → List Value
+written vs n v = if n == 0 then vs else set vs n v
+
+abbrev pub with_result : KnownState → (rd pc : ℕ) → Result → KnownState
+with_result k rd pc r = record (state_by lifted (Some r.most ∷ k.ranges) k) {
+  pc = pc;
+  registers = written (map (value_by lifted) k.registers) rd r.value;
+}
+
+abbrev pub going_to : KnownState → (pc : ℕ) → KnownState
+going_to k pc = record (state_by lifted (Some 0 ∷ k.ranges) k) { pc = pc }
+
+abbrev pub goes_by : KnownState → (target : ℕ) → Option Bool → List KnownState
+goes_by k target None = going_to k target ∷ going_to k (next_pc k.pc) ∷ []
+goes_by k target (Some true) = going_to k target ∷ []
+goes_by k target (Some false) = going_to k (next_pc k.pc) ∷ []
+
+-- where a register's value is known, it goes there
+abbrev pub jumping : KnownState → (rd : ℕ) → ℤ → Option ℕ → Option (List KnownState)
+jumping k rd offset None = None
+jumping k rd offset (Some a) = Some (with_result k rd (address a offset / 2 * 2) (exactly (next_pc k.pc)) ∷ [])
+
+-- an environment call may leave a word in x10 and a flag in x11
+abbrev pub called : KnownState → KnownState
+called k = record (going_to k (next_pc k.pc)) { registers = written (written (map (value_by lifted) k.registers) 10 any) 11 any }
+
+-- what a register holds; x0 is 0
+abbrev pub register_at : KnownState → Reg → Value
+register_at k r = if r.number == 0 then linear (number 0) else get_or k.registers r.number any
+
+-- what the pc says
+abbrev pub instruction_at : (code : List ℕ) (pc : ℕ) → Option Instr
+instruction_at code pc = if nat_lt pc (4 * length code) then meaning (slice_index code (pc / 4)) else None
+
+-- of hart h, where there are N queues and H harts with own words at these addresses
+module _ (queues : ℕ → Queue) (N : ℕ) (own_of : ℕ → List ℕ) (H h : ℕ) where
+  abbrev pub operand : KnownState → Reg → Value
+  operand k r = plain queues k.ranges (register_at k r)
+
+  abbrev pub address_value : KnownState → Reg → ℤ → Value
+  address_value k r offset = sum_of (operand k r) (linear (number (word offset)))
+
+  abbrev pub addresses : KnownState → Reg → ℤ → Bounds
+  addresses k r offset = anywhere (bounds k.ranges (address_value k r offset))
+
+  -- ---- loads
+
+  -- it loads the other's index of queue i, whole
+  abbrev pub is_look : (b : Bounds) (width : ℕ) → (i : ℕ) → Bool
+  is_look b width i = is_one b && is_whole (queues i) (party_of (queues i) h) other b.low width
+
+  abbrev pub is_own_index : (b : Bounds) (width : ℕ) → (i : ℕ) → Bool
+  is_own_index b width i = is_one b && is_whole (queues i) (party_of (queues i) h) (λ p. p) b.low width
+
+  abbrev pub is_own_word : (b : Bounds) (width : ℕ) → (j : ℕ) → Bool
+  is_own_word b width j = is_one b && (b.low == slice_index (own_of h) j) && (width == 4)
+
+  abbrev pub share_at : KnownState → (i : ℕ) → Share
+  share_at k i = get_or k.shares i no_share
+
+  abbrev pub word_loaded : KnownState → Option ℕ → Value
+  word_loaded k None = any
+  word_loaded k (Some j) = get_or k.words j any
+
+  abbrev pub index_loaded : KnownState → Option ℕ → Value → Value
+  index_loaded k None v = v
+  index_loaded k (Some i) v = index_for i (share_at k i).own
+
+  -- the number that a load reads, where it is no look
+  abbrev pub value_loaded : KnownState → (b : Bounds) (width : ℕ) → Value
+  value_loaded k b width = index_loaded k (last_below N (is_own_index b width)) (word_loaded k (last_below (length (own_of h)) (is_own_word b width)))
+
+  abbrev pub zero_extended : LoadOp → Value → Value
+  zero_extended load.Byte v = any
+  zero_extended load.Half v = any
+  zero_extended op v = v
+
+  abbrev pub looked_word : (i : ℕ) → Share → Value
+  looked_word i s = index_for i (plus (plus (lifted s.own) (owned_then s)) (number (back_of (queues i) (party_of (queues i) h))))
+
+  abbrev pub after_look : KnownState → LoadOp → (rd i : ℕ) → Share → KnownState
+  after_look k op rd i s = record (with_result k rd (next_pc k.pc) (record {
+    most = (queues i).capacity - s.owned.constant;
+    value = zero_extended op (looked_word i s);
+  })) { shares = set (map (share_by lifted) k.shares) i (looked_share s) }
+
+  abbrev pub after_load : KnownState → LoadOp → (rd : ℕ) → Bounds → Option ℕ → KnownState
+  after_load k op rd b None = with_result k rd (next_pc k.pc) (just (zero_extended op (value_loaded k b (load_width op))))
+  after_load k op rd b (Some i) = after_look k op rd i (share_at k i)
+
+  abbrev pub may_load : KnownState → Bounds → (width : ℕ) → Option ℕ → Bool
+  may_load k b width look = all_below N (λ i. (is_just look i && nat_lt i (length k.shares)) || misses (queues i) (party_of (queues i) h) b width)
+
+  abbrev pub load_by : KnownState → LoadOp → (rd : ℕ) → Bounds → Option ℕ → Option (List KnownState)
+  load_by k op rd b look = if may_load k b (load_width op) look then Some (after_load k op rd b look ∷ []) else None
+
+  abbrev pub loading : KnownState → LoadOp → (rd : ℕ) → Bounds → Option (List KnownState)
+  loading k op rd b = load_by k op rd b (last_below N (is_look b (load_width op)))
+
+  -- ---- stores
+
+  -- d positions are handed over: the word is of the count d further, and d are owned
+  abbrev pub may_move : KnownState → (d : Form) → Value → (i : ℕ) → Share → Bool
+  may_move k d v i s = is_within queues k.ranges v (index_for i (plus s.own d)) && is_same 0 (plus d (minus s.owned d)) s.owned
+      && fits_in (most k.ranges d) (Some ((queues i).modulus - 1)) && nat_lt i (length k.shares)
+
+  abbrev pub may_fill : KnownState → Option Party → (place : Value) (width : ℕ) → (i : ℕ) → Bool
+  may_fill k None place width i = false
+  may_fill k (Some p) place width i = is_owned k.ranges (queues i) (share_at k i) place width
+
+  abbrev pub may_store : KnownState → (d : Form) → Value → (place : Value) → Bounds → (width : ℕ) → (move : Option ℕ) → (i : ℕ) → Bool
+  may_store k d v place b width move i = if is_just move i then may_move k d v i (share_at k i) else
+      (is_off (queues i) b width || may_fill k (party_of (queues i) h) place width i)
+
+  -- it writes no other hart's own word
+  abbrev pub leaves_words : Bounds → (width : ℕ) → (g : ℕ) → Bool
+  leaves_words b width g = (g == h) || all_below (length (own_of g)) (λ j. is_apart b width (slice_index (own_of g) j) 4)
+
+  abbrev pub storable : Value → Value
+  storable any = any
+  storable (linear f) = linear f
+  storable (index_for i f) = if nat_lt i N then index_for i f else any
+
+  abbrev pub word_then : Bounds → (width : ℕ) → Value → (a : ℕ) → Value → Value
+  word_then b width v a w = if is_apart b width a 4 then w else (if is_one b && (b.low == a) && (width == 4) then storable v else any)
+
+  abbrev pub words_then : Bounds → (width : ℕ) → Value → (own : List ℕ) → List Value → List Value
+  words_then b width v [] ws = ws
+  words_then b width v (a ∷ own) [] = []
+  words_then b width v (a ∷ own) (w ∷ ws) = word_then b width v a w ∷ words_then b width v own ws
+
+  abbrev pub shares_moved : List Share → (d : Form) → Option ℕ → List Share
+  shares_moved ss d None = ss
+  shares_moved ss d (Some i) = set ss i (moved_share (get_or ss i no_share) d)
+
+  abbrev pub after_store : KnownState → (d : Form) → (width : ℕ) → Value → Bounds → Option ℕ → KnownState
+  after_store k d width v b move = going_to (record k {
+    words = words_then b width v (own_of h) k.words;
+    shares = shares_moved k.shares d move;
+  }) (next_pc k.pc)
+
+  abbrev pub store_by : KnownState → (d : Form) → (width : ℕ) → Value → (place : Value) → Bounds → Option ℕ → Option (List KnownState)
+  store_by k d width v place b move = if all_below N (may_store k d v place b width move) && all_below H (leaves_words b width)
+      then Some (after_store k d width v b move ∷ []) else None
+
+  abbrev pub storing : KnownState → (d : Form) → (width : ℕ) → Value → (place : Value) → Bounds → Option (List KnownState)
+  storing k d width v place b = store_by k d width v place b (last_below N (is_own_index b width))
+
+  -- ---- AMOs: a load and then a store of a word, of no index of the other's
+
+  abbrev pub updated_value : List (Option ℕ) → AmoOp → (old with' : Value) → Value
+  updated_value rs amo.Swap old with' = with'
+  updated_value rs amo.Add old with' = sum_of (plain queues rs old) (plain queues rs with')
+  updated_value rs op old with' = any
+
+  abbrev pub after_exchange : KnownState → (d : Form) → (rd : ℕ) → Value → Bounds → Option ℕ → KnownState
+  after_exchange k d rd v b move = with_result (record k {
+    words = words_then b 4 v (own_of h) k.words;
+    shares = shares_moved k.shares d move;
+  }) rd (next_pc k.pc) (just (value_loaded k b 4))
+
+  abbrev pub exchange_by : KnownState → (d : Form) → (rd : ℕ) → Value → (place : Value) → Bounds → Option ℕ → Option (List KnownState)
+  exchange_by k d rd v place b move = if all_below N (may_store k d v place b 4 move) && all_below H
+      (leaves_words b 4) && all_below N (λ i. misses (queues i) (party_of (queues i) h) b 4)
+      then Some (after_exchange k d rd v b move ∷ []) else None
+
+  abbrev pub exchanging : KnownState → (d : Form) → AmoOp → (rd : ℕ) → Value → (place : Value) → Option Bounds → Option (List KnownState)
+  exchanging k d op rd v place None = None
+  exchanging k d op rd v place (Some b) = exchange_by k d rd (updated_value k.ranges op (value_loaded k b 4) v) place b (last_below N (is_own_index b 4))
+
+  -- ---- instructions. A leaf of a certificate says how many positions its instruction hands over
+
+  abbrev pub follow : KnownState → (d : Form) → Option Instr → Option (List KnownState)
+  follow k d None = Some []
+  follow k d (Some (Lui rd upper)) = Some (with_result k rd.number (next_pc k.pc) (exactly (upper * 2 ^ 12)) ∷ [])
+  follow k d (Some (Auipc rd upper)) = Some (with_result k rd.number (next_pc k.pc) (exactly ((k.pc + upper * 2 ^ 12) % 2 ^ 32)) ∷ [])
+  follow k d (Some (Jal rd offset)) = Some (with_result k rd.number (address k.pc offset) (exactly (next_pc k.pc)) ∷ [])
+  follow k d (Some (Jalr rd rs1 offset)) = jumping k rd.number offset (known (operand k rs1))
+  follow k d (Some (Branch op rs1 rs2 offset)) = Some (goes_by k (address k.pc offset) (is_branch_taken k.ranges op (operand k rs1) (operand k rs2)))
+  follow k d (Some (Load op rd rs1 offset)) = loading k op rd.number (addresses k rs1 offset)
+  follow k d (Some (Store op rs1 rs2 offset)) = storing k d (store_width op) (register_at k rs2) (address_value k rs1 offset) (addresses k rs1 offset)
+  follow k d (Some (Immediate op rd rs1 n)) = Some (with_result k rd.number (next_pc k.pc) (of_immediate k.ranges op (operand k rs1) n) ∷ [])
+  follow k d (Some (Shift op rd rs1 amount)) = Some (with_result k rd.number (next_pc k.pc) (of_shift k.ranges op (operand k rs1) amount) ∷ [])
+  follow k d (Some (Register op rd rs1 rs2)) = Some (with_result k rd.number (next_pc k.pc) (of_registers k.ranges op (operand k rs1) (operand k rs2)) ∷ [])
+  follow k d (Some (Fence pred succ)) = Some (going_to k (next_pc k.pc) ∷ [])
+  follow k d (Some FenceTso) = Some (going_to k (next_pc k.pc) ∷ [])
+  follow k d (Some Ecall) = Some (called k ∷ [])
+  follow k d (Some Ebreak) = Some []
+  follow k d (Some (Amo op rd rs1 rs2 aq rl)) = exchanging k d op rd.number (register_at k rs2) (operand k rs1) (bounds k.ranges (operand k rs1))
+
+  -- each byte of a load of queue i's slots is of an owned one
+  abbrev pub reads_owned : KnownState → (i : ℕ) → (place : Value) → Bounds → (width : ℕ) → Bool
+  reads_owned k i place b width = is_apart b width (queues i).slots ((queues i).size * (queues i).width) || is_owned
+      k.ranges (queues i) (share_at k i) place width
+
+  abbrev pub loads_owned : KnownState → (i : ℕ) → Option Instr → Bool
+  loads_owned k i (Some (Load op rd rs1 offset)) = reads_owned k i (address_value k rs1 offset) (addresses k rs1 offset) (load_width op)
+  loads_owned k i (Some (Amo op rd rs1 rs2 aq rl)) = reads_owned k i (operand k rs1) (anywhere (bounds k.ranges (operand k rs1))) 4
+  loads_owned k i other = true
