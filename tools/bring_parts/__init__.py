@@ -3,6 +3,7 @@ compare-mappings. Litmus texts and schedules are read by tools/reference, and by
 
 import argparse
 import os
+import re
 import shlex
 import shutil
 import subprocess
@@ -41,11 +42,11 @@ def complain(tool, *words, before=()):
 
 class Words(argparse.ArgumentParser):
     """The words of a tool's command line, by the text at the tool's top: that is its help, and the lines that begin
-    with `tools/` or `tests/` its usage."""
+    with `tools/`, `tests/` or `examples/` its usage, with those in which they go on."""
 
     def __init__(self, text):
-        lines = [line for line in text.splitlines() if line.startswith(("tools/", "tests/", "ztso try"))]
-        super().__init__(usage="\n       ".join(lines))
+        lines = re.findall(r"^(?:(?:tools|tests|examples)/|ztso try).*(?:\n +\[.*)*", text, re.MULTILINE)
+        super().__init__(usage="\n       ".join(line.replace("\n", "\n       ") for line in lines))
         self.text = text
 
     def format_help(self):
