@@ -45,29 +45,29 @@ use Rattle.spsc_queue.proofs.Obligations.{obligations_decided}
 
 -- ---- entries that events make are a run, where each event may come
 
-pub may_want : (B : ℕ) → List Write → Need → Bool
+unfoldable pub may_want : (B : ℕ) → List Write → Need → Bool
 may_want B ws need.Inner = true
 may_want B ws (need.Load a width) = true
 may_want B ws (need.Store a width w) = nat_lt (length ws) B
 may_want B ws other = false
 
-pub is_running : Status → Bool
+unfoldable pub is_running : Status → Bool
 is_running status.Running = true
 is_running other = false
 
-pub may_act : (B : ℕ) → List Write → Option HartState → Bool
+unfoldable pub may_act : (B : ℕ) → List Write → Option HartState → Bool
 may_act B ws None = false
 may_act B ws (Some s) = is_running s.status && may_want B ws (need_of s)
 
-pub is_some : Option HartState → Bool
+unfoldable pub is_some : Option HartState → Bool
 is_some None = false
 is_some (Some s) = true
 
-pub may_come : (B M : ℕ) → OpeningValue → List Entry → Event → Bool
+unfoldable pub may_come : (B M : ℕ) → OpeningValue → List Entry → Event → Bool
 may_come B M o es (event.Act h) = may_act B (pending h es) (state_of M (history_of o es) h)
 may_come B M o es (event.Land h) = is_some (state_of M (history_of o es) h) && nat_lt 0 (length (pending h es))
 
-pub all_come : (B M : ℕ) → OpeningValue → List Entry → List Event → Bool
+unfoldable pub all_come : (B M : ℕ) → OpeningValue → List Entry → List Event → Bool
 all_come B M o front [] = true
 all_come B M o front (ev ∷ evs) = may_come B M o front ev && all_come B M o (front ++ entry_by M o front ev ∷ []) evs
 
@@ -111,7 +111,7 @@ module _ (B M : ℕ) (o : OpeningValue) where
           kept-happens B M (history_of o es) (event.Land h) (outcome.Did (entry.Land h)) (with_entry (history_of o es) (entry.Land h)) kept
           (land_happens B M (history_of o es) h s split.0 split.1 kept is split.2)
 
-  all_kept : (es : List Entry) (evs : List Event) → WellFormed B M (history_of o es) → all_come B M o es evs ≡ true
+  pub all_kept : (es : List Entry) (evs : List Event) → WellFormed B M (history_of o es) → all_come B M o es evs ≡ true
       → WellFormed B M (history_of o (es ++ entries_by M o es evs))
   unfolding all_come
   all_kept es [] kept may = subst (λ xs. WellFormed B M (history_of o xs)) (sym (append-nil es)) kept

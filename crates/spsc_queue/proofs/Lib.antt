@@ -39,3 +39,4 @@ pub mod Obligations
 pub mod Decided
 pub mod Example
 pub mod ManyQueues
+pub mod TwoQueues

@@ -8,4 +8,5 @@ pub mod Calls
 pub mod CallEffects
 pub mod Obligations
 pub mod Example
+pub mod TwoQueues
 pub mod ManyQueues

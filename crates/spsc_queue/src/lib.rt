@@ -42,6 +42,7 @@ ghost use Rattle.spsc_queue.specs.Obligations.{obligations_kept};
 ghost use Rattle.spsc_queue.specs.ManyQueues.{UsesManyQueues};
 ghost use Rattle.spsc_queue.specs.Example as example;
 ghost use Rattle.spsc_queue.specs.Example.{Scenario};
+ghost use Rattle.spsc_queue.specs.TwoQueues.{both_queues, opening_of_two, entries_of_two};
 
 pub use cached::cached_send_words;
 pub use fastforward::{fastforward_receive_words, fastforward_send_words};
@@ -275,6 +276,7 @@ pub fn laws_of_one_call()
 /// - `computed`, `met`, `calls`, `answers`, `accessed`, `sent` and `received`: it says so of the runs of `specs/Example.antt`, which so
 ///   keep all. Each ends with a whole call: one by which a word passes and an index wraps, with a copy of the tail that says that the
 ///   queue is full or that there is room; one that finds the queue full, or empty; one after the queue has changed hands.
+/// - `uses_both` and `passes`: so do harts that use two queues, of Lamport's kind and FastForward's, by which a word goes there and back.
 pub fn laws_of_obligations()
     ensures decided { (M : ℕ) (o : OpeningValue) (q : SpscQueue) (before es : List Entry) → obligations_kept M o q before es ≡ true
         → (done : List Entry) (e : Entry) (more : List Entry) → es ≡ done ++ e ∷ more → CallerObligation M o q before done e }
@@ -292,4 +294,7 @@ pub fn laws_of_obligations()
     ensures sent { (x : Scenario) → sent_words 64 (example.opening x) (example.queue x) (example.before_entries x) (example.entries x) ≡ example.sent x }
     ensures received { (x : Scenario)
         → received_words 64 (example.opening x) (example.queue x) (example.before_entries x) (example.entries x) ≡ example.received x }
+    ensures uses_both { UsesManyQueues 4 128 opening_of_two 2 both_queues [] entries_of_two }
+    ensures passes { (i : ℕ) → i < 2 → (sent_words 128 opening_of_two (both_queues i) [] entries_of_two ≡ 99 ∷ [])
+        × (received_words 128 opening_of_two (both_queues i) [] entries_of_two ≡ 99 ∷ []) }
 {}

@@ -1,6 +1,7 @@
 use Rattle.spsc_queue.proofs.Obligations.{obligations_decided}
 use Rattle.spsc_queue.proofs.Decided.{obligations_said}
 use Rattle.spsc_queue.proofs.Example.{computed, uses, is_call}
+use Rattle.spsc_queue.proofs.TwoQueues.{uses_both, passes}
 use Rattle.spsc_queue.proofs.laws_of_obligations.Goals as goal
 
 pub returns-clause-decided : goal.returns-clause-decided
@@ -29,3 +30,9 @@ returns-clause-sent c = λ x. (computed x).sent
 
 pub returns-clause-received : goal.returns-clause-received
 returns-clause-received c = λ x. (computed x).received
+
+pub returns-clause-uses_both : goal.returns-clause-uses_both
+returns-clause-uses_both c = uses_both
+
+pub returns-clause-passes : goal.returns-clause-passes
+returns-clause-passes c = passes
