@@ -1,0 +1,113 @@
+-- Where slots and tags lie.
+use Rattle.std.proofs.Common.{ℕ, ◌+◌, ◌-◌, ◌*◌, ◌/◌, ◌%◌, ◌^◌, ◌<◌, ◌≤◌, ◌≡◌, ◌≢◌, ◌==◌, ◌&&◌, inl, inr, Bool, true, false, if◌then◌else◌}
+use Rattle.std.proofs.Common.{refl, sym, ◌∙◌, ap, arith}
+use Rattle.std.specs.Int.{byte_at}
+use Rattle.std.proofs.Math.Nat.{mod-lt, mod-mod, add-mul-mod_self_left}
+use Rattle.std.proofs.lemmas.Nat.{mul-le, div-mul-add}
+use Rattle.std.proofs.lemmas.Bool.{eqb-true, eq-eqb}
+use Rattle.memory.specs.declared.writes.Write.{Write}
+use Rattle.memory.specs.Writes.{covers, byte_after, joined}
+use Rattle.memory.proofs.Bytes.{joined-same, covers-yes, covers-from}
+use Rattle.memory.proofs.Joined.{joined-bytes}
+use Rattle.queue_parties.proofs.Parties.{both-equal}
+use Rattle.queue_parties.specs.Parties.{Party, the_sender, the_receiver, QueueCounts}
+use Rattle.queue_parties.proofs.Positions.{same_slot, in_slot}
+use Rattle.queue_parties.proofs.Positions as positions
+use Rattle.slots_that_tell.specs.Slots.{Slots, IsSlots, gap, tag_of, IsSlotByte, IsTagByte, KeepsOff, slot_at, is_tag}
+use Rattle.queue_parties.specs.Positions.{IsInBytes}
+use Rattle.slots_that_tell.specs.Telling.{moved, FillsOwned, IsTagStore}
+
+-- a write that leaves all tags
+abbrev pub LeavesTags : Slots → Write → Type 0
+LeavesTags q w = (k x : ℕ) → IsTagByte q k x → covers w x ≡ false
+
+module _ (q : Slots) (is : IsSlots q) where
+  pub tag-in-slot : (k x : ℕ) → IsTagByte q k x → IsSlotByte q k x
+  tag-in-slot k x at = (omega (arith, at.0), omega (arith, at.1, is.tag_within))
+
+  pub one-slot : (j k x : ℕ) → IsSlotByte q j x → IsSlotByte q k x → j % q.size ≡ k % q.size
+  one-slot = positions.one-slot q.slots q.width q.size is.some
+
+  pub far : (j k x : ℕ) → IsSlotByte q j x → IsSlotByte q k x → j < k → j + q.size ≤ k
+  far = positions.far q.slots q.width q.size is.some
+
+  pub slot-within : (k x : ℕ) → IsSlotByte q k x → IsInBytes q.slots (q.size * q.width) x
+  slot-within = positions.slot-within q.slots q.width q.size is.some
+
+  pub tag-same : (j k : ℕ) → j % q.size ≡ k % q.size → tag_of q j ≡ tag_of q k
+  tag-same j k same = ap (λ i. q.slots + q.width * i + q.tag_offset) same
+
+  pub slot-turn : (p : Party) (k : ℕ) → (k + gap q p) % q.size ≡ k % q.size
+  slot-turn the_sender k = (let z : k + 0 ≡ k = omega arith in ap (λ i. i % q.size) z)
+  slot-turn the_receiver k = (let z : k + q.size ≡ k + q.size * 1 = omega arith in ap (λ i. i % q.size) z) ∙ add-mul-mod_self_left k q.size 1
+
+  pub tag-turn : (p : Party) (k : ℕ) → tag_of q (k + gap q p) ≡ tag_of q k
+  tag-turn p k = tag-same (k + gap q p) k (slot-turn p k)
+
+  pub slot_at-tag : (k : ℕ) → slot_at q (tag_of q k) ≡ k % q.size
+  slot_at-tag k = in_slot q.width (k % q.size) (tag_of q k - q.slots) (omega arith) (omega (arith, is.some_bytes, is.tag_within))
+
+  pub is_tag-tag : (k : ℕ) → is_tag q (tag_of q k) q.tag_width ≡ true
+  is_tag-tag k =
+      let at : tag_of q k ≡ tag_of q (slot_at q (tag_of q k)) = sym (ap (tag_of q) (slot_at-tag k) ∙ tag-same (k % q.size) k (mod-mod k q.size)) in
+      ap (λ b. b && (q.tag_width == q.tag_width)) (eq-eqb (tag_of q k) (tag_of q (slot_at q (tag_of q k))) at)
+      ∙ eq-eqb q.tag_width q.tag_width refl
+
+  pub moved-tag : (p : Party) (n m : ℕ) (w : Write) → IsTagStore q p n w → moved q m w ≡ m + 1
+  moved-tag p n m w tag = ap (λ b. if b then m + 1 else m)
+      (ap (λ a. is_tag q a w.width) tag.place ∙ ap (is_tag q (tag_of q n)) tag.width ∙ is_tag-tag n)
+
+  pub moved-leaves : (n : ℕ) (w : Write) → LeavesTags q w → moved q n w ≡ n
+  moved-leaves n w leaves = by (is_tag q w.addr w.width) refl
+    where
+      by : (b : Bool) → is_tag q w.addr w.width ≡ b → (if b then n + 1 else n) ≡ n
+      by false off = refl
+      by true on = let parts = both-equal w.addr (tag_of q (slot_at q w.addr)) w.width q.tag_width on in
+          let place : w.addr ≡ tag_of q (slot_at q w.addr) = parts.0 in
+          let width : w.width ≡ q.tag_width = parts.1 in
+          let held : covers w w.addr ≡ true = covers-yes w w.addr (omega arith) (omega (arith, width, is.some_bytes)) in
+          absurd (let no : true ≡ false = sym held ∙ leaves (slot_at q w.addr) w.addr (omega (arith, place), omega (arith, place, is.some_bytes)) in cc)
+
+  pub off-leaves : (w : Write) → KeepsOff q w → LeavesTags q w
+  off-leaves w keeps k x at = by (covers w x) refl
+    where
+      by : (b : Bool) → covers w x ≡ b → b ≡ false
+      by false off = refl
+      by true on = absurd (keeps x on (slot-within k x (tag-in-slot k x at)))
+
+  pub fills-leaves : (p : Party) (c : QueueCounts) (w : Write) → FillsOwned q p c w → LeavesTags q w
+  fills-leaves p c w fills k x at = by (covers w x) refl
+    where
+      by : (b : Bool) → covers w x ≡ b → b ≡ false
+      by false off = refl
+      by true on = absurd (elim (fills x on) [
+        | inl out ↦ out (slot-within k x (tag-in-slot k x at))
+        | inr owns ↦
+            let same : tag_of q k ≡ tag_of q owns.position =
+            tag-same k owns.position (one-slot k owns.position x (tag-in-slot k x at) owns.byte) in
+            owns.no_tag (omega (arith, same, at.0), omega (arith, same, at.1))
+      ])
+
+  -- a store to one tag leaves the tags of other slots
+  pub tag-apart : (p : Party) (n k : ℕ) (w : Write) → IsTagStore q p n w → n % q.size ≢ k % q.size → (x : ℕ) → IsTagByte q k x → covers w x ≡ false
+  tag-apart p n k w tag apart x at = by (covers w x) refl
+    where
+      by : (b : Bool) → covers w x ≡ b → b ≡ false
+      by false off = refl
+      by true on = let part = covers-from w x on in
+          absurd (apart (one-slot n k x (tag-in-slot n x (omega (arith, part.0, tag.place), omega (arith, part.1, tag.place, tag.width))) (tag-in-slot k x at)))
+
+  -- what a tag holds after a write past it, or of it
+  pub tag-left : (w : Write) (f : ℕ → ℕ) (k : ℕ) → ((x : ℕ) → IsTagByte q k x → covers w x ≡ false)
+      → joined (λ i. byte_after w (tag_of q k + i) (f (tag_of q k + i))) q.tag_width ≡ joined (λ i. f (tag_of q k + i)) q.tag_width
+  tag-left w f k leaves = joined-same (λ i. byte_after w (tag_of q k + i) (f (tag_of q k + i))) (λ i. f (tag_of q k + i)) q.tag_width
+      (λ i lt. ap (λ b. if b then byte_at (tag_of q k + i - w.addr) w.value else f (tag_of q k + i)) (leaves (tag_of q k + i) (omega arith, omega (arith, lt))))
+
+  pub tag-stored : (w : Write) (f : ℕ → ℕ) (k : ℕ) → w.addr ≡ tag_of q k → w.width ≡ q.tag_width
+      → joined (λ i. byte_after w (tag_of q k + i) (f (tag_of q k + i))) q.tag_width ≡ w.value % 256 ^ q.tag_width
+  tag-stored w f k place width =
+      joined-same (λ i. byte_after w (tag_of q k + i) (f (tag_of q k + i))) (λ i. byte_at i w.value) q.tag_width
+      (λ i lt. let held : covers w (tag_of q k + i) ≡ true = covers-yes w (tag_of q k + i) (omega (arith, place)) (omega (arith, place, width, lt)) in
+      let turned : tag_of q k + i - w.addr ≡ i = omega (arith, place) in
+      ap (λ b. if b then byte_at (tag_of q k + i - w.addr) w.value else f (tag_of q k + i)) held ∙ ap (λ j. byte_at j w.value) turned)
+      ∙ joined-bytes w.value q.tag_width

@@ -1,0 +1,45 @@
+-- A run that keeps the protocol of slots that tell, and what its laws speak of.
+use Rattle.std.specs.Prelude.{ℕ, zero, suc, ◌≡◌, ◌+◌, ◌-◌, ◌≤◌, List, [], ◌∷◌, ◌++◌}
+use Rattle.memory.specs.declared.writes.Write.{Write}
+use Rattle.step_machine.specs.declared.events.Entry.{Entry}
+use Rattle.step_machine.specs.History.{OpeningValue, history_of}
+use Rattle.step_machine.specs.Legal.{Legal}
+use Rattle.step_machine.specs.Access.{exchange, access_of}
+use Rattle.step_machine.specs.Entries.{hart_of, read}
+use Rattle.store_buffers.specs.StoreBuffers.{LeavesByteBy, LeavesByteAt}
+use Rattle.queue_parties.specs.Parties.{Party, the_sender, the_receiver, QueueCounts, all_at, count}
+use Rattle.queue_parties.specs.Positions.{records_passed}
+use Rattle.slots_that_tell.specs.Slots.{Slots, IsSlots, IsEmptyAtRest, tagged_slot, IsSlotByte, IsTagByte}
+use Rattle.slots_that_tell.specs.Telling.{teller_hart, after_entry, told_counts, moved, KeepsTelling}
+
+-- the entries of a run from where the queue was empty and at rest at count n: they are legal after those before, and keep the protocol
+pub record FollowsTelling (B : ℕ) (q : Slots) (n : ℕ) (o : OpeningValue) (before es : List Entry) : Type 0 where
+  pub slots : IsSlots q
+  pub legal : Legal B (history_of o (before ++ es))
+  pub rest : IsEmptyAtRest q o before n
+  pub keeps : KeepsTelling q (all_at n) es
+
+abbrev pub counts : Slots → (n : ℕ) → List Entry → QueueCounts
+counts q n es = told_counts q (all_at n) es
+
+-- a count after these writes of the party's
+abbrev pub moved_on : Slots → (n : ℕ) → List Write → ℕ
+moved_on q n [] = n
+moved_on q n (w ∷ ws) = moved_on q (moved q n w) ws
+
+-- this hart writes nothing to the slots but tags, and those by no AMO: so the receiver leaves what it is to take
+pub record StoresTagsAlone (q : Slots) (h : ℕ) (es : List Entry) : Type 0 where
+  pub rest : (k x : ℕ) → IsSlotByte q k x → (IsTagByte q k x → ⊥) → LeavesByteAt h x es
+  pub no_amo : (es1 : List Entry) (e : Entry) (es2 : List Entry) (a old new : ℕ) → es ≡ es1 ++ e ∷ es2 → hart_of e ≡ h → access_of e ≡ exchange a old new → ⊥
+
+-- the record of position k as hart h reads it: the number of the bytes of its slot, the tag among them
+abbrev pub tagged_record : Slots → OpeningValue → List Entry → (h k : ℕ) → ℕ
+tagged_record q o es h k = read o es h (tagged_slot q k) q.width
+
+-- the sender's record is what its hart reads just after its tag is stored, and the receiver's what its hart reads just before
+abbrev pub reading_at : Party → (before : List Entry) → Entry → List Entry
+reading_at the_sender before e = before ++ e ∷ []
+reading_at the_receiver before e = before
+
+abbrev pub records_by : Slots → Party → OpeningValue → QueueCounts → (before es : List Entry) → List ℕ
+records_by q p o c before es = records_passed (after_entry q) (count p) (λ front e k. tagged_record q o (reading_at p front e) (teller_hart q p) k) c before es

@@ -1,0 +1,76 @@
+-- Slots that tell whose they are: a queue between two harts without a shared index. One part of each slot, its tag, tells.
+use Rattle.std.specs.Prelude.{ℕ, ◌≡◌, ◌≢◌, ◌+◌, ◌-◌, ◌*◌, ◌/◌, ◌%◌, ◌<◌, ◌≤◌, ◌==◌, ◌&&◌, Bool, List, All, true, false}
+use Rattle.memory.specs.declared.writes.Write.{Write}
+use Rattle.memory.specs.Writes.{covers}
+use Rattle.store_buffers.specs.StoreBuffers.{memory_number}
+use Rattle.step_machine.specs.declared.events.Entry.{Entry}
+use Rattle.step_machine.specs.History.{OpeningValue}
+use Rattle.step_machine.specs.Entries.{pending}
+use Rattle.queue_parties.specs.Parties.{Party, the_sender, the_receiver, other}
+use Rattle.queue_parties.specs.Positions.{IsInBytes, slot_from}
+
+-- The harts that send and receive; where the slots begin, how many they are, and how many bytes one has; which of these are its tag;
+-- and what a tag tells: `tells the_sender k v` that the slot is free for position k, `tells the_receiver k v` that position k is in it
+pub record Slots : Type 0 where
+  pub sender : ℕ
+  pub receiver : ℕ
+  pub slots : ℕ
+  pub size : ℕ
+  pub width : ℕ
+  pub tag_offset : ℕ
+  pub tag_width : ℕ
+  pub tells : Party → (k v : ℕ) → Bool
+
+-- how far on the position is that a party's tag hands to the other: the sender hands over position k itself, and the receiver the
+-- slot's next one
+abbrev pub gap : Slots → Party → ℕ
+gap q the_sender = 0
+gap q the_receiver = q.size
+
+-- two harts; the tag lies in its slot; and what tells a party that it has position k doesn't tell the other that it has the position
+-- that it will be handed from there
+pub record IsSlots (q : Slots) : Type 0 where
+  pub parties : q.sender ≢ q.receiver
+  pub some : 1 ≤ q.size
+  pub some_bytes : 1 ≤ q.tag_width
+  pub tag_within : q.tag_offset + q.tag_width ≤ q.width
+  pub differ : (p : Party) (k v : ℕ) → q.tells p k v ≡ true → q.tells (other p) (k + gap q p) v ≡ false
+
+-- position k lies in slot k % size: its tag
+abbrev pub tagged_slot : Slots → (k : ℕ) → ℕ
+tagged_slot q k = slot_from q.slots q.width q.size k
+
+abbrev pub tag_of : Slots → (k : ℕ) → ℕ
+tag_of q k = tagged_slot q k + q.tag_offset
+
+abbrev pub IsSlotByte : Slots → (k x : ℕ) → Type 0
+IsSlotByte q k x = IsInBytes (tagged_slot q k) q.width x
+
+abbrev pub IsTagByte : Slots → (k x : ℕ) → Type 0
+IsTagByte q k x = IsInBytes (tag_of q k) q.tag_width x
+
+-- x is a byte of no slot
+abbrev pub IsOutside : Slots → (x : ℕ) → Type 0
+IsOutside q x = IsInBytes q.slots (q.size * q.width) x → ⊥
+
+abbrev pub KeepsOff : Slots → Write → Type 0
+KeepsOff q w = (x : ℕ) → covers w x ≡ true → IsOutside q x
+
+-- which slot an address lies in; whether a whole tag lies there; and the first position from n on of that slot
+abbrev pub slot_at : Slots → (a : ℕ) → ℕ
+slot_at q a = (a - q.slots) / q.width
+
+abbrev pub is_tag : Slots → (a width : ℕ) → Bool
+is_tag q a width = a == tag_of q (slot_at q a) && width == q.tag_width
+
+abbrev pub position_at : Slots → (n a : ℕ) → ℕ
+position_at q n a = n + (slot_at q a + (q.size - n % q.size)) % q.size
+
+-- the number that a slot's tag holds in memory
+abbrev pub memory_tag : Slots → OpeningValue → List Entry → (k : ℕ) → ℕ
+memory_tag q o es k = memory_number o es (tag_of q k) q.tag_width
+
+-- each slot is free for its next position from n on, and no hart has a pending store to the slots: so a run may be followed from here
+pub record IsEmptyAtRest (q : Slots) (o : OpeningValue) (es : List Entry) (n : ℕ) : Type 0 where
+  pub free : (k : ℕ) → n ≤ k → k < n + q.size → q.tells the_sender k (memory_tag q o es k) ≡ true
+  pub pending : (h : ℕ) → All (KeepsOff q) (pending h es)
