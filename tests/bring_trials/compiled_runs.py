@@ -84,13 +84,13 @@ TEXT = """RISCV T
 }
  P0                                 | P1                ;
  addi x5,x0,1 # 4: x = 1            | nop # a comment   ;
- sw x5,0(x6)  # 4                   | li x5,1234567     ;
+ sw x5,0(x6)  # 4                   | li x5,1234567 # b.rs:7: y = 1 ;
  lw x7,0(x6)  # 5: r0 = x           |                   ;
 exists (0:x7=1)
 """
 SCHEDULE = "ztso-schedule 1\na0 a1 a0*2 l0 a1*2\n"
 # what stands beside the rows, with all rows and with those of memory
-BESIDE = {(): ["P0 4: x = 1", "P1 a comment", "P0 4", "P0 5: r0 = x", None, None, None],
+BESIDE = {(): ["P0 4: x = 1", "P1 a comment", "P0 4", "P0 5: r0 = x", None, "P1 b.rs:7: y = 1", "P1 b.rs:7"],
           ("--memory",): ["P0 4: x = 1", "P0 5: r0 = x", None]}
 # columns for these have no room
 WIDE = TEXT.replace("x6=x", "x6=location").replace("exists", """ amoswap.w.aqrl x10,x11,(x6) | amomaxu.w.aqrl x10,x11,(x12) ;

@@ -59,9 +59,9 @@ def linked(modules, folder):
     """The image of modules, if its data aren't too large. What isn't defined is 0 in it."""
     sections = [section for module in modules for section in objects.sections_of(module)]
     data_fit(sum(size for _, size, flags, _ in sections if is_data(flags) and "W" in flags))
-    if made_before := next((name for name, size, flags, _ in sections if size and MADE_BEFORE.fullmatch(name)), None):
-        raise Refused(f"{made_before}: an object that is made before main begins: give it a constructor that is constexpr, and "
-                      "constant values")
+    if made_before := next((name for name, size, _, _ in sections if size and MADE_BEFORE.fullmatch(name)), None):
+        raise Refused(f"{made_before}: an object is made before main begins{by_which(modules)}: give each of its members a constant "
+                      "value, and the object the word `constinit`, by which the compiler says what isn't constant")
     script, image = Path(folder, "script"), Path(folder, "image")
     script.write_text(script_for(sections))
     tool("ld", "-m", "elf32lriscv", "--no-relax", "--emit-relocs", "--unresolved-symbols=ignore-all", "--no-warn-mismatch",
@@ -69,6 +69,13 @@ def linked(modules, folder):
          *(by_words(module, Path(folder, f"words{at}")) for at, module in enumerate(modules)))
     data_fit(sum(size for name, size, _, _ in objects.sections_of(image) if name == ".data"))
     return image
+
+
+def by_which(modules):
+    """The object after which a compiler has named what makes objects before main begins."""
+    names = (each.name for module in modules for each in objects.symbols_of(module))
+    mangled = next((name.partition("_I_")[2] for name in names if name.startswith("_GLOBAL__sub_I__Z")), None)
+    return f", as `{tool('c++filt', mangled).strip()}` is" if mangled else ""
 
 
 def data_fit(size):

@@ -8,11 +8,14 @@ from pathlib import Path
 
 from bring_parts import (MOST, Refused, arguments, columns, compilers, dwarf, fields, functions, images, memory, objects, queues,
                          texts)
+from bring_parts.instructions import TEXT
 from bring_parts.memory import WIDTH, Memory
 
 # what compilers call where RV32I has no instruction
 SUPPORT = {"__mulsi3", "__udivsi3", "__umodsi3", "__divsi3", "__modsi3", "memcpy", "memset"}
 ASKED = "the condition asks for"
+# how many of the functions that are there a refusal names
+SHOWN = 6
 
 
 def complete(modules, compiler, folder):
@@ -33,7 +36,7 @@ def harts_of(image, information, named):
     """The harts by the functions that are named, or by P0, P1 and on."""
     symbols = [image.function(name) for name in named]
     if None in symbols:
-        raise Refused(f"there is no function {named[symbols.index(None)]}")
+        raise Refused(f"there is no function {named[symbols.index(None)]}{functions_there(image)}")
     if not named:
         while symbol := image.function(f"P{len(symbols)}"):
             symbols.append(symbol)
@@ -42,9 +45,16 @@ def harts_of(image, information, named):
         if later:
             raise Refused(f"the functions must be P0, P1 and on, none left out: there is {later}")
     if not symbols:
-        raise Refused("there is no function P0: the harts' functions are P0, P1 and on, or those that --harts names. In C++ they are "
-                      "extern \"C\", in Rust #[no_mangle] pub extern \"C\", in assembly .globl")
+        raise Refused(f"there is no function P0{functions_there(image)}: the harts' functions are P0, P1 and on, or those that --harts "
+                      "names. In C++ they are extern \"C\", in Rust #[no_mangle] pub extern \"C\", in assembly .globl")
     return [arguments.Hart(number, symbol, information.function(symbol.name)) for number, symbol in enumerate(symbols)]
+
+
+def functions_there(image):
+    """What is said of the functions that the files define."""
+    names = [each.plain.partition("(")[0] for each in image.symbols if each.is_defined() and each.at >= TEXT and each.kind != "TLS"]
+    names = [name for name in dict.fromkeys(names) if not re.match(r"(std|core|alloc)::|[_<$.]", name)]
+    return f", only {', '.join(names[:SHOWN])}" + ", .." * (len(names) > SHOWN) if names else ""
 
 
 def storage_for(pointed, folder):

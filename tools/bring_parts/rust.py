@@ -43,7 +43,7 @@ def said_otherwise(refused):
     if "can't find crate for `std`" in text:
         return Refused(f"{refused}: there is no operating system: begin the file with #![no_std], and take `core` for `std`",
                        refused.before)
-    if "E0514" in text or "incompatible version of rustc" in text:
+    if any(each in text for each in ("E0514", "incompatible version of rustc", "Error loading target specification")):
         return Refused(f"{refused}: --rust-core has a `core` of another rustc: make one by this rustc", refused.before)
     if "AtomicU64" in text or "AtomicI64" in text:
         return Refused(f"{refused}: RV32 has no atomic object of 64 bits", refused.before)
