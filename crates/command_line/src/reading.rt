@@ -1,6 +1,6 @@
 //! The command line, read as a job.
 
-ghost use Rattle.std.specs.Prelude.{◌≡◌, ◌∷◌, ℕ, List, IfOk, map, option_and_then, option_map};
+ghost use Rattle.std.specs.Prelude.{◌≡◌, ◌∷◌, ℕ, List, IfOk, map, option_and_then, option_map, Some};
 ghost use Rattle.clap.specs.Words.{FailsBy, fault_of, subcommand_of, subcommand_rows_of};
 ghost use Rattle.command_line.specs.CommandLines.{GivesJob, found_by, job_by, capacity_given, capacity_in, job_at, channel_in, chart_in, find_in, flag_given};
 ghost use Rattle.command_line.specs.CommandLines.{callers_in, queue_in, queue_kind_given};
@@ -10,6 +10,7 @@ ghost use Rattle.command_line.specs.CommandLines.{on_file_and_standard, on_own_c
 ghost use Rattle.command_line.specs.CommandLines.{on_schedule_and_standard, on_standard, place_in, ring_in, ring_given, runs_in};
 ghost use Rattle.command_line.specs.CommandLines.{scheduled_in, seed_in, threads_in, try_in};
 ghost use Rattle.command_line.specs.Descriptions.{ztso_command};
+ghost use Rattle.command_line.specs.Fields.{SayPlace, SayQueue, SayRuns};
 ghost use Rattle.command_line.specs.Uses.{IsSpelling};
 ghost use Rattle.command_line.specs.Jobs.{Wanted, wanted_by};
 
@@ -281,7 +282,8 @@ fn seed_in(options: &ArgMatches<'_>) -> Option<u64>
 
 /// Which runs are drawn.
 fn runs_in(options: &ArgMatches<'_>) -> Option<Runs>
-    ensures { result ≡ runs_in (found_by options.now) }
+    ensures runs { result ≡ runs_in (found_by options.now) }
+    ensures fields { (runs : Runs) → result ≡ Some runs → SayRuns (found_by options.now) runs }
 {
     let skip = number_of(word_in(options, "skip")?)?;
     let number = number_in(options, "runs", 1, MOST_RUNS)?;
@@ -306,7 +308,8 @@ fn try_in(options: &ArgMatches<'_>) -> Option<Command>
 
 /// The queue whose functions code calls.
 fn queue_in(options: &ArgMatches<'_>) -> Option<CalledQueue>
-    ensures { result ≡ queue_in (found_by options.now) }
+    ensures queue { result ≡ queue_in (found_by options.now) }
+    ensures fields { (queue : CalledQueue) → result ≡ Some queue → SayQueue (found_by options.now) queue }
 {
     let kind = queue_kind_of(word_in(options, "kind")?)?;
     let base = number_in(options, "base", 0, u32::MAX)?;
@@ -382,7 +385,8 @@ fn show_in(options: &ArgMatches<'_>) -> Option<Command>
 
 /// Where a channel's blocks lie.
 fn place_in(options: &ArgMatches<'_>) -> Option<BlockPlace>
-    ensures { result ≡ place_in (found_by options.now) }
+    ensures place { result ≡ place_in (found_by options.now) }
+    ensures fields { (place : BlockPlace) → result ≡ Some place → SayPlace (found_by options.now) place }
 {
     let slots = number_in(options, "ring", 0, u32::MAX)?;
     let base = number_in(options, "base", 0, u32::MAX)?;
