@@ -1,4 +1,5 @@
 pub mod Described
+pub mod FieldLaws
 pub mod Matches
 pub mod NumberLaws
 pub mod RowLaws

@@ -20,7 +20,6 @@ use Rattle.command_line.specs.declared.job.Command.{Command}
 use Rattle.command_line.specs.declared.job.Command.TheVariants.{Code, Machine, Find, Threads, UserChannel, Ring as UserRing}
 use Rattle.jumping.specs.declared.Runs.{Runs}
 use Rattle.poll_close.specs.declared.place.BlockPlace.{BlockPlace}
-use Rattle.command_line.specs.declared.job.MachineCommand.{MachineCommand}
 use Rattle.chart.specs.declared.scenes.Selection.{Selection}
 use Rattle.chart.specs.declared.scenes.Selection.TheVariants.{EveryRow, MemoryRows}
 use Rattle.chart.specs.declared.scenes.Style.{Style}
@@ -49,29 +48,29 @@ Found = Text → Option Text
 abbrev pub found_by : ArgMatches → Found
 found_by matches = λ id. first_of id (rows_of (found_of matches))
 
+-- the number from `least` to `most` that is found for a name
+abbrev pub number_at : Found → (name : Text) → (least most : ℕ) → Option ℕ
+number_at options name least most = options name >>= number_within least most
+
 -- the seed of the generator that draws schedules
 abbrev pub seed_in : Found → Option ℕ
-seed_in options = options (codes "seed") >>= number_within 0 18446744073709551615
+seed_in options = number_at options (codes "seed") 0 18446744073709551615
 
 -- which runs are drawn
 abbrev pub runs_in : Found → Option Runs
 runs_in options = do
-  skip_text ← options (codes "skip")
-  skip ← number_within 0 18446744073709551615 skip_text
-  runs_text ← options (codes "runs")
-  runs ← number_within 1 100000 runs_text
-  length_text ← options (codes "length")
-  events ← number_within 0 MAX_EVENTS length_text
-  jobs_text ← options (codes "jobs")
-  jobs ← number_within 1 64 jobs_text
+  skip ← number_at options (codes "skip") 0 18446744073709551615
+  runs ← number_at options (codes "runs") 1 100000
+  events ← number_at options (codes "length") 0 MAX_EVENTS
+  jobs ← number_at options (codes "jobs") 1 64
   Some (record { skip = skip; number = runs; length = events; jobs = jobs })
 
 -- the runs of `try`, from its options
-abbrev pub try_in : Found → Option MachineCommand
+abbrev pub try_in : Found → Option Command
 try_in options = do
   seed ← seed_in options
   runs ← runs_in options
-  Some (Try seed runs)
+  Some (Machine (Try seed runs))
 
 abbrev pub queue_kind_given : Text → Option QueueKind
 queue_kind_given text =
@@ -81,25 +80,20 @@ queue_kind_given text =
 -- the queue whose functions code calls
 abbrev pub queue_in : Found → Option CalledQueue
 queue_in options = do
-  kind_text ← options (codes "kind")
-  of_kind ← queue_kind_given kind_text
-  base_text ← options (codes "base")
-  base ← number_within 0 4294967295 base_text
-  slots_text ← options (codes "slots")
-  slots ← number_within 0 4294967295 slots_text
-  sender_text ← options (codes "sender")
-  sender ← number_within 0 63 sender_text
-  receiver_text ← options (codes "receiver")
-  receiver ← number_within 0 63 receiver_text
+  of_kind ← options (codes "kind") >>= queue_kind_given
+  base ← number_at options (codes "base") 0 4294967295
+  slots ← number_at options (codes "slots") 0 4294967295
+  sender ← number_at options (codes "sender") 0 63
+  receiver ← number_at options (codes "receiver") 0 63
   Some (record { kind = of_kind; base = base; slots = slots; sender = sender; receiver = receiver })
 
 -- the runs of `callers`, from its options, and of which queue
-abbrev pub callers_in : Found → Option MachineCommand
+abbrev pub callers_in : Found → Option Command
 callers_in options = do
   seed ← seed_in options
   runs ← runs_in options
   queue ← queue_in options
-  Some (Callers seed runs queue)
+  Some (Machine (Callers seed runs queue))
 
 abbrev pub ring_given : Text → Option Ring
 ring_given text =
@@ -123,62 +117,53 @@ style_given text = if flag_given text then Svg else style.Text
 abbrev pub selection_given : Text → Selection
 selection_given text = if flag_given text then MemoryRows else EveryRow
 
-abbrev pub chart_in : Found → Option MachineCommand
+abbrev pub chart_in : Found → Option Command
 chart_in options = do
   svg ← options (codes "svg")
   memory ← options (codes "memory")
-  Some (Chart (style_given svg) (selection_given memory))
+  Some (Machine (Chart (style_given svg) (selection_given memory)))
 
-abbrev pub show_in : Found → Option MachineCommand
+abbrev pub show_in : Found → Option Command
 show_in options = do
   steps ← options (codes "steps")
-  Some (Show (flag_given steps))
+  Some (Machine (Show (flag_given steps)))
 
 -- where a channel's blocks lie
 abbrev pub place_in : Found → Option BlockPlace
 place_in options = do
-  slots_text ← options (codes "ring")
-  slots ← number_within 0 4294967295 slots_text
-  base_text ← options (codes "base")
-  base ← number_within 0 4294967295 base_text
+  slots ← number_at options (codes "ring") 0 4294967295
+  base ← number_at options (codes "base") 0 4294967295
   stride ← number_if_given (options (codes "stride"))
   Some (record { slots = slots; base = base; stride = stride })
 
 -- the ring of `channel`, from its words, its place, and whether it is to be finished
-abbrev pub channel_in : Found → Option MachineCommand
+abbrev pub channel_in : Found → Option Command
 channel_in options = do
   kind ← options (codes "kind")
   ring ← ring_given kind
   place ← place_in options
   finish ← options (codes "finish")
-  Some (Channel ring place (flag_given finish))
+  Some (Machine (Channel ring place (flag_given finish)))
 
--- the capacity that the options ask for
+-- the capacity that the options ask for; a command on code has no such option, and a usual capacity that nothing reads
+abbrev pub capacity_if_given : Option Text → Option Capacity
+capacity_if_given None = Some Four
+capacity_if_given (Some text) = capacity_given text
+
 abbrev pub capacity_in : Found → Option Capacity
-capacity_in options = options (codes "buffer") >>= capacity_given
-
--- this command on a machine of this capacity
-abbrev pub machine_in : Found → Option MachineCommand → Option Command
-machine_in options found = do
-  command ← found
-  capacity ← capacity_in options
-  Some (Machine command capacity)
+capacity_in options = capacity_if_given (options (codes "buffer"))
 
 -- the search, from its options
 abbrev pub find_in : Found → Option Command
 find_in options = do
-  states_text ← options (codes "states")
-  states ← number_within 1 16777216 states_text
-  capacity ← capacity_in options
-  Some (Find states capacity)
+  states ← number_at options (codes "states") 1 16777216
+  Some (Find states)
 
 -- the run on threads, from its options
 abbrev pub threads_in : Found → Option Command
 threads_in options = do
-  turns_text ← options (codes "turns")
-  turns ← number_within 0 10000000 turns_text
-  capacity ← capacity_in options
-  Some (Threads turns capacity)
+  turns ← number_at options (codes "turns") 0 10000000
+  Some (Threads turns)
 
 -- the runs of `ring`, from its options, and of which channel
 abbrev pub ring_in : Found → Option Command
@@ -186,17 +171,14 @@ ring_in options = do
   seed ← seed_in options
   runs ← runs_in options
   place ← place_in options
-  capacity ← capacity_in options
-  Some (UserRing seed runs place capacity)
+  Some (UserRing seed runs place)
 
 -- the channel of a user's programs, from its words and its place; it isn't finished by a plan
 abbrev pub own_in : Found → Option Command
 own_in options = do
   place ← place_in options
   finish ← options (codes "finish")
-  if flag_given finish then None else (do
-    capacity ← capacity_in options
-    Some (UserChannel place capacity))
+  if flag_given finish then None else Some (UserChannel place)
 
 -- the file that a word names
 abbrev pub file_in : (id : Text) → Found → Option Input
@@ -208,35 +190,40 @@ file_in id options = do
 abbrev pub on_file : Found → Option Command → Option Wanted
 on_file options found = do
   command ← found
+  capacity ← capacity_in options
   file ← file_in (codes "file") options
-  Some (one_input command file)
+  Some (one_input command capacity file)
 
 abbrev pub on_file_and_schedule : Found → Option Command → Option Wanted
 on_file_and_schedule options found = do
   command ← found
+  capacity ← capacity_in options
   file ← file_in (codes "file") options
   schedule ← file_in (codes "schedule") options
-  Some (two_inputs command file schedule)
+  Some (two_inputs command capacity file schedule)
 
 abbrev pub on_file_and_standard : Found → Option Command → Option Wanted
 on_file_and_standard options found = do
   command ← found
+  capacity ← capacity_in options
   file ← file_in (codes "file") options
-  Some (two_inputs command file Standard)
+  Some (two_inputs command capacity file Standard)
 
 abbrev pub on_schedule_and_standard : Found → Option Command → Option Wanted
 on_schedule_and_standard options found = do
   command ← found
+  capacity ← capacity_in options
   schedule ← file_in (codes "schedule") options
-  Some (two_inputs command schedule Standard)
+  Some (two_inputs command capacity schedule Standard)
 
 -- a command on the files `sender` and `receiver`, and then on standard input
 abbrev pub on_programs_and_standard : Found → Option Command → Option Wanted
 on_programs_and_standard options found = do
   command ← found
+  capacity ← capacity_in options
   sender ← file_in (codes "sender") options
   receiver ← file_in (codes "receiver") options
-  Some (three_inputs command sender receiver Standard)
+  Some (three_inputs command capacity sender receiver Standard)
 
 -- what is found, where this option is left out
 abbrev pub where_left_out : {A : Type 0} → Option Text → Option A → Option A
@@ -249,8 +236,9 @@ on_own_channel options = do
   sender ← file_in (codes "sender") options
   receiver ← file_in (codes "receiver") options
   command ← own_in options
+  capacity ← capacity_in options
   schedule ← file_in (codes "schedule") options
-  Some (four_inputs command sender receiver schedule Standard)
+  Some (four_inputs command capacity sender receiver schedule Standard)
 
 -- `channel`, with KIND `own` over the user's programs, else without them
 abbrev pub on_channel : Found → Option Wanted
@@ -258,38 +246,39 @@ on_channel options = do
   kind ← options (codes "kind")
   if bytes_eq kind (codes "own") then on_own_channel options
       else where_left_out (options (codes "sender")) (where_left_out (options (codes "receiver"))
-      (on_schedule_and_standard options (machine_in options (channel_in options))))
+      (on_schedule_and_standard options (channel_in options)))
 
-abbrev pub on_standard : Option Command → Option Wanted
-on_standard found = do
+abbrev pub on_standard : Found → Option Command → Option Wanted
+on_standard options found = do
   command ← found
-  Some (one_input command Standard)
+  capacity ← capacity_in options
+  Some (one_input command capacity Standard)
 
 -- the command of this name on a litmus text and a schedule, by its options
-abbrev pub scheduled_in : (name : Text) → Found → Option MachineCommand
+abbrev pub scheduled_in : (name : Text) → Found → Option Command
 scheduled_in name options =
-    if bytes_eq name (codes "run") then Some Run
-    else (if bytes_eq name (codes "replay") then Some Replay
-    else (if bytes_eq name (codes "move") then Some Move
-    else (if bytes_eq name (codes "shrink") then Some Shrink
+    if bytes_eq name (codes "run") then Some (Machine Run)
+    else (if bytes_eq name (codes "replay") then Some (Machine Replay)
+    else (if bytes_eq name (codes "move") then Some (Machine Move)
+    else (if bytes_eq name (codes "shrink") then Some (Machine Shrink)
     else (if bytes_eq name (codes "chart") then chart_in options
-    else (if bytes_eq name (codes "debug") then Some Debug else None)))))
+    else (if bytes_eq name (codes "debug") then Some (Machine Debug) else None)))))
 
 -- The table of commands: what each asks for, by its options and words.
 abbrev pub job_by : (command : Text) → Found → Option Wanted
 job_by name options =
-    if bytes_eq name (codes "steps") then on_standard (machine_in options (Some Steps))
-    else (if bytes_eq name (codes "asm") then on_standard (Some (Code Asm))
-    else (if bytes_eq name (codes "dis") then on_standard (Some (Code Dis))
-    else (if bytes_eq name (codes "show") then on_file options (machine_in options (show_in options))
-    else (if bytes_eq name (codes "check") then on_file_and_standard options (machine_in options (Some Check))
+    if bytes_eq name (codes "steps") then on_standard options (Some (Machine Steps))
+    else (if bytes_eq name (codes "asm") then on_standard options (Some (Code Asm))
+    else (if bytes_eq name (codes "dis") then on_standard options (Some (Code Dis))
+    else (if bytes_eq name (codes "show") then on_file options (show_in options)
+    else (if bytes_eq name (codes "check") then on_file_and_standard options (Some (Machine Check))
     else (if bytes_eq name (codes "find") then on_file options (find_in options)
-    else (if bytes_eq name (codes "try") then on_file options (machine_in options (try_in options))
-    else (if bytes_eq name (codes "callers") then on_file options (machine_in options (callers_in options))
+    else (if bytes_eq name (codes "try") then on_file options (try_in options)
+    else (if bytes_eq name (codes "callers") then on_file options (callers_in options)
     else (if bytes_eq name (codes "channel") then on_channel options
     else (if bytes_eq name (codes "threads") then on_file options (threads_in options)
     else (if bytes_eq name (codes "ring") then on_programs_and_standard options (ring_in options)
-    else on_file_and_schedule options (machine_in options (scheduled_in name options))))))))))))
+    else on_file_and_schedule options (scheduled_in name options)))))))))))
 
 -- the same, by what clap found
 abbrev pub job_at : Text × List Row → Option Wanted

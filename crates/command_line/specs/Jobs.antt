@@ -2,6 +2,7 @@
 use Rattle.std.specs.Prelude.{ℕ, List, Option, Some, None, option_map}
 use Rattle.command_line.specs.declared.job.Input.{Input as JobInput}
 use Rattle.command_line.specs.declared.job.Input.TheVariants as input
+use Rattle.command_line.specs.declared.job.Capacity.{Capacity}
 use Rattle.command_line.specs.declared.job.Job.{Job}
 use Rattle.command_line.specs.declared.job.Command.{Command}
 
@@ -10,31 +11,31 @@ pub data Input : Type 0 where
   Standard : Input
   File : (path : List ℕ) → Input
 
--- a command, and its inputs in the order in which they are read
+-- a command, the buffers of its machine, and its inputs in the order in which they are read
 pub record Wanted : Type 0 where
   pub command : Command
+  pub capacity : Capacity
   pub first : Input
   pub second : Option Input
   pub third : Option Input
   pub fourth : Option Input
 
-abbrev pub one_input : Command → Input → Wanted
-one_input command first = record { command = command; first = first; second = None; third = None; fourth = None }
+module _ (command : Command) (capacity : Capacity) where
+  abbrev pub wanted_of : (first : Input) → (second third fourth : Option Input) → Wanted
+  wanted_of first second third fourth =
+      record { command = command; capacity = capacity; first = first; second = second; third = third; fourth = fourth }
 
-abbrev pub two_inputs : Command → (first second : Input) → Wanted
-two_inputs command first second = record { command = command; first = first; second = Some second; third = None; fourth = None }
+  abbrev pub one_input : Input → Wanted
+  one_input first = wanted_of first None None None
 
-abbrev pub three_inputs : Command → (first second third : Input) → Wanted
-three_inputs command first second third = record { command = command; first = first; second = Some second; third = Some third; fourth = None }
+  abbrev pub two_inputs : (first second : Input) → Wanted
+  two_inputs first second = wanted_of first (Some second) None None
 
-abbrev pub four_inputs : Command → (first second third fourth : Input) → Wanted
-four_inputs command first second third fourth = record {
-  command = command;
-  first = first;
-  second = Some second;
-  third = Some third;
-  fourth = Some fourth;
-}
+  abbrev pub three_inputs : (first second third : Input) → Wanted
+  three_inputs first second third = wanted_of first (Some second) (Some third) None
+
+  abbrev pub four_inputs : (first second third fourth : Input) → Wanted
+  four_inputs first second third fourth = wanted_of first (Some second) (Some third) (Some fourth)
 
 abbrev pub input_by : JobInput → Input
 input_by input.Standard = Standard
@@ -44,6 +45,7 @@ input_by (input.File path) = File path.now
 abbrev pub wanted_by : Job → Wanted
 wanted_by job = record {
   command = job.command;
+  capacity = job.capacity;
   first = input_by job.first;
   second = option_map input_by job.second;
   third = option_map input_by job.third;

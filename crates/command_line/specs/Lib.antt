@@ -2,6 +2,7 @@ pub mod CommandLines
 pub mod Commands
 pub mod Descriptions
 pub mod Faults
+pub mod Fields
 pub mod Jobs
 pub mod Numbers
 pub mod Parameters

@@ -110,43 +110,36 @@ pub enum CodeCommand {
 #[derive(Clone, Copy)]
 pub enum Command {
     Code(CodeCommand),
-    /// To do this on a machine whose harts have buffers of this capacity. It waits for no other thread.
-    Machine {
-        command: MachineCommand,
-        capacity: Capacity,
-    },
-    /// To look for a schedule that shows what a litmus test asks about, among at most `states` states of a
-    /// machine whose harts have buffers of this capacity.
+    /// To do this on a machine. It waits for no other thread.
+    Machine(MachineCommand),
+    /// To look for a schedule that shows what a litmus test asks about, among at most `states` states.
     Find {
         states: u32,
-        capacity: Capacity,
     },
-    /// To run a litmus test with a thread for each hart and each lander, each of which makes at most
-    /// `turns` calls. The harts have buffers of this capacity.
+    /// To run a litmus test with a thread for each hart and each lander, each of which makes at most `turns` calls.
     Threads {
         turns: u32,
-        capacity: Capacity,
     },
-    /// To run a channel over two programs at this place by a schedule, and to tell what its receiver reports. The harts
-    /// have buffers of this capacity.
+    /// To run a channel over two programs at this place by a schedule, and to tell what its receiver reports.
     UserChannel {
         place: BlockPlace,
-        capacity: Capacity,
     },
     /// To make these runs of a channel over two programs at this place, by schedules that are drawn from a generator
-    /// of this seed, and to judge each. The harts have buffers of this capacity.
+    /// of this seed, and to judge each.
     Ring {
         seed: u64,
         runs: Runs,
         place: BlockPlace,
-        capacity: Capacity,
     },
 }
 
-/// What a command line asks for: a command, and its inputs in the order in which they are read.
+/// What a command line asks for: a command, the buffers of its machine, and its inputs in the order in which they are
+/// read.
 #[derive(Clone, Copy)]
 pub struct Job<'a> {
     pub command: Command,
+    /// How many stores a buffer of a hart holds. A command on code has no machine, and a usual capacity here.
+    pub capacity: Capacity,
     pub first: Input<'a>,
     /// `None` for a command with one input.
     pub second: Option<Input<'a>>,

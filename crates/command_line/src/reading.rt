@@ -1,15 +1,16 @@
 //! The command line, read as a job.
 
-ghost use Rattle.std.specs.Prelude.{◌≡◌, ◌∷◌, ℕ, List, IfOk, map, option_and_then, option_map};
+ghost use Rattle.std.specs.Prelude.{◌≡◌, ◌∷◌, ℕ, List, IfOk, map, option_and_then, option_map, Some};
 ghost use Rattle.clap.specs.Words.{FailsBy, fault_of, subcommand_of, subcommand_rows_of};
-ghost use Rattle.command_line.specs.CommandLines.{GivesJob, found_by, job_by, capacity_given, job_at, channel_in, chart_in, find_in, flag_given};
+ghost use Rattle.command_line.specs.CommandLines.{GivesJob, found_by, job_by, capacity_given, capacity_in, job_at, channel_in, chart_in, find_in, flag_given};
 ghost use Rattle.command_line.specs.CommandLines.{callers_in, queue_in, queue_kind_given};
 ghost use Rattle.command_line.specs.CommandLines.{show_in, style_given, selection_given, job_given, number_if_given};
-ghost use Rattle.command_line.specs.CommandLines.{machine_in, own_in, on_file, on_file_and_schedule, on_channel};
+ghost use Rattle.command_line.specs.CommandLines.{number_at, own_in, on_file, on_file_and_schedule, on_channel};
 ghost use Rattle.command_line.specs.CommandLines.{on_file_and_standard, on_own_channel, on_programs_and_standard};
 ghost use Rattle.command_line.specs.CommandLines.{on_schedule_and_standard, on_standard, place_in, ring_in, ring_given, runs_in};
 ghost use Rattle.command_line.specs.CommandLines.{scheduled_in, seed_in, threads_in, try_in};
 ghost use Rattle.command_line.specs.Descriptions.{ztso_command};
+ghost use Rattle.command_line.specs.Fields.{SayPlace, SayQueue, SayRuns};
 ghost use Rattle.command_line.specs.Uses.{IsSpelling};
 ghost use Rattle.command_line.specs.Jobs.{Wanted, wanted_by};
 
@@ -78,43 +79,45 @@ fn job_by<'a>(name: &str, options: &ArgMatches<'a>) -> Option<Job<'a>>
     ensures { option_map wanted_by result ≡ job_by name.now (found_by options.now) }
 {
     match name {
-        "steps" => on_standard(machine_in(options, Some(MachineCommand::Steps))),
-        "asm" => on_standard(Some(Command::Code(CodeCommand::Asm))),
-        "dis" => on_standard(Some(Command::Code(CodeCommand::Dis))),
-        "show" => on_file(options, machine_in(options, show_in(options))),
-        "check" => on_file_and_standard(options, machine_in(options, Some(MachineCommand::Check))),
+        "steps" => on_standard(options, Some(Command::Machine(MachineCommand::Steps))),
+        "asm" => on_standard(options, Some(Command::Code(CodeCommand::Asm))),
+        "dis" => on_standard(options, Some(Command::Code(CodeCommand::Dis))),
+        "show" => on_file(options, show_in(options)),
+        "check" => on_file_and_standard(options, Some(Command::Machine(MachineCommand::Check))),
         "find" => on_file(options, find_in(options)),
-        "try" => on_file(options, machine_in(options, try_in(options))),
-        "callers" => on_file(options, machine_in(options, callers_in(options))),
+        "try" => on_file(options, try_in(options)),
+        "callers" => on_file(options, callers_in(options)),
         "channel" => on_channel(options),
         "threads" => on_file(options, threads_in(options)),
         "ring" => on_programs_and_standard(options, ring_in(options)),
-        _ => { on_file_and_schedule(options, machine_in(options, scheduled_in(name, options))) }
+        _ => { on_file_and_schedule(options, scheduled_in(name, options)) }
     }
 }
 
 /// The command of this name on a litmus text and a schedule, if there is one.
-fn scheduled_in(name: &str, options: &ArgMatches<'_>) -> Option<MachineCommand>
+fn scheduled_in(name: &str, options: &ArgMatches<'_>) -> Option<Command>
     ensures { result ≡ scheduled_in name.now (found_by options.now) }
 {
     match name {
-        "run" => Some(MachineCommand::Run),
-        "replay" => Some(MachineCommand::Replay),
-        "move" => Some(MachineCommand::Move),
-        "shrink" => Some(MachineCommand::Shrink),
+        "run" => Some(Command::Machine(MachineCommand::Run)),
+        "replay" => Some(Command::Machine(MachineCommand::Replay)),
+        "move" => Some(Command::Machine(MachineCommand::Move)),
+        "shrink" => Some(Command::Machine(MachineCommand::Shrink)),
         "chart" => chart_in(options),
-        "debug" => Some(MachineCommand::Debug),
+        "debug" => Some(Command::Machine(MachineCommand::Debug)),
         _ => None,
     }
 }
 
 /// The command, if there is one, with its inputs in the order in which they are read: standard input alone.
-fn on_standard<'a>(command: Option<Command>) -> Option<Job<'a>>
-    ensures { option_map wanted_by result ≡ on_standard command }
+fn on_standard<'a>(options: &ArgMatches<'a>, command: Option<Command>) -> Option<Job<'a>>
+    ensures { option_map wanted_by result ≡ on_standard (found_by options.now) command }
 {
     let command = command?;
+    let capacity = capacity_in(options)?;
     Some(Job {
         command,
+        capacity,
         first: Input::Standard,
         second: None,
         third: None,
@@ -126,9 +129,11 @@ fn on_file<'a>(options: &ArgMatches<'a>, command: Option<Command>) -> Option<Job
     ensures { option_map wanted_by result ≡ on_file (found_by options.now) command }
 {
     let command = command?;
+    let capacity = capacity_in(options)?;
     let file = word_in(options, "file")?;
     Some(Job {
         command,
+        capacity,
         first: Input::File(file),
         second: None,
         third: None,
@@ -140,10 +145,12 @@ fn on_file_and_schedule<'a>(options: &ArgMatches<'a>, command: Option<Command>) 
     ensures { option_map wanted_by result ≡ on_file_and_schedule (found_by options.now) command }
 {
     let command = command?;
+    let capacity = capacity_in(options)?;
     let file = word_in(options, "file")?;
     let schedule = word_in(options, "schedule")?;
     Some(Job {
         command,
+        capacity,
         first: Input::File(file),
         second: Some(Input::File(schedule)),
         third: None,
@@ -155,9 +162,11 @@ fn on_file_and_standard<'a>(options: &ArgMatches<'a>, command: Option<Command>) 
     ensures { option_map wanted_by result ≡ on_file_and_standard (found_by options.now) command }
 {
     let command = command?;
+    let capacity = capacity_in(options)?;
     let file = word_in(options, "file")?;
     Some(Job {
         command,
+        capacity,
         first: Input::File(file),
         second: Some(Input::Standard),
         third: None,
@@ -172,9 +181,11 @@ fn on_schedule_and_standard<'a>(
     ensures { option_map wanted_by result ≡ on_schedule_and_standard (found_by options.now) command }
 {
     let command = command?;
+    let capacity = capacity_in(options)?;
     let schedule = word_in(options, "schedule")?;
     Some(Job {
         command,
+        capacity,
         first: Input::File(schedule),
         second: Some(Input::Standard),
         third: None,
@@ -190,10 +201,12 @@ fn on_programs_and_standard<'a>(
     ensures { option_map wanted_by result ≡ on_programs_and_standard (found_by options.now) command }
 {
     let command = command?;
+    let capacity = capacity_in(options)?;
     let sender = word_in(options, "sender")?;
     let receiver = word_in(options, "receiver")?;
     Some(Job {
         command,
+        capacity,
         first: Input::File(sender),
         second: Some(Input::File(receiver)),
         third: Some(Input::Standard),
@@ -212,7 +225,7 @@ fn on_channel<'a>(options: &ArgMatches<'a>) -> Option<Job<'a>>
     if word_in(options, "sender").is_some() || word_in(options, "receiver").is_some() {
         return None;
     }
-    on_schedule_and_standard(options, machine_in(options, channel_in(options)))
+    on_schedule_and_standard(options, channel_in(options))
 }
 
 /// `channel own`: the files `sender`, `receiver` and `schedule`, and then standard input.
@@ -222,9 +235,11 @@ fn on_own_channel<'a>(options: &ArgMatches<'a>) -> Option<Job<'a>>
     let sender = word_in(options, "sender")?;
     let receiver = word_in(options, "receiver")?;
     let command = own_in(options)?;
+    let capacity = capacity_in(options)?;
     let schedule = word_in(options, "schedule")?;
     Some(Job {
         command,
+        capacity,
         first: Input::File(sender),
         second: Some(Input::File(receiver)),
         third: Some(Input::File(schedule)),
@@ -232,31 +247,30 @@ fn on_own_channel<'a>(options: &ArgMatches<'a>) -> Option<Job<'a>>
     })
 }
 
-/// The command, if there is one, on a machine of the capacity that the options ask for.
-fn machine_in(options: &ArgMatches<'_>, command: Option<MachineCommand>) -> Option<Command>
-    ensures { result ≡ machine_in (found_by options.now) command }
+/// The capacity that the options ask for; a command on code has no such option, and a usual capacity that nothing reads.
+fn capacity_in(options: &ArgMatches<'_>) -> Option<Capacity>
+    ensures { result ≡ capacity_in (found_by options.now) }
 {
-    let command = command?;
-    let capacity = capacity_of(word_in(options, "buffer")?)?;
-    Some(Command::Machine { command, capacity })
+    match word_in(options, "buffer") {
+        Some(text) => capacity_of(text),
+        None => Some(Capacity::Four),
+    }
 }
 
 /// The search that `find` is to make.
 fn find_in(options: &ArgMatches<'_>) -> Option<Command>
     ensures { result ≡ find_in (found_by options.now) }
 {
-    let states = count_of(word_in(options, "states")?, 1, MOST_STATES)?;
-    let capacity = capacity_of(word_in(options, "buffer")?)?;
-    Some(Command::Find { states, capacity })
+    let states = number_in(options, "states", 1, MOST_STATES)?;
+    Some(Command::Find { states })
 }
 
 /// The run on threads that `threads` is to make.
 fn threads_in(options: &ArgMatches<'_>) -> Option<Command>
     ensures { result ≡ threads_in (found_by options.now) }
 {
-    let turns = count_of(word_in(options, "turns")?, 0, MOST_TURNS)?;
-    let capacity = capacity_of(word_in(options, "buffer")?)?;
-    Some(Command::Threads { turns, capacity })
+    let turns = number_in(options, "turns", 0, MOST_TURNS)?;
+    Some(Command::Threads { turns })
 }
 
 /// The seed of the generator that draws schedules.
@@ -268,12 +282,13 @@ fn seed_in(options: &ArgMatches<'_>) -> Option<u64>
 
 /// Which runs are drawn.
 fn runs_in(options: &ArgMatches<'_>) -> Option<Runs>
-    ensures { result ≡ runs_in (found_by options.now) }
+    ensures runs { result ≡ runs_in (found_by options.now) }
+    ensures fields { (runs : Runs) → result ≡ Some runs → SayRuns (found_by options.now) runs }
 {
     let skip = number_of(word_in(options, "skip")?)?;
-    let number = count_of(word_in(options, "runs")?, 1, MOST_RUNS)?;
-    let length = count_of(word_in(options, "length")?, 0, MAX_EVENTS as u32)?;
-    let jobs = count_of(word_in(options, "jobs")?, 1, MOST_JOBS)?;
+    let number = number_in(options, "runs", 1, MOST_RUNS)?;
+    let length = number_in(options, "length", 0, MAX_EVENTS as u32)?;
+    let jobs = number_in(options, "jobs", 1, MOST_JOBS)?;
     Some(Runs {
         skip,
         number,
@@ -283,23 +298,24 @@ fn runs_in(options: &ArgMatches<'_>) -> Option<Runs>
 }
 
 /// The runs that `try` is to make.
-fn try_in(options: &ArgMatches<'_>) -> Option<MachineCommand>
+fn try_in(options: &ArgMatches<'_>) -> Option<Command>
     ensures { result ≡ try_in (found_by options.now) }
 {
     let seed = seed_in(options)?;
     let runs = runs_in(options)?;
-    Some(MachineCommand::Try { seed, runs })
+    Some(Command::Machine(MachineCommand::Try { seed, runs }))
 }
 
 /// The queue whose functions code calls.
 fn queue_in(options: &ArgMatches<'_>) -> Option<CalledQueue>
-    ensures { result ≡ queue_in (found_by options.now) }
+    ensures queue { result ≡ queue_in (found_by options.now) }
+    ensures fields { (queue : CalledQueue) → result ≡ Some queue → SayQueue (found_by options.now) queue }
 {
     let kind = queue_kind_of(word_in(options, "kind")?)?;
-    let base = count_of(word_in(options, "base")?, 0, u32::MAX)?;
-    let slots = count_of(word_in(options, "slots")?, 0, u32::MAX)?;
-    let sender = count_of(word_in(options, "sender")?, 0, LAST_HART)?;
-    let receiver = count_of(word_in(options, "receiver")?, 0, LAST_HART)?;
+    let base = number_in(options, "base", 0, u32::MAX)?;
+    let slots = number_in(options, "slots", 0, u32::MAX)?;
+    let sender = number_in(options, "sender", 0, LAST_HART)?;
+    let receiver = number_in(options, "receiver", 0, LAST_HART)?;
     Some(CalledQueue {
         kind,
         base,
@@ -310,13 +326,13 @@ fn queue_in(options: &ArgMatches<'_>) -> Option<CalledQueue>
 }
 
 /// The runs that `callers` is to make, and of which queue.
-fn callers_in(options: &ArgMatches<'_>) -> Option<MachineCommand>
+fn callers_in(options: &ArgMatches<'_>) -> Option<Command>
     ensures { result ≡ callers_in (found_by options.now) }
 {
     let seed = seed_in(options)?;
     let runs = runs_in(options)?;
     let queue = queue_in(options)?;
-    Some(MachineCommand::Callers { seed, runs, queue })
+    Some(Command::Machine(MachineCommand::Callers { seed, runs, queue }))
 }
 
 /// The runs that `ring` is to make, and of which channel.
@@ -326,22 +342,16 @@ fn ring_in(options: &ArgMatches<'_>) -> Option<Command>
     let seed = seed_in(options)?;
     let runs = runs_in(options)?;
     let place = place_in(options)?;
-    let capacity = capacity_of(word_in(options, "buffer")?)?;
-    Some(Command::Ring {
-        seed,
-        runs,
-        place,
-        capacity,
-    })
+    Some(Command::Ring { seed, runs, place })
 }
 
 /// The picture that is to be drawn.
-fn chart_in(options: &ArgMatches<'_>) -> Option<MachineCommand>
+fn chart_in(options: &ArgMatches<'_>) -> Option<Command>
     ensures { result ≡ chart_in (found_by options.now) }
 {
     let style = style_of(word_in(options, "svg")?);
     let selection = selection_of(word_in(options, "memory")?);
-    Some(MachineCommand::Chart { style, selection })
+    Some(Command::Machine(MachineCommand::Chart { style, selection }))
 }
 
 /// Which rows are drawn.
@@ -366,19 +376,20 @@ fn style_of(text: &str) -> Style
 }
 
 /// Whether a test is shown as a steps text.
-fn show_in(options: &ArgMatches<'_>) -> Option<MachineCommand>
+fn show_in(options: &ArgMatches<'_>) -> Option<Command>
     ensures { result ≡ show_in (found_by options.now) }
 {
     let steps = flag_of(word_in(options, "steps")?);
-    Some(MachineCommand::Show { steps })
+    Some(Command::Machine(MachineCommand::Show { steps }))
 }
 
 /// Where a channel's blocks lie.
 fn place_in(options: &ArgMatches<'_>) -> Option<BlockPlace>
-    ensures { result ≡ place_in (found_by options.now) }
+    ensures place { result ≡ place_in (found_by options.now) }
+    ensures fields { (place : BlockPlace) → result ≡ Some place → SayPlace (found_by options.now) place }
 {
-    let slots = count_of(word_in(options, "ring")?, 0, u32::MAX)?;
-    let base = count_of(word_in(options, "base")?, 0, u32::MAX)?;
+    let slots = number_in(options, "ring", 0, u32::MAX)?;
+    let base = number_in(options, "base", 0, u32::MAX)?;
     let stride = number_if_given(word_in(options, "stride"))?;
     Some(BlockPlace {
         slots,
@@ -388,17 +399,17 @@ fn place_in(options: &ArgMatches<'_>) -> Option<BlockPlace>
 }
 
 /// The channel that is to run.
-fn channel_in(options: &ArgMatches<'_>) -> Option<MachineCommand>
+fn channel_in(options: &ArgMatches<'_>) -> Option<Command>
     ensures { result ≡ channel_in (found_by options.now) }
 {
     let kind = ring_of(word_in(options, "kind")?)?;
     let place = place_in(options)?;
     let finish = flag_of(word_in(options, "finish")?);
-    Some(MachineCommand::Channel {
+    Some(Command::Machine(MachineCommand::Channel {
         kind,
         place,
         finish,
-    })
+    }))
 }
 
 /// The channel of a user's programs that is to run. It isn't finished by a plan.
@@ -410,8 +421,7 @@ fn own_in(options: &ArgMatches<'_>) -> Option<Command>
     if flag_of(finish) {
         return None;
     }
-    let capacity = capacity_of(word_in(options, "buffer")?)?;
-    Some(Command::UserChannel { place, capacity })
+    Some(Command::UserChannel { place })
 }
 
 /// The number of 32 bits, if one is said; none where that is no such number.
@@ -458,6 +468,13 @@ fn word_in<'a>(options: &ArgMatches<'a>, id: &str) -> Option<&'a str>
     ensures { option_map (λ word. word.now) result ≡ found_by options.now id.now }
 {
     options.get_str(id)
+}
+
+/// The number from `least` to `most` in this place, or after this option.
+fn number_in(options: &ArgMatches<'_>, name: &str, least: u32, most: u32) -> Option<u32>
+    ensures { result ≡ number_at (found_by options.now) name.now least most }
+{
+    count_of(word_in(options, name)?, least, most)
 }
 
 fn capacity_of(text: &str) -> Option<Capacity>

@@ -1,5 +1,5 @@
 -- What each command that a command line can ask for does.
-use Rattle.std.specs.Prelude.{ℕ, ◌≡◌, ◌*◌, ◌⊎◌, max, Bool, true, false, List, [], Option, Result, Ok, Err}
+use Rattle.std.specs.Prelude.{ℕ, ◌≡◌, ◌*◌, ◌⊎◌, max, Bool, true, false, List, [], ◌∷◌, Option, Result, Ok, Err}
 use Rattle.std.specs.Io.KnownBytes.{Appends}
 use Rattle.rand_core.specs.Stream.{Stream}
 use Rattle.rand_core.specs.Steps.{stream_of, steps_u32}
@@ -102,15 +102,6 @@ abbrev pub form_of : (steps : Bool) → Form
 form_of true = form.Steps
 form_of false = form.Table
 
--- how many stores the buffers of a command's machine hold; a command on code has no machine
-abbrev pub capacity_of : Command → Capacity
-capacity_of (Code command) = One
-capacity_of (Machine command capacity) = capacity
-capacity_of (Find states capacity) = capacity
-capacity_of (Threads turns capacity) = capacity
-capacity_of (UserChannel place capacity) = capacity
-capacity_of (Ring seed runs place capacity) = capacity
-
 -- ---- how a command ends
 
 -- What the readers of all inputs tell, in the order in which they are read, and what a user's commands tell.
@@ -141,35 +132,35 @@ DoneAlong {V = V} exit IsAnswer IsFront IsSome result contents old new = (ended 
 abbrev pub Does : {W : Type 0} → (B : ℕ) → Command → Result ℕ Failure → Given → (contents : W → Option (List ℕ)) → (old new : W) → Type 0
 Does B (Code Asm) result given = Done done_exit (IsAsmAnswer given.first) result
 Does B (Code Dis) result given = Done done_exit (IsDisAnswer given.first) result
-Does B (Machine Steps capacity) result given = Done done_exit (IsStepsAnswer B WORDS given.first) result
-Does B (Machine Run capacity) result given = Done verdict_exit (IsRunAnswer B WORDS given.first given.second) result
-Does B (Machine Replay capacity) result given = Done done_exit (IsReplayAnswer B WORDS given.first given.second) result
-Does B (Machine Move capacity) result given = Done done_exit (IsMoveAnswer B WORDS given.first given.second) result
-Does B (Machine Shrink capacity) result given = Done done_exit (IsShrinkAnswer B WORDS given.first given.second) result
-Does B (Machine (Chart style selection) capacity) result given =
+Does B (Machine Steps) result given = Done done_exit (IsStepsAnswer B WORDS given.first) result
+Does B (Machine Run) result given = Done verdict_exit (IsRunAnswer B WORDS given.first given.second) result
+Does B (Machine Replay) result given = Done done_exit (IsReplayAnswer B WORDS given.first given.second) result
+Does B (Machine Move) result given = Done done_exit (IsMoveAnswer B WORDS given.first given.second) result
+Does B (Machine Shrink) result given = Done done_exit (IsShrinkAnswer B WORDS given.first given.second) result
+Does B (Machine (Chart style selection)) result given =
     Done done_exit (IsChartAnswer B WORDS (drawing style selection) given.first given.second) result
-Does B (Machine (Show steps) capacity) result given = Done done_exit (IsShowAnswer (form_of steps) given.first) result
-Does B (Machine Check capacity) result given = DoneAlong good_exit (IsCheckAnswer B WORDS given.second given.first)
+Does B (Machine (Show steps)) result given = Done done_exit (IsShowAnswer (form_of steps) given.first) result
+Does B (Machine Check) result given = DoneAlong good_exit (IsCheckAnswer B WORDS given.second given.first)
     (λ out. IsCheckFront B WORDS given.second given.first (Ok out)) (λ out. IsCheckFront B WORDS given.second given.first (Ok out)) result
-Does B (Machine Debug capacity) result given = DoneAlong done_exit (IsDebugAnswer B WORDS given.commands given.first given.second)
+Does B (Machine Debug) result given = DoneAlong done_exit (IsDebugAnswer B WORDS given.commands given.first given.second)
     (λ out. IsDebugFront B WORDS given.commands given.first given.second (Ok (out, tt)))
     (λ out. IsDebugSome B WORDS given.commands given.first given.second (Ok (out, tt))) result
-Does B (Machine (Try seed runs) capacity) result given = Done good_exit
+Does B (Machine (Try seed runs)) result given = Done good_exit
     (IsTryAnswer B WORDS (left_after (runs.skip * runs.length) (drawn_from seed)) runs.number runs.length given.first) result
-Does B (Machine (Callers seed runs queue) capacity) result given = Done good_exit
+Does B (Machine (Callers seed runs queue)) result given = Done good_exit
     (IsCallersAnswer B WORDS (queue_of queue) (left_after (runs.skip * runs.length) (drawn_from seed)) runs.number runs.length given.first) result
-Does B (Machine (Channel ring place finish) capacity) result given =
+Does B (Machine (Channel ring place finish)) result given =
     Done done_exit (IsChannelAnswer (tables_of ring) B WORDS (layout_of place []) finish given.first given.second) result
-Does B (Find states capacity) result given = Done found_exit (IsFindAnswer B WORDS (max states 1) given.first) result
-Does B (Threads turns capacity) result given = Done verdict_exit (IsThreadsAnswer B WORDS turns given.first) result
-Does B (UserChannel place capacity) result given =
+Does B (Find states) result given = Done found_exit (IsFindAnswer B WORDS (max states 1) given.first) result
+Does B (Threads turns) result given = Done verdict_exit (IsThreadsAnswer B WORDS turns given.first) result
+Does B (UserChannel place) result given =
     Done done_exit (IsUserAnswer B WORDS (layout_of place []) given.first given.second given.third given.fourth) result
-Does B (Ring seed runs place capacity) result given =
+Does B (Ring seed runs place) result given =
     Done good_exit (IsRingAnswer (drawn_runs B seed runs place) given.first given.second given.third) result
 
 -- a command that judges records, one after the other
 abbrev pub judges_records : Command → Bool
-judges_records (Machine Check capacity) = true
+judges_records (Machine Check) = true
 judges_records command = false
 
 -- ---- what is left unread
@@ -179,34 +170,31 @@ abbrev pub IsRefusal : Result ℕ Failure → Type 0
 IsRefusal (Err (Engine (Refused refusal))) = Unit {0}
 IsRefusal other = ⊥
 
--- A first input with which the second is left unread: any, where there is only one; else one that is
--- known, and refused. The records of `check` get a buffer before the first input is read, and of an end
--- without memory for it nothing is said.
-abbrev pub LeavesSecond : Command → Result ℕ Failure → (first : Option (List ℕ)) → Type 0
-LeavesSecond (Machine Steps capacity) result first = Unit {0}
-LeavesSecond (Machine (Show steps) capacity) result first = Unit {0}
-LeavesSecond (Machine (Try seed runs) capacity) result first = Unit {0}
-LeavesSecond (Machine (Callers seed runs queue) capacity) result first = Unit {0}
-LeavesSecond (Machine (Channel ring place finish) capacity) result first = IsRefused schedules first
-LeavesSecond (Machine Check capacity) result first = IsRefusal result × IsRefused tests first
-LeavesSecond (Machine command capacity) result first = IsRefused tests first
-LeavesSecond (UserChannel place capacity) result first = IsRefused (programs Sender) first
-LeavesSecond (Ring seed runs place capacity) result first = IsRefused (programs Sender) first
-LeavesSecond command result first = Unit {0}
+-- What refuses each input that another one follows, in the order in which they are read; an input after a refused one is
+-- left unread, and so is one that the command doesn't have. The records of `check` get a buffer before the first input is
+-- read, and of an end without memory for it nothing is said.
+abbrev pub refusals : Command → Result ℕ Failure → List (Option (List ℕ) → Type 0)
+refusals (Code command) result = []
+refusals (Machine Steps) result = []
+refusals (Machine (Show steps)) result = []
+refusals (Machine (Try seed runs)) result = []
+refusals (Machine (Callers seed runs queue)) result = []
+refusals (Machine (Channel ring place finish)) result = IsRefused schedules ∷ []
+refusals (Machine Check) result = (λ first. IsRefusal result × IsRefused tests first) ∷ []
+refusals (Machine command) result = IsRefused tests ∷ []
+refusals (Find states) result = []
+refusals (Threads turns) result = []
+refusals (UserChannel place) result = IsRefused (programs Sender) ∷ IsRefused (programs Receiver) ∷ IsRefused schedules ∷ []
+refusals (Ring seed runs place) result = IsRefused (programs Sender) ∷ IsRefused (programs Receiver) ∷ []
 
--- and two with which the third is: only a channel of a user's programs has one
-abbrev pub LeavesThird : Command → (first second : Option (List ℕ)) → Type 0
-LeavesThird (UserChannel place capacity) first second = IsRefused (programs Sender) first ⊎ IsRefused (programs Receiver) second
-LeavesThird (Ring seed runs place capacity) first second = IsRefused (programs Sender) first ⊎ IsRefused (programs Receiver) second
-LeavesThird command first second = Unit {0}
-
--- and three with which the fourth is
-abbrev pub LeavesFourth : Command → (first second third : Option (List ℕ)) → Type 0
-LeavesFourth (UserChannel place capacity) first second third =
-    (IsRefused (programs Sender) first ⊎ IsRefused (programs Receiver) second) ⊎ IsRefused schedules third
-LeavesFourth command first second third = Unit {0}
+-- The input after these is left unread: the command has none there, or one of these is refused.
+abbrev pub LeavesUnread : List (Option (List ℕ) → Type 0) → (before : List (Option (List ℕ))) → Type 0
+LeavesUnread refuses [] = ⊥
+LeavesUnread [] (input ∷ before) = Unit {0}
+LeavesUnread (Refuses ∷ refuses) (input ∷ []) = Refuses input
+LeavesUnread (Refuses ∷ refuses) (input ∷ second ∷ before) = Refuses input ⊎ LeavesUnread refuses (second ∷ before)
 
 -- an end with which a user's commands are left unread: any, except the debugger's; of those a refusal
 abbrev pub LeavesCommands : Command → Result ℕ Failure → Type 0
-LeavesCommands (Machine Debug capacity) result = IsRefusal result
+LeavesCommands (Machine Debug) result = IsRefusal result
 LeavesCommands command result = Unit {0}

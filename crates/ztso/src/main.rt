@@ -104,7 +104,14 @@ where
         commands: PromptReader::new(rt),
         writer: io::writer(rt),
     };
-    let ended = do_command(rt, job.command, &mut streams, progress, search);
+    let ended = do_command(
+        rt,
+        job.command,
+        job.capacity,
+        &mut streams,
+        progress,
+        search,
+    );
     streams.second.wipe();
     ended
 }
@@ -113,11 +120,5 @@ where
 fn is_check(command: Command) -> bool
     ensures { result ≡ judges_records command }
 {
-    matches!(
-        command,
-        Command::Machine {
-            command: MachineCommand::Check,
-            ..
-        }
-    )
+    matches!(command, Command::Machine(MachineCommand::Check))
 }

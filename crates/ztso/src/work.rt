@@ -1,12 +1,10 @@
 //! Which engine does a job.
 
-ghost use Rattle.std.specs.Prelude.{◌≡◌, ◌⊎◌, ℕ, ◌≤◌, ◌*◌, List, [], max, IfOk, Ok};
+ghost use Rattle.std.specs.Prelude.{◌≡◌, ◌⊎◌, ℕ, ◌≤◌, ◌*◌, List, [], ◌∷◌, max, IfOk, Ok};
 ghost use Rattle.std.specs.Io.KnownBytes.{Appends};
 ghost use Rattle.ztso.specs.declared.work.TheConstants.{WORDS};
-ghost use Rattle.command_line.specs.declared.job.Capacity.{Capacity};
 ghost use Rattle.command_line.specs.declared.job.Command.TheVariants.{Code, Machine};
-ghost use Rattle.ztso.specs.Work.{Does, LeavesCommands, LeavesFourth, LeavesSecond, LeavesThird};
-ghost use Rattle.ztso.specs.Work.{capacity_of as stated_capacity, drawn_from, drawn_runs, form_of, stores_of, tables_of};
+ghost use Rattle.ztso.specs.Work.{Does, LeavesCommands, LeavesUnread, drawn_from, drawn_runs, form_of, refusals, stores_of, tables_of};
 ghost use Rattle.recorder.specs.Drawing.{left_after};
 ghost use Rattle.poll_close.specs.Places.{layout_of};
 ghost use Rattle.channel_engines.specs.Channels.{IsChannelAnswer};
@@ -265,17 +263,16 @@ fn do_machine<const B: usize, T: Threads + Sync, I: Read, C: Read, W: Write, P: 
 ) -> Result<u8, Failure>
     requires some_capacity { 1 ≤ B }
     requires capacity { B ≤ 64 }
-    ensures does { (capacity : Capacity) → Does B (Machine command capacity) result (record {
+    ensures does { Does B (Machine command) result (record {
       first = I.remaining streams.old.first;
       second = I.remaining streams.old.second;
       third = I.remaining streams.old.third;
       fourth = I.remaining streams.old.fourth;
       commands = C.remaining streams.old.commands;
     }) W.contents streams.old.writer streams.new.writer }
-    ensures unread { (capacity : Capacity) → LeavesSecond (Machine command capacity) result (I.remaining streams.old.first)
-        → streams.new.second ≡ streams.old.second }
+    ensures unread { LeavesUnread (refusals (Machine command) result) (I.remaining streams.old.first ∷ []) → streams.new.second ≡ streams.old.second }
     ensures kept { (streams.new.third ≡ streams.old.third) × (streams.new.fourth ≡ streams.old.fourth) }
-    ensures unasked { (capacity : Capacity) → LeavesCommands (Machine command capacity) result → streams.new.commands ≡ streams.old.commands }
+    ensures unasked { LeavesCommands (Machine command) result → streams.new.commands ≡ streams.old.commands }
     ensures status { IfOk result (λ status. status ≤ 1) }
 {
     let Streams {
@@ -343,34 +340,35 @@ where
       fourth = I.remaining streams.old.fourth;
       commands = C.remaining streams.old.commands;
     }) W.contents streams.old.writer streams.new.writer }
-    ensures unread { LeavesSecond command result (I.remaining streams.old.first) → streams.new.second ≡ streams.old.second }
-    ensures unread_third { LeavesThird command (I.remaining streams.old.first) (I.remaining streams.old.second) → streams.new.third ≡ streams.old.third }
-    ensures unread_fourth { LeavesFourth command (I.remaining streams.old.first) (I.remaining streams.old.second) (I.remaining streams.old.third)
-        → streams.new.fourth ≡ streams.old.fourth }
+    ensures unread { LeavesUnread (refusals command result) (I.remaining streams.old.first ∷ []) → streams.new.second ≡ streams.old.second }
+    ensures unread_third { LeavesUnread (refusals command result) (I.remaining streams.old.first ∷ I.remaining streams.old.second ∷ [])
+        → streams.new.third ≡ streams.old.third }
+    ensures unread_fourth { LeavesUnread (refusals command result)
+        (I.remaining streams.old.first ∷ I.remaining streams.old.second ∷ I.remaining streams.old.third ∷ []) → streams.new.fourth ≡ streams.old.fourth }
     ensures unasked { LeavesCommands command result → streams.new.commands ≡ streams.old.commands }
     ensures status { IfOk result (λ status. status ≤ 1) }
 {
     let alloc = rt.alloc();
     match command {
         Command::Code(command) => do_code(alloc, command, streams),
-        Command::Machine { command, .. } => {
+        Command::Machine(command) => {
             do_machine::<B, _, _, _, _, _>(rt, alloc, command, streams, progress)
         }
-        Command::Find { states, .. } => after_search(find::<B, _, _, _>(
+        Command::Find { states } => after_search(find::<B, _, _, _>(
             alloc,
             states,
             &mut streams.first,
             search,
             &mut streams.writer,
         )),
-        Command::Threads { turns, .. } => after_run(threads_engine::<B, WORDS, _, _, _>(
+        Command::Threads { turns } => after_run(threads_engine::<B, WORDS, _, _, _>(
             rt,
             alloc,
             &mut streams.first,
             turns,
             &mut streams.writer,
         )),
-        Command::UserChannel { place, .. } => after(user_channel_engine::<B, WORDS, _, _, _, _, _>(
+        Command::UserChannel { place } => after(user_channel_engine::<B, WORDS, _, _, _, _, _>(
             alloc,
             place,
             &mut streams.first,
@@ -379,12 +377,7 @@ where
             &mut streams.fourth,
             &mut streams.writer,
         )),
-        Command::Ring {
-            seed,
-            runs,
-            place,
-            ..
-        } => after_runs(run_user_ring::<B, _, _, _, _, _, _>(
+        Command::Ring { seed, runs, place } => after_runs(run_user_ring::<B, _, _, _, _, _, _>(
             rt,
             alloc,
             seed,
@@ -399,48 +392,37 @@ where
     }
 }
 
-/// How many stores the buffers of a command's machine hold. A command on code has no machine.
-fn capacity_of(command: Command) -> Capacity
-    ensures { result ≡ stated_capacity command }
-{
-    match command {
-        Command::Code(_) => Capacity::One,
-        Command::Machine { capacity, .. }
-        | Command::Find { capacity, .. }
-        | Command::Threads { capacity, .. }
-        | Command::UserChannel { capacity, .. }
-        | Command::Ring { capacity, .. } => capacity,
-    }
-}
-
-/// Does a command on these streams: reads its inputs in their order, each after an accepted one before it, and a user's
-/// commands, and writes what it answers. It answers the exit status: 0, but 1 where the verdict is that the test fails or
-/// is unfinished, the runs that were tried don't show what the test asks, a record was refused, callers of a queue owe
-/// something, or a run of a channel isn't clean. `progress` gets the reports of runs that are tried, and `search` those of a search.
+/// Does a command on these streams, on a machine whose buffers have this capacity if it has a machine: reads its inputs in
+/// their order, each after an accepted one before it, and a user's commands, and writes what it answers. It answers the exit
+/// status: 0, but 1 where the verdict is that the test fails or is unfinished, the runs that were tried don't show what the
+/// test asks, a record was refused, callers of a queue owe something, or a run of a channel isn't clean. `progress` gets the
+/// reports of runs that are tried, and `search` those of a search.
 pub fn do_command<R, I: Read, C: Read, W: Write, P: Progress, Q: SearchProgress>(
     rt: &R,
     command: Command,
+    capacity: Capacity,
     streams: &mut Streams<I, C, W>,
     progress: &mut P,
     search: &mut Q,
 ) -> Result<u8, Failure>
 where
     R: AllocGlobal + Threads + Wait + Sync,
-    ensures does { Does (stores_of (stated_capacity command)) command result (record {
+    ensures does { Does (stores_of capacity) command result (record {
       first = I.remaining streams.old.first;
       second = I.remaining streams.old.second;
       third = I.remaining streams.old.third;
       fourth = I.remaining streams.old.fourth;
       commands = C.remaining streams.old.commands;
     }) W.contents streams.old.writer streams.new.writer }
-    ensures unread { LeavesSecond command result (I.remaining streams.old.first) → streams.new.second ≡ streams.old.second }
-    ensures unread_third { LeavesThird command (I.remaining streams.old.first) (I.remaining streams.old.second) → streams.new.third ≡ streams.old.third }
-    ensures unread_fourth { LeavesFourth command (I.remaining streams.old.first) (I.remaining streams.old.second) (I.remaining streams.old.third)
-        → streams.new.fourth ≡ streams.old.fourth }
+    ensures unread { LeavesUnread (refusals command result) (I.remaining streams.old.first ∷ []) → streams.new.second ≡ streams.old.second }
+    ensures unread_third { LeavesUnread (refusals command result) (I.remaining streams.old.first ∷ I.remaining streams.old.second ∷ [])
+        → streams.new.third ≡ streams.old.third }
+    ensures unread_fourth { LeavesUnread (refusals command result)
+        (I.remaining streams.old.first ∷ I.remaining streams.old.second ∷ I.remaining streams.old.third ∷ []) → streams.new.fourth ≡ streams.old.fourth }
     ensures unasked { LeavesCommands command result → streams.new.commands ≡ streams.old.commands }
     ensures status { IfOk result (λ status. status ≤ 1) }
 {
-    match capacity_of(command) {
+    match capacity {
         Capacity::One => do_buffered::<1, _, _, _, _, _, _>(rt, command, streams, progress, search),
         Capacity::Two => do_buffered::<2, _, _, _, _, _, _>(rt, command, streams, progress, search),
         Capacity::Four => {
