@@ -2,11 +2,13 @@
 //!
 //! The contract: [`Jump::ahead`] returns a generator whose stream is what is left of this one's after so
 //! many words of 32 bits, [`first_run`] shares runs among jobs, and [`spreading::in_rounds`] returns what
-//! [`spreading::Trials`] knows of runs, however they were spread over rounds and jobs. What is reported through
-//! [`progress::Progress`] no clause says. This crate draws no event and knows no schedule.
+//! [`spreading::Trials`] knows of runs, however they were spread over rounds and jobs. [`draw_by`] draws the events of a run,
+//! each by itself or in bursts of one hart. What is reported through [`progress::Progress`] no clause says. This crate
+//! reads and writes no schedule.
 
 #![tactic(auto)]
 
+pub mod draws;
 pub mod parallel;
 pub mod progress;
 
@@ -14,6 +16,7 @@ ghost use Rattle.std.specs.Prelude.{◌≡◌, ◌≤◌, ◌*◌, IfOk};
 ghost use Rattle.recorder.specs.Drawing.{left_after};
 ghost use Rattle.jumping.specs.Sharing.{first_of};
 
+pub use draws::{Draw, draw_by};
 use rand_core::Rng;
 use rand_pcg::Lcg64Xsh32;
 use std::alloc::AllocError;
