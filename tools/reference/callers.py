@@ -1,11 +1,13 @@
 """Code that calls a queue's functions: drawn runs of a litmus test, each held against what docs/functions.md says that a
 caller owes, for the command `callers`."""
 
+from collections import Counter
+
 import pcg
 import programs
 import words
 from draws import event_of
-from machine import MEMORY, Machine, word_at
+from machine import MEMORY, Machine, is_finished, word_at
 
 # the functions as docs/functions.md lists them
 FUNCTIONS = {"lamport_try_send": """
@@ -107,10 +109,13 @@ class Party:
         pc, registers, *_ = state[0][self.hart]
         return pc == self.entry and registers[10] == base
 
+    def returns(self, before):
+        """Whether its hart's next instruction is one of the function's returns."""
+        return before[0][self.hart][0] - self.entry in RETURNS
+
     def goes_on(self, is_calling, before, state, base):
         """Whether it is in a call once its hart went from `before` to a state."""
-        pc = before[0][self.hart][0]
-        return is_calling and pc - self.entry not in RETURNS or self.enters(state, base)
+        return is_calling and not self.returns(before) or self.enters(state, base)
 
 
 class Callers:
@@ -163,7 +168,8 @@ class Callers:
         return word % 4 == 0 and word < 4 * self.slots
 
     def step(self, pair, event):
-        """The pair after an event, and what is owed at its entry, as a line, or None."""
+        """The pair after an event, what is owed at its entry, as a line, or None, and the calls that returned by it: who
+        called, and a0."""
         if (pair, event) not in self.known:
             self.known[pair, event] = self.stepped(pair, event)
         return self.known[pair, event]
@@ -172,14 +178,16 @@ class Callers:
         before, calling = pair
         outcome, is_entry, after = self.machine.step(before, event)
         if not is_entry:
-            return pair, None
+            return pair, None, ()
         letter, hart = event
         if letter == "l":
-            return (after, calling), None
+            return (after, calling), None, ()
         owed = None if self.is_calling(hart, calling) else self.owed(hart, before, outcome, after)
+        returned = tuple((party.sends, before[0][hart][1][10]) for party, is_calling in zip(self.parties, calling)
+                         if party.hart == hart and is_calling and party.returns(before))
         calling = tuple(party.goes_on(is_calling, before, after, self.base) if party.hart == hart else is_calling
                         for party, is_calling in zip(self.parties, calling))
-        return (after, calling), owed
+        return (after, calling), owed, returned
 
     def is_calling(self, hart, calling):
         return any(party.hart == hart and is_calling for party, is_calling in zip(self.parties, calling))
@@ -212,10 +220,18 @@ class Callers:
         """What a run of these events owes first, or None."""
         pair = self.opening
         for event in events:
-            pair, owed = self.step(pair, event)
+            pair, owed, _ = self.step(pair, event)
             if owed:
                 return owed
         return None
+
+    def counted(self, events, counts):
+        """Counts the calls of a run that owes nothing, and whether it isn't finished."""
+        pair = self.opening
+        for event in events:
+            pair, _, returned = self.step(pair, event)
+            counts.update(returned)
+        counts["unfinished"] += not is_finished(pair[0])
 
     def shortened(self, events, owed):
         """A part of these events that owes this first, and doesn't without any one of them. docs/looking.md has the
@@ -239,16 +255,27 @@ class Callers:
         return events
 
 
+def lines(callers, runs, counts):
+    """What is told of runs that owe nothing, and whether a call returned."""
+    is_called = any(counts[party, a0] for party in (True, False) for a0 in (0, 1))
+    return [f"kept {runs} runs" if is_called else f"no call returned in {runs} runs",
+            f"hart {callers.sender} sent {counts[True, 1]} words and found the queue full {counts[True, 0]} times",
+            f"hart {callers.receiver} received {counts[False, 1]} words and found the queue empty {counts[False, 0]} times",
+            f"unfinished {counts['unfinished']}"], is_called
+
+
 def trial(callers, seed, runs, length, skip=0):
-    """None where each run keeps what callers owe. Else the events and the line of what is owed: at the opening, or first
-    in the earliest run that owes anything, made short."""
+    """The lines of runs that keep what callers owe, whether a call returned in one, and None. Else None, False and the events
+    and the line of what is owed: at the opening, or first in the earliest run that owes anything, made short."""
     if owed := callers.owed_at_opening():
-        return [], owed
+        return None, False, ([], owed)
     generator = pcg.Generator(pcg.seed_from_u64(seed))
     generator.pass_over(skip * length)
     harts = len(callers.test.codes)
+    counts = Counter()
     for _ in range(runs):
         events = [event_of(k, harts) for k in generator.remainders(2 * harts, length)]
         if owed := callers.first_owed(events):
-            return callers.shortened(events, owed), owed
-    return None
+            return None, False, (callers.shortened(events, owed), owed)
+        callers.counted(events, counts)
+    return *lines(callers, runs, counts), None

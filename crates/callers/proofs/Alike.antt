@@ -1,5 +1,5 @@
 -- A queue that can be used owes nothing at the opening, so two answers to one input have one exit status.
-use Rattle.std.proofs.Common.{ℕ, ◌≡◌, ◌+◌, ◌*◌, ◌%◌, ◌<◌, inl, inr, Bool, true, false, List, [], Some}
+use Rattle.std.proofs.Common.{ℕ, ◌≡◌, ◌+◌, ◌*◌, ◌%◌, ◌<◌, min, not, inl, inr, Bool, true, false, List, [], Some}
 use Rattle.std.proofs.Common.{refl, sym, ap, subst, ◌∙◌, arith, add-zero}
 use Rattle.std.proofs.lemmas.Bool.{cases_order}
 use Rattle.std.proofs.Math.Nat.{mod-eq_of_lt, mod-lt}
@@ -13,8 +13,14 @@ use Rattle.spsc_queue.specs.RingBuffers.{slot_offset, slot_address}
 use Rattle.spsc_queue.specs.Calls.{copy_in, buffer, HasFunction}
 use Rattle.callers.specs.Queues.{kind_of, caches_tail, spsc_of, sends_by, receives_by, HasFirstCopy, IsLocated}
 use Rattle.callers.specs.Debts.{IsOpeningDebt, first_debt}
-use Rattle.callers.specs.Runs.{call_source, call_schedule, KeepsObligations, HasDebt}
-use Rattle.callers.specs.Answers.{IsCallersOutput}
+use Rattle.judged_runs.specs.Finding.{AreAllGood}
+use Rattle.judged_runs.specs.Histories.{total}
+use Rattle.judged_runs.proofs.Histories.{runs_one}
+use Rattle.callers.specs.Counts.{MOST, AreCountsOf, are_none, sends as sends_in, receives as receives_in}
+use Rattle.callers.specs.Runs.{CallSource, call_source, call_schedule, KeepsObligations, HasDebt}
+use Rattle.callers.specs.Answers.{IsCallersOutput, IsOutputOfRuns, kept_text}
+use Rattle.callers.specs.declared.counts.Counts.{Counts}
+use Rattle.callers.specs.declared.judging.Calls.{Calls}
 use Rattle.callers.specs.declared.debts.Debt.{Debt}
 use Rattle.callers.specs.declared.debts.Debt.TheVariants as debt
 use Rattle.callers.specs.declared.queue.QueueKind.{QueueKind}
@@ -112,14 +118,53 @@ module _ (M : ℕ) (o : OpeningValue) (l m : Located) (one : IsLocated M o l.que
 -- ---- two answers
 
 -- a run that keeps all that is owed has no debt
-kept_or_owing : (B M : ℕ) (o : OpeningValue) (l : Located) (d : Debt) (events : List Event) → KeepsObligations B M o l events → HasDebt B M o l events d → ⊥
-kept_or_owing B M o l d events keeps has_debt =
+kept_or_owing : (B M : ℕ) (o : OpeningValue) (l : Located) (events : List Event) (d : Debt) → KeepsObligations B M o l events
+    → HasDebt B M o l events d → ⊥
+kept_or_owing B M o l events d keeps has_debt =
     let same : keeps.history ≡ has_debt.history = run-one B M (at_opening o) events keeps.history has_debt.history keeps.run has_debt.run in
     let none = none_owed B M o (spsc_of l) keeps.history.entries keeps.uses in
     let some = ap (λ (t : History). first_debt M o (spsc_of l) t.entries) same ∙ has_debt.first in
     absurd (cc)
 
+abbrev calls_of : (sent full received empty : ℕ) → Calls
+calls_of sent full received empty = record { sent = sent; full = full; received = received; empty = empty }
+
+-- the output of runs that keep all that is owed, of which some call returned or none
+pub kept_output : (s : CallSource) (runs : ℕ) (text : List ℕ) (counts : Counts)
+    → AreAllGood (KeepsObligations s.B s.M s.opening s.located) (AreCountsOf s.B s.M s.opening s.located) (call_schedule s) 0 runs counts
+    → text ≡ kept_text s.located.queue runs counts → (called : Bool) → called ≡ not (are_none counts.calls) → IsOutputOfRuns s runs (text, called)
+kept_output s runs text counts kept is true some = record { counts = counts; kept = kept; called_is = some; text_is = is }
+kept_output s runs text counts kept is false none = inl (record { counts = counts; kept = kept; called_is = none; text_is = is })
+
+-- the same runs count to the same calls
+one_count : (B M : ℕ) (o : OpeningValue) (l : Located) (all : List (List Event)) (a b : Counts) → AreCountsOf B M o l all a → AreCountsOf B M o l all b
+    → a.calls ≡ b.calls
+one_count B M o l all a b one other =
+    let same : one.histories ≡ other.histories = runs_one B M o all one.histories other.histories one.runs other.runs in
+    let q = spsc_of l in
+    let x = a.calls in
+    let y = b.calls in
+    ap (λ (n : ℕ). calls_of n x.full x.received x.empty)
+    (one.calls.sent ∙ ap (λ hs. min (total (λ t. sends_in M o q 1 t.entries) hs) MOST) same ∙ sym other.calls.sent)
+    ∙ ap (λ (n : ℕ). calls_of y.sent n x.received x.empty)
+    (one.calls.full ∙ ap (λ hs. min (total (λ t. sends_in M o q 0 t.entries) hs) MOST) same ∙ sym other.calls.full)
+    ∙ ap (λ (n : ℕ). calls_of y.sent y.full n x.empty)
+    (one.calls.received ∙ ap (λ hs. min (total (λ t. receives_in M o q 1 t.entries) hs) MOST) same ∙ sym other.calls.received)
+    ∙ ap (λ (n : ℕ). calls_of y.sent y.full y.received n)
+    (one.calls.empty ∙ ap (λ hs. min (total (λ t. receives_in M o q 0 t.entries) hs) MOST) same ∙ sym other.calls.empty)
+
 module _ (B M : ℕ) (o : OpeningValue) (q : Queue) (stream : Stream) (runs size : ℕ) (text other : List ℕ) where
+  runs_differ : (l : Located) → IsOutputOfRuns (call_source B M o l stream size) runs (text, true)
+      → IsOutputOfRuns (call_source B M o l stream size) runs (other, false) → ⊥
+  runs_differ l kept (inl uncalled) =
+      let same = one_count B M o l _ kept.counts uncalled.counts kept.kept.counted uncalled.kept.counted in
+      let differ : true ≡ false = kept.called_is ∙ ap (λ (c : Calls). not (are_none c)) same ∙ sym uncalled.called_is in
+      absurd (cc)
+  runs_differ l kept (inr shown) =
+      let first = shown.is_told.is_first in
+      kept_or_owing B M o l (call_schedule (call_source B M o l stream size) shown.is_told.number) shown.is_told.flaw
+      (kept.kept.good shown.is_told.number (omega arith) first.within) first.has
+
   never_both : IsCallersOutput B M o q stream runs size (text, true) → IsCallersOutput B M o q stream runs size (other, false) → ⊥
   never_both kept (inl there) = no_opening_debt M o q kept.located there.debt kept.usable there.has_debt
   never_both kept (inr owing) =
@@ -128,13 +173,8 @@ module _ (B M : ℕ) (o : OpeningValue) (q : Queue) (stream : Stream) (runs size
       let one = subst (λ (x : Queue). IsLocated M o x l) (sym kept.usable.queue_is) kept.usable in
       let two = subst (λ (x : Queue). IsLocated M o x m) (sym kept.usable.queue_is) owing.usable in
       let same : l ≡ m = one_way M o l m one two in
-      let shown = owing.output_of in
-      kept_or_owing B M o l shown.debt
-      (call_schedule (call_source B M o l stream size) shown.number)
-      (kept.output_of.kept shown.number shown.within)
-      (subst (λ (x : Located).
-      HasDebt B M o x (call_schedule (call_source B M o l stream size) shown.number) shown.debt)
-      (sym same) shown.first.has_debt)
+      runs_differ l kept.output_of
+      (subst (λ (x : Located). IsOutputOfRuns (call_source B M o x stream size) runs (other, false)) (sym same) owing.output_of)
 
 pub status_alike : (B M : ℕ) (o : OpeningValue) (q : Queue) (stream : Stream) (runs size : ℕ) (text other : List ℕ) (a b : Bool)
     → IsCallersOutput B M o q stream runs size (text, a) → IsCallersOutput B M o q stream runs size (other, b) → a ≡ b

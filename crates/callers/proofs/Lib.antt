@@ -2,7 +2,8 @@ mod Places
 mod Rest
 mod Noting
 mod Sound
-mod Drawn
+mod Counting
+mod Judged
 mod Pieces
 mod Exact
 mod Alike

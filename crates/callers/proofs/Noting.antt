@@ -25,7 +25,8 @@ use Rattle.spsc_queue.specs.Calls.{Block, SpscQueue, is_in_call_after, is_in_cal
 use Rattle.spsc_queue.proofs.Completed.{is_in_call-last, same_call, own_call}
 use Rattle.spsc_queue.proofs.OwnEntries.{own_is}
 use Rattle.callers.specs.Queues.{spsc_of}
-use Rattle.callers.specs.Debts.{is_in_its_call, idle_debt, debt_of, debt_after, first_debt, pc_in}
+use Rattle.callers.specs.Debts.{is_in_its_call, idle_debt, debt_of, debt_after, first_debt}
+use Rattle.callers.proofs.Counting.{count_noted, land_counts}
 use Rattle.callers.specs.inner.Noting.{IsCallState, AreCallNotes, noted_call, found_by, notes_by, IsEventNoted}
 use Rattle.callers.specs.declared.debts.Debt.{Debt}
 use Rattle.callers.specs.declared.queue.Located.{Located}
@@ -100,6 +101,13 @@ module _ (M : ℕ) (o : OpeningValue) (es : List Entry) (e : Entry) (act : is_la
     found = found_noted q notes are after;
     sending = party_noted q.sender q.send_line q.block notes.sending are.sending;
     receiving = party_noted q.receiver q.receive_line q.block notes.receiving are.receiving;
+    calls = record {
+      sent = count_noted M o es e act s before q.sender q.send_line q.block 1 notes.sending notes.calls.sent are.sending are.calls.sent;
+      full = count_noted M o es e act s before q.sender q.send_line q.block 0 notes.sending notes.calls.full are.sending are.calls.full;
+      received = count_noted M o es e act s before q.receiver q.receive_line q.block 1 notes.receiving notes.calls.received are.receiving
+          are.calls.received;
+      empty = count_noted M o es e act s before q.receiver q.receive_line q.block 0 notes.receiving notes.calls.empty are.receiving are.calls.empty;
+    };
   }
 
 -- the state of a hart that has a path
@@ -114,10 +122,11 @@ standing M t h e path = by (slice_get t.opening.harts h) refl
     by None none = absurd (Path-hart M (with_entry t e) h path none)
     by (Some opens) some = record { state = state_after M (own h t.entries) opens; is = ap (option_map (state_after M (own h t.entries))) some }
 
-pub act_noted : (B M : ℕ) (l : Located) (t u : History) (h pc : ℕ) (e : Entry) (notes new : Notes) (z : HartState) (seen : CallState)
-    → Happens B M t (Act h) (outcome.Did e) u → pc ≡ pc_in (state_of M t h) → state_of M u h ≡ Some z → IsCallState z seen
-    → ((s y : HartState) → s.pc ≡ pc → IsCallState y seen → new ≡ notes_by (spsc_of l) notes e s y) → IsEventNoted B M l (Act h) t notes u new
-act_noted B M l t u h pc e notes new z seen happens place stands is_seen noted = record {
+pub act_noted : (B M : ℕ) (l : Located) (t u : History) (h : ℕ) (e : Entry) (notes new : Notes) (z : HartState) (was seen : CallState)
+    → Happens B M t (Act h) (outcome.Did e) u → ((s : HartState) → state_of M t h ≡ Some s → IsCallState s was) → state_of M u h ≡ Some z
+    → IsCallState z seen → ((s y : HartState) → IsCallState s was → IsCallState y seen → new ≡ notes_by (spsc_of l) notes e s y)
+    → IsEventNoted B M l (Act h) t notes u new
+act_noted B M l t u h e notes new z was seen happens place stands is_seen noted = record {
   outcome = outcome.Did e;
   happens = happens;
   noted = λ are. subst (λ (v : History). AreCallNotes M t.opening (spsc_of l) v.entries new) (sym happens.after)
@@ -144,16 +153,17 @@ act_noted B M l t u h pc e notes new z seen happens place stands is_seen noted =
     z_is = let both : Some z ≡ Some (advanced s (number_read e)) = sym stands ∙ ap (λ (v : History). state_of M v h) happens.after
         ∙ ap (state_of M (with_entry t e)) (sym mine) ∙ after in cc
 
-    pc_is : s.pc ≡ pc
-    pc_is = sym (place ∙ ap (λ g. pc_in (state_of M t g)) (sym mine) ∙ ap pc_in before)
+    was_is : IsCallState s was
+    was_is = place s (subst (λ (g : ℕ). state_of M t g ≡ Some s) mine before)
 
     is_new : new ≡ notes_by (spsc_of l) notes e s (advanced s (number_read e))
-    is_new = noted s (advanced s (number_read e)) pc_is (subst (λ (y : HartState). IsCallState y seen) z_is is_seen)
+    is_new = noted s (advanced s (number_read e)) was_is (subst (λ (y : HartState). IsCallState y seen) z_is is_seen)
 
 -- a landing, which is no entry of a party's own
 land_keeps : (M : ℕ) (o : OpeningValue) (q : SpscQueue) (es : List Entry) (h : ℕ) (notes : Notes) → AreCallNotes M o q es notes
     → AreCallNotes M o q (es ++ entry.Land h ∷ []) notes
 land_keeps M o q es h notes are = record {
+  calls = land_counts M o q es h notes.calls are.calls;
   found = are.found ∙ sym (or-none (first_debt M o q es)) ∙ sym (first_more M o q es (entry.Land h));
   sending = are.sending ∙ same_call M o q.sender q.send_line q.block (is_sender_in_call M o q [] es) es (entry.Land h) (land_other q.sender (entry.Land h) refl)
       ∙ sym (call_more M o q.sender q.send_line q.block es (entry.Land h));

@@ -1,17 +1,22 @@
--- The answer of many runs: that all keep what callers owe, or a debt and a short schedule of a run that has it.
-use Rattle.std.specs.Prelude.{ℕ, ◌≡◌, ◌<◌, ◌⊎◌, Bool, true, false, List, [], ◌∷◌, ◌++◌, Option, Result, Ok, Err, codes}
+-- The answer of many runs: that all keep what callers owe and what they count to, or a debt and a short schedule of a run that has it.
+use Rattle.std.specs.Prelude.{ℕ, ◌≡◌, ◌⊎◌, Bool, true, false, not, List, [], ◌∷◌, ◌++◌, Option, Result, Ok, Err, codes}
 use Rattle.std.specs.Fmt.{decimal}
 use Rattle.rand_core.specs.Stream.{Stream}
 use Rattle.step_machine.specs.declared.events.Event.{Event}
 use Rattle.step_machine.specs.History.{OpeningValue}
 use Rattle.litmus.specs.LitmusTests.{LitmusTest}
 use Rattle.recorder.specs.Writing.{canon}
+use Rattle.judged_runs.specs.Finding.{AreAllGood}
+use Rattle.judged_runs.specs.Telling.{IsFlawTold}
 use Rattle.engine_support.specs.declared.fault.Refusal.{Refusal}
 use Rattle.engine_support.specs.Inputs.{After}
 use Rattle.engine_support.specs.Tests.{tests}
 use Rattle.callers.specs.Queues.{IsLocated}
 use Rattle.callers.specs.Debts.{IsOpeningDebt}
-use Rattle.callers.specs.Runs.{CallSource, call_source, call_schedule, AreKept, IsFirstWithDebt, IsMadeShort}
+use Rattle.callers.specs.Counts.{AreCountsOf, are_none}
+use Rattle.callers.specs.Runs.{CallSource, call_source, call_schedule, KeepsObligations, HasDebt}
+use Rattle.callers.specs.declared.counts.Counts.{Counts}
+use Rattle.callers.specs.declared.judging.Calls.{Calls}
 use Rattle.callers.specs.declared.debts.Debt.{Debt}
 use Rattle.callers.specs.declared.debts.Debt.TheVariants as debt
 use Rattle.callers.specs.declared.queue.QueueKind.{QueueKind}
@@ -50,27 +55,41 @@ debt_text (debt.PassedReturn h back) = codes "hart " ++ decimal h ++ codes " cal
 abbrev pub debt_line : Debt → List ℕ
 debt_line d = debt_text d ++ 10 ∷ []
 
-abbrev pub kept_text : (runs : ℕ) → List ℕ
-kept_text runs = codes "kept " ++ decimal runs ++ codes " runs" ++ 10 ∷ []
+-- how many runs keep what callers owe, or that no call returned in them
+abbrev pub head_words : (none : Bool) → List ℕ
+head_words true = codes "no call returned in "
+head_words false = codes "kept "
 
--- all runs keep what callers owe
-pub record IsKeptOutput (s : CallSource) (runs : ℕ) (text : List ℕ) : Type 0 where
-  pub kept : AreKept s runs
-  pub text_is : text ≡ kept_text runs
+abbrev pub head_line : (runs : ℕ) → Calls → List ℕ
+head_line runs calls = head_words (are_none calls) ++ (decimal runs ++ (codes " runs" ++ 10 ∷ []))
 
--- the text has a run of these events, whose first debt is this one, made short, and that debt
-pub record IsShortText (B M : ℕ) (o : OpeningValue) (l : Located) (debt : Debt) (given : List Event) (text : List ℕ) : Type 0 where
-  pub part : List Event
-  pub shortened : IsMadeShort B M o l debt given part
-  pub text_is : text ≡ canon part ++ debt_line debt
+-- what the calls of a party's hart came to
+abbrev pub calls_line : (hart : ℕ) → (did : List ℕ) → (words : ℕ) → (found : List ℕ) → (times : ℕ) → List ℕ
+calls_line h did words found times = codes "hart " ++ (decimal h ++ (codes " " ++ (did ++ (codes " " ++ (decimal words
+    ++ (codes " words and found the queue " ++ (found ++ (codes " " ++ (decimal times ++ (codes " times" ++ 10 ∷ []))))))))))
+
+abbrev pub unfinished_line : (runs : ℕ) → List ℕ
+unfinished_line runs = codes "unfinished " ++ (decimal runs ++ 10 ∷ [])
+
+abbrev pub kept_text : Queue → (runs : ℕ) → Counts → List ℕ
+kept_text q runs counts =
+    head_line runs counts.calls ++ calls_line q.sender (codes "sent") counts.calls.sent (codes "full") counts.calls.full
+    ++ calls_line q.receiver (codes "received") counts.calls.received (codes "empty") counts.calls.empty ++ unfinished_line counts.unfinished
+
+-- all runs keep what callers owe, and the text has what they count to; whether some call returned
+pub record IsKeptOutput (s : CallSource) (runs : ℕ) (text : List ℕ) (called : Bool) : Type 0 where
+  pub counts : Counts
+  pub kept : AreAllGood (KeepsObligations s.B s.M s.opening s.located) (AreCountsOf s.B s.M s.opening s.located) (call_schedule s) 0 runs counts
+  pub called_is : called ≡ not (are_none counts.calls)
+  pub text_is : text ≡ kept_text s.located.queue runs counts
 
 -- the first run that owes something, made short, and what it owes first
 pub record IsDebtOutput (s : CallSource) (runs : ℕ) (text : List ℕ) : Type 0 where
-  pub number : ℕ
-  pub within : number < runs
+  pub part : List Event
   pub debt : Debt
-  pub first : IsFirstWithDebt s number debt
-  pub shown : IsShortText s.B s.M s.opening s.located debt (call_schedule s number) text
+  pub is_told : IsFlawTold (KeepsObligations s.B s.M s.opening s.located) (HasDebt s.B s.M s.opening s.located) (λ found other. found ≡ other)
+      (call_schedule s) runs part debt
+  pub text_is : text ≡ canon part ++ debt_line debt
 
 -- something is owed at the opening already, which a schedule of no events shows
 pub record IsOpeningDebtOutput (M : ℕ) (o : OpeningValue) (queue : Queue) (text : List ℕ) : Type 0 where
@@ -78,10 +97,10 @@ pub record IsOpeningDebtOutput (M : ℕ) (o : OpeningValue) (queue : Queue) (tex
   pub has_debt : IsOpeningDebt M o queue debt
   pub text_is : text ≡ canon [] ++ debt_line debt
 
--- the text for this number of runs, and whether all keep what callers owe
+-- the text for this number of runs, and whether all keep what callers owe and some call returned
 abbrev pub IsOutputOfRuns : CallSource → (runs : ℕ) → List ℕ × Bool → Type 0
-IsOutputOfRuns s runs (text, true) = IsKeptOutput s runs text
-IsOutputOfRuns s runs (text, false) = IsDebtOutput s runs text
+IsOutputOfRuns s runs (text, true) = IsKeptOutput s runs text true
+IsOutputOfRuns s runs (text, false) = IsKeptOutput s runs text false ⊎ IsDebtOutput s runs text
 
 -- the same of a queue whose functions were found
 pub record IsLocatedOutput (B M : ℕ) (o : OpeningValue) (queue : Queue) (stream : Stream) (runs size : ℕ) (answer : List ℕ × Bool) : Type 0 where
@@ -89,7 +108,7 @@ pub record IsLocatedOutput (B M : ℕ) (o : OpeningValue) (queue : Queue) (strea
   pub usable : IsLocated M o queue located
   pub output_of : IsOutputOfRuns (call_source B M o located stream size) runs answer
 
--- the text for this many drawn runs from this opening, and whether all keep what callers owe: what is owed at the opening
+-- the text for this many drawn runs from this opening, and whether all keep what callers owe and some call returned: what is owed at the opening
 -- already, or what the runs show
 abbrev pub IsCallersOutput : (B M : ℕ) → OpeningValue → Queue → Stream → (runs size : ℕ) → List ℕ × Bool → Type 0
 IsCallersOutput B M o queue stream runs size (text, true) = IsLocatedOutput B M o queue stream runs size (text, true)

@@ -1,5 +1,6 @@
 pub mod Queues
 pub mod Debts
+pub mod Counts
 pub mod Runs
 pub mod Answers
 pub mod inner

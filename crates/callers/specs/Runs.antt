@@ -1,11 +1,10 @@
 -- Runs of code that calls a queue's functions, by schedules that a generator draws.
-use Rattle.std.specs.Prelude.{ℕ, ◌≡◌, ◌<◌, List, [], length, Some}
+use Rattle.std.specs.Prelude.{ℕ, ◌≡◌, List, [], length, None, Some}
 use Rattle.rand_core.specs.Stream.{Stream}
 use Rattle.step_machine.specs.declared.events.Event.{Event}
 use Rattle.step_machine.specs.History.{OpeningValue, History}
 use Rattle.step_machine.specs.Runs.{Run}
 use Rattle.recorder.specs.Drawing.{schedule_drawn}
-use Rattle.shrink.specs.Shrinking.{IsPartOf, without}
 use Rattle.spsc_queue.specs.Calls.{UsesAsSpscQueue}
 use Rattle.callers.specs.Queues.{spsc_of}
 use Rattle.callers.specs.Debts.{first_debt}
@@ -35,23 +34,14 @@ pub record KeepsObligations (B M : ℕ) (o : OpeningValue) (l : Located) (events
   pub run : Run B M o events history
   pub uses : UsesAsSpscQueue B M o (spsc_of l) [] history.entries
 
--- the runs before this number keep all
-abbrev pub AreKept : CallSource → (number : ℕ) → Type 0
-AreKept s number = (i : ℕ) → i < number → KeepsObligations s.B s.M s.opening s.located (call_schedule s i)
+-- a run of these events that owes nothing
+pub record HasNoDebt (B M : ℕ) (o : OpeningValue) (l : Located) (events : List Event) : Type 0 where
+  pub history : History
+  pub run : Run B M o events history
+  pub none : first_debt M o (spsc_of l) history.entries ≡ None
 
 -- the first debt of a run of these events is this one
 pub record HasDebt (B M : ℕ) (o : OpeningValue) (l : Located) (events : List Event) (debt : Debt) : Type 0 where
   pub history : History
   pub run : Run B M o events history
   pub first : first_debt M o (spsc_of l) history.entries ≡ Some debt
-
--- the run of this number is the first one that owes something, and this is its first debt
-pub record IsFirstWithDebt (s : CallSource) (number : ℕ) (debt : Debt) : Type 0 where
-  pub before : AreKept s number
-  pub has_debt : HasDebt s.B s.M s.opening s.located (call_schedule s number) debt
-
--- the answer is a part of the given events that owes the same first; without any one event it doesn't
-pub record IsMadeShort (B M : ℕ) (o : OpeningValue) (l : Located) (debt : Debt) (given answer : List Event) : Type 0 where
-  pub part : IsPartOf answer given
-  pub has_debt : HasDebt B M o l answer debt
-  pub minimal : (i : ℕ) → i < length answer → HasDebt B M o l (without i 1 answer) debt → ⊥

@@ -3,10 +3,12 @@
 ghost use Rattle.std.specs.Prelude.{◌≡◌, ◌++◌, IfOk, OnOk};
 ghost use Rattle.std.specs.String.{string_bytes};
 ghost use Rattle.recorder.specs.Writing.{canon};
-ghost use Rattle.callers.specs.Answers.{send_name, receive_name, debt_text, debt_line, kept_text};
+ghost use Rattle.callers.specs.Answers.{calls_line, debt_text, debt_line, head_line, head_words, kept_text, receive_name, send_name, unfinished_line};
 
+use crate::counts::{Counts, are_none};
 use crate::debts::Debt;
-use crate::queue::QueueKind;
+use crate::judging::Calls;
+use crate::queue::{Queue, QueueKind};
 use recorder::schedule_text;
 use std::alloc::{AllocError, Global};
 use step_machine::Event;
@@ -96,11 +98,76 @@ pub(crate) fn owing_text(alloc: Global, events: &[Event], debt: Debt) -> Result<
     Ok(text)
 }
 
-/// The text of this number of runs, all of which keep what callers owe.
-pub(crate) fn kept_text(alloc: Global, runs: u32) -> Result<String, AllocError>
-    ensures { IfOk result (λ text. string_bytes text ≡ kept_text runs) }
+/// What stands before the number of runs, where no call returned and where some did.
+fn head_words(none: bool) -> &'static str
+    ensures { result.now ≡ head_words none }
 {
+    if none {
+        "no call returned in "
+    } else {
+        "kept "
+    }
+}
+
+/// Appends the line of how many runs keep what callers owe, or that no call returned in them.
+fn push_head(out: &mut String, runs: u32, calls: Calls) -> Result<(), AllocError>
+    ensures { OnOk result (string_bytes out.new ≡ string_bytes out.old ++ head_line runs calls) }
+{
+    writeln!(out, "{}{runs} runs", head_words(are_none(calls)))
+}
+
+/// Appends what a party's calls came to.
+fn push_calls(
+    out: &mut String,
+    hart: u32,
+    did: &str,
+    words: u64,
+    found: &str,
+    times: u64,
+) -> Result<(), AllocError>
+    ensures { OnOk result (string_bytes out.new ≡ string_bytes out.old ++ calls_line hart did.now words found.now times) }
+{
+    writeln!(
+        out,
+        "hart {hart} {did} {words} words and found the queue {found} {times} times"
+    )
+}
+
+/// Appends the line of how many runs weren't finished.
+fn push_unfinished(out: &mut String, runs: u32) -> Result<(), AllocError>
+    ensures { OnOk result (string_bytes out.new ≡ string_bytes out.old ++ unfinished_line runs) }
+{
+    writeln!(out, "unfinished {runs}")
+}
+
+/// The text of this number of runs, all of which keep what callers owe, and what they count to.
+pub(crate) fn kept_text(
+    alloc: Global,
+    queue: Queue,
+    runs: u32,
+    counts: Counts,
+) -> Result<String, AllocError>
+    ensures { IfOk result (λ text. string_bytes text ≡ kept_text queue runs counts) }
+{
+    let calls = counts.calls;
     let mut out = String::new(alloc);
-    writeln!(out, "kept {runs} runs")?;
+    push_head(&mut out, runs, calls)?;
+    push_calls(
+        &mut out,
+        queue.sender,
+        "sent",
+        calls.sent,
+        "full",
+        calls.full,
+    )?;
+    push_calls(
+        &mut out,
+        queue.receiver,
+        "received",
+        calls.received,
+        "empty",
+        calls.empty,
+    )?;
+    push_unfinished(&mut out, counts.unfinished)?;
     Ok(out)
 }

@@ -10,8 +10,8 @@ ghost use Rattle.step_machine.specs.Runs.{Run};
 ghost use Rattle.spsc_queue.specs.Calls.{Party, buffer, enters, is_in_call_after};
 ghost use Rattle.spsc_queue.specs.Obligations.{is_sendable, may_pass};
 ghost use Rattle.callers.specs.Queues.{kind_of, block_of, spsc_of};
-ghost use Rattle.callers.specs.Debts.{first_debt, idle_debt, met_by, party_debt, pc_in, written_at, arguments_debt, entering_debt};
-ghost use Rattle.callers.specs.inner.Noting.{IsCallState, IsEventNoted, found_by, notes_by, noted_call};
+ghost use Rattle.callers.specs.Debts.{idle_debt, met_by, party_debt, written_at, arguments_debt, entering_debt};
+ghost use Rattle.callers.specs.inner.Noting.{AreCallNotes, IsCallState, IsEventNoted, calls_by, counted_by, found_by, notes_by, noted_call};
 
 use crate::debts::Debt;
 use crate::queue::{Located, QueueKind};
@@ -28,12 +28,34 @@ pub struct CallState {
     pub bytes: u32,
 }
 
-/// What is noted of a run: its first debt, if there is one, and whether each party is in a call.
+/// How many calls returned, each counted up to 18,446,744,073,709,551,615.
+#[derive(Clone, Copy)]
+pub struct Calls {
+    /// Of those that send, how many returned 1: they sent a word.
+    pub sent: u64,
+    /// And how many returned 0: they found the queue full.
+    pub full: u64,
+    /// Of those that receive, how many returned 1: they received a word.
+    pub received: u64,
+    /// And how many returned 0: they found it empty.
+    pub empty: u64,
+}
+
+/// None.
+pub const NO_CALLS: Calls = Calls {
+    sent: 0,
+    full: 0,
+    received: 0,
+    empty: 0,
+};
+
+/// What is noted of a run: its first debt, if there is one, whether each party is in a call, and how many calls returned.
 #[derive(Clone, Copy)]
 pub struct Notes {
     pub found: Option<Debt>,
     pub sending: bool,
     pub receiving: bool,
+    pub calls: Calls,
 }
 
 /// What calls depend on in the hart's state.
@@ -249,9 +271,58 @@ fn party_after(
     }
 }
 
-/// Takes in what a hart did by an instruction: it went on from `pc`, and stands so after it.
-fn note_entry(located: Located, notes: Notes, pc: u32, after: CallState, entry: Entry) -> Notes
-    ensures { (s z : HartState) → s.pc ≡ pc → IsCallState z after → result ≡ notes_by (spsc_of located) notes entry s z }
+/// One more, if the hart of this party stood so in a call of the function at this line, and returns with this number in a0.
+fn counted(
+    is_party: bool,
+    line: u32,
+    number: u32,
+    calling: bool,
+    before: CallState,
+    count: u64,
+) -> u64
+    ensures { (s : HartState) → IsCallState s before → result ≡ counted_by is_party line number calling s count }
+{
+    if is_party && calling && returns_at(line, before.pc) && before.block == number {
+        count.saturating_add(1)
+    } else {
+        count
+    }
+}
+
+/// How many calls returned, with an entry by which a hart went on from this state.
+fn calls_after(located: Located, notes: Notes, before: CallState, entry: Entry) -> Calls
+    ensures { (s : HartState) → IsCallState s before → result ≡ calls_by (spsc_of located) notes entry s }
+{
+    let sends = entry.hart() == located.queue.sender;
+    let receives = entry.hart() == located.queue.receiver;
+    let Located {
+        send_line,
+        receive_line,
+        ..
+    } = located;
+    let Notes {
+        sending,
+        receiving,
+        calls,
+        ..
+    } = notes;
+    Calls {
+        sent: counted(sends, send_line, 1, sending, before, calls.sent),
+        full: counted(sends, send_line, 0, sending, before, calls.full),
+        received: counted(receives, receive_line, 1, receiving, before, calls.received),
+        empty: counted(receives, receive_line, 0, receiving, before, calls.empty),
+    }
+}
+
+/// Takes in what a hart did by an instruction: it stood so before it, and so after it.
+fn note_entry(
+    located: Located,
+    notes: Notes,
+    before: CallState,
+    after: CallState,
+    entry: Entry,
+) -> Notes
+    ensures { (s z : HartState) → IsCallState s before → IsCallState z after → result ≡ notes_by (spsc_of located) notes entry s z }
 {
     let hart = entry.hart();
     let Located {
@@ -265,7 +336,9 @@ fn note_entry(located: Located, notes: Notes, pc: u32, after: CallState, entry: 
         receiving,
         ..
     } = notes;
+    let pc = before.pc;
     Notes {
+        calls: calls_after(located, notes, before, entry),
         found: found_after(located, notes, pc, after, entry),
         sending: party_after(located, hart == queue.sender, send_line, sending, pc, after),
         receiving: party_after(
@@ -279,14 +352,20 @@ fn note_entry(located: Located, notes: Notes, pc: u32, after: CallState, entry: 
     }
 }
 
-/// Where the hart goes on, and 0 if there is no such hart.
-fn pc_of<const B: usize, const M: usize>(machine: &Machine<B, M>, hart: u32) -> u32
-    ensures { result ≡ pc_in (state_of M machine.now.history hart) }
+/// What calls depend on in the hart's state, if there is such a hart.
+fn state_before<const B: usize, const M: usize>(machine: &Machine<B, M>, hart: u32) -> CallState
+    ensures { (s : HartState) → state_of M machine.now.history hart ≡ Some s → IsCallState s result }
 {
     if hart < machine.harts() {
-        machine.pc(hart)
+        call_state(machine, hart)
     } else {
-        0
+        CallState {
+            pc: 0,
+            back: 0,
+            block: 0,
+            word: 0,
+            bytes: 0,
+        }
     }
 }
 
@@ -300,11 +379,11 @@ fn note_act<const B: usize, const M: usize>(
     ensures noted { IfOk result (λ new. IsEventNoted B M located (Act hart) machine.old.history notes machine.new.history new) }
     ensures opening { machine.new.history.opening ≡ machine.old.history.opening }
 {
-    let pc = pc_of(machine, hart);
+    let before = state_before(machine, hart);
     match machine.step(Event::Act(hart))? {
         Outcome::Did(entry) => {
             let after = call_state(machine, hart);
-            Ok(note_entry(located, notes, pc, after, entry))
+            Ok(note_entry(located, notes, before, after, entry))
         }
         Outcome::Waited => Ok(notes),
         Outcome::NothingToLand => Ok(notes),
@@ -332,14 +411,14 @@ fn note_event<const B: usize, const M: usize>(
     }
 }
 
-/// What the run of these events owes first, if it owes something. The machine ends at its end, whatever it did before.
+/// What is noted of the run of these events. The machine ends at its end, whatever it did before.
 pub(crate) fn judge<const B: usize, const M: usize>(
     located: Located,
     machine: &mut Machine<B, M>,
     events: &[Event],
-) -> Result<Option<Debt>, AllocError>
+) -> Result<Notes, AllocError>
     ensures run { OnOk result (Run B M machine.old.history.opening events.now machine.new.history) }
-    ensures debt { IfOk result (λ found. found ≡ first_debt M machine.old.history.opening (spsc_of located) machine.new.history.entries) }
+    ensures noted { IfOk result (AreCallNotes M machine.old.history.opening (spsc_of located) machine.new.history.entries) }
     ensures opening { machine.new.history.opening ≡ machine.old.history.opening }
 {
     machine.restart();
@@ -347,9 +426,10 @@ pub(crate) fn judge<const B: usize, const M: usize>(
         found: None,
         sending: false,
         receiving: false,
+        calls: NO_CALLS,
     };
     for event in events {
         notes = note_event(located, machine, notes, *event)?;
     }
-    Ok(notes.found)
+    Ok(notes)
 }

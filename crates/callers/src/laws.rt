@@ -24,8 +24,8 @@ pub fn laws_of_debts()
     ensures opening { (M : ℕ) (o : OpeningValue) (q : Queue) (l : Located) (d : Debt) → IsLocated M o q l → IsOpeningDebt M o q d → ⊥ }
 {}
 
-/// Two answers of one test's runs both say that all keep what callers owe, in one text, or both tell a debt. Which one, and
-/// by which of the parts from which no event can go, isn't said. It does nothing.
+/// Two answers of one test's runs both say that all keep what callers owe and some call returned, or neither does. Which debt
+/// is told, and by which of the parts from which no event can go, isn't said. It does nothing.
 #[tactic(auto, using(crate::proofs::Alike::status_alike))]
 pub fn callers_alike()
     ensures { (B M : ℕ) (o : OpeningValue) (q : Queue) (stream : Stream) (runs size : ℕ) (text other : List ℕ) (a b : Bool)

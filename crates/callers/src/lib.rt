@@ -8,16 +8,15 @@
 #![tactic(auto)]
 
 mod answer_texts;
+pub mod counts;
 pub mod debts;
 pub mod engine;
 pub mod judging;
 pub mod laws;
 mod locating;
-mod parallel;
 pub mod queue;
 pub mod run_output;
 pub mod runs;
-mod shortening;
 
 pub use debts::Debt;
 pub use engine::callers_engine;

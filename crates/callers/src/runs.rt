@@ -1,47 +1,103 @@
-//! Many runs, by schedules that are drawn one after the other.
+//! A test's runs, each judged by what its callers owe first.
 
-ghost use Rattle.std.specs.Prelude.{◌≡◌, ◌≤◌, IfOk};
-ghost use Rattle.callers.specs.Runs.{call_source};
-ghost use Rattle.callers.specs.inner.Finding.{IsFoundIn};
+ghost use Rattle.std.specs.Prelude.{◌≡◌, ◌≤◌};
+ghost use Rattle.litmus.specs.declared.litmus_test.TheConstants.{MAX_LOCATIONS};
+ghost use Rattle.litmus.specs.LitmusTests.{IsTest};
+ghost use Rattle.callers.specs.Runs.{HasNoDebt, HasDebt};
+ghost use Rattle.callers.specs.Counts.{AreCountsOf, HasCalls};
 
+use crate::counts::{Counts, both, unfinished_by};
 use crate::debts::Debt;
-use crate::judging::judge;
+use crate::judging::{Calls, NO_CALLS, judge};
 use crate::queue::Located;
-use jumping::Jump;
-use recorder::draw;
+use judged_runs::Judge;
+use litmus::Test;
 use std::alloc::{AllocError, Global};
-use step_machine::Machine;
+use step_machine::laws::laws_of_runs;
+use step_machine::{Event, Machine};
 
-/// The number of a run that owes something, and what it owes first.
-#[derive(Clone, Copy)]
-pub struct Owing {
-    pub number: u32,
-    pub debt: Debt,
+/// What runs of callers are judged on: a machine of the test's opening, and how many calls returned in the last run.
+#[derive(Drop)]
+pub struct CallersBench<const B: usize, const M: usize> {
+    pub machine: Machine<B, M>,
+    pub calls: Calls,
 }
 
-/// The first run that owes something, from `first` on and before `end`, each by `size` events that the generator draws.
-pub(crate) fn first_owing<const B: usize, const M: usize, G: Jump + Drop>(
-    alloc: Global,
-    located: Located,
-    machine: &mut Machine<B, M>,
-    generator: &G,
-    first: u32,
-    end: u32,
-    size: u32,
-) -> Result<Option<Owing>, AllocError>
-    requires { first ≤ end }
-    ensures { IfOk result
-        (IsFoundIn (call_source B M machine.old.history.opening located (G.Rng.stream generator.now) size) first end) }
-{
-    let mut there = generator.ahead(u64::from(first), size)?;
-    let harts = machine.harts();
-    let mut events = Vec::new(alloc);
-    for number in first..end {
-        draw(&mut events, &mut there, harts, size)?;
-        match judge(located, machine, &events)? {
-            Some(debt) => return Ok(Some(Owing { number, debt })),
-            None => {}
-        }
+/// What judges the runs of a test whose harts call a queue's functions, over buffers of `B` stores and `M` words of memory.
+#[derive(Drop)]
+pub struct CallersJudge<'a, const B: usize, const M: usize> {
+    pub test: &'a Test,
+    pub located: Located,
+    ghost can: { (1 ≤ B) × (B ≤ 64) × (MAX_LOCATIONS ≤ M) × (M ≤ 65536) },
+}
+
+impl<'a, const B: usize, const M: usize> Judge for CallersJudge<'a, B, M> {
+    ghost use Rattle.std.specs.Prelude.{length, refl};
+
+    type Bench = CallersBench<B, M>;
+
+    type Flaw = Debt;
+
+    type Tally = Counts;
+
+    ghost harts = { λ it. length it.test.now.opening.harts };
+
+    ghost stands = { λ it bench. (bench.machine.history.opening ≡ it.test.now.opening) × IsTest it.test.now };
+
+    ghost noted = { λ it events bench. HasCalls B M it.test.now.opening it.located events bench.machine.history bench.calls };
+
+    ghost is_good = { λ it events. HasNoDebt B M it.test.now.opening it.located events };
+
+    ghost has = { λ it events debt. HasDebt B M it.test.now.opening it.located events debt };
+
+    ghost alike = { λ it debt other. debt ≡ other };
+
+    ghost counts = { λ it all counts. AreCountsOf B M it.test.now.opening it.located all counts };
+
+    fn bench(&self, alloc: Global) -> Result<CallersBench<B, M>, AllocError> {
+        let opening = self.test.opening(alloc)?;
+        let machine = Machine::open(alloc, opening)?;
+        Ok(CallersBench {
+            machine,
+            calls: NO_CALLS,
+        })
     }
-    Ok(None)
+
+    fn harts(&self, bench: &CallersBench<B, M>) -> u32 {
+        bench.machine.harts()
+    }
+
+    fn judge(
+        &self,
+        bench: &mut CallersBench<B, M>,
+        events: &[Event],
+    ) -> Result<Option<Debt>, AllocError> {
+        laws_of_runs();
+        let notes = judge(self.located, &mut bench.machine, events)?;
+        bench.calls = notes.calls;
+        Ok(notes.found)
+    }
+
+    fn is_alike(&self, debt: Debt, other: Debt) -> bool {
+        debt == other
+    }
+
+    fn none(&self, _alloc: Global) -> Result<Counts, AllocError> {
+        Ok(Counts {
+            calls: NO_CALLS,
+            unfinished: 0,
+        })
+    }
+
+    fn add(&self, bench: &CallersBench<B, M>, counts: &mut Counts) {
+        counts.calls = both(counts.calls, bench.calls);
+        counts.unfinished += unfinished_by(self.test.verdict(bench.machine.machine_state()));
+    }
+
+    fn join(&self, counts: &mut Counts, later: Counts) {
+        counts.calls = both(counts.calls, later.calls);
+        counts.unfinished += later.unfinished;
+    }
+
+    ghost same = { λ it debt. refl };
 }

@@ -1,10 +1,9 @@
 -- What answers `ring` is one answer where all runs are clean, and where they aren't each answer tells of that.
-use Rattle.std.proofs.Common.{◌≡◌, ℕ, zero, suc, ◌+◌, ◌<◌, Bool, true, false, List, [], ◌∷◌, ◌++◌, All, length, Result, Ok}
+use Rattle.std.proofs.Common.{◌≡◌, ℕ, suc, ◌+◌, ◌-◌, Bool, true, false, List, [], ◌∷◌, ◌++◌, length, Result, Ok}
 use Rattle.std.proofs.Common.{refl, sym, ap, ap₂, subst, ◌∙◌, arith}
 use Rattle.std.specs.Prelude.{Some, None, codes}
 use Rattle.std.specs.Fmt.{decimal}
 use Rattle.std.specs.List.{slice_get}
-use Rattle.std.proofs.lemmas.List.Elements.{All-head, All-tail}
 use Rattle.step_machine.specs.History.{History, OpeningValue, at_opening}
 use Rattle.step_machine.specs.Runs.{Run}
 use Rattle.step_machine.proofs.Running.{run-one}
@@ -13,16 +12,18 @@ use Rattle.poll_close.specs.Breaches.{first_breach}
 use Rattle.poll_close.specs.Laws.{opening_over}
 use Rattle.poll_close.specs.Layout.{Layout}
 use Rattle.poll_close.specs.Places.{layout_of}
-use Rattle.poll_close.specs.declared.clean.Breach.{Breach}
 use Rattle.poll_close.specs.declared.place.BlockPlace.{BlockPlace}
 use Rattle.poll_close.proofs.BreachLaws.{first_law}
 use Rattle.engine_support.specs.declared.fault.Refusal.{Refusal}
 use Rattle.engine_support.specs.declared.fault.Role.TheVariants.{Sender, Receiver}
 use Rattle.engine_support.specs.Inputs.{After, Format}
 use Rattle.engine_support.proofs.InputLaws.{IsOne, alike_after}
-use Rattle.ring_trials.specs.Answers.{IsTrialsOutput, IsCleanOutput, clean_text, sender_line, sender_lines}
+use Rattle.judged_runs.specs.Finding.{schedules_from}
+use Rattle.judged_runs.specs.Histories.{AreRuns}
+use Rattle.judged_runs.proofs.Histories.{runs_one}
+use Rattle.ring_trials.specs.Answers.{IsTrialsOutput, IsCleanOutput, IsUncleanOutput, clean_text, sender_line, sender_lines}
 use Rattle.ring_trials.specs.UserChannel.{ring_of, lists_of, layout_from, start_of}
-use Rattle.ring_trials.specs.Trials.{AreAllClean, AreRuns, AreTotals, IsFirstUnclean, IsRunOf, KeepsAll, closed_in, most_of, schedule_of_run}
+use Rattle.ring_trials.specs.Trials.{AreTotals, closed_in, most_of, schedule_of_run}
 use Rattle.ring_trials.specs.declared.user_channel.UserChannel.{UserChannel}
 use Rattle.ring_trials.specs.declared.runs.Total.{Total}
 use Rattle.channel_engines.specs.Lists.{list_texts}
@@ -70,49 +71,31 @@ module _ (d : Draws) (channel also : UserChannel) (rings : ring_of channel ≡ r
   starts : start_of channel ≡ start_of also
   starts = λ i. opening_over (rings i) (lists i) (layouts i)
 
-  one_run : (n : ℕ) (t u : History) → IsRunOf (source_drawn d channel) n t → IsRunOf (source_drawn d also) n u → t ≡ u
-  one_run n t u is other =
-      run-one d.B d.M (at_opening (start_of channel)) (schedule_of_run (source_drawn d channel) n) t u is
-      (subst (λ (o : OpeningValue). Run d.B d.M o (schedule_drawn (length o.harts) d.size d.stream n) u) (sym starts) other)
-
-  one_list : (n : ℕ) (ts us : List History) → AreRuns (source_drawn d channel) n ts → AreRuns (source_drawn d also) n us → length ts ≡ length us → ts ≡ us
-  one_list n [] [] is other e = refl
-  one_list n [] (u ∷ us) is other e = absurd (omega (arith, e))
-  one_list n (t ∷ ts) [] is other e = absurd (omega (arith, e))
-  one_list n (t ∷ ts) (u ∷ us) (run, rest) (other, others) e =
-      ap₂ (λ (x : History) (xs : List History). x ∷ xs) (one_run n t u run other) (one_list (n + 1) ts us rest others (omega (arith, e)))
-
-  -- a run among clean ones keeps what a ring must
-  kept_at : (n k : ℕ) (ts : List History) (u : History) → AreRuns (source_drawn d channel) n ts → All (KeepsAll channel) ts → k < length ts
-      → IsRunOf (source_drawn d also) (n + k) u → KeepsAll channel u
-  kept_at n k [] u is kept less other = absurd (omega (arith, less))
-  kept_at n zero (t ∷ ts) u (run, rest) kept less other =
-      let here : n + 0 ≡ n = omega arith in
-      subst (KeepsAll channel) (one_run n t u run (subst (λ (m : ℕ). IsRunOf (source_drawn d also) m u) here other)) (All-head (KeepsAll channel) t ts kept)
-  kept_at n (suc k) (t ∷ ts) u (run, rest) kept less other =
-      let here : n + suc k ≡ n + 1 + k = omega arith in
-      kept_at (n + 1) k ts u rest (All-tail (KeepsAll channel) t ts kept) (omega (arith, less))
-      (subst (λ (m : ℕ). IsRunOf (source_drawn d also) m u) here other)
-
   -- so the runs of one aren't all clean where those of the other aren't
-  clean_or_not : (totals : List Total) (number : ℕ) (found : Breach) → AreAllClean (source_drawn d channel) d.runs totals → number < d.runs
-      → IsFirstUnclean (source_drawn d also) number found → ⊥
-  clean_or_not totals number found clean within first =
-      let here : number ≡ 0 + number = omega arith in
-      let kept = kept_at 0 number clean.histories first.history clean.clean.runs clean.clean.kept (omega (arith, clean.clean.count, within))
-      (subst (λ (m : ℕ). IsRunOf (source_drawn d also) m first.history) here first.run) in
-      let none : first_breach (layout_from channel) (lists_of channel) first.history.entries ≡ None =
-      (first_law (layout_from channel) (lists_of channel) first.history.entries).1 kept in
-      let same : first_breach (layout_from channel) (lists_of channel) first.history.entries
-      ≡ first_breach (layout_from also) (lists_of also) first.history.entries =
-      ap₂ (λ (l : Layout) (ls : List (List ℕ)). first_breach l ls first.history.entries) layouts lists in
-      let breaks = first.breaks in absurd cc
+  clean_or_not : (a b : List ℕ) → IsCleanOutput (source_drawn d channel) d.runs a → IsUncleanOutput (source_drawn d also) d.runs b → ⊥
+  clean_or_not a b is other =
+      let number = other.is_told.number in
+      let has = other.is_told.is_first.has in
+      let mine = is.clean.good number (omega arith) other.is_told.is_first.within in
+      let run : Run d.B d.M (start_of channel) (schedule_of_run (source_drawn d channel) number) has.history =
+      subst (λ (o : OpeningValue). Run d.B d.M o (schedule_drawn (length o.harts) d.size d.stream number) has.history) (sym starts) has.run in
+      let same : mine.history ≡ has.history =
+      run-one d.B d.M (at_opening (start_of channel)) (schedule_of_run (source_drawn d channel) number) mine.history has.history mine.run run in
+      let none : first_breach (layout_from channel) (lists_of channel) mine.history.entries ≡ None =
+      (first_law (layout_from channel) (lists_of channel) mine.history.entries).1 mine.kept in
+      let some : first_breach (layout_from channel) (lists_of channel) mine.history.entries ≡ Some other.is_told.flaw =
+      ap (λ (t : History). first_breach (layout_from channel) (lists_of channel) t.entries) same
+      ∙ ap₂ (λ (l : Layout) (ls : List (List ℕ)). first_breach l ls has.history.entries) layouts lists ∙ has.breaks in absurd cc
 
   one_clean : (a b : List ℕ) → IsCleanOutput (source_drawn d channel) d.runs a → IsCleanOutput (source_drawn d also) d.runs b → a ≡ b
   one_clean a b is other =
-      let first = is.clean in
-      let second = other.clean in
-      let runs = one_list 0 first.histories second.histories first.clean.runs second.clean.runs (first.clean.count ∙ sym second.clean.count) in
+      let first = is.clean.counted in
+      let second = other.clean.counted in
+      let all = schedules_from (schedule_of_run (source_drawn d channel)) 0 (d.runs - 0) in
+      let others : AreRuns d.B d.M (start_of channel) all second.histories =
+      subst (λ (o : OpeningValue). AreRuns d.B d.M o (schedules_from (schedule_drawn (length o.harts) d.size d.stream) 0 (d.runs - 0)) second.histories)
+      (sym starts) second.runs in
+      let runs : first.histories ≡ second.histories = runs_one d.B d.M (start_of channel) all first.histories second.histories first.runs others in
       let ts = second.histories in
       let firsts : AreTotalsFrom ts 0 is.totals =
       subst (λ (hs : List History). AreTotalsFrom hs 0 is.totals) runs (from_first first.histories is.totals first.totals_are) in
@@ -130,9 +113,9 @@ outputs_alike : (d : Draws) (channel also : UserChannel) → ring_of channel ≡
     → (a b : List ℕ × Bool) → IsTrialsOutput (source_drawn d channel) d.runs a → IsTrialsOutput (source_drawn d also) d.runs b → AreAlikeRuns (Ok a) (Ok b)
 outputs_alike d channel also rings lists layouts (a, true) (b, true) is other = one_clean d channel also rings lists layouts a b is other
 outputs_alike d channel also rings lists layouts (a, true) (b, false) is other =
-    clean_or_not d channel also rings lists layouts is.totals other.number other.found is.clean other.within other.first
+    clean_or_not d channel also rings lists layouts a b is other
 outputs_alike d channel also rings lists layouts (a, false) (b, true) is other =
-    clean_or_not d also channel (sym rings) (sym lists) (sym layouts) other.totals is.number is.found other.clean is.within is.first
+    clean_or_not d also channel (sym rings) (sym lists) (sym layouts) b a other is
 outputs_alike d channel also rings lists layouts (a, false) (b, false) is other = tt
 
 -- ---- the answer

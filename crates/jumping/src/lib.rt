@@ -17,7 +17,6 @@ ghost use Rattle.recorder.specs.Drawing.{left_after};
 ghost use Rattle.jumping.specs.Sharing.{first_of};
 
 pub use draws::{Draw, draw_by};
-
 use rand_core::Rng;
 use rand_pcg::Lcg64Xsh32;
 use std::alloc::AllocError;

@@ -1,5 +1,4 @@
 pub mod JudgingLaws
 pub mod RunsLaws
-pub mod JoiningLaws
 pub mod TextLaws
 pub mod OpeningLaws

@@ -1,44 +1,29 @@
--- One run more.
-use Rattle.std.proofs.Common.{ℕ, suc, ◌≡◌, ◌+◌, ◌*◌, ◌<◌, ◌≤◌, inl, inr, List, [], ◌∷◌, ◌++◌, length, take, set, max, Bool, true}
-use Rattle.std.proofs.Common.{false, Option, Some, None, refl, sym, ap, subst, ◌∙◌, arith, length-append, append-nil, drop}
+-- The totals of runs, one more, and those of two parts together.
+use Rattle.std.proofs.Common.{ℕ, suc, ◌≡◌, ◌+◌, ◌<◌, ◌≤◌, inl, inr, List, [], ◌∷◌, ◌++◌, length, take, set, max, Bool, true}
+use Rattle.std.proofs.Common.{false, Option, Some, None, refl, sym, ap, subst, ◌∙◌, arith, append-nil, drop}
 use Rattle.std.proofs.Common.{drop_of_length-le}
-use Rattle.std.specs.Prelude.{◌↔◌, IsTrue, if◌then◌else◌, map}
+use Rattle.std.specs.Prelude.{if◌then◌else◌}
 use Rattle.std.specs.List.{slice_get}
 use Rattle.std.proofs.Math.Nat.{eq-or-lt_of_le}
 use Rattle.std.proofs.Math.Seq.{take-length}
 use Rattle.std.proofs.lemmas.Bool.Decides.{nat_tests}
-use Rattle.std.proofs.lemmas.List.Elements.{All-append, All-cons, All-nil}
 use Rattle.std.proofs.lemmas.Option.{slice_get_within}
-use Rattle.rand_core.specs.Stream.{Stream}
-use Rattle.step_machine.specs.History.{History, OpeningValue}
+use Rattle.step_machine.specs.History.{History, at_opening}
 use Rattle.step_machine.specs.Entries.{reported}
-use Rattle.step_machine.specs.Runs.{Run}
+use Rattle.step_machine.proofs.Running.{run-one}
 use Rattle.step_machine.proofs.Stays.{slice_get-set_same, slice_get-set_other}
 use Rattle.step_machine.specs.declared.events.Event.{Event}
-use Rattle.recorder.specs.Drawing.{drawn, drawn_words, left_after}
 use Rattle.poll_close.specs.Reports.{taken}
 use Rattle.poll_close.specs.Plans.{is_closed}
 use Rattle.poll_close.specs.Breaches.{first_breach, AreNotes}
 use Rattle.poll_close.specs.declared.clean.Breach.{Breach}
 use Rattle.poll_close.specs.declared.clean.Share.{Share}
 use Rattle.poll_close.proofs.BreachLaws.{first_law}
+use Rattle.judged_runs.proofs.Histories.{runs_both, runs_count}
 use Rattle.ring_trials.specs.UserChannel.{lists_of, layout_from, start_of}
 use Rattle.ring_trials.specs.declared.user_channel.UserChannel.{UserChannel}
 use Rattle.ring_trials.specs.declared.runs.Total.{Total}
-use Rattle.ring_trials.specs.Trials.{ChannelSource, schedule_of_run, IsRunOf, AreRuns, KeepsAll, AreCleanRuns, most_of, closed_in, AreTotals}
-use Rattle.ring_trials.specs.Trials.{IsFirstUnclean, AreAllClean, IsChannelJudged, IsUnclean}
-
-runs_last : (s : ChannelSource) (n : ℕ) (ts : List History) (t : History) → AreRuns s n ts → IsRunOf s (n + length ts) t → AreRuns s n (ts ++ t ∷ [])
-runs_last s n [] t runs run = (subst (λ (k : ℕ). IsRunOf s k t) (omega arith) run, tt)
-runs_last s n (u ∷ ts) t runs run = (runs.0, runs_last s (n + 1) ts t runs.1 (subst (λ (k : ℕ). IsRunOf s k t) (omega arith) run))
-
-clean_more : (s : ChannelSource) (n : ℕ) (ts : List History) (t : History) → AreCleanRuns s n ts → IsRunOf s n t → KeepsAll s.channel t
-    → AreCleanRuns s (n + 1) (ts ++ t ∷ [])
-clean_more s n ts t clean run kept = record {
-  runs = runs_last s 0 ts t clean.runs (subst (λ (k : ℕ). IsRunOf s k t) (omega (arith, clean.count)) run);
-  count = length-append ts (t ∷ []) ∙ ap (λ k. k + 1) clean.count;
-  kept = All-append (KeepsAll s.channel) ts (t ∷ []) clean.kept (All-cons (KeepsAll s.channel) t [] kept (All-nil (KeepsAll s.channel)));
-}
+use Rattle.ring_trials.specs.Trials.{most_of, closed_in, AreTotals, AreTotalsOf, IsChannelJudged, IsClean, HasBreach}
 
 most_last : (i : ℕ) (ts : List History) (t : History) → most_of i (ts ++ t ∷ []) ≡ max (most_of i ts) (length (taken (reported 0 t.entries) i))
 most_last i [] t = omega arith
@@ -113,52 +98,100 @@ totals_more ts t old new shares i all totals notes taken = record {
       ∙ sym (closed_last k ts t one.1.closed (notes.closed k one.1 one.3));
 }
 
-pub few_closed : (s : ChannelSource) (n : ℕ) (totals : List Total) (k : ℕ) (one : Total) → AreAllClean s n totals
-    → slice_get totals k ≡ Some one → one.closed ≤ n
-few_closed s n totals k one all at =
-    omega (arith, all.totals_are.closed k one at, closed_few k all.histories, all.clean.count)
+-- ---- their totals
 
-pub none_clean : (s : ChannelSource) (totals : List Total) → AreTotals [] totals → length totals ≡ length (lists_of s.channel) → AreAllClean s 0 totals
-none_clean s totals are count = record {
-  histories = [];
-  clean = record { runs = tt; count = refl; kept = All-nil (KeepsAll s.channel) };
-  totals_are = are;
-  count = count;
+most_both : (i : ℕ) (ts us : List History) → most_of i (ts ++ us) ≡ max (most_of i ts) (most_of i us)
+most_both i [] us = omega arith
+most_both i (t ∷ ts) us = omega (arith, most_both i ts us)
+
+sum_first : (a b c d : ℕ) → b ≡ c + d → a + b ≡ a + c + d
+sum_first a b c d is = omega arith
+
+closed_both : (i : ℕ) (ts us : List History) → closed_in i (ts ++ us) ≡ closed_in i ts + closed_in i us
+closed_both i [] us = omega arith
+closed_both i (t ∷ ts) us =
+    sum_first (if is_closed (reported 0 t.entries) i then 1 else 0) (closed_in i (ts ++ us)) (closed_in i ts) (closed_in i us) (closed_both i ts us)
+
+-- a sender's total of later runs is taken into that of those before
+pub record Both (old later new : Total) : Type 0 where
+  pub most : new.most ≡ max old.most later.most
+  pub closed : new.closed ≡ old.closed + later.closed
+
+pub totals_both : (ts us : List History) (old later new : List Total) (i : ℕ) → i ≡ length new → AreTotals ts old → AreTotals us later
+    → TakenIn Total Both old later i new → AreTotals (ts ++ us) new
+totals_both ts us old later new i all first second taken = record {
+  most = λ k t at. let one = taken.before k t (omega (arith, slice_get_within new k t at)) at in
+      one.4.most ∙ ap (λ m. max m one.1.most) (first.most k one.0 one.2) ∙ ap (max (most_of k ts)) (second.most k one.1 one.3) ∙ sym (most_both k ts us);
+  closed = λ k t at. let one = taken.before k t (omega (arith, slice_get_within new k t at)) at in
+      one.4.closed ∙ ap (λ m. m + one.1.closed) (first.closed k one.0 one.2) ∙ ap (λ m. closed_in k ts + m) (second.closed k one.1 one.3)
+      ∙ sym (closed_both k ts us);
 }
 
-pub one_clean : (s : ChannelSource) (n : ℕ) (totals more : List Total) (shares : List Share) (found : Option Breach) → AreAllClean s n totals
-    → IsChannelJudged s.B s.M s.channel (schedule_of_run s n) found shares → found ≡ None
-    → ((ts : List History) (t : History) → AreTotals ts totals → AreNotes (reported 0 t.entries) shares → AreTotals (ts ++ t ∷ []) more)
-    → length more ≡ length totals → AreAllClean s (n + 1) more
-one_clean s n totals more shares found all judged none add same = record {
-  histories = all.histories ++ judged.history ∷ [];
-  clean = clean_more s n all.histories judged.history all.clean judged.run
-      ((first_law (layout_from s.channel) (lists_of s.channel) judged.history.entries).0 (sym judged.noted.breach ∙ none));
-  totals_are = add all.histories judged.history all.totals_are (judged.noted.notes none);
-  count = same ∙ all.count;
-}
+-- ---- the totals of runs of lists of events
 
-pub one_unclean : (s : ChannelSource) (n : ℕ) (totals : List Total) (shares : List Share) (found : Option Breach) (breach : Breach) → AreAllClean s n totals
-    → IsChannelJudged s.B s.M s.channel (schedule_of_run s n) found shares → found ≡ Some breach → IsFirstUnclean s n breach
-one_unclean s n totals shares found breach all judged some = record {
-  before = all.histories;
-  clean = all.clean;
-  history = judged.history;
-  run = judged.run;
-  breaks = sym judged.noted.breach ∙ some;
-}
+module _ (B M : ℕ) (channel : UserChannel) where
+  pub none_counted : (totals : List Total) → AreTotals [] totals → length totals ≡ length (lists_of channel) → AreTotalsOf B M channel [] totals
+  none_counted totals are count = record { histories = []; runs = tt; totals_are = are; count = count }
 
--- ---- what is drawn
+  pub one_counted : (all : List (List Event)) (events : List Event) (old new : List Total) (shares : List Share) → AreTotalsOf B M channel all old
+      → IsChannelJudged B M channel events None shares
+      → ((ts : List History) (t : History) → AreTotals ts old → AreNotes (reported 0 t.entries) shares → AreTotals (ts ++ t ∷ []) new)
+      → length new ≡ length old → AreTotalsOf B M channel (all ++ events ∷ []) new
+  one_counted all events old new shares counted judged add same = record {
+    histories = counted.histories ++ judged.history ∷ [];
+    runs = runs_both B M (start_of channel) all (events ∷ []) counted.histories (judged.history ∷ []) counted.runs (judged.run, tt);
+    totals_are = add counted.histories judged.history counted.totals_are (judged.noted.notes refl);
+    count = same ∙ counted.count;
+  }
 
-pub left_none : (size : ℕ) (stream : Stream) → stream ≡ left_after (0 * size) stream
-unfolding left_after
-left_none size stream = let none : 0 ≡ 0 * size = omega arith in ap (λ (n : ℕ). left_after n stream) none
+  pub both_counted : (all more : List (List Event)) (old later new : List Total) → AreTotalsOf B M channel all old → AreTotalsOf B M channel more later
+      → ((ts us : List History) → AreTotals ts old → AreTotals us later → AreTotals (ts ++ us) new) → length new ≡ length old
+      → AreTotalsOf B M channel (all ++ more) new
+  both_counted all more old later new counted others add same = record {
+    histories = counted.histories ++ others.histories;
+    runs = runs_both B M (start_of channel) all more counted.histories others.histories counted.runs others.runs;
+    totals_are = add counted.histories others.histories counted.totals_are others.totals_are;
+    count = same ∙ counted.count;
+  }
 
-pub schedule_is : (s : ChannelSource) (number harts : ℕ) (now : Stream) (events : List Event) → events ≡ map (drawn harts) (drawn_words s.size now)
-    → harts ≡ length (start_of s.channel).harts → now ≡ left_after (number * s.size) s.stream → events ≡ schedule_of_run s number
-schedule_is s number harts now events is same here =
-    is ∙ ap (λ (n : ℕ). map (drawn n) (drawn_words s.size now)) same
-    ∙ ap (λ (at : Stream). map (drawn (length (start_of s.channel).harts)) (drawn_words s.size at)) here
+  -- a sender was closed in no more runs than there are
+  pub few_counted : (n k : ℕ) (totals : List Total) (one : Total) → (all : List (List Event)) × (length all ≤ n) × AreTotalsOf B M channel all totals
+      → slice_get totals k ≡ Some one → one.closed ≤ n
+  few_counted n k totals one (all, few, counted) at = omega (
+    arith,
+    counted.totals_are.closed k one at,
+    closed_few k counted.histories,
+    runs_count B M (start_of channel) all counted.histories counted.runs,
+    few,
+  )
+
+  -- a run has one first breach, and a clean one none
+  pub one_breach : (events : List Event) (found other : Breach) → HasBreach B M channel events found → HasBreach B M channel events other → found ≡ other
+  one_breach events found other has also =
+      let same : has.history ≡ also.history = run-one B M (at_opening (start_of channel)) events has.history also.history has.run also.run in
+      let both : Some found ≡ Some other =
+      sym has.breaks ∙ ap (λ (t : History). first_breach (layout_from channel) (lists_of channel) t.entries) same ∙ also.breaks in cc
+
+  pub clean_has_none : (events : List Event) (found : Breach) → IsClean B M channel events → HasBreach B M channel events found → ⊥
+  clean_has_none events found clean has =
+      let same : clean.history ≡ has.history = run-one B M (at_opening (start_of channel)) events clean.history has.history clean.run has.run in
+      let none = (first_law (layout_from channel) (lists_of channel) clean.history.entries).1 clean.kept in
+      let some = ap (λ (t : History). first_breach (layout_from channel) (lists_of channel) t.entries) same ∙ has.breaks in
+      absurd (cc)
+
+  -- what was judged of a run
+  pub judged_clean : (events : List Event) (found : Option Breach) (shares : List Share) → IsChannelJudged B M channel events found shares → found ≡ None
+      → IsClean B M channel events
+  judged_clean events found shares judged none = record {
+    history = judged.history;
+    run = judged.run;
+    kept = (first_law (layout_from channel) (lists_of channel) judged.history.entries).0 (sym judged.noted.breach ∙ none);
+  }
+
+  pub judged_breach : (events : List Event) (found : Option Breach) (shares : List Share) → IsChannelJudged B M channel events found shares
+      → (breach : Breach) → found ≡ Some breach → HasBreach B M channel events breach
+  judged_breach events found shares judged breach some =
+      record { history = judged.history; run = judged.run; breaks = sym judged.noted.breach ∙ some }
 
 -- a slice that was written over as a whole
 pub whole_again : {X : Type 0} (n : ℕ) (new old : List X) → length new ≡ length old → n ≡ length old → take n (new ++ drop (length new) old) ≡ new
@@ -166,28 +199,3 @@ whole_again n new old same whole =
     let none : drop (length new) old ≡ [] = drop_of_length-le old (omega (arith, same)) in
     let all : new ++ drop (length new) old ≡ new = ap (λ xs. new ++ xs) none ∙ append-nil new in
     ap (take n) all ∙ ap (λ k. take k new) (whole ∙ sym same) ∙ take-length new
-
--- ---- one run, and whether it breaks something
-
-one_found : (B M : ℕ) (channel : UserChannel) (events : List Event) (found : Option Breach) (shares : List Share)
-    → IsChannelJudged B M channel events found shares
-    → ((o : OpeningValue) (evs : List Event) (t u : History) → Run B M o evs t → Run B M o evs u → t ≡ u) → (unclean : IsUnclean B M channel events)
-    → found ≡ Some unclean.breach
-one_found B M channel events found shares judged one unclean =
-    judged.noted.breach ∙ ap (λ (t : History). first_breach (layout_from channel) (lists_of channel) t.entries)
-    (one (start_of channel) events judged.history unclean.history judged.run unclean.run) ∙ unclean.breaks
-
-pub unclean_some : (B M : ℕ) (channel : UserChannel) (events : List Event) (found : Option Breach) (breach : Breach) (shares : List Share)
-    → IsChannelJudged B M channel events found shares → found ≡ Some breach → IsTrue true ↔ IsUnclean B M channel events
-unclean_some B M channel events found breach shares judged some = (
-  (λ pass. record { history = judged.history; run = judged.run; breach = breach; breaks = sym judged.noted.breach ∙ some }),
-  (λ unclean. refl),
-)
-
-pub unclean_none : (B M : ℕ) (channel : UserChannel) (events : List Event) (found : Option Breach) (shares : List Share)
-    → IsChannelJudged B M channel events found shares → found ≡ None
-    → ((o : OpeningValue) (evs : List Event) (t u : History) → Run B M o evs t → Run B M o evs u → t ≡ u) → IsTrue false ↔ IsUnclean B M channel events
-unclean_none B M channel events found shares judged none one = (
-  (λ pass. cc),
-  (λ unclean. absurd (let some = one_found B M channel events found shares judged one unclean in cc)),
-)

@@ -1,19 +1,17 @@
 -- The answer of many runs: where all are clean, each sender's totals; otherwise a short schedule that isn't clean, and its
 -- first breach.
-use Rattle.std.specs.Prelude.{ℕ, ◌≡◌, ◌+◌, ◌<◌, ◌==◌, if◌then◌else◌, Bool, true, false, List, [], ◌∷◌, ◌++◌, length, Some, codes}
+use Rattle.std.specs.Prelude.{ℕ, ◌≡◌, ◌+◌, ◌<◌, ◌==◌, if◌then◌else◌, Bool, true, false, List, [], ◌∷◌, ◌++◌, length, codes}
 use Rattle.std.specs.Fmt.{decimal}
 use Rattle.hart.specs.Steps.{stop_number}
 use Rattle.step_machine.specs.declared.events.Event.{Event}
-use Rattle.step_machine.specs.History.{History}
-use Rattle.step_machine.specs.Runs.{Run}
 use Rattle.recorder.specs.Writing.{canon}
-use Rattle.poll_close.specs.Breaches.{first_breach}
 use Rattle.poll_close.specs.declared.clean.Breach.{Breach}
 use Rattle.poll_close.specs.declared.clean.Breach.TheVariants as breach
-use Rattle.ring_trials.specs.UserChannel.{lists_of, layout_from, start_of}
-use Rattle.ring_trials.specs.declared.user_channel.UserChannel.{UserChannel}
+use Rattle.judged_runs.specs.Finding.{AreAllGood}
+use Rattle.judged_runs.specs.Telling.{IsFlawTold}
+use Rattle.ring_trials.specs.UserChannel.{lists_of}
 use Rattle.ring_trials.specs.declared.runs.Total.{Total}
-use Rattle.ring_trials.specs.Trials.{ChannelSource, schedule_of_run, IsFirstUnclean, AreAllClean, IsShortened}
+use Rattle.ring_trials.specs.Trials.{ChannelSource, schedule_of_run, IsClean, HasBreach, AreTotalsOf}
 
 -- which blocks are a hart's: for the receiver all
 abbrev pub blocks_text : (hart : ℕ) → List ℕ
@@ -55,32 +53,17 @@ sender_lines i (total ∷ totals) (list ∷ lists) = sender_line i total (length
 abbrev pub clean_text : (runs : ℕ) → List Total → List (List ℕ) → List ℕ
 clean_text runs totals lists = codes "clean " ++ decimal runs ++ codes " runs" ++ 10 ∷ sender_lines 0 totals lists
 
--- the text has this part of a schedule, and what its run breaks first
-pub record IsPartText (B M : ℕ) (channel : UserChannel) (part : List Event) (text : List ℕ) : Type 0 where
-  pub history : History
-  pub run : Run B M (start_of channel) part history
-  pub breach : Breach
-  pub is_first : first_breach (layout_from channel) (lists_of channel) history.entries ≡ Some breach
-  pub text_is : text ≡ canon part ++ breach_line breach
-
--- the text has a schedule made short, and what it breaks
-pub record IsShortText (B M : ℕ) (channel : UserChannel) (given : List Event) (text : List ℕ) : Type 0 where
-  pub part : List Event
-  pub shortened : IsShortened B M channel given part
-  pub shown : IsPartText B M channel part text
-
--- the first unclean run, made short, and what that breaks
+-- a short schedule of the first unclean run, and what its own run breaks
 pub record IsUncleanOutput (s : ChannelSource) (runs : ℕ) (text : List ℕ) : Type 0 where
-  pub number : ℕ
-  pub within : number < runs
-  pub found : Breach
-  pub first : IsFirstUnclean s number found
-  pub shown : IsShortText s.B s.M s.channel (schedule_of_run s number) text
+  pub part : List Event
+  pub breach : Breach
+  pub is_told : IsFlawTold (IsClean s.B s.M s.channel) (HasBreach s.B s.M s.channel) (λ found other. Unit {0}) (schedule_of_run s) runs part breach
+  pub text_is : text ≡ canon part ++ breach_line breach
 
 -- all runs are clean, and the text lists each sender's totals
 pub record IsCleanOutput (s : ChannelSource) (runs : ℕ) (text : List ℕ) : Type 0 where
   pub totals : List Total
-  pub clean : AreAllClean s runs totals
+  pub clean : AreAllGood (IsClean s.B s.M s.channel) (AreTotalsOf s.B s.M s.channel) (schedule_of_run s) 0 runs totals
   pub text_is : text ≡ clean_text runs totals (lists_of s.channel)
 
 -- the text for this number of runs, and whether all are clean

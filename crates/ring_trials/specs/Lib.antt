@@ -1,4 +1,3 @@
 pub mod UserChannel
 pub mod Trials
 pub mod Answers
-pub mod inner

@@ -1,12 +1,12 @@
 -- Runs of a channel, by schedules that a generator draws, and their totals.
-use Rattle.std.specs.Prelude.{ℕ, ◌≡◌, ◌+◌, ◌^◌, ◌<◌, max, List, [], ◌∷◌, ◌++◌, length, if◌then◌else◌, All, Option, Some, None}
+use Rattle.std.specs.Prelude.{ℕ, ◌≡◌, ◌+◌, ◌^◌, ◌<◌, max, List, [], ◌∷◌, ◌++◌, length, if◌then◌else◌, Option, Some, None}
 use Rattle.std.specs.List.{slice_get}
 use Rattle.rand_core.specs.Stream.{Stream}
 use Rattle.step_machine.specs.declared.events.Event.{Event}
 use Rattle.step_machine.specs.declared.events.Entry.{Entry}
 use Rattle.step_machine.specs.declared.events.Outcome.{Outcome}
 use Rattle.step_machine.specs.declared.events.Outcome.TheVariants as outcome
-use Rattle.step_machine.specs.History.{History}
+use Rattle.step_machine.specs.History.{History, OpeningValue}
 use Rattle.step_machine.specs.Entries.{reported}
 use Rattle.step_machine.specs.Runs.{Run}
 use Rattle.step_machine.specs.Standing.{RepresentsHistory, RepresentsRunFrom}
@@ -18,12 +18,10 @@ use Rattle.poll_close.specs.Plans.{is_closed}
 use Rattle.poll_close.specs.Breaches.{first_breach, AreNotes, IsKept}
 use Rattle.poll_close.specs.declared.clean.Breach.{Breach}
 use Rattle.poll_close.specs.declared.clean.Share.{Share}
-use Rattle.shrink.specs.Shrinking.{IsPartOf, without}
+use Rattle.judged_runs.specs.Histories.{AreRuns}
 use Rattle.ring_trials.specs.UserChannel.{lists_of, layout_from, start_of}
 use Rattle.ring_trials.specs.declared.user_channel.UserChannel.{UserChannel}
 use Rattle.ring_trials.specs.declared.runs.Total.{Total}
-use Rattle.ring_trials.specs.declared.runs.Found.{Found}
-use Rattle.ring_trials.specs.declared.runs.Found.TheVariants as found
 
 -- what is noted of a run after these entries: the first breach, if there is one, and where there is none of each
 -- sender what it takes to find the next
@@ -70,24 +68,21 @@ channel_source B M channel stream size = record { B = B; M = M; channel = channe
 abbrev pub schedule_of_run : ChannelSource → (number : ℕ) → List Event
 schedule_of_run s number = schedule_drawn (length (start_of s.channel).harts) s.size s.stream number
 
--- the run of this number, from 0
-abbrev pub IsRunOf : ChannelSource → (number : ℕ) → History → Type 0
-IsRunOf s number t = Run s.B s.M (start_of s.channel) (schedule_of_run s number) t
-
--- the runs from this number on, one after the other
-abbrev pub AreRuns : ChannelSource → (number : ℕ) → List History → Type 0
-AreRuns s number [] = Unit {0}
-AreRuns s number (t ∷ ts) = IsRunOf s number t × AreRuns s (number + 1) ts
-
 -- the run keeps what a ring must
 abbrev pub KeepsAll : UserChannel → History → Type 0
 KeepsAll channel t = IsKept (layout_from channel) (lists_of channel) t.entries
 
--- the runs before this number, all of which keep what a ring must
-pub record AreCleanRuns (s : ChannelSource) (number : ℕ) (ts : List History) : Type 0 where
-  pub runs : AreRuns s 0 ts
-  pub count : length ts ≡ number
-  pub kept : All (KeepsAll s.channel) ts
+-- a run of these events that does
+pub record IsClean (B M : ℕ) (channel : UserChannel) (events : List Event) : Type 0 where
+  pub history : History
+  pub run : Run B M (start_of channel) events history
+  pub kept : KeepsAll channel history
+
+-- a run of these events whose first breach is this one
+pub record HasBreach (B M : ℕ) (channel : UserChannel) (events : List Event) (breach : Breach) : Type 0 where
+  pub history : History
+  pub run : Run B M (start_of channel) events history
+  pub breaks : first_breach (layout_from channel) (lists_of channel) history.entries ≡ Some breach
 
 -- how many words of sender i were taken at most
 abbrev pub most_of : (i : ℕ) → List History → ℕ
@@ -104,46 +99,15 @@ pub record AreTotals (ts : List History) (totals : List Total) : Type 0 where
   pub most : (i : ℕ) (s : Total) → slice_get totals i ≡ Some s → s.most ≡ most_of i ts
   pub closed : (i : ℕ) (s : Total) → slice_get totals i ≡ Some s → s.closed ≡ closed_in i ts
 
--- the run of this number is the first one that breaks something, and this is its first breach
-pub record IsFirstUnclean (s : ChannelSource) (number : ℕ) (breach : Breach) : Type 0 where
-  pub before : List History
-  pub clean : AreCleanRuns s number before
-  pub history : History
-  pub run : IsRunOf s number history
-  pub breaks : first_breach (layout_from s.channel) (lists_of s.channel) history.entries ≡ Some breach
-
--- all runs are clean, and each sender has its total
-pub record AreAllClean (s : ChannelSource) (runs : ℕ) (totals : List Total) : Type 0 where
+-- the totals of the runs of these lists of events, one for each sender
+pub record AreTotalsOf (B M : ℕ) (channel : UserChannel) (all : List (List Event)) (totals : List Total) : Type 0 where
   pub histories : List History
-  pub clean : AreCleanRuns s runs histories
+  pub runs : AreRuns B M (start_of channel) all histories
   pub totals_are : AreTotals histories totals
-  pub count : length totals ≡ length (lists_of s.channel)
-
--- what was found of this number of runs
-abbrev pub IsFoundIn : ChannelSource → (runs : ℕ) → Found → Type 0
-IsFoundIn s runs (found.Clean totals) = AreAllClean s runs totals.items
-IsFoundIn s runs (found.Unclean number breach) = (number < runs) × IsFirstUnclean s number breach
-
--- how many of this number of runs are drawn until that is found
-abbrev pub runs_drawn : (runs : ℕ) → Found → ℕ
-runs_drawn runs (found.Clean totals) = runs
-runs_drawn runs (found.Unclean number breach) = number + 1
-
--- the run of the events breaks something
-pub record IsUnclean (B M : ℕ) (channel : UserChannel) (events : List Event) : Type 0 where
-  pub history : History
-  pub run : Run B M (start_of channel) events history
-  pub breach : Breach
-  pub breaks : first_breach (layout_from channel) (lists_of channel) history.entries ≡ Some breach
+  pub count : length totals ≡ length (lists_of channel)
 
 -- the machine stands at the end of some run of this channel, whose blocks end within 32 bits, and each sender has a share
 pub record IsBenchOf (B M : ℕ) (channel : UserChannel) (machine : Config) (shares : List Share) : Type 0 where
   pub stands : RepresentsRunFrom B M (start_of channel) machine
   pub ends : base_of (layout_from channel) (length (lists_of channel)) < 2 ^ 32
   pub count : length shares ≡ length (lists_of channel)
-
--- the answer is a part of the given events and unclean; without any one event it isn't
-pub record IsShortened (B M : ℕ) (channel : UserChannel) (given answer : List Event) : Type 0 where
-  pub part : IsPartOf answer given
-  pub unclean : IsUnclean B M channel answer
-  pub minimal : (i : ℕ) → i < length answer → IsUnclean B M channel (without i 1 answer) → ⊥

@@ -9,8 +9,6 @@
 
 mod answer_texts;
 pub mod judging;
-pub mod passes;
-mod rounds;
 pub mod run_output;
 pub mod runs;
 pub mod user_channel;

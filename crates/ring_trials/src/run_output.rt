@@ -1,73 +1,25 @@
 //! The answer of many runs: that all are clean, or the first one that isn't, made short.
 
-ghost use Rattle.std.specs.Prelude.{◌≡◌, ◌≤◌, ◌*◌, IfOk, IfErr, OnOk, length};
+ghost use Rattle.std.specs.Prelude.{◌≤◌, ◌*◌, IfOk, IfErr, OnOk};
 ghost use Rattle.std.specs.String.{string_bytes};
 ghost use Rattle.recorder.specs.Drawing.{left_after};
 ghost use Rattle.poll_close.specs.Laws.{AcceptedAt, FitsHart};
 ghost use Rattle.poll_close.specs.Refusals.{RefusesAt};
 ghost use Rattle.ring_trials.specs.UserChannel.{ring_of, lists_of, layout_from, OpensOver};
-ghost use Rattle.ring_trials.specs.Trials.{schedule_of_run, channel_source, IsBenchOf, IsUnclean};
-ghost use Rattle.ring_trials.specs.Answers.{IsPartText, IsShortText, IsTrialsOutput};
+ghost use Rattle.ring_trials.specs.Trials.{channel_source};
+ghost use Rattle.ring_trials.specs.Answers.{IsTrialsOutput};
 
 use crate::answer_texts::{clean_text, unclean_text};
-use crate::judging::judge;
-use crate::passes::{Bench, shorten};
-use crate::rounds::find_in_rounds;
-use crate::runs::Found;
-use crate::user_channel::{UserChannel, open_channel, senders};
+use crate::runs::ChannelJudge;
+use crate::user_channel::{UserChannel, open_channel};
+use judged_runs::{JudgedRuns, Told, told_of_runs};
+use jumping::parallel::in_rounds;
 use jumping::progress::Progress;
-use jumping::{Jump, Runs};
-use poll_close::{RefusedAt, no_shares};
-use recorder::draw;
+use jumping::{Draw, Jump, Runs};
+use poll_close::RefusedAt;
 use std::alloc::{AllocError, Global};
 use std::thread::Threads;
-use step_machine::laws::laws_of_runs;
-use step_machine::{Event, MachineState, Opening};
-
-/// The text of these events, whose run breaks something.
-fn part_text<const B: usize, const M: usize>(
-    alloc: Global,
-    channel: &UserChannel,
-    bench: &mut Bench<B, M>,
-    part: &[Event],
-) -> Result<String, AllocError>
-    requires stands { IsBenchOf B M channel.now bench.old.machine bench.old.shares.items }
-    requires unclean { IsUnclean B M channel.now part.now }
-    ensures { IfOk result (λ text. IsPartText B M channel.now part.now (string_bytes text)) }
-{
-    laws_of_runs();
-    match judge(channel, &mut bench.machine, &mut bench.shares, part)? {
-        Some(breach) => unclean_text(alloc, part, breach),
-        None => unreachable!(),
-    }
-}
-
-/// The text of the run of this number, which breaks something: its schedule is drawn anew and made short.
-fn short_text<const B: usize, const M: usize, G: Jump + Drop>(
-    alloc: Global,
-    channel: &UserChannel,
-    opening: &Opening,
-    generator: &G,
-    number: u32,
-    size: u32,
-) -> Result<String, AllocError>
-    requires capacity { B ≤ 64 }
-    requires memory { M ≤ 65536 }
-    requires opens { OpensOver M channel.now opening.now }
-    requires unclean { IsUnclean B M channel.now (schedule_of_run (channel_source B M channel.now (G.Rng.stream generator.now) size) number) }
-    ensures { IfOk result (λ text. IsShortText B M channel.now
-        (schedule_of_run (channel_source B M channel.now (G.Rng.stream generator.now) size) number) (string_bytes text)) }
-{
-    let mut there = generator.ahead(u64::from(number), size)?;
-    let machine = MachineState::<B, M>::open(alloc, opening)?;
-    let shares = no_shares(alloc, senders(channel))?;
-    let mut bench = Bench { machine, shares };
-    let mut events = Vec::new(alloc);
-    let harts = bench.machine.harts();
-    draw(&mut events, &mut there, harts, size)?;
-    let part = shorten(alloc, channel, &mut bench, &events)?;
-    part_text(alloc, channel, &mut bench, &part)
-}
+use step_machine::Opening;
 
 /// The text for the runs of a channel with this opening, and whether all are clean.
 fn output_of<const B: usize, const M: usize, G: Jump + Sync + Drop, T: Threads + Sync, P: Progress>(
@@ -86,22 +38,22 @@ fn output_of<const B: usize, const M: usize, G: Jump + Sync + Drop, T: Threads +
         (channel_source B M channel.now (left_after (runs.skip * runs.length) (G.Rng.stream generator.now)) runs.length)
         runs.number (string_bytes t.0, t.1)) }
 {
+    let judge = ChannelJudge::<B, M> { channel, opening };
     let start = generator.ahead(runs.skip, runs.length)?;
-    let Runs {
-        number,
-        length,
-        jobs,
-        ..
-    } = runs;
-    let found = find_in_rounds::<B, M, G, T, P>(
-        rt, alloc, channel, opening, &start, number, length, jobs, progress,
-    )?;
-    match found {
-        Found::Clean(totals) => Ok((clean_text(alloc, number, &totals, &channel.lists)?, true)),
-        Found::Unclean { number, .. } => {
-            let text = short_text::<B, M, G>(alloc, channel, opening, &start, number, length)?;
-            Ok((text, false))
+    let drawn = JudgedRuns {
+        judge: &judge,
+        generator: &start,
+        draw: Draw::Uniform,
+        size: runs.length,
+    };
+    let found = in_rounds(rt, alloc, &drawn, runs.number, runs.jobs, progress);
+    progress.end();
+    match told_of_runs(alloc, &drawn, runs.number, found?)? {
+        Told::Good(totals) => {
+            let text = clean_text(alloc, runs.number, &totals, &channel.lists)?;
+            Ok((text, true))
         }
+        Told::Flawed { part, flaw } => Ok((unclean_text(alloc, &part, flaw)?, false)),
     }
 }
 

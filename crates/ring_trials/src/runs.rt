@@ -1,23 +1,19 @@
-//! Many runs, by schedules that are drawn one after the other.
+//! The runs of a channel, each judged by its first breach, and their totals.
 
-ghost use Rattle.std.specs.Prelude.{◌≡◌, ◌≤◌, ◌<◌, ◌++◌, ◌∷◌, ◌*◌, ◌^◌, ℕ, [], List, Some, None, IfOk, OnOk, length};
+ghost use Rattle.std.specs.Prelude.{◌≡◌, ◌≤◌, ◌<◌, ◌+◌, ◌++◌, ◌∷◌, ℕ, [], List, Some, None, IfOk, length};
 ghost use Rattle.std.specs.List.{slice_get};
 ghost use Rattle.step_machine.specs.History.{History};
 ghost use Rattle.step_machine.specs.Entries.{reported};
-ghost use Rattle.step_machine.specs.Standing.{RepresentsRunFrom};
-ghost use Rattle.recorder.specs.Drawing.{left_after};
-ghost use Rattle.poll_close.specs.Layout.{base_of};
 ghost use Rattle.poll_close.specs.Breaches.{AreNotes};
-ghost use Rattle.ring_trials.specs.UserChannel.{lists_of, layout_from, start_of};
-ghost use Rattle.ring_trials.specs.Trials.{AreTotals, IsFoundIn, runs_drawn, channel_source};
+ghost use Rattle.ring_trials.specs.UserChannel.{OpensOver, start_of};
+ghost use Rattle.ring_trials.specs.Trials.{AreTotals, AreTotalsOf, IsBenchOf, IsChannelJudged, IsClean, HasBreach};
 
 use crate::judging::judge;
 use crate::user_channel::{UserChannel, senders};
+use judged_runs::Judge;
 use poll_close::{Breach, Share, no_shares};
-use rand_core::Rng;
-use recorder::draw;
 use std::alloc::{AllocError, Global};
-use step_machine::MachineState;
+use step_machine::{Event, MachineState, Opening};
 
 /// A sender's totals over many runs.
 #[derive(Clone, Copy, PartialEq, Eq)]
@@ -26,15 +22,6 @@ pub struct Total {
     pub most: usize,
     /// In how many runs it was reported closed.
     pub closed: u32,
-}
-
-/// What drawn runs of a channel came to.
-#[derive(Drop)]
-pub enum Found {
-    /// All are clean, and these are the totals, one for each sender.
-    Clean(Vec<Total>),
-    /// The run of this number is the first one that isn't, and this is its first breach.
-    Unclean { number: u32, breach: Breach },
 }
 
 pub(crate) fn no_totals(alloc: Global, senders: usize) -> Result<Vec<Total>, AllocError>
@@ -68,34 +55,96 @@ fn take_in(totals: &mut [Total], shares: &[Share])
     }
 }
 
-/// What is found of `runs` runs of this channel, each by `size` events, on a machine of its opening, which serves
-/// them all.
-pub fn find_on<const B: usize, const M: usize, G: Rng>(
-    alloc: Global,
-    channel: &UserChannel,
-    generator: &mut G,
-    machine: &mut MachineState<B, M>,
-    runs: u32,
-    size: u32,
-) -> Result<Found, AllocError>
-    requires stands { RepresentsRunFrom B M (start_of channel.now) machine.old }
-    requires ends { base_of (layout_from channel.now) (length (lists_of channel.now)) < 2 ^ 32 }
-    ensures found { IfOk result (λ found. IsFoundIn (channel_source B M channel.now (G.stream generator.old) size) runs found) }
-    ensures stands { OnOk result (RepresentsRunFrom B M (start_of channel.now) machine.new) }
-    ensures left { IfOk result (λ found. G.stream generator.new ≡ left_after (runs_drawn runs found * size) (G.stream generator.old)) }
+/// Takes in the totals of later runs.
+#[tactic(auto, using(crate::proofs::RunsLaws::taken_more, crate::proofs::RunsLaws::taken_none, crate::proofs::RunsLaws::totals_both))]
+fn join(totals: &mut [Total], later: &[Total])
+    requires count { length totals.old ≡ length later.now }
+    requires few { (k : ℕ) (s l : Total) → slice_get totals.old k ≡ Some s → slice_get later.now k ≡ Some l → s.closed + l.closed ≤ 4294967295 }
+    ensures totals { (ts us : List History) → AreTotals ts totals.old → AreTotals us later.now → AreTotals (ts ++ us) totals.new }
+    ensures count { length totals.new ≡ length totals.old }
 {
-    let harts = machine.harts();
-    let count = senders(channel);
-    let mut totals = no_totals(alloc, count)?;
-    let mut shares = no_shares(alloc, count)?;
-    let mut events = Vec::new(alloc);
-    for number in 0..runs {
-        draw(&mut events, generator, harts, size)?;
-        let found = judge(channel, machine, &mut shares, &events)?;
-        match found {
-            Some(breach) => return Ok(Found::Unclean { number, breach }),
-            None => take_in(&mut totals, &shares),
-        }
+    for index in 0..totals.len() {
+        let total = totals[index];
+        let more = later[index];
+        totals[index] = Total {
+            most: total.most.max(more.most),
+            closed: total.closed + more.closed,
+        };
     }
-    Ok(Found::Clean(totals))
+}
+
+/// What runs of a channel are judged on: a machine of its opening, and what is noted of each sender.
+#[derive(Drop)]
+pub struct Bench<const B: usize, const M: usize> {
+    pub machine: MachineState<B, M>,
+    pub shares: Vec<Share>,
+}
+
+/// What judges the runs of a channel from this opening, over buffers of `B` stores and `M` words of memory.
+#[derive(Drop)]
+pub struct ChannelJudge<'a, const B: usize, const M: usize> {
+    pub channel: &'a UserChannel,
+    pub opening: &'a Opening,
+    ghost can: { (B ≤ 64) × (M ≤ 65536) × OpensOver M channel.now opening.now },
+}
+
+impl<'a, const B: usize, const M: usize> Judge for ChannelJudge<'a, B, M> {
+    ghost use Rattle.std.specs.Prelude.{length};
+
+    type Bench = Bench<B, M>;
+
+    type Flaw = Breach;
+
+    type Tally = Vec<Total>;
+
+    ghost harts = { λ it. length (start_of it.channel.now).harts };
+
+    ghost stands = { λ it bench. IsBenchOf B M it.channel.now bench.machine bench.shares.items };
+
+    ghost noted = { λ it events bench. IsChannelJudged B M it.channel.now events None bench.shares.items };
+
+    ghost is_good = { λ it events. IsClean B M it.channel.now events };
+
+    ghost has = { λ it events breach. HasBreach B M it.channel.now events breach };
+
+    ghost alike = { λ it breach other. Unit {0} };
+
+    ghost counts = { λ it all totals. AreTotalsOf B M it.channel.now all totals.items };
+
+    fn bench(&self, alloc: Global) -> Result<Bench<B, M>, AllocError> {
+        let machine = MachineState::<B, M>::open(alloc, self.opening)?;
+        let shares = no_shares(alloc, senders(self.channel))?;
+        Ok(Bench { machine, shares })
+    }
+
+    fn harts(&self, bench: &Bench<B, M>) -> u32 {
+        bench.machine.harts()
+    }
+
+    fn judge(
+        &self,
+        bench: &mut Bench<B, M>,
+        events: &[Event],
+    ) -> Result<Option<Breach>, AllocError> {
+        judge(self.channel, &mut bench.machine, &mut bench.shares, events)
+    }
+
+    /// A part of an unclean run's events is wanted if it is unclean, whatever it breaks.
+    fn is_alike(&self, _breach: Breach, _other: Breach) -> bool {
+        true
+    }
+
+    fn none(&self, alloc: Global) -> Result<Vec<Total>, AllocError> {
+        no_totals(alloc, senders(self.channel))
+    }
+
+    fn add(&self, bench: &Bench<B, M>, totals: &mut Vec<Total>) {
+        take_in(totals, &bench.shares);
+    }
+
+    fn join(&self, totals: &mut Vec<Total>, later: Vec<Total>) {
+        join(totals, &later);
+    }
+
+    ghost same = { λ it breach. tt };
 }

@@ -1,5 +1,5 @@
 -- What is noted of a run as its entries come.
-use Rattle.std.specs.Prelude.{ℕ, ◌≡◌, ◌^◌, ◌<◌, ◌==◌, Bool, false, if◌then◌else◌, List, [], slice_index, Option, None, Some}
+use Rattle.std.specs.Prelude.{ℕ, ◌≡◌, ◌+◌, ◌^◌, ◌<◌, ◌==◌, ◌&&◌, min, Bool, false, if◌then◌else◌, List, [], slice_index, Option, None, Some}
 use Rattle.std.specs.Option.{option_or}
 use Rattle.hart.specs.State.{HartState}
 use Rattle.step_machine.specs.declared.events.Entry.{Entry}
@@ -11,8 +11,10 @@ use Rattle.step_machine.specs.Runs.{Happens}
 use Rattle.spsc_queue.specs.Calls.{SpscQueue, is_in_call_after, is_sender_in_call, is_receiver_in_call}
 use Rattle.callers.specs.Queues.{spsc_of}
 use Rattle.callers.specs.Debts.{first_debt, idle_debt}
+use Rattle.callers.specs.Counts.{MOST, AreCalls, returns_now}
 use Rattle.callers.specs.declared.queue.Located.{Located}
 use Rattle.callers.specs.declared.debts.Debt.{Debt}
+use Rattle.callers.specs.declared.judging.Calls.{Calls}
 use Rattle.callers.specs.declared.judging.CallState.{CallState}
 use Rattle.callers.specs.declared.judging.Notes.{Notes}
 
@@ -26,11 +28,12 @@ pub record IsCallState (s : HartState) (c : CallState) : Type 0 where
   pub back_is_word : slice_index s.registers 1 < 2 ^ 32
   pub word_is_word : slice_index s.registers 11 < 2 ^ 32
 
--- what is noted after these entries: the first debt, if there is one, and whether each party is in a call
+-- what is noted after these entries: the first debt, if there is one, whether each party is in a call, and how many calls returned
 pub record AreCallNotes (M : ℕ) (o : OpeningValue) (q : SpscQueue) (es : List Entry) (notes : Notes) : Type 0 where
   pub found : notes.found ≡ first_debt M o q es
   pub sending : notes.sending ≡ is_sender_in_call M o q [] es
   pub receiving : notes.receiving ≡ is_receiver_in_call M o q [] es
+  pub calls : AreCalls M o q es notes.calls
 
 -- whether a hart is in its call, by what is noted
 abbrev pub noted_call : SpscQueue → Notes → (h : ℕ) → Bool
@@ -40,12 +43,25 @@ noted_call q notes h = if h == q.sender then notes.sending else (if h == q.recei
 abbrev pub found_by : SpscQueue → Notes → Entry → (s z : HartState) → Option Debt
 found_by q notes e s z = option_or notes.found (if noted_call q notes (hart_of e) then None else idle_debt q e (Some s) (Some z))
 
+-- one more call, if the hart of this party in state s returns from one with this number in a0
+abbrev pub counted_by : (is_party : Bool) → (n number : ℕ) → Bool → HartState → (count : ℕ) → ℕ
+counted_by is_party n number calling s count = if is_party && returns_now n number calling s then min (count + 1) MOST else count
+
+abbrev pub calls_by : SpscQueue → Notes → Entry → HartState → Calls
+calls_by q notes e s = record {
+  sent = counted_by (hart_of e == q.sender) q.send_line 1 notes.sending s notes.calls.sent;
+  full = counted_by (hart_of e == q.sender) q.send_line 0 notes.sending s notes.calls.full;
+  received = counted_by (hart_of e == q.receiver) q.receive_line 1 notes.receiving s notes.calls.received;
+  empty = counted_by (hart_of e == q.receiver) q.receive_line 0 notes.receiving s notes.calls.empty;
+}
+
 -- what is noted then
 abbrev pub notes_by : SpscQueue → Notes → Entry → (s z : HartState) → Notes
 notes_by q notes e s z = record {
   found = found_by q notes e s z;
   sending = if hart_of e == q.sender then is_in_call_after q.send_line q.block notes.sending s z else notes.sending;
   receiving = if hart_of e == q.receiver then is_in_call_after q.receive_line q.block notes.receiving s z else notes.receiving;
+  calls = calls_by q notes e s;
 }
 
 -- an event made a history of this one, and what was noted of this one became what is noted of the new one

@@ -1,37 +1,50 @@
-use Rattle.std.proofs.Common.{◌*◌, subst, arith}
-use Rattle.std.specs.String.{string_bytes}
+use Rattle.std.proofs.Common.{◌++◌, ◌*◌, ◌≡◌, inl, inr, not, List, sym, ap, subst, ◌∙◌}
 use Rattle.rand_core.specs.Stream.{Stream}
+use Rattle.step_machine.specs.declared.events.Event.{Event}
+use Rattle.step_machine.specs.History.{OpeningValue}
 use Rattle.recorder.specs.Drawing.{left_after}
-use Rattle.callers.specs.Runs.{CallSource, call_source, call_schedule}
-use Rattle.callers.specs.Answers.{IsShortText}
-use Rattle.callers.specs.inner.Finding.{IsFoundFrom}
-use Rattle.callers.proofs.Drawn.{first_of_all}
+use Rattle.recorder.specs.Writing.{canon}
+use Rattle.judged_runs.specs.Finding.{AreAllGood}
+use Rattle.judged_runs.specs.Telling.{IsFlawTold, IsTold}
+use Rattle.callers.specs.Answers.{IsKeptOutput, IsOutputOfRuns, debt_line}
+use Rattle.callers.specs.Counts.{AreCountsOf, are_none}
+use Rattle.callers.specs.Runs.{CallSource, call_source, call_schedule, HasNoDebt, HasDebt}
+use Rattle.callers.specs.declared.debts.Debt.{Debt}
+use Rattle.callers.proofs.Alike.{kept_output}
+use Rattle.callers.proofs.Judged.{all_kept, told_kept}
 use Rattle.callers.proofs.run_output.output_of_runs.Goals as goal
 
-pub returns-in-Some : goal.returns-in-Some
-returns-in-Some g c =
+pub returns-in-Good : goal.returns-in-Good
+returns-in-Good g c =
     let o = c.args.test.now.opening in
+    let l = c.args.located in
     let size = c.args.runs.length in
-    let s : CallSource = call_source g.row.B g.row.M o c.args.located (left_after (c.args.runs.skip * size) (g.G.Rng.stream c.args.generator.now)) size in
-    let found = subst (λ (at : Stream). IsFoundFrom (call_source g.row.B g.row.M o c.args.located at size) 0 c.args.runs.number c.in_ok-found.found)
-    c.in_ok-start.ensures c.in_ok-found.ensures in
-    let owing = subst (IsFoundFrom s 0 c.args.runs.number) c.in-Some.is found in
-    record {
-      number = c.in-Some.owing.number;
-      within = owing.within;
-      debt = c.in-Some.owing.debt;
-      first = first_of_all s c.args.runs.number c.in-Some.owing owing;
-      shown = subst (λ (at : Stream). IsShortText g.row.B g.row.M o c.args.located c.in-Some.owing.debt
-          (call_schedule (call_source g.row.B g.row.M o c.args.located at size) c.in-Some.owing.number) (string_bytes c.in_ok-text-in-Some.text))
-          c.in_ok-start.ensures c.in_ok-text-in-Some.ensures;
-    }
+    let Good = HasNoDebt g.row.B g.row.M o l in
+    let Counts = AreCountsOf g.row.B g.row.M o l in
+    let told = subst (IsTold Good (HasDebt g.row.B g.row.M o l) (λ (found other : Debt). found ≡ other) Counts
+    (call_schedule (call_source g.row.B g.row.M o l (g.G.Rng.stream c.in_ok-start.start) size)) c.args.runs.number) c.in-Good.is c.in_ok-counts.ensures in
+    let kept = subst (λ (at : Stream). AreAllGood Good Counts (call_schedule (call_source g.row.B g.row.M o l at size)) 0 c.args.runs.number c.in-Good.counts)
+    c.in_ok-start.ensures told in
+    let s : CallSource = call_source g.row.B g.row.M o l (left_after (c.args.runs.skip * size) (g.G.Rng.stream c.args.generator.now)) size in
+    kept_output s c.args.runs.number _ c.in-Good.counts (all_kept s c.requires.usable c.args.runs.number c.in-Good.counts kept) c.in_ok-text-in-Good.ensures _
+    (ap not c.are_none.ensures)
 
 pub returns : goal.returns
 returns g c =
     let o = c.args.test.now.opening in
+    let l = c.args.located in
     let size = c.args.runs.length in
-    let s : CallSource = call_source g.row.B g.row.M o c.args.located (left_after (c.args.runs.skip * size) (g.G.Rng.stream c.args.generator.now)) size in
-    let found = subst (λ (at : Stream). IsFoundFrom (call_source g.row.B g.row.M o c.args.located at size) 0 c.args.runs.number c.in_ok-found.found)
-    c.in_ok-start.ensures c.in_ok-found.ensures in
-    let kept = subst (IsFoundFrom s 0 c.args.runs.number) c.in-None.is found in
-    record { kept = λ i less. kept i (omega arith) less; text_is = c.in_ok-kept_text-in-None.ensures }
+    let Good = HasNoDebt g.row.B g.row.M o l in
+    let Has = HasDebt g.row.B g.row.M o l in
+    let told = subst (IsTold Good Has (λ (found other : Debt). found ≡ other) (AreCountsOf g.row.B g.row.M o l)
+    (call_schedule (call_source g.row.B g.row.M o l (g.G.Rng.stream c.in_ok-start.start) size)) c.args.runs.number) c.in-Flawed.is c.in_ok-counts.ensures in
+    let s : CallSource = call_source g.row.B g.row.M o l (left_after (c.args.runs.skip * size) (g.G.Rng.stream c.args.generator.now)) size in
+    inr (record {
+      part = c.in-Flawed.part.items;
+      debt = c.in-Flawed.flaw;
+      is_told = told_kept s c.requires.usable c.args.runs.number c.in-Flawed.part.items c.in-Flawed.flaw
+          (subst (λ (at : Stream). IsFlawTold Good Has (λ (found other : Debt). found ≡ other)
+          (call_schedule (call_source g.row.B g.row.M o l at size)) c.args.runs.number c.in-Flawed.part.items c.in-Flawed.flaw)
+          c.in_ok-start.ensures told);
+      text_is = c.in_ok-owing_text-in-Flawed.ensures ∙ ap (λ (es : List Event). canon es ++ debt_line c.in-Flawed.flaw) c.deref.ensures.value;
+    })

@@ -1,7 +1,0 @@
-use Rattle.ring_trials.specs.declared.runs.Total.{Total}
-use Rattle.ring_trials.proofs.RunsLaws.{TakenIn}
-use Rattle.ring_trials.proofs.JoiningLaws.{Both}
-use Rattle.ring_trials.proofs.rounds.join.Given as goal
-
-abbrev pub invariant-loop-index : goal.invariant-loop-index
-invariant-loop-index l = TakenIn Total Both l.initial.totals l.later l.index l.totals

@@ -1,2 +1,0 @@
--- What serves the proofs alone, where a private contract names it.
-pub mod Joining
