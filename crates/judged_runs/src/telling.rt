@@ -55,7 +55,8 @@ fn shown<J: Judge, G: Jump + Drop>(
     number: u32,
     flaw: J::Flaw,
 ) -> Result<(Vec<Event>, J::Flaw), AllocError>
-    requires { J.has runs.now.judge.now (schedule_by runs.now.draw (J.harts runs.now.judge.now) runs.now.size (G.Rng.stream runs.now.generator.now) number) flaw }
+    requires { J.has runs.now.judge.now
+        (schedule_by runs.now.draw (J.harts runs.now.judge.now) runs.now.size (G.Rng.stream runs.now.generator.now) number) flaw }
     ensures { IfOk result (λ shown. IsShownFlaw (J.has runs.now.judge.now) (J.alike runs.now.judge.now) flaw
         (schedule_by runs.now.draw (J.harts runs.now.judge.now) runs.now.size (G.Rng.stream runs.now.generator.now) number) shown.0.items shown.1) }
 {

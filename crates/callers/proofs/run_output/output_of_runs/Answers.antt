@@ -42,7 +42,8 @@ returns g c =
     inr (record {
       part = c.in-Flawed.part.items;
       debt = c.in-Flawed.flaw;
-      is_told = told_kept s c.requires.usable c.args.runs.number c.in-Flawed.part.items c.in-Flawed.flaw (subst (λ (at : Stream). IsFlawTold Good Has (λ (found other : Debt). found ≡ other)
+      is_told = told_kept s c.requires.usable c.args.runs.number c.in-Flawed.part.items c.in-Flawed.flaw
+          (subst (λ (at : Stream). IsFlawTold Good Has (λ (found other : Debt). found ≡ other)
           (call_schedule (call_source g.row.B g.row.M o l at size)) c.args.runs.number c.in-Flawed.part.items c.in-Flawed.flaw)
           c.in_ok-start.ensures told);
       text_is = c.in_ok-owing_text-in-Flawed.ensures ∙ ap (λ (es : List Event). canon es ++ debt_line c.in-Flawed.flaw) c.deref.ensures.value;

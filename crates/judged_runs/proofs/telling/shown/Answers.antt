@@ -19,6 +19,8 @@ returns g c =
     record {
       is_part = subst (λ (events : List Event). IsPartOf part events) given c.in_ok-leave_out.ensures.part;
       has = has;
-      alike = subst (g.J.Judge.alike judge c.args.flaw) (subst (λ (events : List Event). (flaw other : _) → g.J.Judge.has judge events flaw → g.J.Judge.has judge events other → flaw ≡ other) is c.judge.ensures.one_flaw shows.other c.in-Some.last shows.has has) shows.alike;
+      alike = subst (g.J.Judge.alike judge c.args.flaw)
+          (subst (λ (events : List Event). (flaw other : _) → g.J.Judge.has judge events flaw → g.J.Judge.has judge events other → flaw ≡ other)
+          is c.judge.ensures.one_flaw shows.other c.in-Some.last shows.has has) shows.alike;
       minimal = c.in_ok-leave_out.ensures.minimal;
     }
