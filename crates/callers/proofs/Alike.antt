@@ -14,7 +14,7 @@ use Rattle.spsc_queue.specs.Calls.{copy_in, buffer, HasFunction}
 use Rattle.callers.specs.Queues.{kind_of, caches_tail, spsc_of, sends_by, receives_by, HasFirstCopy, IsLocated}
 use Rattle.callers.specs.Debts.{IsOpeningDebt, first_debt}
 use Rattle.judged_runs.specs.Finding.{AreAllGood}
-use Rattle.judged_runs.specs.Histories.{total}
+use Rattle.judged_runs.specs.Histories.{summed}
 use Rattle.judged_runs.proofs.Histories.{runs_one}
 use Rattle.callers.specs.Counts.{MOST, AreCountsOf, are_none, sends as sends_in, receives as receives_in}
 use Rattle.callers.specs.Runs.{CallSource, call_source, call_schedule, KeepsObligations, HasDebt}
@@ -145,13 +145,13 @@ one_count B M o l all a b one other =
     let x = a.calls in
     let y = b.calls in
     ap (λ (n : ℕ). calls_of n x.full x.received x.empty)
-    (one.calls.sent ∙ ap (λ hs. min (total (λ t. sends_in M o q 1 t.entries) hs) MOST) same ∙ sym other.calls.sent)
+    (one.calls.sent ∙ ap (λ hs. min (summed (λ t. sends_in M o q 1 t.entries) hs) MOST) same ∙ sym other.calls.sent)
     ∙ ap (λ (n : ℕ). calls_of y.sent n x.received x.empty)
-    (one.calls.full ∙ ap (λ hs. min (total (λ t. sends_in M o q 0 t.entries) hs) MOST) same ∙ sym other.calls.full)
+    (one.calls.full ∙ ap (λ hs. min (summed (λ t. sends_in M o q 0 t.entries) hs) MOST) same ∙ sym other.calls.full)
     ∙ ap (λ (n : ℕ). calls_of y.sent y.full n x.empty)
-    (one.calls.received ∙ ap (λ hs. min (total (λ t. receives_in M o q 1 t.entries) hs) MOST) same ∙ sym other.calls.received)
+    (one.calls.received ∙ ap (λ hs. min (summed (λ t. receives_in M o q 1 t.entries) hs) MOST) same ∙ sym other.calls.received)
     ∙ ap (λ (n : ℕ). calls_of y.sent y.full y.received n)
-    (one.calls.empty ∙ ap (λ hs. min (total (λ t. receives_in M o q 0 t.entries) hs) MOST) same ∙ sym other.calls.empty)
+    (one.calls.empty ∙ ap (λ hs. min (summed (λ t. receives_in M o q 0 t.entries) hs) MOST) same ∙ sym other.calls.empty)
 
 module _ (B M : ℕ) (o : OpeningValue) (q : Queue) (stream : Stream) (runs size : ℕ) (text other : List ℕ) where
   runs_differ : (l : Located) → IsOutputOfRuns (call_source B M o l stream size) runs (text, true)

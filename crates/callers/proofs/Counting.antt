@@ -17,7 +17,7 @@ use Rattle.litmus.specs.declared.verdict.Verdict.{Verdict}
 use Rattle.litmus.specs.declared.verdict.Verdict.TheVariants.{Holds, Fails, Unfinished}
 use Rattle.spsc_queue.specs.Calls.{Block, SpscQueue, is_in_call, is_in_call_from, is_in_call_with}
 use Rattle.spsc_queue.proofs.OwnEntries.{own_is}
-use Rattle.judged_runs.specs.Histories.{AreRuns, total}
+use Rattle.judged_runs.specs.Histories.{AreRuns, summed}
 use Rattle.judged_runs.proofs.Histories.{runs_both, runs_count, total_both}
 use Rattle.callers.specs.Queues.{spsc_of}
 use Rattle.callers.specs.Counts.{MOST, returns_now, returns_in, returned_by, returned_from, returned, sends, receives, AreCalls, HasCalls, HaveUnfinished}

@@ -68,13 +68,13 @@ abbrev pub calls_line : (hart : ℕ) → (did : List ℕ) → (words : ℕ) → 
 calls_line h did words found times = codes "hart " ++ (decimal h ++ (codes " " ++ (did ++ (codes " " ++ (decimal words
     ++ (codes " words and found the queue " ++ (found ++ (codes " " ++ (decimal times ++ (codes " times" ++ 10 ∷ []))))))))))
 
-abbrev pub unfinished_line : (runs : ℕ) → List ℕ
-unfinished_line runs = codes "unfinished " ++ (decimal runs ++ 10 ∷ [])
+abbrev pub runs_unfinished_line : (runs : ℕ) → List ℕ
+runs_unfinished_line runs = codes "unfinished " ++ (decimal runs ++ 10 ∷ [])
 
 abbrev pub kept_text : Queue → (runs : ℕ) → Counts → List ℕ
 kept_text q runs counts =
     head_line runs counts.calls ++ calls_line q.sender (codes "sent") counts.calls.sent (codes "full") counts.calls.full
-    ++ calls_line q.receiver (codes "received") counts.calls.received (codes "empty") counts.calls.empty ++ unfinished_line counts.unfinished
+    ++ calls_line q.receiver (codes "received") counts.calls.received (codes "empty") counts.calls.empty ++ runs_unfinished_line counts.unfinished
 
 -- all runs keep what callers owe, and the text has what they count to; whether some call returned
 pub record IsKeptOutput (s : CallSource) (runs : ℕ) (text : List ℕ) (called : Bool) : Type 0 where

@@ -11,7 +11,7 @@ use Rattle.litmus.specs.Verdicts.{IsFinished}
 use Rattle.litmus.specs.declared.verdict.Verdict.{Verdict}
 use Rattle.litmus.specs.declared.verdict.Verdict.TheVariants.{Holds, Fails, Unfinished}
 use Rattle.spsc_queue.specs.Calls.{Block, SpscQueue, returns_at, is_in_call_with}
-use Rattle.judged_runs.specs.Histories.{AreRuns, total}
+use Rattle.judged_runs.specs.Histories.{AreRuns, summed}
 use Rattle.callers.specs.Queues.{spsc_of}
 use Rattle.callers.specs.declared.counts.Counts.{Counts}
 use Rattle.callers.specs.declared.judging.Calls.{Calls}
@@ -75,10 +75,10 @@ unfinished_by Fails = 0
 unfinished_by Unfinished = 1
 
 pub record AreTotalCalls (M : ℕ) (o : OpeningValue) (q : SpscQueue) (ts : List History) (calls : Calls) : Type 0 where
-  pub sent : calls.sent ≡ min (total (λ t. sends M o q 1 t.entries) ts) MOST
-  pub full : calls.full ≡ min (total (λ t. sends M o q 0 t.entries) ts) MOST
-  pub received : calls.received ≡ min (total (λ t. receives M o q 1 t.entries) ts) MOST
-  pub empty : calls.empty ≡ min (total (λ t. receives M o q 0 t.entries) ts) MOST
+  pub sent : calls.sent ≡ min (summed (λ t. sends M o q 1 t.entries) ts) MOST
+  pub full : calls.full ≡ min (summed (λ t. sends M o q 0 t.entries) ts) MOST
+  pub received : calls.received ≡ min (summed (λ t. receives M o q 1 t.entries) ts) MOST
+  pub empty : calls.empty ≡ min (summed (λ t. receives M o q 0 t.entries) ts) MOST
 
 -- the runs of these lists of events count to this
 pub record AreCountsOf (B M : ℕ) (o : OpeningValue) (l : Located) (all : List (List Event)) (counts : Counts) : Type 0 where

@@ -3,7 +3,7 @@
 ghost use Rattle.std.specs.Prelude.{◌≡◌, ◌++◌, IfOk, OnOk};
 ghost use Rattle.std.specs.String.{string_bytes};
 ghost use Rattle.recorder.specs.Writing.{canon};
-ghost use Rattle.callers.specs.Answers.{calls_line, debt_text, debt_line, head_line, head_words, kept_text, receive_name, send_name, unfinished_line};
+ghost use Rattle.callers.specs.Answers.{calls_line, debt_text, debt_line, head_line, head_words, kept_text, receive_name, send_name, runs_unfinished_line};
 
 use crate::counts::{Counts, are_none};
 use crate::debts::Debt;
@@ -135,7 +135,7 @@ fn push_calls(
 
 /// Appends the line of how many runs weren't finished.
 fn push_unfinished(out: &mut String, runs: u32) -> Result<(), AllocError>
-    ensures { OnOk result (string_bytes out.new ≡ string_bytes out.old ++ unfinished_line runs) }
+    ensures { OnOk result (string_bytes out.new ≡ string_bytes out.old ++ runs_unfinished_line runs) }
 {
     writeln!(out, "unfinished {runs}")
 }

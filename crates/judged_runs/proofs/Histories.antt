@@ -3,7 +3,7 @@ use Rattle.std.proofs.Common.{ℕ, suc, ◌≡◌, ◌+◌, List, [], ◌∷◌,
 use Rattle.step_machine.specs.declared.events.Event.{Event}
 use Rattle.step_machine.specs.History.{OpeningValue, History, at_opening}
 use Rattle.step_machine.proofs.Running.{run-one}
-use Rattle.judged_runs.specs.Histories.{AreRuns, total}
+use Rattle.judged_runs.specs.Histories.{AreRuns, summed}
 
 module _ (B M : ℕ) (o : OpeningValue) where
   pub runs_both : (all more : List (List Event)) (ts us : List History) → AreRuns B M o all ts → AreRuns B M o more us → AreRuns B M o (all ++ more) (ts ++ us)
@@ -27,6 +27,6 @@ module _ (B M : ℕ) (o : OpeningValue) where
   runs_one (events ∷ all) (t ∷ ts) (u ∷ us) runs others =
       ap₂ (λ (x : History) (xs : List History). x ∷ xs) (run-one B M (at_opening o) events t u runs.0 others.0) (runs_one all ts us runs.1 others.1)
 
-pub total_both : (f : History → ℕ) (ts us : List History) → total f (ts ++ us) ≡ total f ts + total f us
+pub total_both : (f : History → ℕ) (ts us : List History) → summed f (ts ++ us) ≡ summed f ts + summed f us
 total_both f [] us = omega arith
 total_both f (t ∷ ts) us = omega (arith, total_both f ts us)

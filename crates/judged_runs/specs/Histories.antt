@@ -12,6 +12,6 @@ AreRuns B M o (events ∷ all) [] = ⊥
 AreRuns B M o (events ∷ all) (t ∷ ts) = Run B M o events t × AreRuns B M o all ts
 
 -- the sum of what there is of each
-abbrev pub total : (History → ℕ) → List History → ℕ
-total f [] = 0
-total f (t ∷ ts) = f t + total f ts
+abbrev pub summed : (History → ℕ) → List History → ℕ
+summed f [] = 0
+summed f (t ∷ ts) = f t + summed f ts

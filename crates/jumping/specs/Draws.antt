@@ -18,16 +18,16 @@ abbrev pub acted : Burst → Burst
 acted b = record b { left = b.left - 1 }
 
 -- whether a word draws a landing in a burst of which acts are left
-abbrev pub lands : Burst → (word : ℕ) → Bool
-lands b word = word % (if b.lands_often then 2 else 10) == 0
+abbrev pub landing_follows : Burst → (word : ℕ) → Bool
+landing_follows b word = word % (if b.lands_often then 2 else 10) == 0
 
 -- the event that a word draws in a burst. If no act of it is left, the word begins another one, with an act
 abbrev pub burst_event : (harts : ℕ) → Burst → (word : ℕ) → Event
-burst_event harts b word = if b.left == 0 then Act (burst_of harts word).hart else (if lands b word then Land b.hart else Act b.hart)
+burst_event harts b word = if b.left == 0 then Act (burst_of harts word).hart else (if landing_follows b word then Land b.hart else Act b.hart)
 
 -- and the burst after it
 abbrev pub burst_after : (harts : ℕ) → Burst → (word : ℕ) → Burst
-burst_after harts b word = if b.left == 0 then acted (burst_of harts word) else (if lands b word then b else acted b)
+burst_after harts b word = if b.left == 0 then acted (burst_of harts word) else (if landing_follows b word then b else acted b)
 
 -- the events that these words draw
 abbrev pub burst_events : (harts : ℕ) → Burst → List ℕ → List Event

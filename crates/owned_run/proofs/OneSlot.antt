@@ -36,7 +36,7 @@ use Rattle.slot_queue.specs.Queues.{Queue, IsQueue, index_word}
 use Rattle.queue_parties.specs.Parties.{Party, the_sender, the_receiver, other, QueueCounts, count, known}
 use Rattle.slot_queue.specs.Ownership.{party_of, hart, index, end, after_access, KeepsAccess}
 use Rattle.queue_parties.proofs.Parties.{count-set, known-set-count, count-set-known, known-set}
-use Rattle.owned_run.specs.Certified.{View, AllCounts, number_in, view_then, IsSameFor, SeesIndices, Acts, IsCertified, LoadsOwned, LoadsAreOwned}
+use Rattle.owned_run.specs.Certified.{View, AllCounts, number_seen, view_then, IsSameFor, SeesIndices, Acts, IsCertified, LoadsOwned, LoadsAreOwned}
 use Rattle.owned_run.proofs.Accesses.{own_read, looked, moves, fills, loads_owned, elsewhere}
 
 abbrev pub q : Queue
@@ -100,7 +100,7 @@ r3 s = slice_index s.registers 3
 
 -- each record is the word 7
 abbrev pub SendsWord : (i k : ℕ) → View → Type 0
-SendsWord i k m = number_in m 8 4 ≡ 7
+SendsWord i k m = number_seen m 8 4 ≡ 7
 
 -- the slot's bytes are the sender's own
 abbrev pub IsSlot : (h x : ℕ) → Type 0
@@ -112,7 +112,7 @@ After s = (s.pc ≡ 4 * 4) ⊎ (s.pc ≡ 4 * 5)
 
 -- the sender sends its x3, which is 7, and the receiver's is the word that it received
 abbrev pub Word : Party → HartState → View → Type 0
-Word the_sender s m = (r3 s ≡ 7) × (After s → number_in m 8 4 ≡ 7)
+Word the_sender s m = (r3 s ≡ 7) × (After s → number_seen m 8 4 ≡ 7)
 Word the_receiver s m = After s → r3 s ≡ 7
 
 word-on : (p : Party) (s z : HartState) (m n : View) → r3 z ≡ r3 s → (After z → ⊥) → Word p s m → Word p z n
@@ -131,7 +131,7 @@ late : (pc : ℕ) → pc ≡ 4 * 6 → (pc ≡ 4 * 4) ⊎ (pc ≡ 4 * 5) → ⊥
 late pc is (inl a) = omega (arith, is, a)
 late pc is (inr a) = omega (arith, is, a)
 
-stored-number : (m : View) (v : ℕ) → v < 2 ^ 32 → number_in (view_then (store (write 8 4 v)) m) 8 4 ≡ v
+stored-number : (m : View) (v : ℕ) → v < 2 ^ 32 → number_seen (view_then (store (write 8 4 v)) m) 8 4 ≡ v
 stored-number m v small = joined-same (λ i. view_then (store (write 8 4 v)) m (8 + i)) (λ i. byte_at i v) 4 same ∙ word_of_bytes v small
   where
     same : (i : ℕ) → i < 4 → view_then (store (write 8 4 v)) m (8 + i) ≡ byte_at i v
@@ -170,7 +170,7 @@ record Goes (p : Party) (m : View) (c : QueueCounts) (y : Access) (z : HartState
   keeps : KeepsAccess q (Some p) c y
   loads : LoadsOwned q p c y
   word : Word p z (view_then y m)
-  sends : p ≡ the_sender → (count p (after_access q (Some p) y c) ≡ count p c) ⊎ (number_in m 8 4 ≡ 7)
+  sends : p ≡ the_sender → (count p (after_access q (Some p) y c) ≡ count p c) ⊎ (number_seen m 8 4 ≡ 7)
   takes : p ≡ the_receiver → (x : ℕ) → 8 ≤ x → x < 12 → LeavesByteBy x y
   next : Stands p z (after_access q (Some p) y c)
 
@@ -240,7 +240,7 @@ module _ (M : ℕ) (o : OpeningValue) (fits_in : 3 ≤ M) (small : 4 * M ≤ 2 ^
     off-3 : (n v : ℕ) → 3 ≢ n → slice_index (slice_set s.registers n v) 3 ≡ r3 s
     off-3 n v apart = get_or-set_other s.registers n 3 v 0 apart
 
-    is-7 : p ≡ the_sender → After s → number_in m 8 4 ≡ 7
+    is-7 : p ≡ the_sender → After s → number_seen m 8 4 ≡ 7
     is-7 is a = (subst (λ r. Word r s m) is wd).1 a
 
     goes : Stands p s c → Goes p m c (access_of e) (advanced s v)
@@ -330,7 +330,7 @@ module _ (M : ℕ) (o : OpeningValue) (fits_in : 3 ≤ M) (small : 4 * M ≤ 2 ^
         slot : (n : ℕ) → 8 + 4 * (n % 1) ≡ 8
         slot n = omega arith
 
-        got : p ≡ the_receiver → number_in m 8 4 ≡ 7
+        got : p ≡ the_receiver → number_seen m 8 4 ≡ 7
         got is = acts.received 0 (omega arith) tt (ap (hart q) is) c.taken (omega arith)
             (subst (λ r. count r c < end q r c) is owned)
 
@@ -481,7 +481,7 @@ module _ (M : ℕ) (o : OpeningValue) (fits_in : 3 ≤ M) (small : 4 * M ≤ 2 ^
 
       sent_there : (d c : QueueCounts) → d ≡ c → (p : Party) (h : ℕ) (m : View) (e : Entry) → h ≡ hart q p → h ≡ 0 → (k : ℕ) → d.published ≤ k
           → k < (after_access q (Some p) (access_of e) d).published
-          → (p ≡ the_sender → (count p (after_access q (Some p) (access_of e) c) ≡ count p c) ⊎ (number_in m 8 4 ≡ 7)) → number_in m 8 4 ≡ 7
+          → (p ≡ the_sender → (count p (after_access q (Some p) (access_of e) c) ≡ count p c) ⊎ (number_seen m 8 4 ≡ 7)) → number_seen m 8 4 ≡ 7
       sent_there d c same the_receiver h m e is zero k from past sends = absurd (let no : 1 ≡ 0 = sym is ∙ zero in cc)
       sent_there d c same the_sender h m e is zero k from past sends = elim (sends refl) [
         | inr seven ↦ seven

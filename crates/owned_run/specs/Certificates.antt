@@ -6,7 +6,7 @@ use Rattle.hart.specs.State.{HartState}
 use Rattle.step_machine.specs.History.{OpeningValue}
 use Rattle.slot_queue.specs.Queues.{Queue, slot_of}
 use Rattle.queue_parties.specs.Parties.{Party}
-use Rattle.owned_run.specs.Certified.{View, AllCounts, number_in, IsCertified, OpenQueues, LoadsAreOwned}
+use Rattle.owned_run.specs.Certified.{View, AllCounts, number_seen, IsCertified, OpenQueues, LoadsAreOwned}
 use Rattle.owned_run.specs.Values.{Abstract, Means}
 
 -- a hart's part: its states, and the addresses of its own words
@@ -68,7 +68,7 @@ abbrev pub HasFields : Certificate → ℕ → Type 0
 HasFields c i = 0 < length (fields_at c i)
 
 abbrev pub MeetsField : Queue → (k : ℕ) → View → Field → Type 0
-MeetsField q k m f = (j : ℕ) × (j ≤ f.count) × (number_in m (slot_of q k + f.at) f.width ≡ f.low + f.step * j)
+MeetsField q k m f = (j : ℕ) × (j ≤ f.count) × (number_seen m (slot_of q k + f.at) f.width ≡ f.low + f.step * j)
 
 -- what may be sent
 abbrev pub MeetsFields : Certificate → (i k : ℕ) → View → Type 0

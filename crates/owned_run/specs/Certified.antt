@@ -21,13 +21,13 @@ use Rattle.slot_queue.specs.Ownership.{party_of, hart, index, end, OwnsByte, aft
 abbrev pub View : Type 0
 View = ℕ → ℕ
 
-abbrev pub number_in : View → (a width : ℕ) → ℕ
-number_in m a width = joined (λ i. m (a + i)) width
+abbrev pub number_seen : View → (a width : ℕ) → ℕ
+number_seen m a width = joined (λ i. m (a + i)) width
 
 -- an access reads what its hart's view says, and leaves this view of its own
 abbrev pub ReadsFrom : View → Access → Type 0
-ReadsFrom m (load a width v) = v ≡ number_in m a width
-ReadsFrom m (exchange a old new) = old ≡ number_in m a 4
+ReadsFrom m (load a width v) = v ≡ number_seen m a width
+ReadsFrom m (exchange a old new) = old ≡ number_seen m a 4
 ReadsFrom m other = Unit {0}
 
 abbrev pub byte_then : Access → (x b : ℕ) → ℕ
@@ -56,9 +56,9 @@ limit q the_receiver c = c.taken + q.capacity
 -- one that goes from what is known up to the window's limit
 pub record SeesIndices (q : Queue) (p : Party) (c : QueueCounts) (m : View) : Type 0 where
   pub room : count p c ≤ end q p c
-  pub own : number_in m (index q p) q.index_width ≡ index_word q (count p c)
+  pub own : number_seen m (index q p) q.index_width ≡ index_word q (count p c)
   pub there : ℕ
-  pub theirs : number_in m (index q (other p)) q.index_width ≡ index_word q there
+  pub theirs : number_seen m (index q (other p)) q.index_width ≡ index_word q there
   pub from : known p c ≤ there
   pub upto : there ≤ limit q p c
 

@@ -5,7 +5,7 @@ use Rattle.hart.specs.State.{HartState}
 use Rattle.slot_queue.specs.Queues.{Queue, index_word, slot_of}
 use Rattle.queue_parties.specs.Parties.{Party, count, known}
 use Rattle.slot_queue.specs.Ownership.{hart, end}
-use Rattle.owned_run.specs.Certified.{View, AllCounts, number_in}
+use Rattle.owned_run.specs.Certified.{View, AllCounts, number_seen}
 
 -- all numbers; low, low + step .. low + step * count; and of queue i, of which the hart is a party: the word of its own count and d
 -- more, that of the other's count as it is known and d more, and byte b of the slot of the position d after its own count
@@ -47,7 +47,7 @@ module _ (queues : ℕ → Queue) (h : ℕ) where
   KnowsRegisters cs vs xs = (j : ℕ) → Among queues h cs (get_or vs j any) (slice_index xs j)
 
   abbrev pub KnowsWord : AllCounts → View → Kept → Type 0
-  KnowsWord cs m w = Among queues h cs w.values (number_in m w.at 4)
+  KnowsWord cs m w = Among queues h cs w.values (number_seen m w.at 4)
 
   pub record HasShare (cs : AllCounts) (s : Share) : Type 0 where
     pub party : Party
