@@ -12,7 +12,7 @@ use Rattle.slot_queue.specs.Ownership.{hart, party_of, index, end, after_load, a
 use Rattle.queue_parties.proofs.Parties.{harts-apart, Whose, mine, theirs, whose, two, count-set-known}
 use Rattle.owned_run.specs.Certified.{View, limit, SeesIndices, ReadsFrom}
 use Rattle.owned_run.proofs.Accesses.{looked}
-use Rattle.queue_certificates.specs.Forms.{value_of, number, plus, lifted, first_variable, Bounds}
+use Rattle.queue_certificates.specs.Forms.{form_value, number, plus, lifted, first_variable, Bounds}
 use Rattle.queue_certificates.specs.States.{Share, HasShare}
 use Rattle.queue_certificates.specs.Steps.{last_below, is_just, is_whole, misses, behind, owned_then, looked_share}
 use Rattle.queue_certificates.proofs.Forms.{value-plus, value-lifted, value-number, value-first}
@@ -112,12 +112,12 @@ pub record Looked (q : Queue) (p : Party) (c d : QueueCounts) (xs : List ℕ) (s
   pub more : ℕ
   pub low : more ≤ q.capacity - s.owned.constant
   pub share : HasShare q p d (more ∷ xs) (looked_share s)
-  pub word : v ≡ index_word q (value_of (plus (plus (lifted s.own) (owned_then s)) (number (behind q p))) (more ∷ xs))
+  pub word : v ≡ index_word q (form_value (plus (plus (lifted s.own) (owned_then s)) (number (behind q p))) (more ∷ xs))
 
 module _ (q : Queue) (is : IsQueue q) (tells : TellsFull q) (p : Party) (c : QueueCounts) (xs : List ℕ) (s : Share) (has : HasShare q p c xs s) where
-  owned-value : (y : ℕ) → value_of (owned_then s) (y ∷ xs) ≡ s.owned.constant + y
+  owned-value : (y : ℕ) → form_value (owned_then s) (y ∷ xs) ≡ s.owned.constant + y
   owned-value y = value-plus (number s.owned.constant) first_variable (y ∷ xs)
-      ∙ ap (λ n. n + value_of first_variable (y ∷ xs)) (value-number s.owned.constant (y ∷ xs)) ∙ ap (λ n. s.owned.constant + n) (value-first y xs)
+      ∙ ap (λ n. n + form_value first_variable (y ∷ xs)) (value-number s.owned.constant (y ∷ xs)) ∙ ap (λ n. s.owned.constant + n) (value-first y xs)
 
   pub looks : (m : View) → SeesIndices q p c m → (v : ℕ) → ReadsFrom m (load (index q (other p)) q.index_width v)
       → Looked q p c (after_load q p (index q (other p)) q.index_width v c) xs s v
@@ -126,7 +126,7 @@ module _ (q : Queue) (is : IsQueue q) (tells : TellsFull q) (p : Party) (c : Que
     low = omega (arith, has.own, top);
     share = record {
       own = count-set-known p p k c ∙ has.own ∙ sym (value-lifted s.own y xs);
-      upto = upto ∙ ap (λ n. n + (s.owned.constant + y)) (sym (value-lifted s.own y xs)) ∙ ap (λ n. value_of (lifted s.own) (y ∷ xs) + n) (sym (owned-value y));
+      upto = upto ∙ ap (λ n. n + (s.owned.constant + y)) (sym (value-lifted s.own y xs)) ∙ ap (λ n. form_value (lifted s.own) (y ∷ xs) + n) (sym (owned-value y));
     };
     word = l.1 ∙ sym (behind-end q p k c is.words) ∙ ap (λ n. index_word q (n + behind q p)) upto ∙ ap (index_word q) (sym whole);
   })
@@ -138,24 +138,24 @@ module _ (q : Queue) (is : IsQueue q) (tells : TellsFull q) (p : Party) (c : Que
       k = l.0
 
       y : ℕ
-      y = end q p (with_known p l.0 c) - (value_of s.own xs + s.owned.constant)
+      y = end q p (with_known p l.0 c) - (form_value s.own xs + s.owned.constant)
 
-      bottom : value_of s.own xs + s.owned.constant ≤ end q p (with_known p l.0 c)
+      bottom : form_value s.own xs + s.owned.constant ≤ end q p (with_known p l.0 c)
       bottom = let e : end q p c ≤ end q p (with_known p l.0 c) = end-grows q p l.0 c l.2 in omega (arith, e, has.upto)
 
       top : end q p (with_known p l.0 c) ≤ count p c + q.capacity
       top = end-limit q p l.0 c l.3
 
-      upto : end q p (with_known p l.0 c) ≡ value_of s.own xs + (s.owned.constant + (end q p (with_known p l.0 c) - (value_of s.own xs + s.owned.constant)))
+      upto : end q p (with_known p l.0 c) ≡ form_value s.own xs + (s.owned.constant + (end q p (with_known p l.0 c) - (form_value s.own xs + s.owned.constant)))
       upto = omega (arith, bottom)
 
-      whole : value_of (plus (plus (lifted s.own) (owned_then s)) (number (behind q p))) (y ∷ xs)
-          ≡ value_of s.own xs + (s.owned.constant + (end q p (with_known p l.0 c) - (value_of s.own xs + s.owned.constant))) + behind q p
+      whole : form_value (plus (plus (lifted s.own) (owned_then s)) (number (behind q p))) (y ∷ xs)
+          ≡ form_value s.own xs + (s.owned.constant + (end q p (with_known p l.0 c) - (form_value s.own xs + s.owned.constant))) + behind q p
       whole = value-plus (plus (lifted s.own) (owned_then s)) (number (behind q p)) (y ∷ xs)
-          ∙ ap (λ n. value_of (plus (lifted s.own) (owned_then s)) (y ∷ xs) + n) (value-number (behind q p) (y ∷ xs))
+          ∙ ap (λ n. form_value (plus (lifted s.own) (owned_then s)) (y ∷ xs) + n) (value-number (behind q p) (y ∷ xs))
           ∙ ap (λ n. n + behind q p) (value-plus (lifted s.own) (owned_then s) (y ∷ xs)
-          ∙ ap (λ n. n + value_of (owned_then s) (y ∷ xs)) (value-lifted s.own y xs)
-          ∙ ap (λ n. value_of s.own xs + n) (owned-value y))
+          ∙ ap (λ n. n + form_value (owned_then s) (y ∷ xs)) (value-lifted s.own y xs)
+          ∙ ap (λ n. form_value s.own xs + n) (owned-value y))
 
 -- bounds of one address that is the other's index don't miss it
 pub hits : (q : Queue) (p : Party) (b : Bounds) (width : ℕ) → misses q (Some p) b width ≡ true

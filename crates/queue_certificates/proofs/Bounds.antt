@@ -5,9 +5,9 @@ use Rattle.std.specs.Prelude.{map, nat_le}
 use Rattle.std.proofs.lemmas.Bool.{and_parts, eqb-true, leb-true}
 use Rattle.std.proofs.lemmas.Nat.{mul-le}
 use Rattle.std.proofs.Math.Nat.{mul-zero, mod-mod, mod-eq_of_lt, add-mul, zero-mul, mod-lt}
-use Rattle.queue_certificates.specs.Forms.{Form, dot, value_of, IsAtMost, InRanges, most_of_multiple, added}
+use Rattle.queue_certificates.specs.Forms.{Form, dot, form_value, IsAtMost, InRanges, most_of_multiple, added}
 use Rattle.queue_certificates.specs.Forms.{most_of_sum, most, fits_in, are_in, Bounds, kept, settled, reduced}
-use Rattle.queue_certificates.specs.Forms.{remainder, risings, fallings, between, bounds_of}
+use Rattle.queue_certificates.specs.Forms.{remainder, risings, fallings, bounds_between, bounds_of}
 use Rattle.queue_certificates.proofs.Forms.{values_of, mod-sum, mod-product}
 
 pub record IsSum (a b : Option ℕ) (n : ℕ) : Type 0 where
@@ -39,7 +39,7 @@ dot-below (r ∷ rs) (m ∷ ms) (x ∷ xs) b ranges is =
     let one : m * x ≤ s.left = multiple-below r m x s.left ranges.0 s.left_is in
     let more : dot ms xs ≤ s.right = dot-below rs ms xs s.right ranges.1 s.right_is in omega (arith, one, more, s.sum)
 
-pub value-below : (rs : List (Option ℕ)) (f : Form) (xs : List ℕ) (b : ℕ) → InRanges rs xs → most rs f ≡ Some b → value_of f xs ≤ b
+pub value-below : (rs : List (Option ℕ)) (f : Form) (xs : List ℕ) (b : ℕ) → InRanges rs xs → most rs f ≡ Some b → form_value f xs ≤ b
 value-below rs f xs b ranges is =
     let s = added-parts (Some f.constant) (most_of_sum rs f.factors) b is in
     let one : f.constant ≡ s.left = (let e : Some f.constant ≡ Some s.left = s.left_is in cc) in
@@ -57,7 +57,7 @@ forms-in rs [] (t ∷ ts) xs ranges ok = absurd (cc)
 forms-in rs (g ∷ gs) [] xs ranges ok = absurd (cc)
 forms-in rs (g ∷ gs) (t ∷ ts) xs ranges ok =
     let parts = and_parts (fits_in (most rs g) t) (are_in rs gs ts) ok in
-    (fits-below (most rs g) t (value_of g xs) parts.0 (λ n is. value-below rs g xs n ranges is), forms-in rs gs ts xs ranges parts.1)
+    (fits-below (most rs g) t (form_value g xs) parts.0 (λ n is. value-below rs g xs n ranges is), forms-in rs gs ts xs ranges parts.1)
 
 kept-dot : (rs : List (Option ℕ)) (ms xs : List ℕ) → InRanges rs xs → dot (kept rs ms) xs ≡ dot ms xs
 kept-dot [] ms xs ranges = refl
@@ -72,7 +72,7 @@ kept-dot (Some n ∷ rs) (m ∷ ms) (x ∷ xs) ranges = by (n == 0) refl ∙ ap 
         let z : n ≡ 0 = eqb-true n 0 none in let low : x ≤ n = ranges.0 in let zero-x : x ≡ 0 = omega (arith, z, low) in
         ap (λ y. y + dot (kept rs ms) xs) (zero-mul x ∙ sym (ap (λ y. m * y) zero-x ∙ mul-zero m))
 
-pub value-settled : (rs : List (Option ℕ)) (f : Form) (xs : List ℕ) → InRanges rs xs → value_of (settled rs f) xs ≡ value_of f xs
+pub value-settled : (rs : List (Option ℕ)) (f : Form) (xs : List ℕ) → InRanges rs xs → form_value (settled rs f) xs ≡ form_value f xs
 value-settled rs f xs ranges = ap (λ n. f.constant + n) (kept-dot rs f.factors xs ranges)
 
 -- ---- remainders as forms
@@ -84,20 +84,20 @@ reduced-dot n (m ∷ ms) (x ∷ xs) = mod-sum (m % n * x) (dot (map (λ m. m % n
     (mod-product (m % n) m x n (mod-mod m n)) (reduced-dot n ms xs)
 
 pub value-remainder : (rs : List (Option ℕ)) (f : Form) (n : ℕ) (g : Form) (xs : List ℕ) → InRanges rs xs → remainder rs f n ≡ Some g
-    → (value_of g xs ≡ value_of f xs % n) × (1 ≤ n)
+    → (form_value g xs ≡ form_value f xs % n) × (1 ≤ n)
 value-remainder rs f n g xs ranges is = by (nat_le 1 n && fits_in (most rs (reduced n f)) (Some (n - 1))) refl is
   where
     by : (t : Bool) → (nat_le 1 n && fits_in (most rs (reduced n f)) (Some (n - 1))) ≡ t → (if t then Some (reduced n f) else None) ≡ Some g
-        → (value_of g xs ≡ value_of f xs % n) × (1 ≤ n)
+        → (form_value g xs ≡ form_value f xs % n) × (1 ≤ n)
     by false more is = absurd (cc)
     by true ok is =
         let parts = and_parts (nat_le 1 n) (fits_in (most rs (reduced n f)) (Some (n - 1))) ok in
         let some : 1 ≤ n = leb-true 1 n parts.0 in
-        let low : value_of (reduced n f) xs ≤ n - 1 = fits-below (most rs (reduced n f)) (Some (n - 1))
-        (value_of (reduced n f) xs) parts.1 (λ m at. value-below rs (reduced n f) xs m ranges at) in
-        let same : value_of (reduced n f) xs % n ≡ value_of f xs % n =
+        let low : form_value (reduced n f) xs ≤ n - 1 = fits-below (most rs (reduced n f)) (Some (n - 1))
+        (form_value (reduced n f) xs) parts.1 (λ m at. value-below rs (reduced n f) xs m ranges at) in
+        let same : form_value (reduced n f) xs % n ≡ form_value f xs % n =
         mod-sum (f.constant % n) (dot (map (λ m. m % n) f.factors) xs) f.constant (dot f.factors xs) n (mod-mod f.constant n) (reduced-dot n f.factors xs) in
-        (subst (λ h. value_of h xs ≡ value_of f xs % n) (let e : reduced n f ≡ g = cc in e) (sym (mod-eq_of_lt (omega (arith, low, some))) ∙ same), some)
+        (subst (λ h. form_value h xs ≡ form_value f xs % n) (let e : reduced n f ≡ g = cc in e) (sym (mod-eq_of_lt (omega (arith, low, some))) ∙ same), some)
 
 -- ---- bounds of a word
 
@@ -128,33 +128,33 @@ in-between : (v c up down rise fall : ℕ) → v < 2 ^ 32 → (v + fall) % 2 ^ 3
 in-between v c up down rise fall small same f r d u = (omega arith, omega arith)
 
 pub value-between : (rs : List (Option ℕ)) (f : Form) (xs : List ℕ) (b : Bounds) → InRanges rs xs → bounds_of rs f ≡ Some b
-    → (b.low ≤ value_of f xs % 2 ^ 32) × (value_of f xs % 2 ^ 32 ≤ b.high)
+    → (b.low ≤ form_value f xs % 2 ^ 32) × (form_value f xs % 2 ^ 32 ≤ b.high)
 value-between rs f xs b ranges is = by (most_of_sum rs (risings f.factors)) (most_of_sum rs (fallings f.factors)) refl refl is
   where
     c : ℕ
     c = f.constant % 2 ^ 32
 
-    level : (value_of f xs % 2 ^ 32 + dot (fallings f.factors) xs) % 2 ^ 32 ≡ (f.constant % 2 ^ 32 + dot (risings f.factors) xs) % 2 ^ 32
+    level : (form_value f xs % 2 ^ 32 + dot (fallings f.factors) xs) % 2 ^ 32 ≡ (f.constant % 2 ^ 32 + dot (risings f.factors) xs) % 2 ^ 32
     level =
         let all : (dot f.factors xs + dot (fallings f.factors) xs) % 2 ^ 32 ≡ dot (risings f.factors) xs % 2 ^ 32 =
         all-balanced f.factors xs in
         omega (arith, all)
 
     by : (up down : Option ℕ) → most_of_sum rs (risings f.factors) ≡ up → most_of_sum rs (fallings f.factors) ≡ down
-        → between (f.constant % 2 ^ 32) up down ≡ Some b
-        → (b.low ≤ value_of f xs % 2 ^ 32) × (value_of f xs % 2 ^ 32 ≤ b.high)
+        → bounds_between (f.constant % 2 ^ 32) up down ≡ Some b
+        → (b.low ≤ form_value f xs % 2 ^ 32) × (form_value f xs % 2 ^ 32 ≤ b.high)
     by None down u d is = absurd (cc)
     by (Some up) None u d is = absurd (cc)
     by (Some up) (Some down) u d is = at (nat_le down (f.constant % 2 ^ 32) && nat_le (f.constant % 2 ^ 32 + up + 1) (2 ^ 32)) refl is
       where
         at : (t : Bool) → (nat_le down (f.constant % 2 ^ 32) && nat_le (f.constant % 2 ^ 32 + up + 1) (2 ^ 32)) ≡ t
             → (if t then Some (record { low = f.constant % 2 ^ 32 - down; high = f.constant % 2 ^ 32 + up }) else None) ≡ Some b
-            → (b.low ≤ value_of f xs % 2 ^ 32) × (value_of f xs % 2 ^ 32 ≤ b.high)
+            → (b.low ≤ form_value f xs % 2 ^ 32) × (form_value f xs % 2 ^ 32 ≤ b.high)
         at false off is = absurd (cc)
         at true ok is =
             let parts = and_parts (nat_le down (f.constant % 2 ^ 32)) (nat_le (f.constant % 2 ^ 32 + up + 1) (2 ^ 32)) ok in
-            let at = in-between (value_of f xs % 2 ^ 32) (f.constant % 2 ^ 32) up down (dot (risings f.factors) xs) (dot (fallings f.factors) xs)
-            (mod-lt (value_of f xs) (omega arith)) level (dot-below rs (fallings f.factors) xs down ranges d) (dot-below rs (risings f.factors) xs up ranges u)
+            let at = in-between (form_value f xs % 2 ^ 32) (f.constant % 2 ^ 32) up down (dot (risings f.factors) xs) (dot (fallings f.factors) xs)
+            (mod-lt (form_value f xs) (omega arith)) level (dot-below rs (fallings f.factors) xs down ranges d) (dot-below rs (risings f.factors) xs up ranges u)
             (leb-true down (f.constant % 2 ^ 32) parts.0) (leb-true (f.constant % 2 ^ 32 + up + 1) (2 ^ 32) parts.1) in
-            subst (λ z. (z.low ≤ value_of f xs % 2 ^ 32) × (value_of f xs % 2 ^ 32 ≤ z.high))
+            subst (λ z. (z.low ≤ form_value f xs % 2 ^ 32) × (form_value f xs % 2 ^ 32 ≤ z.high))
             (let e : record { low = f.constant % 2 ^ 32 - down; high = f.constant % 2 ^ 32 + up } ≡ b = cc in e) at

@@ -21,8 +21,8 @@ use Rattle.slot_queue.specs.Queues.{Queue, IsQueue, TellsFull, KeepsOff, index_w
 use Rattle.queue_parties.specs.Parties.{Party, the_sender, the_receiver, all_at, count}
 use Rattle.slot_queue.specs.Ownership.{hart, party_of, end, after_access, KeepsAccess}
 use Rattle.owned_run.specs.Certified.{View, AllCounts, number_in, view_then, Acts, LoadsOwned}
-use Rattle.queue_certificates.specs.Forms.{settled, value_of, InRanges}
-use Rattle.queue_certificates.specs.States.{Value, any, linear, index_for, no_share, KnownState, Has, HasShare, MeansAt, Means}
+use Rattle.queue_certificates.specs.Forms.{settled, form_value, InRanges}
+use Rattle.queue_certificates.specs.States.{KnownValue, any, linear, index_for, no_share, KnownState, Has, HasShare, MeansAt, Means}
 use Rattle.queue_certificates.specs.Steps.{all_below, follow, instruction_at, loads_owned}
 use Rattle.queue_certificates.specs.Certificates.{Arrow, Cases, leaf, split, QueueCertificate, queue_at, start_at}
 use Rattle.queue_certificates.specs.Certificates.{part_of, own_of, state_at, no_part, no_hart, IsInState, Opens}
@@ -94,10 +94,10 @@ otherwise : (a b : Bool) → a ≡ true → (not a || b) ≡ true → b ≡ true
 otherwise true b is or = or
 otherwise false b is or = absurd (cc)
 
-has-value : (queues : ℕ → Queue) (xs : List ℕ) (v : Value) (x : ℕ) → is_value queues xs v x ≡ true → Has queues xs v x
+has-value : (queues : ℕ → Queue) (xs : List ℕ) (v : KnownValue) (x : ℕ) → is_value queues xs v x ≡ true → Has queues xs v x
 has-value queues xs any x ok = tt
-has-value queues xs (linear f) x ok = eqb-true x (value_of f xs % 2 ^ 32) ok
-has-value queues xs (index_for i f) x ok = eqb-true x (index_word (queues i) (value_of f xs)) ok
+has-value queues xs (linear f) x ok = eqb-true x (form_value f xs % 2 ^ 32) ok
+has-value queues xs (index_for i f) x ok = eqb-true x (index_word (queues i) (form_value f xs)) ok
 
 in-ranges : (rs : List (Option ℕ)) (xs : List ℕ) → are_in_ranges rs xs ≡ true → InRanges rs xs
 in-ranges [] [] ok = tt
@@ -178,14 +178,14 @@ module _ (M : ℕ) (o : OpeningValue) (c : QueueCertificate) (ok : accepts o c �
       by : (p : Party) → opens_share (queue_at c i) (Some p) (start_at c i) (get_or k.shares i no_share) xs ≡ true
           → HasShare (queue_at c i) p (all_at (start_at c i)) xs (get_or k.shares i no_share)
       by p ok =
-          let parts = and_parts (start_at c i == value_of (get_or k.shares i no_share).own xs)
-          (end (queue_at c i) p (all_at (start_at c i)) == value_of (get_or k.shares i no_share).own xs + value_of (get_or k.shares i no_share).owned xs) ok in
-          let start : start_at c i ≡ value_of (get_or k.shares i no_share).own xs =
-          eqb-true (start_at c i) (value_of (get_or k.shares i no_share).own xs) parts.0 in
+          let parts = and_parts (start_at c i == form_value (get_or k.shares i no_share).own xs)
+          (end (queue_at c i) p (all_at (start_at c i)) == form_value (get_or k.shares i no_share).own xs + form_value (get_or k.shares i no_share).owned xs) ok in
+          let start : start_at c i ≡ form_value (get_or k.shares i no_share).own xs =
+          eqb-true (start_at c i) (form_value (get_or k.shares i no_share).own xs) parts.0 in
           record {
             own = count-all p (start_at c i) ∙ start;
             upto = eqb-true (end (queue_at c i) p (all_at (start_at c i)))
-                (value_of (get_or k.shares i no_share).own xs + value_of (get_or k.shares i no_share).owned xs) parts.1;
+                (form_value (get_or k.shares i no_share).own xs + form_value (get_or k.shares i no_share).owned xs) parts.1;
           }
 
   opens-means : (h : ℕ) (x : HartOpeningValue) (k : KnownState) (xs : List ℕ) → opens_in o c h x k xs ≡ true

@@ -4,11 +4,11 @@ use Rattle.std.specs.Prelude.{map}
 use Rattle.std.proofs.lemmas.Bool.{and_parts, eqb-true}
 use Rattle.std.proofs.lemmas.Nat.{mul-mod_first}
 use Rattle.std.proofs.Math.Nat.{mul-add, add-mul, zero-mul, mul-zero, mul_assoc, mul_comm, add-mod, mod-zero, zero-mod}
-use Rattle.queue_certificates.specs.Forms.{Form, dot, value_of, number, first_variable, sums, plus, times, lifted}
+use Rattle.queue_certificates.specs.Forms.{Form, dot, form_value, number, first_variable, sums, plus, times, lifted}
 use Rattle.queue_certificates.specs.Forms.{combined, substituted, factor_at, raised, vanishes, agree, is_same}
 
 abbrev pub values_of : List Form → List ℕ → List ℕ
-values_of gs xs = map (λ g. value_of g xs) gs
+values_of gs xs = map (λ g. form_value g xs) gs
 
 pub dot-none : (ms : List ℕ) → dot ms [] ≡ 0
 dot-none [] = refl
@@ -25,30 +25,30 @@ dot-times k [] xs = sym (mul-zero k)
 dot-times k (m ∷ ms) [] = sym (mul-zero k)
 dot-times k (m ∷ ms) (x ∷ xs) = grind (arith, mul-add k (m * x) (dot ms xs), mul_assoc k m x, dot-times k ms xs)
 
-pub value-plus : (f g : Form) (xs : List ℕ) → value_of (plus f g) xs ≡ value_of f xs + value_of g xs
+pub value-plus : (f g : Form) (xs : List ℕ) → form_value (plus f g) xs ≡ form_value f xs + form_value g xs
 value-plus f g xs = let s : dot (sums f.factors g.factors) xs ≡ dot f.factors xs + dot g.factors xs = dot-sums f.factors g.factors xs in omega (arith, s)
 
-pub value-times : (k : ℕ) (f : Form) (xs : List ℕ) → value_of (times k f) xs ≡ k * value_of f xs
+pub value-times : (k : ℕ) (f : Form) (xs : List ℕ) → form_value (times k f) xs ≡ k * form_value f xs
 value-times k f xs = ap (λ d. k * f.constant + d) (dot-times k f.factors xs) ∙ sym (mul-add k f.constant (dot f.factors xs))
 
-pub value-number : (n : ℕ) (xs : List ℕ) → value_of (number n) xs ≡ n
+pub value-number : (n : ℕ) (xs : List ℕ) → form_value (number n) xs ≡ n
 value-number n xs = omega arith
 
-pub value-lifted : (f : Form) (y : ℕ) (xs : List ℕ) → value_of (lifted f) (y ∷ xs) ≡ value_of f xs
+pub value-lifted : (f : Form) (y : ℕ) (xs : List ℕ) → form_value (lifted f) (y ∷ xs) ≡ form_value f xs
 value-lifted f y xs = let z : 0 * y ≡ 0 = zero-mul y in omega (arith, z)
 
-pub value-first : (y : ℕ) (xs : List ℕ) → value_of first_variable (y ∷ xs) ≡ y
+pub value-first : (y : ℕ) (xs : List ℕ) → form_value first_variable (y ∷ xs) ≡ y
 value-first y xs = omega arith
 
-value-combined : (ms : List ℕ) (gs : List Form) (xs : List ℕ) → value_of (combined ms gs) xs ≡ dot ms (values_of gs xs)
+value-combined : (ms : List ℕ) (gs : List Form) (xs : List ℕ) → form_value (combined ms gs) xs ≡ dot ms (values_of gs xs)
 value-combined [] gs xs = refl
 value-combined (m ∷ ms) [] xs = refl
 value-combined (m ∷ ms) (g ∷ gs) xs = value-plus (times m g) (combined ms gs) xs
-    ∙ ap (λ n. n + value_of (combined ms gs) xs) (value-times m g xs) ∙ ap (λ n. m * value_of g xs + n) (value-combined ms gs xs)
+    ∙ ap (λ n. n + form_value (combined ms gs) xs) (value-times m g xs) ∙ ap (λ n. m * form_value g xs + n) (value-combined ms gs xs)
 
-pub value-substituted : (f : Form) (gs : List Form) (xs : List ℕ) → value_of (substituted f gs) xs ≡ value_of f (values_of gs xs)
+pub value-substituted : (f : Form) (gs : List Form) (xs : List ℕ) → form_value (substituted f gs) xs ≡ form_value f (values_of gs xs)
 value-substituted f gs xs = value-plus (number f.constant) (combined f.factors gs) xs
-    ∙ ap (λ n. value_of (number f.constant) xs + n) (value-combined f.factors gs xs)
+    ∙ ap (λ n. form_value (number f.constant) xs + n) (value-combined f.factors gs xs)
     ∙ ap (λ n. n + dot f.factors (values_of gs xs)) (value-number f.constant xs)
 
 -- ---- a variable that is less by so much
@@ -68,7 +68,7 @@ dot-raised (m ∷ ms) (suc j) by (x ∷ xs) le some =
     let rest : factor_at ms j * by + dot ms (less_at j by xs) ≡ dot ms xs = dot-raised ms j by xs le some in
     omega (arith, rest)
 
-pub value-raised : (f : Form) (j by : ℕ) (xs : List ℕ) → by ≤ get_or xs j 0 → 0 < by → value_of (raised j by f) (less_at j by xs) ≡ value_of f xs
+pub value-raised : (f : Form) (j by : ℕ) (xs : List ℕ) → by ≤ get_or xs j 0 → 0 < by → form_value (raised j by f) (less_at j by xs) ≡ form_value f xs
 value-raised f j by xs le some =
     let d : factor_at f.factors j * by + dot f.factors (less_at j by xs) ≡ dot f.factors xs =
     dot-raised f.factors j by xs le some in
@@ -98,24 +98,24 @@ dot-agrees n (m ∷ ms) (k ∷ ks) (x ∷ xs) ok =
     let parts = and_parts (m % n == k % n) (agree n ms ks) ok in
     mod-sum (m * x) (dot ms xs) (k * x) (dot ks xs) n (mod-product m k x n (eqb-true (m % n) (k % n) parts.0)) (dot-agrees n ms ks xs parts.1)
 
-pub same-value : (n : ℕ) (f g : Form) (xs : List ℕ) → is_same n f g ≡ true → value_of f xs % n ≡ value_of g xs % n
+pub same-value : (n : ℕ) (f g : Form) (xs : List ℕ) → is_same n f g ≡ true → form_value f xs % n ≡ form_value g xs % n
 same-value n f g xs ok =
     let parts = and_parts (f.constant % n == g.constant % n) (agree n f.factors g.factors) ok in
     mod-sum f.constant (dot f.factors xs) g.constant (dot g.factors xs) n (eqb-true (f.constant % n) (g.constant % n) parts.0)
     (dot-agrees n f.factors g.factors xs parts.1)
 
-pub same-exactly : (f g : Form) (xs : List ℕ) → is_same 0 f g ≡ true → value_of f xs ≡ value_of g xs
-same-exactly f g xs ok = sym (mod-zero (value_of f xs)) ∙ same-value 0 f g xs ok ∙ mod-zero (value_of g xs)
+pub same-exactly : (f g : Form) (xs : List ℕ) → is_same 0 f g ≡ true → form_value f xs ≡ form_value g xs
+same-exactly f g xs ok = sym (mod-zero (form_value f xs)) ∙ same-value 0 f g xs ok ∙ mod-zero (form_value g xs)
 
 -- where the factors vanish, the value is the constant's remainder
-pub constant-value : (n : ℕ) (f : Form) (xs : List ℕ) → vanishes n f.factors ≡ true → value_of f xs % n ≡ f.constant % n
+pub constant-value : (n : ℕ) (f : Form) (xs : List ℕ) → vanishes n f.factors ≡ true → form_value f xs % n ≡ f.constant % n
 constant-value n f xs ok = mod-sum f.constant (dot f.factors xs) f.constant 0 n refl (dot-vanishes n f.factors xs ok)
     ∙ (let z : f.constant + 0 ≡ f.constant = omega arith in ap (λ y. y % n) z)
 
-pub times-value : (k : ℕ) (f : Form) (xs : List ℕ) (x n : ℕ) → x ≡ value_of f xs % n → (x * k) % n ≡ value_of (times k f) xs % n
-times-value k f xs x n is = ap (λ y. (y * k) % n) is ∙ mul-mod_first (value_of f xs) k n
-    ∙ ap (λ y. y % n) ((let turned : value_of f xs * k ≡ k * value_of f xs = mul_comm (value_of f xs) k in turned) ∙ sym (value-times k f xs))
+pub times-value : (k : ℕ) (f : Form) (xs : List ℕ) (x n : ℕ) → x ≡ form_value f xs % n → (x * k) % n ≡ form_value (times k f) xs % n
+times-value k f xs x n is = ap (λ y. (y * k) % n) is ∙ mul-mod_first (form_value f xs) k n
+    ∙ ap (λ y. y % n) ((let turned : form_value f xs * k ≡ k * form_value f xs = mul_comm (form_value f xs) k in turned) ∙ sym (value-times k f xs))
 
-pub plus-value : (f g : Form) (xs : List ℕ) (x y n : ℕ) → x ≡ value_of f xs % n → y ≡ value_of g xs % n → (x + y) % n ≡ value_of (plus f g) xs % n
-plus-value f g xs x y n one two = ap (λ z. (z + y) % n) one ∙ ap (λ z. (value_of f xs % n + z) % n) two ∙ sym (add-mod (value_of f xs) (value_of g xs) n)
+pub plus-value : (f g : Form) (xs : List ℕ) (x y n : ℕ) → x ≡ form_value f xs % n → y ≡ form_value g xs % n → (x + y) % n ≡ form_value (plus f g) xs % n
+plus-value f g xs x y n one two = ap (λ z. (z + y) % n) one ∙ ap (λ z. (form_value f xs % n + z) % n) two ∙ sym (add-mod (form_value f xs) (form_value g xs) n)
     ∙ ap (λ z. z % n) (sym (value-plus f g xs))

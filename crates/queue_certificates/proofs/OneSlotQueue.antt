@@ -4,13 +4,13 @@ use Rattle.rv_decode.specs.Meaning.{meaning}
 use Rattle.owned_run.proofs.OneSlot.{q}
 use Rattle.owned_run.proofs.OneSlotText.{text}
 use Rattle.queue_certificates.specs.Forms.{Form, number}
-use Rattle.queue_certificates.specs.States.{Value, any, linear}
+use Rattle.queue_certificates.specs.States.{KnownValue, any, linear}
 use Rattle.queue_certificates.specs.Certificates.{Arrow, Cases, leaf, split, ListedState, HartPart, QueueCertificate, accepts, accepts_loads}
 
 abbrev form : ℕ → List ℕ → Form
 form c ms = record { constant = c; factors = ms }
 
-abbrev listed : ℕ → List (Option ℕ) → List Value → Form → Form → Cases → ListedState
+abbrev listed : ℕ → List (Option ℕ) → List KnownValue → Form → Form → Cases → ListedState
 listed pc ranges registers own owned cases = record {
   known = record { pc = pc; ranges = ranges; registers = registers; words = []; shares = (record { own = own; owned = owned }) ∷ [] };
   cases = cases;

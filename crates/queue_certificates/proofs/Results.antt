@@ -19,9 +19,9 @@ use Rattle.rv_decode.specs.declared.instruction.RegisterOp.TheVariants as regist
 use Rattle.rv_decode.specs.Word.{signed}
 use Rattle.hart.specs.Effects.{word, computed, with_immediate, shifted, is_taken, flag}
 use Rattle.slot_queue.specs.Queues.{Queue}
-use Rattle.queue_certificates.specs.Forms.{remainder, Form, value_of, number, first_variable, plus, times, InRanges, Bounds, bounds_of}
-use Rattle.queue_certificates.specs.States.{Value, any, linear, index_for, Has}
-use Rattle.queue_certificates.specs.Results.{Result, just, exactly, up_to, known, or_else, both, is_below}
+use Rattle.queue_certificates.specs.Forms.{remainder, Form, form_value, number, first_variable, plus, times, InRanges, Bounds, bounds_of}
+use Rattle.queue_certificates.specs.States.{KnownValue, any, linear, index_for, Has}
+use Rattle.queue_certificates.specs.Results.{Result, just, exactly, at_most_number, known_number, or_else, both, is_below}
 use Rattle.queue_certificates.specs.Results.{is_below_signed, set_less, is_nothing, negated, flag_of, shifted_left}
 use Rattle.queue_certificates.specs.Results.{shifted_right, sum_of, difference_of, number_and, taken_known}
 use Rattle.queue_certificates.specs.Results.{low_bits, masked, masked_by, bounds, is_equal, immediate_part}
@@ -62,8 +62,8 @@ divisor-below n divides = elim (cases_lt (2 ^ 32) n) [
 
 module _ (queues : ℕ → Queue) (xs : List ℕ) where
   -- a difference of forms, as a word
-  pub minus-has : (f g : Form) (x y : ℕ) → x ≡ value_of f xs % 2 ^ 32 → y ≡ value_of g xs % 2 ^ 32
-      → (x + y * (2 ^ 32 - 1)) % 2 ^ 32 ≡ value_of (plus f (times (2 ^ 32 - 1) g)) xs % 2 ^ 32
+  pub minus-has : (f g : Form) (x y : ℕ) → x ≡ form_value f xs % 2 ^ 32 → y ≡ form_value g xs % 2 ^ 32
+      → (x + y * (2 ^ 32 - 1)) % 2 ^ 32 ≡ form_value (plus f (times (2 ^ 32 - 1) g)) xs % 2 ^ 32
   minus-has f g x y one two =
       let low : (x + y * (2 ^ 32 - 1)) % 2 ^ 32 ≡ (x + y * (2 ^ 32 - 1) % 2 ^ 32) % 2 ^ 32 = omega arith in
       low ∙ plus-value f (times (2 ^ 32 - 1) g) xs x (y * (2 ^ 32 - 1) % 2 ^ 32) (2 ^ 32) one (times-value (2 ^ 32 - 1) g xs y (2 ^ 32) two)
@@ -72,7 +72,7 @@ module _ (queues : ℕ → Queue) (xs : List ℕ) where
   abbrev pub Gives : Result → ℕ → Type 0
   Gives r x = (y : ℕ) × (y ≤ r.most) × Has queues (y ∷ xs) r.value x
 
-  pub just-gives : (v : Value) (x : ℕ) → Has queues xs v x → Gives (just v) x
+  pub just-gives : (v : KnownValue) (x : ℕ) → Has queues xs v x → Gives (just v) x
   just-gives v x has = (0, omega arith, has-lifted queues v x 0 xs has)
 
   pub exactly-gives : (n x : ℕ) → x ≡ n → Gives (exactly n) x
@@ -82,7 +82,7 @@ module _ (queues : ℕ → Queue) (xs : List ℕ) where
       by false large = tt
       by true small = is ∙ sym (ap (λ z. z % 2 ^ 32) (value-number n xs) ∙ mod-eq_of_lt (ltb-true n (2 ^ 32) small))
 
-  up-to-gives : (n x : ℕ) → x ≤ n → Gives (up_to n) x
+  up-to-gives : (n x : ℕ) → x ≤ n → Gives (at_most_number n) x
   up-to-gives n x le = by (nat_lt n (2 ^ 32)) refl
     where
       by : (t : Bool) → nat_lt n (2 ^ 32) ≡ t → Gives (if t then record { most = n; value = linear first_variable } else just any) x
@@ -104,21 +104,21 @@ module _ (queues : ℕ → Queue) (xs : List ℕ) where
       low true = omega arith
       low false = omega arith
 
-  pub sum-has : (v w : Value) (x y : ℕ) → Has queues xs v x → Has queues xs w y → Has queues xs (sum_of v w) ((x + y) % 2 ^ 32)
+  pub sum-has : (v w : KnownValue) (x y : ℕ) → Has queues xs v x → Has queues xs w y → Has queues xs (sum_of v w) ((x + y) % 2 ^ 32)
   sum-has (linear f) (linear g) x y one two = plus-value f g xs x y (2 ^ 32) one two
   sum-has (linear f) any x y one two = tt
   sum-has (linear f) (index_for i g) x y one two = tt
   sum-has any w x y one two = tt
   sum-has (index_for i f) w x y one two = tt
 
-  difference-has : (v w : Value) (x y : ℕ) → Has queues xs v x → Has queues xs w y → Has queues xs (difference_of v w) ((x + y * (2 ^ 32 - 1)) % 2 ^ 32)
+  difference-has : (v w : KnownValue) (x y : ℕ) → Has queues xs v x → Has queues xs w y → Has queues xs (difference_of v w) ((x + y * (2 ^ 32 - 1)) % 2 ^ 32)
   difference-has (linear f) (linear g) x y one two = minus-has f g x y one two
   difference-has (linear f) any x y one two = tt
   difference-has (linear f) (index_for i g) x y one two = tt
   difference-has any w x y one two = tt
   difference-has (index_for i f) w x y one two = tt
 
-  shifted-left : (v : Value) (x amount : ℕ) → Has queues xs v x → Gives (shifted_left v amount) ((x * 2 ^ amount) % 2 ^ 32)
+  shifted-left : (v : KnownValue) (x amount : ℕ) → Has queues xs v x → Gives (shifted_left v amount) ((x * 2 ^ amount) % 2 ^ 32)
   shifted-left any x amount has = just-gives any ((x * 2 ^ amount) % 2 ^ 32) tt
   shifted-left (index_for i f) x amount has = just-gives any ((x * 2 ^ amount) % 2 ^ 32) tt
   shifted-left (linear f) x amount has = just-gives (linear (times (2 ^ amount) f)) ((x * 2 ^ amount) % 2 ^ 32) (times-value (2 ^ amount) f xs x (2 ^ 32) has)
@@ -171,7 +171,7 @@ module _ (queues : ℕ → Queue) (xs : List ℕ) where
   set-less b x (pos n) one = by (nat_lt n (2 ^ 31)) refl
     where
       by : (t : Bool) → nat_lt n (2 ^ 31) ≡ t
-          → Gives (if t then flag_of (is_below_signed b (Some (record { low = n; high = n }))) else up_to 1)
+          → Gives (if t then flag_of (is_below_signed b (Some (record { low = n; high = n }))) else at_most_number 1)
           (flag (int_lt (signed x) (pos n)))
       by false large = flag-gives None (int_lt (signed x) (pos n)) (λ c is. absurd (cc))
       by true small = flag-gives (is_below_signed b (Some (record { low = n; high = n }))) (int_lt (signed x) (pos n)) (λ c is.
@@ -181,20 +181,20 @@ module _ (queues : ℕ → Queue) (xs : List ℕ) where
           subst (λ z. (z.low ≤ n) × (n ≤ z.high)) e (omega arith, omega arith))) c is)
 
   module _ (rs : List (Option ℕ)) (ranges : InRanges rs xs) where
-    in-bounds : (v : Value) (x : ℕ) → Has queues xs v x → (c : Bounds) → bounds rs v ≡ Some c → (c.low ≤ x) × (x ≤ c.high)
+    in-bounds : (v : KnownValue) (x : ℕ) → Has queues xs v x → (c : Bounds) → bounds rs v ≡ Some c → (c.low ≤ x) × (x ≤ c.high)
     in-bounds v x has c is = has-bounds queues rs xs v x c ranges is has
 
-    number-is : (f : ℕ → ℕ) (v : Value) (x : ℕ) → Has queues xs v x → (n : ℕ) → number_and f (known v) ≡ Some n → f x ≡ n
-    number-is f v x has n is = by (known v) refl is
+    number-is : (f : ℕ → ℕ) (v : KnownValue) (x : ℕ) → Has queues xs v x → (n : ℕ) → number_and f (known_number v) ≡ Some n → f x ≡ n
+    number-is f v x has n is = by (known_number v) refl is
       where
-        by : (k : Option ℕ) → known v ≡ k → number_and f k ≡ Some n → f x ≡ n
+        by : (k : Option ℕ) → known_number v ≡ k → number_and f k ≡ Some n → f x ≡ n
         by None of is = absurd (cc)
         by (Some a) of is = ap f (known-is queues xs v x a of has) ∙ (let e : f a ≡ n = cc in e)
 
-    both-are : (f : ℕ → ℕ → ℕ) (v w : Value) (x y : ℕ) → Has queues xs v x → Has queues xs w y → (n : ℕ) → both f (known v) (known w) ≡ Some n → f x y ≡ n
-    both-are f v w x y one two n is = by (known v) (known w) refl refl is
+    both-are : (f : ℕ → ℕ → ℕ) (v w : KnownValue) (x y : ℕ) → Has queues xs v x → Has queues xs w y → (n : ℕ) → both f (known_number v) (known_number w) ≡ Some n → f x y ≡ n
+    both-are f v w x y one two n is = by (known_number v) (known_number w) refl refl is
       where
-        by : (k l : Option ℕ) → known v ≡ k → known w ≡ l → both f k l ≡ Some n → f x y ≡ n
+        by : (k l : Option ℕ) → known_number v ≡ k → known_number w ≡ l → both f k l ≡ Some n → f x y ≡ n
         by None l vk wl is = absurd (cc)
         by (Some a) None vk wl is = absurd (cc)
         by (Some a) (Some b) vk wl is = ap (λ z. f z y) (known-is queues xs v x a vk one)
@@ -203,7 +203,7 @@ module _ (queues : ℕ → Queue) (xs : List ℕ) where
     pub word-has : (n : ℤ) → Has queues xs (linear (number (word n))) (word n)
     word-has n = sym (ap (λ z. z % 2 ^ 32) (value-number (word n) xs) ∙ mod-eq_of_lt (word-small n))
 
-    masked-gives : (v : Value) (x mask : ℕ) → Has queues xs v x → Gives (masked rs v mask) (bit_and x mask)
+    masked-gives : (v : KnownValue) (x mask : ℕ) → Has queues xs v x → Gives (masked rs v mask) (bit_and x mask)
     masked-gives any x mask has = up-to-gives mask (bit_and x mask) (and_le_r x mask)
     masked-gives (index_for i f) x mask has = up-to-gives mask (bit_and x mask) (and_le_r x mask)
     masked-gives (linear f) x mask has = by ((mask + 1 == 2 ^ count_ones mask) && (2 ^ 32 % (mask + 1) == 0)) refl
@@ -216,23 +216,23 @@ module _ (queues : ℕ → Queue) (xs : List ℕ) where
             let ones : mask ≡ 2 ^ count_ones mask - 1 = omega (arith, power) in
             let r = value-remainder rs f (mask + 1) g xs ranges is in
             let divides : 2 ^ 32 % (mask + 1) ≡ 0 = eqb-true (2 ^ 32 % (mask + 1)) 0 dvd in
-            let value : bit_and x mask ≡ value_of g xs = ap (bit_and x) ones ∙ and_mask x (count_ones mask) ∙ ap (λ m. x % m) (sym power)
-            ∙ ap (λ z. z % (mask + 1)) has ∙ mod-mod_of_dvd (mask + 1) (value_of f xs) (dvd_of_mod-eq-zero (mask + 1) divides) ∙ sym r.0 in
-            let under : value_of f xs % (mask + 1) < mask + 1 = mod-lt (value_of f xs) (omega arith) in
+            let value : bit_and x mask ≡ form_value g xs = ap (bit_and x) ones ∙ and_mask x (count_ones mask) ∙ ap (λ m. x % m) (sym power)
+            ∙ ap (λ z. z % (mask + 1)) has ∙ mod-mod_of_dvd (mask + 1) (form_value f xs) (dvd_of_mod-eq-zero (mask + 1) divides) ∙ sym r.0 in
+            let under : form_value f xs % (mask + 1) < mask + 1 = mod-lt (form_value f xs) (omega arith) in
             let bound : mask + 1 ≤ 2 ^ 32 = divisor-below (mask + 1) divides in
             just-gives (linear g) (bit_and x mask) (value ∙ sym (mod-eq_of_lt (omega (arith, r.0, under, bound))))
 
         by : (t : Bool) → ((mask + 1 == 2 ^ count_ones mask) && (2 ^ 32 % (mask + 1) == 0)) ≡ t
-            → Gives (if t then low_bits rs (remainder rs f (mask + 1)) mask else up_to mask) (bit_and x mask)
+            → Gives (if t then low_bits rs (remainder rs f (mask + 1)) mask else at_most_number mask) (bit_and x mask)
         by false other = up-to-gives mask (bit_and x mask) (and_le_r x mask)
         by true ok = let parts = and_parts (mask + 1 == 2 ^ count_ones mask) (2 ^ 32 % (mask + 1) == 0) ok in
             at parts.0 parts.1 (remainder rs f (mask + 1)) refl
 
-    masked-by : (v : Value) (x : ℕ) (b : Option ℕ) (y : ℕ) → Has queues xs v x → ((m : ℕ) → b ≡ Some m → y ≡ m) → Gives (masked_by rs v b) (bit_and x y)
+    masked-by : (v : KnownValue) (x : ℕ) (b : Option ℕ) (y : ℕ) → Has queues xs v x → ((m : ℕ) → b ≡ Some m → y ≡ m) → Gives (masked_by rs v b) (bit_and x y)
     masked-by v x None y has is = just-gives any (bit_and x y) tt
     masked-by v x (Some m) y has is = subst (λ z. Gives (masked rs v m) (bit_and x z)) (sym (is m refl)) (masked-gives v x m has)
 
-    immediate-part : (op : ImmediateOp) (v : Value) (x : ℕ) (n : ℤ) → Has queues xs v x → Gives (immediate_part rs op v n) (with_immediate op x n)
+    immediate-part : (op : ImmediateOp) (v : KnownValue) (x : ℕ) (n : ℤ) → Has queues xs v x → Gives (immediate_part rs op v n) (with_immediate op x n)
     immediate-part immediate.Add v x n has = subst (Gives (just (sum_of v (linear (number (word n)))))) (sym (word-of-sum x n))
         (just-gives (sum_of v (linear (number (word n)))) ((x + word n) % 2 ^ 32) (sum-has v (linear (number (word n))) x (word n) has (word-has n)))
     immediate-part immediate.And v x n has = masked-gives v x (word n) has
@@ -243,20 +243,20 @@ module _ (queues : ℕ → Queue) (xs : List ℕ) where
     immediate-part immediate.Xor v x n has = just-gives any (with_immediate immediate.Xor x n) tt
     immediate-part immediate.Or v x n has = just-gives any (with_immediate immediate.Or x n) tt
 
-    pub immediate-gives : (op : ImmediateOp) (v : Value) (x : ℕ) (n : ℤ) → Has queues xs v x → Gives (of_immediate rs op v n) (with_immediate op x n)
-    immediate-gives op v x n has = else-gives (number_and (λ a. with_immediate op a n) (known v)) (immediate_part rs op v n) (with_immediate op x n)
+    pub immediate-gives : (op : ImmediateOp) (v : KnownValue) (x : ℕ) (n : ℤ) → Has queues xs v x → Gives (of_immediate rs op v n) (with_immediate op x n)
+    immediate-gives op v x n has = else-gives (number_and (λ a. with_immediate op a n) (known_number v)) (immediate_part rs op v n) (with_immediate op x n)
         (number-is (λ a. with_immediate op a n) v x has) (immediate-part op v x n has)
 
-    shift-part : (op : ShiftOp) (v : Value) (x amount : ℕ) → Has queues xs v x → Gives (shift_part rs op v amount) (shifted op x amount)
+    shift-part : (op : ShiftOp) (v : KnownValue) (x amount : ℕ) → Has queues xs v x → Gives (shift_part rs op v amount) (shifted op x amount)
     shift-part shift.Left v x amount has = shifted-left v x amount has
     shift-part shift.Right v x amount has = shifted-right (bounds rs v) x amount (λ c is. (in-bounds v x has c is).1)
     shift-part shift.RightArithmetic v x amount has = just-gives any (shifted shift.RightArithmetic x amount) tt
 
-    pub shift-gives : (op : ShiftOp) (v : Value) (x amount : ℕ) → Has queues xs v x → Gives (of_shift rs op v amount) (shifted op x amount)
-    shift-gives op v x amount has = else-gives (number_and (λ a. shifted op a amount) (known v)) (shift_part rs op v amount) (shifted op x amount)
+    pub shift-gives : (op : ShiftOp) (v : KnownValue) (x amount : ℕ) → Has queues xs v x → Gives (of_shift rs op v amount) (shifted op x amount)
+    shift-gives op v x amount has = else-gives (number_and (λ a. shifted op a amount) (known_number v)) (shift_part rs op v amount) (shifted op x amount)
         (number-is (λ a. shifted op a amount) v x has) (shift-part op v x amount has)
 
-    register-part : (op : RegisterOp) (v w : Value) (x y : ℕ) → Has queues xs v x → Has queues xs w y → Gives (register_part rs op v w) (computed op x y)
+    register-part : (op : RegisterOp) (v w : KnownValue) (x y : ℕ) → Has queues xs v x → Has queues xs w y → Gives (register_part rs op v w) (computed op x y)
     register-part register.Add v w x y one two = just-gives (sum_of v w) ((x + y) % 2 ^ 32) (sum-has v w x y one two)
     register-part register.Sub v w x y one two = subst (Gives (just (difference_of v w))) (sym (word-of-difference x y))
         (just-gives (difference_of v w) ((x + y * (2 ^ 32 - 1)) % 2 ^ 32) (difference-has v w x y one two))
@@ -269,15 +269,15 @@ module _ (queues : ℕ → Queue) (xs : List ℕ) where
     register-part register.ShiftRight v w x y one two = just-gives any (computed register.ShiftRight x y) tt
     register-part register.ShiftRightArithmetic v w x y one two = just-gives any (computed register.ShiftRightArithmetic x y) tt
     register-part register.Or v w x y one two = just-gives any (computed register.Or x y) tt
-    register-part register.And v w x y one two = masked-by v x (known w) y one (λ m is. known-is queues xs w y m is two)
+    register-part register.And v w x y one two = masked-by v x (known_number w) y one (λ m is. known-is queues xs w y m is two)
 
-    pub register-gives : (op : RegisterOp) (v w : Value) (x y : ℕ) → Has queues xs v x → Has queues xs w y → Gives (of_registers rs op v w) (computed op x y)
-    register-gives op v w x y one two = else-gives (both (computed op) (known v) (known w)) (register_part rs op v w) (computed op x y)
+    pub register-gives : (op : RegisterOp) (v w : KnownValue) (x y : ℕ) → Has queues xs v x → Has queues xs w y → Gives (of_registers rs op v w) (computed op x y)
+    register-gives op v w x y one two = else-gives (both (computed op) (known_number v) (known_number w)) (register_part rs op v w) (computed op x y)
         (both-are (computed op) v w x y one two) (register-part op v w x y one two)
 
     -- ---- branches
 
-    equal-is : (v w : Value) (x y : ℕ) → Has queues xs v x → Has queues xs w y → (t : Bool) → is_equal rs v w ≡ Some t → (x == y) ≡ t
+    equal-is : (v w : KnownValue) (x y : ℕ) → Has queues xs v x → Has queues xs w y → (t : Bool) → is_equal rs v w ≡ Some t → (x == y) ≡ t
     equal-is any w x y one two t is = absurd (cc)
     equal-is (index_for i f) w x y one two t is = absurd (cc)
     equal-is (linear f) any x y one two t is = absurd (cc)
@@ -287,14 +287,14 @@ module _ (queues : ℕ → Queue) (xs : List ℕ) where
         d : Form
         d = plus f (times (2 ^ 32 - 1) g)
 
-        apart : (x + y * (2 ^ 32 - 1)) % 2 ^ 32 ≡ value_of (plus f (times (2 ^ 32 - 1) g)) xs % 2 ^ 32
+        apart : (x + y * (2 ^ 32 - 1)) % 2 ^ 32 ≡ form_value (plus f (times (2 ^ 32 - 1) g)) xs % 2 ^ 32
         apart = minus-has f g x y one two
 
         x-small : x < 2 ^ 32
-        x-small = subst (λ z. z < 2 ^ 32) (sym one) (mod-lt (value_of f xs) (omega arith))
+        x-small = subst (λ z. z < 2 ^ 32) (sym one) (mod-lt (form_value f xs) (omega arith))
 
         y-small : y < 2 ^ 32
-        y-small = subst (λ z. z < 2 ^ 32) (sym two) (mod-lt (value_of g xs) (omega arith))
+        y-small = subst (λ z. z < 2 ^ 32) (sym two) (mod-lt (form_value g xs) (omega arith))
 
         by : (b : Option Bounds) → bounds_of rs (plus f (times (2 ^ 32 - 1) g)) ≡ b → is_nothing b ≡ Some t → (x == y) ≡ t
         by None of is = absurd (cc)
@@ -316,7 +316,7 @@ module _ (queues : ℕ → Queue) (xs : List ℕ) where
     negated-is None b is t e = absurd (cc)
     negated-is (Some c) b is t e = ap not (is c refl) ∙ (let same : not c ≡ t = cc in same)
 
-    branch-part : (op : BranchOp) (v w : Value) (x y : ℕ) → Has queues xs v x → Has queues xs w y → (t : Bool)
+    branch-part : (op : BranchOp) (v w : KnownValue) (x y : ℕ) → Has queues xs v x → Has queues xs w y → (t : Bool)
         → branch_part rs op v w ≡ Some t → is_taken op x y ≡ t
     branch-part branch.Equal v w x y one two t is = equal-is v w x y one two t is
     branch-part branch.NotEqual v w x y one two t is = negated-is (is_equal rs v w) (x == y) (equal-is v w x y one two) t is
@@ -327,11 +327,11 @@ module _ (queues : ℕ → Queue) (xs : List ℕ) where
     branch-part branch.GreaterEqualUnsigned v w x y one two t is = negated-is (is_below (bounds rs v) (bounds rs w)) (nat_lt x y)
         (below-is (bounds rs v) (bounds rs w) x y (in-bounds v x one) (in-bounds w y two)) t is
 
-    pub branch-is : (op : BranchOp) (v w : Value) (x y : ℕ) → Has queues xs v x → Has queues xs w y → (t : Bool)
+    pub branch-is : (op : BranchOp) (v w : KnownValue) (x y : ℕ) → Has queues xs v x → Has queues xs w y → (t : Bool)
         → is_branch_taken rs op v w ≡ Some t → is_taken op x y ≡ t
-    branch-is op v w x y one two t is = by (known v) (known w) refl refl is
+    branch-is op v w x y one two t is = by (known_number v) (known_number w) refl refl is
       where
-        by : (k l : Option ℕ) → known v ≡ k → known w ≡ l → taken_known op k l (branch_part rs op v w) ≡ Some t → is_taken op x y ≡ t
+        by : (k l : Option ℕ) → known_number v ≡ k → known_number w ≡ l → taken_known op k l (branch_part rs op v w) ≡ Some t → is_taken op x y ≡ t
         by None l vk wl is = branch-part op v w x y one two t is
         by (Some a) None vk wl is = branch-part op v w x y one two t is
         by (Some a) (Some b) vk wl is = ap (λ z. is_taken op z y) (known-is queues xs v x a vk one) ∙ ap (is_taken op a) (known-is queues xs w y b wl two)

@@ -12,10 +12,10 @@ use Rattle.slot_queue.specs.Queues.{Queue}
 use Rattle.queue_parties.specs.Parties.{Party, the_sender, the_receiver, QueueCounts, count, known}
 use Rattle.slot_queue.specs.Ownership.{end}
 use Rattle.owned_run.specs.Certified.{View, AllCounts, number_in, IsSameFor}
-use Rattle.queue_certificates.specs.Forms.{Form, value_of, lifted, substituted, raised, settled, is_same, IsAtMost, InRanges, are_in}
-use Rattle.queue_certificates.specs.States.{Value, any, Share, no_share, KnownState, value_by, share_by, state_by, Has, is_within, HasShare, MeansAt}
+use Rattle.queue_certificates.specs.Forms.{Form, form_value, lifted, substituted, raised, settled, is_same, IsAtMost, InRanges, are_in}
+use Rattle.queue_certificates.specs.States.{KnownValue, any, Share, no_share, KnownState, value_by, share_by, state_by, Has, is_within, HasShare, MeansAt}
 use Rattle.queue_certificates.specs.Results.{Result}
-use Rattle.queue_certificates.specs.Steps.{all_below, written, with_result, going_to}
+use Rattle.queue_certificates.specs.Steps.{all_below, registers_written, with_result, going_to}
 use Rattle.queue_certificates.specs.Certificates.{all_within, is_share, leads_to, arrow_leads, at_most, beyond, may_exceed, range_changed, with_low, with_high}
 use Rattle.queue_certificates.proofs.Forms.{values_of, value-lifted, value-substituted, value-raised, same-exactly, less_at}
 use Rattle.queue_certificates.proofs.Bounds.{forms-in, value-settled}
@@ -30,23 +30,23 @@ at-below (suc n) f ok i less =
       | inr apart ↦ at-below n f parts.1 i (omega (arith, less, apart))
     ]
 
-get-by : (t : Form → Form) (vs : List Value) (j : ℕ) → get_or (map (value_by t) vs) j any ≡ value_by t (get_or vs j any)
+get-by : (t : Form → Form) (vs : List KnownValue) (j : ℕ) → get_or (map (value_by t) vs) j any ≡ value_by t (get_or vs j any)
 get-by t [] j = refl
 get-by t (v ∷ vs) zero = refl
 get-by t (v ∷ vs) (suc j) = get-by t vs j
 
 share-by : (t : Form → Form) (q : Queue) (p : Party) (c : QueueCounts) (xs ys : List ℕ)
-    → ((f : Form) → value_of (t f) ys ≡ value_of f xs) → (ss : List Share) (i : ℕ)
+    → ((f : Form) → form_value (t f) ys ≡ form_value f xs) → (ss : List Share) (i : ℕ)
     → HasShare q p c xs (get_or ss i no_share) → HasShare q p c ys (get_or (map (share_by t) ss) i no_share)
 share-by t q p c xs ys same [] i has = record { own = has.own; upto = has.upto }
 share-by t q p c xs ys same (s ∷ ss) zero has = record {
   own = has.own ∙ sym (same s.own);
-  upto = has.upto ∙ ap (λ n. n + value_of s.owned xs) (sym (same s.own)) ∙ ap (λ n. value_of (t s.own) ys + n) (sym (same s.owned));
+  upto = has.upto ∙ ap (λ n. n + form_value s.owned xs) (sym (same s.own)) ∙ ap (λ n. form_value (t s.own) ys + n) (sym (same s.owned));
 }
 share-by t q p c xs ys same (s ∷ ss) (suc i) has = share-by t q p c xs ys same ss i has
 
 module _ (queues : ℕ → Queue) (N : ℕ) (own : List ℕ) (h : ℕ) where
-  pub means-by : (t : Form → Form) (rs : List (Option ℕ)) (xs ys : List ℕ) → ((f : Form) → value_of (t f) ys ≡ value_of f xs) → InRanges rs ys
+  pub means-by : (t : Form → Form) (rs : List (Option ℕ)) (xs ys : List ℕ) → ((f : Form) → form_value (t f) ys ≡ form_value f xs) → InRanges rs ys
       → (k : KnownState) (s : HartState) (m : View) (cs : AllCounts) → MeansAt queues N own h xs k s m cs → MeansAt queues N own h ys (state_by t rs k) s m cs
   means-by t rs xs ys same ranges k s m cs means = record {
     ranges = ranges;
@@ -88,7 +88,7 @@ module _ (queues : ℕ → Queue) (N : ℕ) (own : List ℕ) (h : ℕ) where
 
   -- ---- a step's registers
 
-  set-has : (xs : List ℕ) (vs : List Value) (regs : List ℕ) (n x : ℕ) (v : Value)
+  set-has : (xs : List ℕ) (vs : List KnownValue) (regs : List ℕ) (n x : ℕ) (v : KnownValue)
       → ((j : ℕ) → Has queues xs (get_or vs j any) (slice_index regs j)) → n < length regs
       → Has queues xs v x → (j : ℕ) → Has queues xs (get_or (set vs n v) j any) (slice_index (slice_set regs n x) j)
   set-has xs vs regs n x v all size has j = at (cases_eq j n)
@@ -103,9 +103,9 @@ module _ (queues : ℕ → Queue) (N : ℕ) (own : List ℕ) (h : ℕ) where
       at (inr other) = subst (Has queues xs (get_or (set vs n v) j any)) (sym (get_or-set_other regs n j x 0 other))
           (subst (λ w. Has queues xs w (slice_index regs j)) (sym (get_or-set_other vs n j v any other)) (all j))
 
-  pub written-has : (xs : List ℕ) (vs : List Value) (regs : List ℕ) (n x : ℕ) (v : Value)
+  pub written-has : (xs : List ℕ) (vs : List KnownValue) (regs : List ℕ) (n x : ℕ) (v : KnownValue)
       → ((j : ℕ) → Has queues xs (get_or vs j any) (slice_index regs j)) → n < length regs
-      → Has queues xs v x → (j : ℕ) → Has queues xs (get_or (written vs n v) j any) (slice_index (written_at regs n x) j)
+      → Has queues xs v x → (j : ℕ) → Has queues xs (get_or (registers_written vs n v) j any) (slice_index (written_at regs n x) j)
   written-has xs vs regs n x v all size has j = by (n == 0)
     where
       by : (b : Bool) → Has queues xs (get_or (if b then vs else set vs n v) j any) (slice_index (if b then regs else slice_set regs n x) j)
@@ -120,7 +120,7 @@ module _ (queues : ℕ → Queue) (N : ℕ) (own : List ℕ) (h : ℕ) where
       let l = means-lifted r.most y low xs k s m cs means in record {
         ranges = l.ranges;
         pc = at;
-        registers = λ j. subst (λ zs. Has queues (y ∷ xs) (get_or (written (map (value_by lifted) k.registers) rd r.value) j any) (slice_index zs j)) (sym regs)
+        registers = λ j. subst (λ zs. Has queues (y ∷ xs) (get_or (registers_written (map (value_by lifted) k.registers) rd r.value) j any) (slice_index zs j)) (sym regs)
             (written-has (y ∷ xs) (map (value_by lifted) k.registers) s.registers rd x r.value l.registers size has j);
         words = l.words;
         shares = l.shares;
@@ -183,7 +183,7 @@ module _ (queues : ℕ → Queue) (N : ℕ) (own : List ℕ) (h : ℕ) where
 
   -- ---- arrows
 
-  each-within : (rs : List (Option ℕ)) (ys : List ℕ) → InRanges rs ys → (gs : List Form) (vs ws : List Value)
+  each-within : (rs : List (Option ℕ)) (ys : List ℕ) → InRanges rs ys → (gs : List Form) (vs ws : List KnownValue)
       → all_within queues rs vs ws gs ≡ true → (j x : ℕ) → Has queues ys (get_or vs j any) x
       → Has queues (values_of gs ys) (get_or ws j any) x
   each-within rs ys ranges gs vs [] ok j x has = tt
@@ -204,10 +204,10 @@ module _ (queues : ℕ → Queue) (N : ℕ) (own : List ℕ) (h : ℕ) where
       → is_share s t gs ≡ true → HasShare q p c ys s → HasShare q p c (values_of gs ys) t
   same-share ys gs s t q p c ok has =
       let parts = and_parts (is_same 0 s.own (substituted t.own gs)) (is_same 0 s.owned (substituted t.owned gs)) ok in
-      let one : value_of s.own ys ≡ value_of t.own (values_of gs ys) = same-exactly s.own (substituted t.own gs) ys parts.0 ∙ value-substituted t.own gs ys in
-      let two : value_of s.owned ys ≡ value_of t.owned (values_of gs ys) =
+      let one : form_value s.own ys ≡ form_value t.own (values_of gs ys) = same-exactly s.own (substituted t.own gs) ys parts.0 ∙ value-substituted t.own gs ys in
+      let two : form_value s.owned ys ≡ form_value t.owned (values_of gs ys) =
       same-exactly s.owned (substituted t.owned gs) ys parts.1 ∙ value-substituted t.owned gs ys in
-      record { own = has.own ∙ one; upto = has.upto ∙ ap (λ n. n + value_of s.owned ys) one ∙ ap (λ n. value_of t.own (values_of gs ys) + n) two }
+      record { own = has.own ∙ one; upto = has.upto ∙ ap (λ n. n + form_value s.owned ys) one ∙ ap (λ n. form_value t.own (values_of gs ys) + n) two }
 
   pub means-led : (ys : List ℕ) (k t : KnownState) (gs : List Form) (s : HartState) (m : View) (cs : AllCounts) → leads_to queues N k t gs ≡ true
       → MeansAt queues N own h ys k s m cs → MeansAt queues N own h (values_of gs ys) t s m cs

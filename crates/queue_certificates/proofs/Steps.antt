@@ -41,11 +41,11 @@ use Rattle.slot_queue.specs.Queues.{Queue, IsQueue, TellsFull, KeepsOff, index_w
 use Rattle.queue_parties.specs.Parties.{Party, other, QueueCounts, count, known as known_of}
 use Rattle.slot_queue.specs.Ownership.{hart, index, party_of, after_load as after_load_of, after_access, KeepsAccess}
 use Rattle.owned_run.specs.Certified.{View, AllCounts, number_in, view_then, Acts, ReadsFrom, IsSameFor, LoadsOwned, OwnsSlotsOf}
-use Rattle.queue_certificates.specs.Forms.{Form, value_of, number, plus, minus, is_same, most, fits_in, lifted, Bounds}
-use Rattle.queue_certificates.specs.States.{Value, any, linear, index_for, Share, no_share, share_by, KnownState}
+use Rattle.queue_certificates.specs.Forms.{Form, form_value, number, plus, minus, is_same, most, fits_in, lifted, Bounds}
+use Rattle.queue_certificates.specs.States.{KnownValue, any, linear, index_for, Share, no_share, share_by, KnownState}
 use Rattle.queue_certificates.specs.States.{value_by, state_by, plain, is_within, Has, HasShare, MeansAt, Means}
-use Rattle.queue_certificates.specs.Results.{Result, just, exactly, known, bounds, sum_of, of_immediate, of_shift, of_registers, is_branch_taken}
-use Rattle.queue_certificates.specs.Steps.{written, with_result, going_to, goes_by, operand, jumping}
+use Rattle.queue_certificates.specs.Results.{Result, just, exactly, known_number, bounds, sum_of, of_immediate, of_shift, of_registers, is_branch_taken}
+use Rattle.queue_certificates.specs.Steps.{registers_written, with_result, going_to, goes_by, operand, jumping}
 use Rattle.queue_certificates.specs.Steps.{called as called_state, follow, register_at, instruction_at, loads_owned}
 use Rattle.queue_certificates.specs.Steps.{reads_owned, updated_value, after_exchange, exchanging, addresses}
 use Rattle.queue_certificates.specs.Steps.{address_value, anywhere, is_one, is_whole, misses, is_look, is_own_index}
@@ -319,9 +319,9 @@ module _ (M : ℕ) (o : OpeningValue) (queues : ℕ → Queue) (N : ℕ) (own_of
           ranges = l.ranges;
           pc = at ∙ ap next_pc means.pc;
           registers = λ j. subst (λ zs. Has queues (0 ∷ xs)
-              (get_or (written (written (map (value_by lifted) k.registers) 10 any) 11 any) j any) (slice_index zs j))
+              (get_or (registers_written (registers_written (map (value_by lifted) k.registers) 10 any) 11 any) j any) (slice_index zs j))
               (sym regs)
-              (written-has queues N (own_of h) h (0 ∷ xs) (written (map (value_by lifted) k.registers) 10 any) (written_at s.registers 10 a) 11 b any
+              (written-has queues N (own_of h) h (0 ∷ xs) (registers_written (map (value_by lifted) k.registers) 10 any) (written_at s.registers 10 a) 11 b any
               (written-has queues N (own_of h) h (0 ∷ xs) (map (value_by lifted) k.registers) s.registers 10 a any
               l.registers (omega (arith, size)) tt) long tt j);
           words = l.words;
@@ -417,7 +417,7 @@ module _ (M : ℕ) (o : OpeningValue) (queues : ℕ → Queue) (N : ℕ) (own_of
 
   -- ---- loads
 
-  extended-has : (ys : List ℕ) (op : LoadOp) (w : Value) (x : ℕ) → Has queues ys w x → Has queues ys (zero_extended queues N own_of H h op w) (extended op x)
+  extended-has : (ys : List ℕ) (op : LoadOp) (w : KnownValue) (x : ℕ) → Has queues ys w x → Has queues ys (zero_extended queues N own_of H h op w) (extended op x)
   extended-has ys load_op.Byte w x has = tt
   extended-has ys load_op.Half w x has = tt
   extended-has ys load_op.Word w x has = has
@@ -482,7 +482,7 @@ module _ (M : ℕ) (o : OpeningValue) (queues : ℕ → Queue) (N : ℕ) (own_of
       ranges = (l.low, means.ranges);
       pc = at;
       registers =
-          λ j. subst (λ zs. Has queues (l.more ∷ xs) (get_or (written (map (value_by lifted) k.registers) rd.number
+          λ j. subst (λ zs. Has queues (l.more ∷ xs) (get_or (registers_written (map (value_by lifted) k.registers) rd.number
           (zero_extended queues N own_of H h op (looked_word queues N own_of H h i share))) j any) (slice_index zs j))
           (sym regs) (written-has queues N (own_of h) h (l.more ∷ xs) (map (value_by lifted) k.registers) s.registers rd.number (extended op v)
           (zero_extended queues N own_of H h op (looked_word queues N own_of H h i share)) lifted-means.registers
@@ -529,7 +529,7 @@ module _ (M : ℕ) (o : OpeningValue) (queues : ℕ → Queue) (N : ℕ) (own_of
           (zero_extended queues N own_of H h op (looked_word queues N own_of H h i (get_or k.shares i no_share)))
           (extended op v)
       word-has-looked = extended-has (l.more ∷ xs) op (looked_word queues N own_of H h i (get_or k.shares i no_share)) v
-          (subst (λ t. v ≡ index_word (queues i) (value_of
+          (subst (λ t. v ≡ index_word (queues i) (form_value
           (plus (plus (lifted (get_or k.shares i no_share).own) (owned_then (get_or k.shares i no_share)))
           (number (back_of (queues i) t))) (l.more ∷ xs)))
           (sym w.is) l.word)
@@ -582,7 +582,7 @@ module _ (M : ℕ) (o : OpeningValue) (queues : ℕ → Queue) (N : ℕ) (own_of
   said-at : (i : Instr) → IsAt s i → instruction_at s.code s.pc ≡ Some i
   said-at i here = ap (λ t. if t then meaning (slice_index s.code (s.pc / 4)) else None) (lt-ltb s.pc (4 * length s.code) here.inside) ∙ here.says
 
-  reads-owns : (place : Value) (b : Bounds) (width a : ℕ) → Has queues xs place a → b.low ≤ a → a ≤ b.high
+  reads-owns : (place : KnownValue) (b : Bounds) (width a : ℕ) → Has queues xs place a → b.low ≤ a → a ≤ b.high
       → (i : ℕ) (less : i < N) → reads_owned queues N own_of H h k i place b width ≡ true
       → (p : Party) (mine : h ≡ hart (queues i) p) → OwnsSlotsOf (queues i) p (cs i) a width
   reads-owns place b width a at low high i less ok p mine =
@@ -647,7 +647,7 @@ module _ (M : ℕ) (o : OpeningValue) (queues : ℕ → Queue) (N : ℕ) (own_of
   left-share ss d None i not = refl
   left-share ss d (Some n) i not = get_or-set_other ss n i (moved_share (get_or ss n no_share) d) no_share (λ same. eqb-false n i not (sym same))
 
-  module _ (d : Form) (op : StoreOp) (a x : ℕ) (vx place : Value) (b : Bounds) (move : Option ℕ)
+  module _ (d : Form) (op : StoreOp) (a x : ℕ) (vx place : KnownValue) (b : Bounds) (move : Option ℕ)
       (at-place : Has queues xs place a) (low : b.low ≤ a) (high : a ≤ b.high) (has-x : Has queues xs vx x)
       (found : last_below N (is_own_index queues N own_of H h b (store_width op)) ≡ move)
       (may : all_below N (may_store queues N own_of H h k d vx place b (store_width op) move) ≡ true)
@@ -694,14 +694,14 @@ module _ (M : ℕ) (o : OpeningValue) (queues : ℕ → Queue) (N : ℕ) (own_of
             and_parts (is_within queues k.ranges vx (index_for i (plus (get_or k.shares i no_share).own d)))
             (is_same 0 (plus d (minus (get_or k.shares i no_share).owned d)) (get_or k.shares i no_share).owned)
             p2.0 in
-            let word : x ≡ index_word (queues i) (value_of (plus (get_or k.shares i no_share).own d) xs) =
+            let word : x ≡ index_word (queues i) (form_value (plus (get_or k.shares i no_share).own d) xs) =
             within queues k.ranges xs means.ranges vx (index_for i (plus (get_or k.shares i no_share).own d)) x p3.0
             has-x in
             let small : x < 256 ^ (queues i).index_width = subst (λ n. n < 256 ^ (queues i).index_width) (sym word)
-            (word-fits (queues i) (fine i less).0 (value_of (plus (get_or k.shares i no_share).own d) xs)) in
+            (word-fits (queues i) (fine i less).0 (form_value (plus (get_or k.shares i no_share).own d) xs)) in
             let fits : x < 256 ^ store_width op = subst (λ n. x < 256 ^ n) (sym here.2) small in
-            let most-d : value_of d xs ≤ (queues i).modulus - 1 =
-            fits-below (most k.ranges d) (Some ((queues i).modulus - 1)) (value_of d xs) p2.1
+            let most-d : form_value d xs ≤ (queues i).modulus - 1 =
+            fits-below (most k.ranges d) (Some ((queues i).modulus - 1)) (form_value d xs) p2.1
             (λ n is. value-below k.ranges d xs n means.ranges is) in
             let one : 1 ≤ (queues i).modulus = (fine i less).0.words in
             subst (λ j. Stored (queues i) (fine i less).0 p (cs i) xs (get_or k.shares i no_share)
@@ -764,20 +764,20 @@ module _ (M : ℕ) (o : OpeningValue) (queues : ℕ → Queue) (N : ℕ) (own_of
           ]
     ]
 
-    storable-has : (n : ℕ) (u : Value) → Has queues xs u x → (Has queues xs u x → x < 2 ^ 32 → n ≡ x) → Has queues xs (storable queues N own_of H h u) n
+    storable-has : (n : ℕ) (u : KnownValue) → Has queues xs u x → (Has queues xs u x → x < 2 ^ 32 → n ≡ x) → Has queues xs (storable queues N own_of H h u) n
     storable-has n any has is = tt
-    storable-has n (linear f) has is = is has (subst (λ y. y < 2 ^ 32) (sym has) (mod-lt (value_of f xs) (omega arith))) ∙ has
+    storable-has n (linear f) has is = is has (subst (λ y. y < 2 ^ 32) (sym has) (mod-lt (form_value f xs) (omega arith))) ∙ has
     storable-has n (index_for i f) has is = by (nat_lt i N) refl
       where
         by : (t : Bool) → nat_lt i N ≡ t → Has queues xs (if t then index_for i f else any) n
         by false other = tt
         by true listed =
             let less : i < N = ltb-true i N listed in
-            let small : index_word (queues i) (value_of f xs) < 256 ^ (queues i).index_width = word-fits (queues i) (fine i less).0 (value_of f xs) in
+            let small : index_word (queues i) (form_value f xs) < 256 ^ (queues i).index_width = word-fits (queues i) (fine i less).0 (form_value f xs) in
             let four : 256 ^ (queues i).index_width ≤ 2 ^ 32 = pow-le-pow_right {n = 256} (omega arith) {i = (queues i).index_width} {j = 4} (fine i less).2 in
             is has (omega (arith, has, small, four)) ∙ has
 
-    word-then : (own v : ℕ) (u : Value) → Has queues xs u (number_in m own 4)
+    word-then : (own v : ℕ) (u : KnownValue) → Has queues xs u (number_in m own 4)
         → Has queues xs (word_then queues N own_of H h b (store_width op) vx own u)
         (number_in (view_then (store w) m) own 4)
     word-then own v u has = by (is_apart b (store_width op) own 4) refl
@@ -805,7 +805,7 @@ module _ (M : ℕ) (o : OpeningValue) (queues : ℕ → Queue) (N : ℕ) (own_of
             (λ y from to. apart-from b (store_width op) a own 4 y (stored op x) off low high from to))) has
         by false on = at (is_one b && (b.low == own) && (store_width op == 4)) refl
 
-    words-then : (own : List ℕ) (us : List Value) → ((j : ℕ) → j < length own → Has queues xs (get_or us j any) (number_in m (slice_index own j) 4))
+    words-then : (own : List ℕ) (us : List KnownValue) → ((j : ℕ) → j < length own → Has queues xs (get_or us j any) (number_in m (slice_index own j) 4))
         → (j : ℕ) → j < length own
         → Has queues xs (get_or (words_then queues N own_of H h b (store_width op) vx own us) j any)
         (number_in (view_then (store w) m) (slice_index own j) 4)
@@ -905,7 +905,7 @@ module _ (M : ℕ) (o : OpeningValue) (queues : ℕ → Queue) (N : ℕ) (own_of
       (subst (λ d. KeepsAccess q (Some p) d (store (write a 4 new))) (sym (missed q (Some p) b a 4 old c off low high))
       may)
 
-  updated-has : (op : AmoOp) (u w : Value) (old x : ℕ) → Has queues xs u old → Has queues xs w x
+  updated-has : (op : AmoOp) (u w : KnownValue) (old x : ℕ) → Has queues xs u old → Has queues xs w x
       → Has queues xs (updated_value queues N own_of H h k.ranges op u w) (updated op old x)
   updated-has amo.Swap u w old x one two = two
   updated-has amo.Add u w old x one two = sum-has queues xs (plain queues k.ranges u) (plain queues k.ranges w) old
@@ -931,7 +931,7 @@ module _ (M : ℕ) (o : OpeningValue) (queues : ℕ → Queue) (N : ℕ) (own_of
       with' : ℕ
       with' = register_value s.registers rs2
 
-      vx : Bounds → Value
+      vx : Bounds → KnownValue
       vx b = updated_value queues N own_of H h k.ranges op (value_loaded queues N own_of H h k b 4) (register_at k rs2)
 
       go : (b : Bounds) → bounds k.ranges (operand queues N own_of H h k rs1) ≡ Some b → (move : Option ℕ)
@@ -952,9 +952,9 @@ module _ (M : ℕ) (o : OpeningValue) (queues : ℕ → Queue) (N : ℕ) (own_of
           let new : ℕ = updated op v (register_value s.registers rs2) in
           let access : access_of e ≡ exchange (register_value s.registers rs1) v (updated op v (register_value s.registers rs2)) = access-is n needs in
           let read : v ≡ number_in m (register_value s.registers rs1) 4 = subst (ReadsFrom m) access acts.reads in
-          let u : Value = value_loaded queues N own_of H h k b 4 in
+          let u : KnownValue = value_loaded queues N own_of H h k b 4 in
           let loaded : Has queues xs (value_loaded queues N own_of H h k b 4) v = value-loaded b 4 (register_value s.registers rs1) v p.0 p.1 read in
-          let written-value : Value = updated_value queues N own_of H h k.ranges op (value_loaded queues N own_of H h k b 4) (register_at k rs2) in
+          let written-value : KnownValue = updated_value queues N own_of H h k.ranges op (value_loaded queues N own_of H h k b 4) (register_at k rs2) in
           let has-new : Has queues xs
           (updated_value queues N own_of H h k.ranges op (value_loaded queues N own_of H h k b 4)
           (register_at k rs2)) (updated op v (register_value s.registers rs2)) =
@@ -1020,7 +1020,7 @@ module _ (M : ℕ) (o : OpeningValue) (queues : ℕ → Queue) (N : ℕ) (own_of
           exchange-means b move is at low high loaded has-new may leaves off =
               let g = just-gives queues xs (value_loaded queues N own_of H h k b 4) v loaded in
               let r : Result = just (value_loaded queues N own_of H h k b 4) in
-              let vx : Value = updated_value queues N own_of H h k.ranges op (value_loaded queues N own_of H h k b 4) (register_at k rs2) in
+              let vx : KnownValue = updated_value queues N own_of H h k.ranges op (value_loaded queues N own_of H h k b 4) (register_at k rs2) in
               let a : ℕ = register_value s.registers rs1 in
               let new : ℕ = updated op v (register_value s.registers rs2) in (
                 g.0 ∷ xs,
@@ -1069,11 +1069,11 @@ module _ (M : ℕ) (o : OpeningValue) (queues : ℕ → Queue) (N : ℕ) (own_of
       (let e : going_to k pc ∷ [] ≡ ks = cc in e) (inl (going-means pc (after_instruction s v i) at regs))
 
   jalr-goes : (rd rs1 : Reg) (offset : ℤ) (ks : List KnownState) → IsAt s (Jalr rd rs1 offset)
-      → jumping k rd.number offset (known (operand queues N own_of H h k rs1)) ≡ Some ks
+      → jumping k rd.number offset (known_number (operand queues N own_of H h k rs1)) ≡ Some ks
       → Goes queues N own_of h owns ks m cs (access_of e) (advanced s v)
-  jalr-goes rd rs1 offset ks here found = by (known (operand queues N own_of H h k rs1)) refl found
+  jalr-goes rd rs1 offset ks here found = by (known_number (operand queues N own_of H h k rs1)) refl found
     where
-      by : (a : Option ℕ) → known (operand queues N own_of H h k rs1) ≡ a → jumping k rd.number offset a ≡ Some ks
+      by : (a : Option ℕ) → known_number (operand queues N own_of H h k rs1) ≡ a → jumping k rd.number offset a ≡ Some ks
           → Goes queues N own_of h owns ks m cs (access_of e) (advanced s v)
       by None is found = absurd (cc)
       by (Some a) is found = jump-goes ks (Jalr rd rs1 offset) (address (register_value s.registers rs1) offset / 2 * 2) here (need_at here)

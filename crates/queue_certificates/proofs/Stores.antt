@@ -19,8 +19,8 @@ use Rattle.queue_parties.proofs.Parties.{count-set}
 use Rattle.slot_queue.proofs.Looks.{end-set-count}
 use Rattle.owned_run.specs.Certified.{View, number_in, view_then, OwnsSlotsOf}
 use Rattle.owned_run.proofs.Accesses.{moves, fills, off, loads_owned}
-use Rattle.queue_certificates.specs.Forms.{Form, value_of, number, plus, times, minus, is_same, most, fits_in, remainder, InRanges, Bounds}
-use Rattle.queue_certificates.specs.States.{Value, any, linear, index_for, Share, Has, HasShare}
+use Rattle.queue_certificates.specs.Forms.{Form, form_value, number, plus, times, minus, is_same, most, fits_in, remainder, InRanges, Bounds}
+use Rattle.queue_certificates.specs.States.{KnownValue, any, linear, index_for, Share, Has, HasShare}
 use Rattle.queue_certificates.specs.Steps.{is_apart, is_off, position_at, offset_at, is_slot, is_owned, moved_share}
 use Rattle.queue_certificates.proofs.Bounds.{value-below, fits-below, value-remainder}
 use Rattle.queue_certificates.proofs.Forms.{value-plus, value-times, value-number, same-value, same-exactly}
@@ -98,7 +98,7 @@ module _ (q : Queue) (is : IsQueue q) (p : Party) (c : QueueCounts) (xs : List �
     pub high : a + width ≤ slot_of q position + q.width
 
   module _ (queues : ℕ → Queue) (rs : List (Option ℕ)) (ranges : InRanges rs xs) where
-    pub owned-at : (place : Value) (a width : ℕ) → Has queues xs place a → is_owned rs q s place width ≡ true → Owned a width
+    pub owned-at : (place : KnownValue) (a width : ℕ) → Has queues xs place a → is_owned rs q s place width ≡ true → Owned a width
     owned-at any a width at ok = absurd (cc)
     owned-at (index_for i f) a width at ok = absurd (cc)
     owned-at (linear f) a width at ok = by (remainder rs (plus s.own (number j)) q.size) refl p1.1
@@ -123,34 +123,34 @@ module _ (q : Queue) (is : IsQueue q) (p : Party) (c : QueueCounts) (xs : List �
             let p3 = and_parts (is_same (2 ^ 32) f (plus (times q.width g) (number (q.slots + offset_at q f.constant))))
             (fits_in (most rs (plus (times q.width g) (number (q.slots + offset_at q f.constant)))) (Some (2 ^ 32 - 1))) ok in
             let r = value-remainder rs (plus s.own (number (position_at q s.own.constant f.constant))) q.size g xs ranges is in
-            let sum : value_of (plus s.own (number (position_at q s.own.constant f.constant))) xs
-            ≡ value_of s.own xs + position_at q s.own.constant f.constant =
+            let sum : form_value (plus s.own (number (position_at q s.own.constant f.constant))) xs
+            ≡ form_value s.own xs + position_at q s.own.constant f.constant =
             value-plus s.own (number (position_at q s.own.constant f.constant)) xs
-            ∙ ap (λ n. value_of s.own xs + n) (value-number (position_at q s.own.constant f.constant) xs) in
-            let slot : slot_of q (value_of s.own xs + position_at q s.own.constant f.constant) ≡ q.slots + q.width * value_of g xs =
+            ∙ ap (λ n. form_value s.own xs + n) (value-number (position_at q s.own.constant f.constant) xs) in
+            let slot : slot_of q (form_value s.own xs + position_at q s.own.constant f.constant) ≡ q.slots + q.width * form_value g xs =
             ap (λ n. q.slots + q.width * n) (ap (λ n. n % q.size) (sym sum) ∙ sym r.0) in
-            let whole : value_of (plus (times q.width g) (number (q.slots + offset_at q f.constant))) xs
-            ≡ q.width * value_of g xs + (q.slots + offset_at q f.constant) =
+            let whole : form_value (plus (times q.width g) (number (q.slots + offset_at q f.constant))) xs
+            ≡ q.width * form_value g xs + (q.slots + offset_at q f.constant) =
             value-plus (times q.width g) (number (q.slots + offset_at q f.constant)) xs
-            ∙ ap (λ n. n + value_of (number (q.slots + offset_at q f.constant)) xs) (value-times q.width g xs)
-            ∙ ap (λ n. q.width * value_of g xs + n) (value-number (q.slots + offset_at q f.constant) xs) in
-            let small : value_of (plus (times q.width g) (number (q.slots + offset_at q f.constant))) xs ≤ 2 ^ 32 - 1 =
+            ∙ ap (λ n. n + form_value (number (q.slots + offset_at q f.constant)) xs) (value-times q.width g xs)
+            ∙ ap (λ n. q.width * form_value g xs + n) (value-number (q.slots + offset_at q f.constant) xs) in
+            let small : form_value (plus (times q.width g) (number (q.slots + offset_at q f.constant))) xs ≤ 2 ^ 32 - 1 =
             fits-below (most rs (plus (times q.width g) (number (q.slots + offset_at q f.constant))))
-            (Some (2 ^ 32 - 1)) (value_of (plus (times q.width g) (number (q.slots + offset_at q f.constant))) xs)
+            (Some (2 ^ 32 - 1)) (form_value (plus (times q.width g) (number (q.slots + offset_at q f.constant))) xs)
             p3.1
             (λ n at. value-below rs (plus (times q.width g) (number (q.slots + offset_at q f.constant))) xs n ranges at) in
-            let place : a ≡ value_of (plus (times q.width g) (number (q.slots + offset_at q f.constant))) xs =
+            let place : a ≡ form_value (plus (times q.width g) (number (q.slots + offset_at q f.constant))) xs =
             at ∙ same-value (2 ^ 32) f (plus (times q.width g) (number (q.slots + offset_at q f.constant))) xs p3.0
             ∙ mod-eq_of_lt (omega (arith, small)) in
             record {
-              position = value_of s.own xs + position_at q s.own.constant f.constant;
+              position = form_value s.own xs + position_at q s.own.constant f.constant;
               from = omega (arith, has.own);
               before = omega (arith, has.upto, less);
               low = omega (arith, slot, place, whole);
               high = omega (arith, slot, place, whole, fit);
             }
 
-    pub owned-slots : (place : Value) (a width : ℕ) → Has queues xs place a → is_owned rs q s place width ≡ true → OwnsSlotsOf q p c a width
+    pub owned-slots : (place : KnownValue) (a width : ℕ) → Has queues xs place a → is_owned rs q s place width ≡ true → OwnsSlotsOf q p c a width
     owned-slots place a width at ok = let o = owned-at place a width at ok in loads_owned q is p c a width o.position o.from o.before o.low o.high
 
   pub record Stored (w : Write) (t : Share) : Type 0 where
@@ -166,19 +166,19 @@ module _ (q : Queue) (is : IsQueue q) (p : Party) (c : QueueCounts) (xs : List �
   pub stays-off : (w : Write) → KeepsOff q w → Stored w s
   stays-off w keeps = stays w (off q is p c w keeps)
 
-  pub stays-filled : (queues : ℕ → Queue) (rs : List (Option ℕ)) → InRanges rs xs → (place : Value) (a width v : ℕ)
+  pub stays-filled : (queues : ℕ → Queue) (rs : List (Option ℕ)) → InRanges rs xs → (place : KnownValue) (a width v : ℕ)
       → Has queues xs place a → is_owned rs q s place width ≡ true → Stored (write a width v) s
   stays-filled queues rs ranges place a width v at ok =
       let o = owned-at queues rs ranges place a width at ok in
       stays (write a width v) (fills q is p c (write a width v) o.position o.from o.before o.low o.high)
 
-  pub moves-on : (w : Write) (d : Form) → w.addr ≡ index q p → w.width ≡ q.index_width → w.value ≡ index_word q (value_of (plus s.own d) xs)
-      → is_same 0 (plus d (minus s.owned d)) s.owned ≡ true → value_of d xs < q.modulus → Stored w (moved_share s d)
+  pub moves-on : (w : Write) (d : Form) → w.addr ≡ index q p → w.width ≡ q.index_width → w.value ≡ index_word q (form_value (plus s.own d) xs)
+      → is_same 0 (plus d (minus s.owned d)) s.owned ≡ true → form_value d xs < q.modulus → Stored w (moved_share s d)
   moves-on w d place width word ok near =
-      let sum : value_of s.owned xs ≡ value_of d xs + value_of (minus s.owned d) xs =
+      let sum : form_value s.owned xs ≡ form_value d xs + form_value (minus s.owned d) xs =
       sym (same-exactly (plus d (minus s.owned d)) s.owned xs ok) ∙ value-plus d (minus s.owned d) xs in
-      let at : value_of (plus s.own d) xs ≡ count p c + value_of d xs = value-plus s.own d xs ∙ ap (λ n. n + value_of d xs) (sym has.own) in
-      let m = moves q is p c w (value_of d xs) place width (word ∙ ap (index_word q) at) near (omega (arith, has.own, has.upto, sum)) in record {
+      let at : form_value (plus s.own d) xs ≡ count p c + form_value d xs = value-plus s.own d xs ∙ ap (λ n. n + form_value d xs) (sym has.own) in
+      let m = moves q is p c w (form_value d xs) place width (word ∙ ap (index_word q) at) near (omega (arith, has.own, has.upto, sum)) in record {
         may = inl m.0;
         share = record {
           own = count-set p (moved q p (count p c) w) c ∙ m.1 ∙ sym at;

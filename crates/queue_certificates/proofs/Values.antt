@@ -7,9 +7,9 @@ use Rattle.std.proofs.Math.Nat.{mod-lt, mod-eq_of_lt, mod-add-div, add-mul-mod_s
 use Rattle.std.proofs.lemmas.Nat.{mul-le}
 use Rattle.std.proofs.lemmas.Bool.{cases_eq}
 use Rattle.slot_queue.specs.Queues.{Queue, index_word}
-use Rattle.queue_certificates.specs.Forms.{Form, value_of, number, plus, times, lifted, vanishes, remainder, most, fits_in, is_same, InRanges, Bounds}
-use Rattle.queue_certificates.specs.States.{Value, any, linear, index_for, value_by, Has, plain, scaled, of_remainder, is_within_plain, is_within}
-use Rattle.queue_certificates.specs.Results.{known, bounds}
+use Rattle.queue_certificates.specs.Forms.{Form, form_value, number, plus, times, lifted, vanishes, remainder, most, fits_in, is_same, InRanges, Bounds}
+use Rattle.queue_certificates.specs.States.{KnownValue, any, linear, index_for, value_by, Has, plain, scaled, of_remainder, is_within_plain, is_within}
+use Rattle.queue_certificates.specs.Results.{known_number, bounds}
 use Rattle.queue_certificates.proofs.Forms.{value-plus, value-times, value-lifted, value-number, same-value, constant-value, mod-sum}
 use Rattle.queue_certificates.proofs.Bounds.{value-between, value-below, fits-below, value-remainder}
 
@@ -17,13 +17,13 @@ use Rattle.queue_certificates.proofs.Bounds.{value-between, value-below, fits-be
 pub word-of-remainder : (q : Queue) (n m : ℕ) → n % q.modulus ≡ m % q.modulus → index_word q n ≡ index_word q m
 word-of-remainder q n m same = ap (λ r. q.base + q.scale * r) (mod-sum n q.offset m q.offset q.modulus same refl)
 
-value-scaled : (q : Queue) (f : Form) (xs : List ℕ) → value_of (scaled q f) xs ≡ q.base + q.scale * value_of f xs
+value-scaled : (q : Queue) (f : Form) (xs : List ℕ) → form_value (scaled q f) xs ≡ q.base + q.scale * form_value f xs
 value-scaled q f xs = value-plus (number q.base) (times q.scale f) xs
-    ∙ ap (λ n. n + value_of (times q.scale f) xs) (value-number q.base xs)
+    ∙ ap (λ n. n + form_value (times q.scale f) xs) (value-number q.base xs)
     ∙ ap (λ n. q.base + n) (value-times q.scale f xs)
 
-value-offset : (q : Queue) (f : Form) (xs : List ℕ) → value_of (plus f (number q.offset)) xs ≡ value_of f xs + q.offset
-value-offset q f xs = value-plus f (number q.offset) xs ∙ ap (λ n. value_of f xs + n) (value-number q.offset xs)
+value-offset : (q : Queue) (f : Form) (xs : List ℕ) → form_value (plus f (number q.offset)) xs ≡ form_value f xs + q.offset
+value-offset q f xs = value-plus f (number q.offset) xs ∙ ap (λ n. form_value f xs + n) (value-number q.offset xs)
 
 scaled-mod : (s m n : ℕ) → s * m ≡ 2 ^ 32 → s * (n % m) ≡ s * n % 2 ^ 32
 scaled-mod s m n whole = sym (ap (λ y. y % 2 ^ 32) parts ∙ add-mul-mod_self_left (s * (n % m)) (2 ^ 32) (n / m) ∙ mod-eq_of_lt small)
@@ -70,24 +70,24 @@ whole-word b s m n whole low = sym (mod-sum b (s * n) b (s * (n % m)) (2 ^ 32) r
 
 -- and is linear where it takes all of a word
 word-linear : (q : Queue) (f : Form) (xs : List ℕ) → q.scale * q.modulus ≡ 2 ^ 32 → q.base < q.scale
-    → index_word q (value_of f xs) ≡ value_of (scaled q (plus f (number q.offset))) xs % 2 ^ 32
-word-linear q f xs whole low = whole-word q.base q.scale q.modulus (value_of f xs + q.offset) whole low
+    → index_word q (form_value f xs) ≡ form_value (scaled q (plus f (number q.offset))) xs % 2 ^ 32
+word-linear q f xs whole low = whole-word q.base q.scale q.modulus (form_value f xs + q.offset) whole low
     ∙ ap (λ n. n % 2 ^ 32) (sym (value-scaled q (plus f (number q.offset)) xs ∙ ap (λ n. q.base + q.scale * n) (value-offset q f xs)))
 
 module _ (queues : ℕ → Queue) where
-  pub has-by : (t : Form → Form) (xs ys : List ℕ) → ((f : Form) → value_of (t f) ys ≡ value_of f xs)
-      → (v : Value) (x : ℕ) → Has queues xs v x → Has queues ys (value_by t v) x
+  pub has-by : (t : Form → Form) (xs ys : List ℕ) → ((f : Form) → form_value (t f) ys ≡ form_value f xs)
+      → (v : KnownValue) (x : ℕ) → Has queues xs v x → Has queues ys (value_by t v) x
   has-by t xs ys same any x has = tt
   has-by t xs ys same (linear f) x has = has ∙ ap (λ n. n % 2 ^ 32) (sym (same f))
   has-by t xs ys same (index_for i f) x has = has ∙ ap (index_word (queues i)) (sym (same f))
 
-  pub has-back : (t : Form → Form) (xs ys : List ℕ) → ((f : Form) → value_of (t f) ys ≡ value_of f xs)
-      → (v : Value) (x : ℕ) → Has queues ys (value_by t v) x → Has queues xs v x
+  pub has-back : (t : Form → Form) (xs ys : List ℕ) → ((f : Form) → form_value (t f) ys ≡ form_value f xs)
+      → (v : KnownValue) (x : ℕ) → Has queues ys (value_by t v) x → Has queues xs v x
   has-back t xs ys same any x has = tt
   has-back t xs ys same (linear f) x has = has ∙ ap (λ n. n % 2 ^ 32) (same f)
   has-back t xs ys same (index_for i f) x has = has ∙ ap (index_word (queues i)) (same f)
 
-  pub has-lifted : (v : Value) (x y : ℕ) (xs : List ℕ) → Has queues xs v x → Has queues (y ∷ xs) (value_by lifted v) x
+  pub has-lifted : (v : KnownValue) (x y : ℕ) (xs : List ℕ) → Has queues xs v x → Has queues (y ∷ xs) (value_by lifted v) x
   has-lifted v x y xs has = has-by lifted xs (y ∷ xs) (λ f. value-lifted f y xs) v x has
 
   module _ (rs : List (Option ℕ)) (xs : List ℕ) (ranges : InRanges rs xs) where
@@ -101,7 +101,7 @@ module _ (queues : ℕ → Queue) where
             × (Has queues xs (if t then linear (scaled (queues i) (plus f (number (queues i).offset))) else index_for i f) x → Has queues xs (index_for i f) x)
         linear-or true ok =
             let parts = and_parts ((queues i).scale * (queues i).modulus == 2 ^ 32) (nat_lt (queues i).base (queues i).scale) ok in
-            let e : index_word (queues i) (value_of f xs) ≡ value_of (scaled (queues i) (plus f (number (queues i).offset))) xs % 2 ^ 32 =
+            let e : index_word (queues i) (form_value f xs) ≡ form_value (scaled (queues i) (plus f (number (queues i).offset))) xs % 2 ^ 32 =
             word-linear (queues i) f xs (eqb-true ((queues i).scale * (queues i).modulus) (2 ^ 32) parts.0)
             (ltb-true (queues i).base (queues i).scale parts.1) in
             (λ has. has ∙ e, λ has. has ∙ sym e)
@@ -113,10 +113,10 @@ module _ (queues : ℕ → Queue) where
             × (Has queues xs (if t then linear (scaled (queues i) g) else index_for i f) x → Has queues xs (index_for i f) x)
         small-or g is true small =
             let r = value-remainder rs (plus f (number (queues i).offset)) (queues i).modulus g xs ranges is in
-            let low : value_of (scaled (queues i) g) xs ≤ 2 ^ 32 - 1 =
-            fits-below (most rs (scaled (queues i) g)) (Some (2 ^ 32 - 1)) (value_of (scaled (queues i) g) xs) small
+            let low : form_value (scaled (queues i) g) xs ≤ 2 ^ 32 - 1 =
+            fits-below (most rs (scaled (queues i) g)) (Some (2 ^ 32 - 1)) (form_value (scaled (queues i) g) xs) small
             (λ n at. value-below rs (scaled (queues i) g) xs n ranges at) in
-            let e : index_word (queues i) (value_of f xs) ≡ value_of (scaled (queues i) g) xs % 2 ^ 32 =
+            let e : index_word (queues i) (form_value f xs) ≡ form_value (scaled (queues i) g) xs % 2 ^ 32 =
             ap (λ n. (queues i).base + (queues i).scale * n)
             (ap (λ n. n % (queues i).modulus) (sym (value-offset (queues i) f xs)) ∙ sym r.0)
             ∙ sym (value-scaled (queues i) g xs) ∙ sym (mod-eq_of_lt (omega (arith, low))) in
@@ -129,17 +129,17 @@ module _ (queues : ℕ → Queue) where
         by None is = linear-or (((queues i).scale * (queues i).modulus == 2 ^ 32) && nat_lt (queues i).base (queues i).scale) refl
         by (Some g) is = small-or g is (fits_in (most rs (scaled (queues i) g)) (Some (2 ^ 32 - 1))) refl
 
-    pub has-plain : (v : Value) (x : ℕ) → Has queues xs v x → Has queues xs (plain queues rs v) x
+    pub has-plain : (v : KnownValue) (x : ℕ) → Has queues xs v x → Has queues xs (plain queues rs v) x
     has-plain any x has = tt
     has-plain (linear f) x has = has
     has-plain (index_for i f) x has = (same-word i f x).0 has
 
-    pub plain-has : (v : Value) (x : ℕ) → Has queues xs (plain queues rs v) x → Has queues xs v x
+    pub plain-has : (v : KnownValue) (x : ℕ) → Has queues xs (plain queues rs v) x → Has queues xs v x
     plain-has any x has = tt
     plain-has (linear f) x has = has
     plain-has (index_for i f) x has = (same-word i f x).1 has
 
-    within-plain : (v w : Value) (x : ℕ) → is_within_plain queues rs v w ≡ true → Has queues xs v x → Has queues xs w x
+    within-plain : (v w : KnownValue) (x : ℕ) → is_within_plain queues rs v w ≡ true → Has queues xs v x → Has queues xs w x
     within-plain v any x ok has = tt
     within-plain any (linear g) x ok has = absurd (cc)
     within-plain any (index_for j g) x ok has = absurd (cc)
@@ -148,13 +148,13 @@ module _ (queues : ℕ → Queue) where
     within-plain (index_for i f) (linear g) x ok has = absurd (cc)
     within-plain (index_for i f) (index_for j g) x ok has =
         let parts = and_parts (i == j) (is_same ((queues i).modulus) f g) ok in
-        subst (λ k. x ≡ index_word (queues k) (value_of g xs)) (eqb-true i j parts.0)
-        (has ∙ word-of-remainder (queues i) (value_of f xs) (value_of g xs) (same-value ((queues i).modulus) f g xs parts.1))
+        subst (λ k. x ≡ index_word (queues k) (form_value g xs)) (eqb-true i j parts.0)
+        (has ∙ word-of-remainder (queues i) (form_value f xs) (form_value g xs) (same-value ((queues i).modulus) f g xs parts.1))
 
-    pub within : (v w : Value) (x : ℕ) → is_within queues rs v w ≡ true → Has queues xs v x → Has queues xs w x
+    pub within : (v w : KnownValue) (x : ℕ) → is_within queues rs v w ≡ true → Has queues xs v x → Has queues xs w x
     within v w x ok has = plain-has w x (within-plain (plain queues rs v) (plain queues rs w) x ok (has-plain v x has))
 
-  pub known-is : (xs : List ℕ) (v : Value) (x a : ℕ) → known v ≡ Some a → Has queues xs v x → x ≡ a
+  pub known-is : (xs : List ℕ) (v : KnownValue) (x a : ℕ) → known_number v ≡ Some a → Has queues xs v x → x ≡ a
   known-is xs any x a is has = absurd (cc)
   known-is xs (index_for i f) x a is has = absurd (cc)
   known-is xs (linear f) x a is has = by (vanishes (2 ^ 32) f.factors) refl is
@@ -163,7 +163,7 @@ module _ (queues : ℕ → Queue) where
       by false some is = absurd (cc)
       by true none is = has ∙ constant-value (2 ^ 32) f xs none ∙ (let e : f.constant % 2 ^ 32 ≡ a = cc in e)
 
-  pub has-bounds : (rs : List (Option ℕ)) (xs : List ℕ) (v : Value) (x : ℕ) (b : Bounds) → InRanges rs xs → bounds rs v ≡ Some b → Has queues xs v x
+  pub has-bounds : (rs : List (Option ℕ)) (xs : List ℕ) (v : KnownValue) (x : ℕ) (b : Bounds) → InRanges rs xs → bounds rs v ≡ Some b → Has queues xs v x
       → (b.low ≤ x) × (x ≤ b.high)
   has-bounds rs xs any x b ranges is has = absurd (cc)
   has-bounds rs xs (index_for i f) x b ranges is has = absurd (cc)

@@ -11,8 +11,8 @@ use Rattle.slot_queue.specs.Queues.{Queue, index_word}
 use Rattle.queue_parties.specs.Parties.{Party, all_at}
 use Rattle.slot_queue.specs.Ownership.{party_of, end}
 use Rattle.owned_run.specs.Certified.{View, AllCounts, number_in, OpenQueues, IsCertified, LoadsAreOwned}
-use Rattle.queue_certificates.specs.Forms.{Form, value_of, number, substituted, is_same, raised, settled, are_in}
-use Rattle.queue_certificates.specs.States.{Value, any, linear, index_for, Share, no_share, KnownState, value_by, state_by, is_within, Means}
+use Rattle.queue_certificates.specs.Forms.{Form, form_value, number, substituted, is_same, raised, settled, are_in}
+use Rattle.queue_certificates.specs.States.{KnownValue, any, linear, index_for, Share, no_share, KnownState, value_by, state_by, is_within, Means}
 use Rattle.queue_certificates.specs.Steps.{all_below, follow, instruction_at, loads_owned}
 
 -- where a state goes on: to the state of this number, whose variables are these forms over those of the leaf, after one that comes
@@ -91,8 +91,8 @@ state_at c h n = get_or (part_of c h).states n nowhere
 -- ---- what it means
 
 -- the byte at x is of one of hart h's own words
-abbrev pub IsOwn : QueueCertificate → (h x : ℕ) → Type 0
-IsOwn c h x = (j : ℕ) × (j < length (own_of c h)) × (slice_index (own_of c h) j ≤ x) × (x < slice_index (own_of c h) j + 4)
+abbrev pub IsOwnByte : QueueCertificate → (h x : ℕ) → Type 0
+IsOwnByte c h x = (j : ℕ) × (j < length (own_of c h)) × (slice_index (own_of c h) j ≤ x) × (x < slice_index (own_of c h) j + 4)
 
 -- a hart that runs is in one of its states
 abbrev pub IsInState : QueueCertificate → (h : ℕ) → HartState → View → AllCounts → Type 0
@@ -103,14 +103,14 @@ abbrev pub Opens : (M : ℕ) → OpeningValue → QueueCertificate → Type 0
 Opens M o c = OpenQueues M o (length c.queues) (queue_at c) (λ i. ⊥) (λ i k m. Unit {0}) (start_at c)
 
 abbrev pub Certifies : (M : ℕ) → OpeningValue → QueueCertificate → Type 0
-Certifies M o c = IsCertified M o (length c.queues) (queue_at c) (λ i. ⊥) (λ i k m. Unit {0}) (start_at c) (IsOwn c) (IsInState c)
+Certifies M o c = IsCertified M o (length c.queues) (queue_at c) (λ i. ⊥) (λ i k m. Unit {0}) (start_at c) (IsOwnByte c) (IsInState c)
 
 abbrev pub CertifiesLoads : (M : ℕ) → OpeningValue → QueueCertificate → (i : ℕ) → Party → Type 0
 CertifiesLoads M o c i p = LoadsAreOwned M o (length c.queues) (queue_at c) (λ i. ⊥) (λ i k m. Unit {0}) (IsInState c) i p
 
 -- ---- arrows
 
-abbrev pub all_within : (ℕ → Queue) → List (Option ℕ) → List Value → List Value → (List Form) → Bool
+abbrev pub all_within : (ℕ → Queue) → List (Option ℕ) → List KnownValue → List KnownValue → (List Form) → Bool
 all_within queues rs vs [] gs = true
 all_within queues rs [] (w ∷ ws) gs = is_within queues rs any (value_by (λ f. substituted f gs) w) && all_within queues rs [] ws gs
 all_within queues rs (v ∷ vs) (w ∷ ws) gs = is_within queues rs v (value_by (λ f. substituted f gs) w) && all_within queues rs vs ws gs
@@ -179,10 +179,10 @@ module _ (c : QueueCertificate) (h : ℕ) (code : List ℕ) where
 
 -- ---- the opening
 
-abbrev pub is_value : (ℕ → Queue) → List ℕ → Value → ℕ → Bool
+abbrev pub is_value : (ℕ → Queue) → List ℕ → KnownValue → ℕ → Bool
 is_value queues xs any x = true
-is_value queues xs (linear f) x = x == value_of f xs % 2 ^ 32
-is_value queues xs (index_for i f) x = x == index_word (queues i) (value_of f xs)
+is_value queues xs (linear f) x = x == form_value f xs % 2 ^ 32
+is_value queues xs (index_for i f) x = x == index_word (queues i) (form_value f xs)
 
 abbrev pub is_at_most : Option ℕ → ℕ → Bool
 is_at_most None x = true
@@ -196,7 +196,7 @@ are_in_ranges (r ∷ rs) (x ∷ xs) = is_at_most r x && are_in_ranges rs xs
 
 abbrev pub opens_share : Queue → Option Party → (start : ℕ) → Share → List ℕ → Bool
 opens_share q None start s xs = true
-opens_share q (Some p) start s xs = (start == value_of s.own xs) && (end q p (all_at start) == value_of s.own xs + value_of s.owned xs)
+opens_share q (Some p) start s xs = (start == form_value s.own xs) && (end q p (all_at start) == form_value s.own xs + form_value s.owned xs)
 
 abbrev pub opens_in : OpeningValue → QueueCertificate → (h : ℕ) → HartOpeningValue → KnownState → List ℕ → Bool
 opens_in o c h x k xs = are_in_ranges k.ranges xs && (k.pc == 0)

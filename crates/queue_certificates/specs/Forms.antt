@@ -13,8 +13,8 @@ dot (m ∷ ms) [] = 0
 dot (m ∷ ms) (x ∷ xs) = m * x + dot ms xs
 
 -- its value, where the variables are these numbers
-abbrev pub value_of : Form → List ℕ → ℕ
-value_of f xs = f.constant + dot f.factors xs
+abbrev pub form_value : Form → List ℕ → ℕ
+form_value f xs = f.constant + dot f.factors xs
 
 abbrev pub number : ℕ → Form
 number n = record { constant = n; factors = [] }
@@ -156,10 +156,10 @@ abbrev pub fallings : List ℕ → List ℕ
 fallings [] = []
 fallings (m ∷ ms) = (if nat_le (2 ^ 31) (m % 2 ^ 32) then 2 ^ 32 - m % 2 ^ 32 else 0) ∷ fallings ms
 
-abbrev pub between : (c : ℕ) → (up down : Option ℕ) → Option Bounds
-between c None down = None
-between c (Some up) None = None
-between c (Some up) (Some down) = if nat_le down c && nat_le (c + up + 1) (2 ^ 32) then Some (record { low = c - down; high = c + up }) else None
+abbrev pub bounds_between : (c : ℕ) → (up down : Option ℕ) → Option Bounds
+bounds_between c None down = None
+bounds_between c (Some up) None = None
+bounds_between c (Some up) (Some down) = if nat_le down c && nat_le (c + up + 1) (2 ^ 32) then Some (record { low = c - down; high = c + up }) else None
 
 abbrev pub bounds_of : List (Option ℕ) → Form → Option Bounds
-bounds_of rs f = between (f.constant % 2 ^ 32) (most_of_sum rs (risings f.factors)) (most_of_sum rs (fallings f.factors))
+bounds_of rs f = bounds_between (f.constant % 2 ^ 32) (most_of_sum rs (risings f.factors)) (most_of_sum rs (fallings f.factors))

@@ -11,28 +11,28 @@ use Rattle.rv_decode.specs.declared.instruction.RegisterOp.{RegisterOp}
 use Rattle.rv_decode.specs.declared.instruction.RegisterOp.TheVariants as register
 use Rattle.hart.specs.Effects.{word, computed, with_immediate, shifted, is_taken, flag}
 use Rattle.queue_certificates.specs.Forms.{Form, number, first_variable, plus, times, lifted, vanishes, remainder, Bounds, bounds_of}
-use Rattle.queue_certificates.specs.States.{Value, any, linear, index_for, value_by}
+use Rattle.queue_certificates.specs.States.{KnownValue, any, linear, index_for, value_by}
 
 -- a value over one variable more, the first, which is at most so much
 pub record Result : Type 0 where
   pub most : ℕ
-  pub value : Value
+  pub value : KnownValue
 
-abbrev pub just : Value → Result
+abbrev pub just : KnownValue → Result
 just v = record { most = 0; value = value_by lifted v }
 
 abbrev pub exactly : ℕ → Result
 exactly n = just (if nat_lt n (2 ^ 32) then linear (number n) else any)
 
 -- some number up to n
-abbrev pub up_to : ℕ → Result
-up_to n = if nat_lt n (2 ^ 32) then record { most = n; value = linear first_variable } else just any
+abbrev pub at_most_number : ℕ → Result
+at_most_number n = if nat_lt n (2 ^ 32) then record { most = n; value = linear first_variable } else just any
 
 -- the number, where a value is one
-abbrev pub known : Value → Option ℕ
-known any = None
-known (linear f) = if vanishes (2 ^ 32) f.factors then Some (f.constant % 2 ^ 32) else None
-known (index_for i f) = None
+abbrev pub known_number : KnownValue → Option ℕ
+known_number any = None
+known_number (linear f) = if vanishes (2 ^ 32) f.factors then Some (f.constant % 2 ^ 32) else None
+known_number (index_for i f) = None
 
 -- what one says where it says something, and else the other
 abbrev pub or_else : Option ℕ → Result → Result
@@ -66,27 +66,27 @@ negated None = None
 negated (Some b) = Some (not b)
 
 abbrev pub flag_of : Option Bool → Result
-flag_of None = up_to 1
+flag_of None = at_most_number 1
 flag_of (Some b) = exactly (flag b)
 
 -- whether it is below a number
 abbrev pub set_less : Option Bounds → ℤ → Result
-set_less b (pos n) = if nat_lt n (2 ^ 31) then flag_of (is_below_signed b (Some (record { low = n; high = n }))) else up_to 1
-set_less b (negsuc n) = up_to 1
+set_less b (pos n) = if nat_lt n (2 ^ 31) then flag_of (is_below_signed b (Some (record { low = n; high = n }))) else at_most_number 1
+set_less b (negsuc n) = at_most_number 1
 
-abbrev pub shifted_left : Value → (amount : ℕ) → Result
+abbrev pub shifted_left : KnownValue → (amount : ℕ) → Result
 shifted_left (linear f) amount = just (linear (times (2 ^ amount) f))
 shifted_left v amount = just any
 
 abbrev pub shifted_right : Option Bounds → (amount : ℕ) → Result
 shifted_right None amount = just any
-shifted_right (Some b) amount = up_to (b.high / 2 ^ amount)
+shifted_right (Some b) amount = at_most_number (b.high / 2 ^ amount)
 
-abbrev pub sum_of : Value → Value → Value
+abbrev pub sum_of : KnownValue → KnownValue → KnownValue
 sum_of (linear f) (linear g) = linear (plus f g)
 sum_of v w = any
 
-abbrev pub difference_of : Value → Value → Value
+abbrev pub difference_of : KnownValue → KnownValue → KnownValue
 difference_of (linear f) (linear g) = linear (plus f (times (2 ^ 32 - 1) g))
 difference_of v w = any
 
@@ -100,12 +100,12 @@ taken_known op (Some a) None other = other
 taken_known op (Some a) (Some b) other = Some (is_taken op a b)
 
 module _ (ranges : List (Option ℕ)) where
-  abbrev pub bounds : Value → Option Bounds
+  abbrev pub bounds : KnownValue → Option Bounds
   bounds any = None
   bounds (linear f) = bounds_of ranges f
   bounds (index_for i f) = None
 
-  abbrev pub is_equal : Value → Value → Option Bool
+  abbrev pub is_equal : KnownValue → KnownValue → Option Bool
   is_equal any w = None
   is_equal (index_for i f) w = None
   is_equal (linear f) any = None
@@ -115,18 +115,18 @@ module _ (ranges : List (Option ℕ)) where
   -- of a value and an immediate
   -- the low bits
   abbrev pub low_bits : Option Form → (mask : ℕ) → Result
-  low_bits None mask = up_to mask
+  low_bits None mask = at_most_number mask
   low_bits (Some f) mask = just (linear f)
 
-  abbrev pub masked : Value → (mask : ℕ) → Result
-  masked (linear f) mask = if (mask + 1 == 2 ^ count_ones mask) && (2 ^ 32 % (mask + 1) == 0) then low_bits (remainder ranges f (mask + 1)) mask else up_to mask
-  masked v mask = up_to mask
+  abbrev pub masked : KnownValue → (mask : ℕ) → Result
+  masked (linear f) mask = if (mask + 1 == 2 ^ count_ones mask) && (2 ^ 32 % (mask + 1) == 0) then low_bits (remainder ranges f (mask + 1)) mask else at_most_number mask
+  masked v mask = at_most_number mask
 
-  abbrev pub masked_by : Value → Option ℕ → Result
+  abbrev pub masked_by : KnownValue → Option ℕ → Result
   masked_by v None = just any
   masked_by v (Some mask) = masked v mask
 
-  abbrev pub immediate_part : ImmediateOp → Value → ℤ → Result
+  abbrev pub immediate_part : ImmediateOp → KnownValue → ℤ → Result
   immediate_part immediate.Add v n = just (sum_of v (linear (number (word n))))
   immediate_part immediate.And v n = masked v (word n)
   immediate_part immediate.SetLess v n = set_less (bounds v) n
@@ -134,18 +134,18 @@ module _ (ranges : List (Option ℕ)) where
   immediate_part immediate.Xor v n = just any
   immediate_part immediate.Or v n = just any
 
-  abbrev pub of_immediate : ImmediateOp → Value → ℤ → Result
-  of_immediate op v n = or_else (number_and (λ a. with_immediate op a n) (known v)) (immediate_part op v n)
+  abbrev pub of_immediate : ImmediateOp → KnownValue → ℤ → Result
+  of_immediate op v n = or_else (number_and (λ a. with_immediate op a n) (known_number v)) (immediate_part op v n)
 
-  abbrev pub shift_part : ShiftOp → Value → (amount : ℕ) → Result
+  abbrev pub shift_part : ShiftOp → KnownValue → (amount : ℕ) → Result
   shift_part shift.Left v amount = shifted_left v amount
   shift_part shift.Right v amount = shifted_right (bounds v) amount
   shift_part shift.RightArithmetic v amount = just any
 
-  abbrev pub of_shift : ShiftOp → Value → (amount : ℕ) → Result
-  of_shift op v amount = or_else (number_and (λ a. shifted op a amount) (known v)) (shift_part op v amount)
+  abbrev pub of_shift : ShiftOp → KnownValue → (amount : ℕ) → Result
+  of_shift op v amount = or_else (number_and (λ a. shifted op a amount) (known_number v)) (shift_part op v amount)
 
-  abbrev pub register_part : RegisterOp → Value → Value → Result
+  abbrev pub register_part : RegisterOp → KnownValue → KnownValue → Result
   register_part register.Add v w = just (sum_of v w)
   register_part register.Sub v w = just (difference_of v w)
   register_part register.ShiftLeft v w = just any
@@ -155,13 +155,13 @@ module _ (ranges : List (Option ℕ)) where
   register_part register.ShiftRight v w = just any
   register_part register.ShiftRightArithmetic v w = just any
   register_part register.Or v w = just any
-  register_part register.And v w = masked_by v (known w)
+  register_part register.And v w = masked_by v (known_number w)
 
-  abbrev pub of_registers : RegisterOp → Value → Value → Result
-  of_registers op v w = or_else (both (computed op) (known v) (known w)) (register_part op v w)
+  abbrev pub of_registers : RegisterOp → KnownValue → KnownValue → Result
+  of_registers op v w = or_else (both (computed op) (known_number v) (known_number w)) (register_part op v w)
 
   -- whether a branch is taken, where that is known
-  abbrev pub branch_part : BranchOp → Value → Value → Option Bool
+  abbrev pub branch_part : BranchOp → KnownValue → KnownValue → Option Bool
   branch_part branch.Equal v w = is_equal v w
   branch_part branch.NotEqual v w = negated (is_equal v w)
   branch_part branch.Less v w = is_below_signed (bounds v) (bounds w)
@@ -169,5 +169,5 @@ module _ (ranges : List (Option ℕ)) where
   branch_part branch.LessUnsigned v w = is_below (bounds v) (bounds w)
   branch_part branch.GreaterEqualUnsigned v w = negated (is_below (bounds v) (bounds w))
 
-  abbrev pub is_branch_taken : BranchOp → Value → Value → Option Bool
-  is_branch_taken op v w = taken_known op (known v) (known w) (branch_part op v w)
+  abbrev pub is_branch_taken : BranchOp → KnownValue → KnownValue → Option Bool
+  is_branch_taken op v w = taken_known op (known_number v) (known_number w) (branch_part op v w)

@@ -6,14 +6,14 @@ use Rattle.slot_queue.specs.Queues.{Queue, index_word}
 use Rattle.queue_parties.specs.Parties.{Party, QueueCounts, count}
 use Rattle.slot_queue.specs.Ownership.{hart, end}
 use Rattle.owned_run.specs.Certified.{View, AllCounts, number_in}
-use Rattle.queue_certificates.specs.Forms.{Form, value_of, number, plus, times, is_same, InRanges, most, fits_in, remainder}
+use Rattle.queue_certificates.specs.Forms.{Form, form_value, number, plus, times, is_same, InRanges, most, fits_in, remainder}
 
 -- what is known of a register or a word: nothing; that it is this form's remainder by 2 ^ 32; or that it is the word of queue i that
 -- stands for the count that this form is
-pub data Value : Type 0 where
-  any : Value
-  linear : (f : Form) → Value
-  index_for : (i : ℕ) (f : Form) → Value
+pub data KnownValue : Type 0 where
+  any : KnownValue
+  linear : (f : Form) → KnownValue
+  index_for : (i : ℕ) (f : Form) → KnownValue
 
 -- of a queue of which the hart is a party: its own count, and how many positions it owns
 pub record Share : Type 0 where
@@ -26,12 +26,12 @@ no_share = record { own = number 0; owned = number 0 }
 pub record KnownState : Type 0 where
   pub pc : ℕ
   pub ranges : List (Option ℕ)
-  pub registers : List Value
-  pub words : List Value
+  pub registers : List KnownValue
+  pub words : List KnownValue
   pub shares : List Share
 
 -- each form of it made another
-abbrev pub value_by : (Form → Form) → Value → Value
+abbrev pub value_by : (Form → Form) → KnownValue → KnownValue
 value_by t any = any
 value_by t (linear f) = linear (t f)
 value_by t (index_for i f) = index_for i (t f)
@@ -51,27 +51,27 @@ state_by t ranges s = record {
 -- ---- meaning
 
 module _ (queues : ℕ → Queue) where
-  abbrev pub Has : List ℕ → Value → (x : ℕ) → Type 0
+  abbrev pub Has : List ℕ → KnownValue → (x : ℕ) → Type 0
   Has xs any x = Unit {0}
-  Has xs (linear f) x = x ≡ value_of f xs % 2 ^ 32
-  Has xs (index_for i f) x = x ≡ index_word (queues i) (value_of f xs)
+  Has xs (linear f) x = x ≡ form_value f xs % 2 ^ 32
+  Has xs (index_for i f) x = x ≡ index_word (queues i) (form_value f xs)
 
 -- an index's word as a form, where it is one
 abbrev pub scaled : Queue → Form → Form
 scaled q f = plus (number q.base) (times q.scale f)
 
-abbrev pub of_remainder : List (Option ℕ) → Queue → (i : ℕ) → Form → Option Form → Value
+abbrev pub of_remainder : List (Option ℕ) → Queue → (i : ℕ) → Form → Option Form → KnownValue
 of_remainder rs q i f None = if (q.scale * q.modulus == 2 ^ 32) && nat_lt q.base q.scale then linear (scaled q (plus f (number q.offset))) else index_for i f
 of_remainder rs q i f (Some g) = if fits_in (most rs (scaled q g)) (Some (2 ^ 32 - 1)) then linear (scaled q g) else index_for i f
 
 module _ (queues : ℕ → Queue) (ranges : List (Option ℕ)) where
-  abbrev pub plain : Value → Value
+  abbrev pub plain : KnownValue → KnownValue
   plain any = any
   plain (linear f) = linear f
   plain (index_for i f) = of_remainder ranges (queues i) i f (remainder ranges (plus f (number (queues i).offset)) (queues i).modulus)
 
   -- what has the one value has the other
-  abbrev pub is_within_plain : Value → Value → Bool
+  abbrev pub is_within_plain : KnownValue → KnownValue → Bool
   is_within_plain v any = true
   is_within_plain any w = false
   is_within_plain (linear f) (linear g) = is_same (2 ^ 32) f g
@@ -79,12 +79,12 @@ module _ (queues : ℕ → Queue) (ranges : List (Option ℕ)) where
   is_within_plain (linear f) (index_for j g) = false
   is_within_plain (index_for i f) (linear g) = false
 
-  abbrev pub is_within : Value → Value → Bool
+  abbrev pub is_within : KnownValue → KnownValue → Bool
   is_within v w = is_within_plain (plain v) (plain w)
 
 pub record HasShare (q : Queue) (p : Party) (c : QueueCounts) (xs : List ℕ) (s : Share) : Type 0 where
-  pub own : count p c ≡ value_of s.own xs
-  pub upto : end q p c ≡ value_of s.own xs + value_of s.owned xs
+  pub own : count p c ≡ form_value s.own xs
+  pub upto : end q p c ≡ form_value s.own xs + form_value s.owned xs
 
 -- of hart h, whose own words are at these addresses, where there are N queues
 module _ (queues : ℕ → Queue) (N : ℕ) (own : List ℕ) (h : ℕ) where

@@ -17,8 +17,8 @@ use Rattle.slot_queue.specs.Queues.{Queue}
 use Rattle.queue_parties.specs.Parties.{Party, the_sender, the_receiver, other}
 use Rattle.slot_queue.specs.Ownership.{party_of, index}
 use Rattle.queue_certificates.specs.Forms.{Form, number, first_variable, plus, times, remainder, lifted, is_same, most, fits_in, Bounds, minus}
-use Rattle.queue_certificates.specs.States.{Value, any, linear, index_for, Share, no_share, KnownState, value_by, share_by, state_by, plain, is_within}
-use Rattle.queue_certificates.specs.Results.{Result, just, exactly, known, bounds, sum_of, of_immediate, of_shift, of_registers, is_branch_taken}
+use Rattle.queue_certificates.specs.States.{KnownValue, any, linear, index_for, Share, no_share, KnownState, value_by, share_by, state_by, plain, is_within}
+use Rattle.queue_certificates.specs.Results.{Result, just, exactly, known_number, bounds, sum_of, of_immediate, of_shift, of_registers, is_branch_taken}
 
 -- at each number below n; and the last number below n at which it is so
 abbrev pub all_below : ℕ → (ℕ → Bool) → Bool
@@ -54,7 +54,7 @@ is_slot rs q f offset (Some g) = is_same (2 ^ 32) f (plus (times q.width g) (num
     && fits_in (most rs (plus (times q.width g) (number (q.slots + offset)))) (Some (2 ^ 32 - 1))
 
 -- these bytes are of the slot of a position that the party owns
-abbrev pub is_owned : List (Option ℕ) → Queue → Share → Value → (width : ℕ) → Bool
+abbrev pub is_owned : List (Option ℕ) → Queue → Share → KnownValue → (width : ℕ) → Bool
 is_owned rs q s any width = false
 is_owned rs q s (index_for i f) width = false
 is_owned rs q s (linear f) width = nat_lt (position_at q s.own.constant f.constant) s.owned.constant && nat_le (offset_at q f.constant + width) q.width
@@ -98,13 +98,13 @@ abbrev pub moved_share : Share → (d : Form) → Share
 moved_share s d = record { own = plus s.own d; owned = minus s.owned d }
 
 -- the registers and the pc after it
-abbrev pub written : List Value → (n : ℕ) → Value → List Value
-written vs n v = if n == 0 then vs else set vs n v
+abbrev pub registers_written : List KnownValue → (n : ℕ) → KnownValue → List KnownValue
+registers_written vs n v = if n == 0 then vs else set vs n v
 
 abbrev pub with_result : KnownState → (rd pc : ℕ) → Result → KnownState
 with_result k rd pc r = record (state_by lifted (Some r.most ∷ k.ranges) k) {
   pc = pc;
-  registers = written (map (value_by lifted) k.registers) rd r.value;
+  registers = registers_written (map (value_by lifted) k.registers) rd r.value;
 }
 
 abbrev pub going_to : KnownState → (pc : ℕ) → KnownState
@@ -122,10 +122,10 @@ jumping k rd offset (Some a) = Some (with_result k rd (address a offset / 2 * 2)
 
 -- an environment call may leave a word in x10 and a flag in x11
 abbrev pub called : KnownState → KnownState
-called k = record (going_to k (next_pc k.pc)) { registers = written (written (map (value_by lifted) k.registers) 10 any) 11 any }
+called k = record (going_to k (next_pc k.pc)) { registers = registers_written (registers_written (map (value_by lifted) k.registers) 10 any) 11 any }
 
 -- what a register holds; x0 is 0
-abbrev pub register_at : KnownState → Reg → Value
+abbrev pub register_at : KnownState → Reg → KnownValue
 register_at k r = if r.number == 0 then linear (number 0) else get_or k.registers r.number any
 
 -- what the pc says
@@ -134,10 +134,10 @@ instruction_at code pc = if nat_lt pc (4 * length code) then meaning (slice_inde
 
 -- of hart h, where there are N queues and H harts with own words at these addresses
 module _ (queues : ℕ → Queue) (N : ℕ) (own_of : ℕ → List ℕ) (H h : ℕ) where
-  abbrev pub operand : KnownState → Reg → Value
+  abbrev pub operand : KnownState → Reg → KnownValue
   operand k r = plain queues k.ranges (register_at k r)
 
-  abbrev pub address_value : KnownState → Reg → ℤ → Value
+  abbrev pub address_value : KnownState → Reg → ℤ → KnownValue
   address_value k r offset = sum_of (operand k r) (linear (number (word offset)))
 
   abbrev pub addresses : KnownState → Reg → ℤ → Bounds
@@ -158,24 +158,24 @@ module _ (queues : ℕ → Queue) (N : ℕ) (own_of : ℕ → List ℕ) (H h : �
   abbrev pub share_at : KnownState → (i : ℕ) → Share
   share_at k i = get_or k.shares i no_share
 
-  abbrev pub word_loaded : KnownState → Option ℕ → Value
+  abbrev pub word_loaded : KnownState → Option ℕ → KnownValue
   word_loaded k None = any
   word_loaded k (Some j) = get_or k.words j any
 
-  abbrev pub index_loaded : KnownState → Option ℕ → Value → Value
+  abbrev pub index_loaded : KnownState → Option ℕ → KnownValue → KnownValue
   index_loaded k None v = v
   index_loaded k (Some i) v = index_for i (share_at k i).own
 
   -- the number that a load reads, where it is no look
-  abbrev pub value_loaded : KnownState → (b : Bounds) (width : ℕ) → Value
+  abbrev pub value_loaded : KnownState → (b : Bounds) (width : ℕ) → KnownValue
   value_loaded k b width = index_loaded k (last_below N (is_own_index b width)) (word_loaded k (last_below (length (own_of h)) (is_own_word b width)))
 
-  abbrev pub zero_extended : LoadOp → Value → Value
+  abbrev pub zero_extended : LoadOp → KnownValue → KnownValue
   zero_extended load.Byte v = any
   zero_extended load.Half v = any
   zero_extended op v = v
 
-  abbrev pub looked_word : (i : ℕ) → Share → Value
+  abbrev pub looked_word : (i : ℕ) → Share → KnownValue
   looked_word i s = index_for i (plus (plus (lifted s.own) (owned_then s)) (number (back_of (queues i) (party_of (queues i) h))))
 
   abbrev pub after_look : KnownState → LoadOp → (rd i : ℕ) → Share → KnownState
@@ -200,15 +200,15 @@ module _ (queues : ℕ → Queue) (N : ℕ) (own_of : ℕ → List ℕ) (H h : �
   -- ---- stores
 
   -- d positions are handed over: the word is of the count d further, and d are owned
-  abbrev pub may_move : KnownState → (d : Form) → Value → (i : ℕ) → Share → Bool
+  abbrev pub may_move : KnownState → (d : Form) → KnownValue → (i : ℕ) → Share → Bool
   may_move k d v i s = is_within queues k.ranges v (index_for i (plus s.own d)) && is_same 0 (plus d (minus s.owned d)) s.owned
       && fits_in (most k.ranges d) (Some ((queues i).modulus - 1)) && nat_lt i (length k.shares)
 
-  abbrev pub may_fill : KnownState → Option Party → (place : Value) (width : ℕ) → (i : ℕ) → Bool
+  abbrev pub may_fill : KnownState → Option Party → (place : KnownValue) (width : ℕ) → (i : ℕ) → Bool
   may_fill k None place width i = false
   may_fill k (Some p) place width i = is_owned k.ranges (queues i) (share_at k i) place width
 
-  abbrev pub may_store : KnownState → (d : Form) → Value → (place : Value) → Bounds → (width : ℕ) → (move : Option ℕ) → (i : ℕ) → Bool
+  abbrev pub may_store : KnownState → (d : Form) → KnownValue → (place : KnownValue) → Bounds → (width : ℕ) → (move : Option ℕ) → (i : ℕ) → Bool
   may_store k d v place b width move i = if is_just move i then may_move k d v i (share_at k i) else
       (is_off (queues i) b width || may_fill k (party_of (queues i) h) place width i)
 
@@ -216,15 +216,15 @@ module _ (queues : ℕ → Queue) (N : ℕ) (own_of : ℕ → List ℕ) (H h : �
   abbrev pub leaves_words : Bounds → (width : ℕ) → (g : ℕ) → Bool
   leaves_words b width g = (g == h) || all_below (length (own_of g)) (λ j. is_apart b width (slice_index (own_of g) j) 4)
 
-  abbrev pub storable : Value → Value
+  abbrev pub storable : KnownValue → KnownValue
   storable any = any
   storable (linear f) = linear f
   storable (index_for i f) = if nat_lt i N then index_for i f else any
 
-  abbrev pub word_then : Bounds → (width : ℕ) → Value → (a : ℕ) → Value → Value
+  abbrev pub word_then : Bounds → (width : ℕ) → KnownValue → (a : ℕ) → KnownValue → KnownValue
   word_then b width v a w = if is_apart b width a 4 then w else (if is_one b && (b.low == a) && (width == 4) then storable v else any)
 
-  abbrev pub words_then : Bounds → (width : ℕ) → Value → (own : List ℕ) → List Value → List Value
+  abbrev pub words_then : Bounds → (width : ℕ) → KnownValue → (own : List ℕ) → List KnownValue → List KnownValue
   words_then b width v [] ws = ws
   words_then b width v (a ∷ own) [] = []
   words_then b width v (a ∷ own) (w ∷ ws) = word_then b width v a w ∷ words_then b width v own ws
@@ -233,38 +233,38 @@ module _ (queues : ℕ → Queue) (N : ℕ) (own_of : ℕ → List ℕ) (H h : �
   shares_moved ss d None = ss
   shares_moved ss d (Some i) = set ss i (moved_share (get_or ss i no_share) d)
 
-  abbrev pub after_store : KnownState → (d : Form) → (width : ℕ) → Value → Bounds → Option ℕ → KnownState
+  abbrev pub after_store : KnownState → (d : Form) → (width : ℕ) → KnownValue → Bounds → Option ℕ → KnownState
   after_store k d width v b move = going_to (record k {
     words = words_then b width v (own_of h) k.words;
     shares = shares_moved k.shares d move;
   }) (next_pc k.pc)
 
-  abbrev pub store_by : KnownState → (d : Form) → (width : ℕ) → Value → (place : Value) → Bounds → Option ℕ → Option (List KnownState)
+  abbrev pub store_by : KnownState → (d : Form) → (width : ℕ) → KnownValue → (place : KnownValue) → Bounds → Option ℕ → Option (List KnownState)
   store_by k d width v place b move = if all_below N (may_store k d v place b width move) && all_below H (leaves_words b width)
       then Some (after_store k d width v b move ∷ []) else None
 
-  abbrev pub storing : KnownState → (d : Form) → (width : ℕ) → Value → (place : Value) → Bounds → Option (List KnownState)
+  abbrev pub storing : KnownState → (d : Form) → (width : ℕ) → KnownValue → (place : KnownValue) → Bounds → Option (List KnownState)
   storing k d width v place b = store_by k d width v place b (last_below N (is_own_index b width))
 
   -- ---- AMOs: a load and then a store of a word, of no index of the other's
 
-  abbrev pub updated_value : List (Option ℕ) → AmoOp → (old with' : Value) → Value
+  abbrev pub updated_value : List (Option ℕ) → AmoOp → (old with' : KnownValue) → KnownValue
   updated_value rs amo.Swap old with' = with'
   updated_value rs amo.Add old with' = sum_of (plain queues rs old) (plain queues rs with')
   updated_value rs op old with' = any
 
-  abbrev pub after_exchange : KnownState → (d : Form) → (rd : ℕ) → Value → Bounds → Option ℕ → KnownState
+  abbrev pub after_exchange : KnownState → (d : Form) → (rd : ℕ) → KnownValue → Bounds → Option ℕ → KnownState
   after_exchange k d rd v b move = with_result (record k {
     words = words_then b 4 v (own_of h) k.words;
     shares = shares_moved k.shares d move;
   }) rd (next_pc k.pc) (just (value_loaded k b 4))
 
-  abbrev pub exchange_by : KnownState → (d : Form) → (rd : ℕ) → Value → (place : Value) → Bounds → Option ℕ → Option (List KnownState)
+  abbrev pub exchange_by : KnownState → (d : Form) → (rd : ℕ) → KnownValue → (place : KnownValue) → Bounds → Option ℕ → Option (List KnownState)
   exchange_by k d rd v place b move = if all_below N (may_store k d v place b 4 move) && all_below H
       (leaves_words b 4) && all_below N (λ i. misses (queues i) (party_of (queues i) h) b 4)
       then Some (after_exchange k d rd v b move ∷ []) else None
 
-  abbrev pub exchanging : KnownState → (d : Form) → AmoOp → (rd : ℕ) → Value → (place : Value) → Option Bounds → Option (List KnownState)
+  abbrev pub exchanging : KnownState → (d : Form) → AmoOp → (rd : ℕ) → KnownValue → (place : KnownValue) → Option Bounds → Option (List KnownState)
   exchanging k d op rd v place None = None
   exchanging k d op rd v place (Some b) = exchange_by k d rd (updated_value k.ranges op (value_loaded k b 4) v) place b (last_below N (is_own_index b 4))
 
@@ -275,7 +275,7 @@ module _ (queues : ℕ → Queue) (N : ℕ) (own_of : ℕ → List ℕ) (H h : �
   follow k d (Some (Lui rd upper)) = Some (with_result k rd.number (next_pc k.pc) (exactly (upper * 2 ^ 12)) ∷ [])
   follow k d (Some (Auipc rd upper)) = Some (with_result k rd.number (next_pc k.pc) (exactly ((k.pc + upper * 2 ^ 12) % 2 ^ 32)) ∷ [])
   follow k d (Some (Jal rd offset)) = Some (with_result k rd.number (address k.pc offset) (exactly (next_pc k.pc)) ∷ [])
-  follow k d (Some (Jalr rd rs1 offset)) = jumping k rd.number offset (known (operand k rs1))
+  follow k d (Some (Jalr rd rs1 offset)) = jumping k rd.number offset (known_number (operand k rs1))
   follow k d (Some (Branch op rs1 rs2 offset)) = Some (goes_by k (address k.pc offset) (is_branch_taken k.ranges op (operand k rs1) (operand k rs2)))
   follow k d (Some (Load op rd rs1 offset)) = loading k op rd.number (addresses k rs1 offset)
   follow k d (Some (Store op rs1 rs2 offset)) = storing k d (store_width op) (register_at k rs2) (address_value k rs1 offset) (addresses k rs1 offset)
@@ -289,7 +289,7 @@ module _ (queues : ℕ → Queue) (N : ℕ) (own_of : ℕ → List ℕ) (H h : �
   follow k d (Some (Amo op rd rs1 rs2 aq rl)) = exchanging k d op rd.number (register_at k rs2) (operand k rs1) (bounds k.ranges (operand k rs1))
 
   -- each byte of a load of queue i's slots is of an owned one
-  abbrev pub reads_owned : KnownState → (i : ℕ) → (place : Value) → Bounds → (width : ℕ) → Bool
+  abbrev pub reads_owned : KnownState → (i : ℕ) → (place : KnownValue) → Bounds → (width : ℕ) → Bool
   reads_owned k i place b width = is_apart b width (queues i).slots ((queues i).size * (queues i).width) || is_owned
       k.ranges (queues i) (share_at k i) place width
 
