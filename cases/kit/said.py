@@ -8,7 +8,8 @@ from . import links
 WORDS = 99_000  # of all pages, as `wc -w` counts them; lower it when pages get shorter
 IN_A_ROW = 10
 MAY_SAY_AGAIN = {"CHANGELOG.md", *(f"examples/{folder}/README.md" for folder in ("assembly", "c", "cpp", "rust"))}  # each is read alone
-MAY_BOTH_SAY = [{"crates/README.md", "docs/DECISIONS.md"}, {"docs/from-c.md", "docs/from-objects.md"}, {"docs/from-c.md", "docs/functions.md"}]
+MAY_BOTH_SAY = [{"crates/README.md", "docs/DECISIONS.md"}, {"docs/from-c.md", "docs/from-objects.md"}, {"docs/from-c.md", "docs/functions.md"},
+                {"docs/from-c.md", "docs/tour.md"}]
 CODE = re.compile(r"^ *```.*?^ *```$|<!-- scripts/[\w-]+:.*?begin -->.*?<!-- scripts/[\w-]+:.*?end -->", re.M | re.S)
 
 
