@@ -1,10 +1,9 @@
 -- Each run that keeps FastForward's protocol keeps that of slots that tell.
-use Rattle.std.proofs.Common.{ℕ, ◌+◌, ◌-◌, ◌*◌, ◌%◌, ◌^◌, ◌<◌, ◌≤◌, ◌≡◌, ◌≢◌, ◌==◌, ◌⊎◌, inl, inr, Bool, true, false, if◌then◌else◌}
+use Rattle.std.proofs.Common.{ℕ, ◌+◌, ◌-◌, ◌*◌, ◌%◌, ◌^◌, ◌<◌, ◌≤◌, ◌≡◌, ◌==◌, ◌⊎◌, inl, inr, Bool, true, false, if◌then◌else◌}
 use Rattle.std.proofs.Common.{List, [], ◌∷◌, ◌++◌, Option, Some, None, refl, sym, ◌∙◌, ap, subst, arith, append_assoc}
-use Rattle.std.specs.Prelude.{All, not}
+use Rattle.std.specs.Prelude.{not}
 use Rattle.std.proofs.lemmas.Bool.{eqb-true, eq-eqb, ne_eqb}
 use Rattle.std.proofs.lemmas.Bool.Decides.{nat_tests}
-use Rattle.std.proofs.lemmas.List.Elements.{All-nil, All-cons}
 use Rattle.std.proofs.Math.Nat.{mod-lt, mod-eq_of_lt}
 use Rattle.memory.specs.declared.writes.Write.{Write}
 use Rattle.memory.specs.Writes.{write}
@@ -13,7 +12,7 @@ use Rattle.step_machine.specs.declared.events.Entry.{Entry}
 use Rattle.step_machine.specs.History.{OpeningValue}
 use Rattle.step_machine.specs.Access.{Access, nothing, load, store, exchange, fence, land, access_of}
 use Rattle.step_machine.specs.Entries.{hart_of, pending, memory_word}
-use Rattle.spsc_queue.specs.RingBuffers.{lamport, fastforward, RingBuffer, IsRingBuffer, slot_offset, overlaps, writes_to, IsEmptyAndQuiescent}
+use Rattle.spsc_queue.specs.RingBuffers.{lamport, fastforward, RingBuffer, IsRingBuffer, slot_offset, overlaps, IsEmptyAndQuiescent}
 use Rattle.spsc_queue.specs.Protocol.{SenderState, resting, placed, renewing, roomy, filled, ReceiverState, idle, asked, waiting, holding, cleared}
 use Rattle.spsc_queue.specs.Protocol.{ProtocolState, at_start, Role, sends, receives, passes, role_of, looks_at}
 use Rattle.spsc_queue.specs.Protocol.{send_load, send_store, receive_load, receive_store}
@@ -21,7 +20,6 @@ use Rattle.spsc_queue.specs.Protocol.{next_by, protocol_next, protocol_after, Is
 use Rattle.spsc_queue.specs.Protocol.{IsReceiverStore, KeepsProtocolBy, KeepsProtocol, IsWordAt}
 use Rattle.spsc_queue.specs.Laws.{FollowsSpscProtocol}
 use Rattle.spsc_queue.proofs.Invariants.{IsPlaced, IsAsked}
-use Rattle.spsc_queue.proofs.Landings.{role-cases}
 use Rattle.spsc_queue.proofs.Runs.{known-of, protocol-append}
 use Rattle.queue_parties.specs.Parties.{Party, the_sender, the_receiver, other, QueueCounts, all_at, count, known, with_known}
 use Rattle.queue_parties.proofs.Positions.{ahead-is}
@@ -33,7 +31,8 @@ use Rattle.queue_instances.specs.FastForwardRings.{slots_of}
 use Rattle.slots_that_tell.proofs.Codecs.{zero_differs}
 use Rattle.slots_that_tell.proofs.Places.{slot_at-tag, is_tag-tag, moved-tag, moved-leaves, off-leaves}
 use Rattle.slots_that_tell.proofs.Owned.{loaded-count, grows-load}
-use Rattle.queue_parties.proofs.Parties.{Whose, mine, theirs, whose, known-set, Grows}
+use Rattle.queue_parties.proofs.Parties.{known-set, Grows}
+use Rattle.queue_instances.proofs.Blocks.{by-role, all-off}
 
 pub is_slots : (r : RingBuffer) → IsRingBuffer r → IsSlots (slots_of r)
 is_slots r is = record {
@@ -48,20 +47,11 @@ off-keeps : (r : RingBuffer) (is : IsRingBuffer r) (w : Write) → overlaps r w 
 off-keeps r is w off x on within = let part = covers-from w x on in
     grind (arith, nat_tests, off, part.0, part.1, within.0, within.1, is.slots_above, is.slots_below)
 
-none-pending : (r : RingBuffer) (is : IsRingBuffer r) (ws : List Write) → writes_to r ws ≡ [] → All (KeepsOff (slots_of r)) ws
-none-pending r is [] none = All-nil (KeepsOff (slots_of r))
-none-pending r is (w ∷ ws) none = at (overlaps r w) refl (λ more. none-pending r is ws more)
-  where
-    at : (b : Bool) → overlaps r w ≡ b → (writes_to r ws ≡ [] → All (KeepsOff (slots_of r)) ws) → All (KeepsOff (slots_of r)) (w ∷ ws)
-    at false off more = All-cons (KeepsOff (slots_of r)) w ws (off-keeps r is w off)
-        (more (sym (ap (λ b. if b then w ∷ writes_to r ws else writes_to r ws) off) ∙ none))
-    at true on more = let wrong : w ∷ writes_to r ws ≡ [] = sym (ap (λ b. if b then w ∷ writes_to r ws else writes_to r ws) on) ∙ none in absurd (cc)
-
 pub rests : (r : RingBuffer) (is : IsRingBuffer r) (o : OpeningValue) (before : List Entry) → r.kind ≡ fastforward → IsEmptyAndQuiescent r o before
     → IsEmptyAtRest (slots_of r) o before r.start
 rests r is o before kind quiet = record {
   free = free;
-  pending = λ h. none-pending r is (pending h before) (quiet.pending h);
+  pending = λ h. all-off r (KeepsOff (slots_of r)) (off-keeps r is) (pending h before) (quiet.pending h);
 }
   where
     free : (k : ℕ) → r.start ≤ k → k < r.start + r.size → (memory_tag (slots_of r) o before k == 0) ≡ true
@@ -112,8 +102,6 @@ module _ (r : RingBuffer) (is : IsRingBuffer r) (p : Party) (c : QueueCounts) (v
   told-own : (slots_of r).tells p (count p c) v ≡ true
       → count p c < owned_end (slots_of r) p (after_load (slots_of r) p (tag_of (slots_of r) (count p c)) 4 v c)
   told-own tells =
-      let q : Slots = slots_of r in
-      let n : ℕ = count p c in
       let slot : slot_at (slots_of r) (tag_of (slots_of r) (count p c)) ≡ count p c % r.size = slot_at-tag (slots_of r) (is_slots r is) (count p c) in
       let here : position_at (slots_of r) (count p c) (tag_of (slots_of r) (count p c)) ≡ count p c =
       ap (λ i. count p c + (i + (r.size - count p c % r.size)) % r.size) slot
@@ -402,11 +390,10 @@ module _ (r : RingBuffer) (is : IsRingBuffer r) (kind : r.kind ≡ fastforward) 
         (off-keeps r is (write a 4 new) off),
   )
 
-  Kept : Role → Option Party → Access → Type 0
+  abbrev Kept : Role → Option Party → Access → Type 0
   Kept role t x = TellsAccess (slots_of r) t c x × Agrees r (next_by fastforward r role s x) (told_access (slots_of r) t x c)
 
   sender-keeps : (x : Access) → KeepsProtocolBy fastforward r sends s x → Kept sends (Some the_sender) x
-  unfolding Kept
   sender-keeps nothing keeps = (tt, agrees)
   sender-keeps (load a width v) keeps = (tt, sender-load r is kind s c agrees at_slot at_word a width v)
   sender-keeps (store w) keeps = sender-store r is kind s c agrees at_slot at_word w keeps
@@ -415,7 +402,6 @@ module _ (r : RingBuffer) (is : IsRingBuffer r) (kind : r.kind ≡ fastforward) 
   sender-keeps land keeps = (tt, agrees)
 
   receiver-keeps : (x : Access) → KeepsProtocolBy fastforward r receives s x → Kept receives (Some the_receiver) x
-  unfolding Kept
   receiver-keeps nothing keeps = (tt, agrees)
   receiver-keeps (load a width v) keeps = (tt, receiver-load r is kind s c agrees at_slot at_word a width v)
   receiver-keeps (store w) keeps = receiver-store r is kind s c agrees at_slot at_word w keeps
@@ -424,7 +410,6 @@ module _ (r : RingBuffer) (is : IsRingBuffer r) (kind : r.kind ≡ fastforward) 
   receiver-keeps land keeps = (tt, agrees)
 
   passes-keep : (x : Access) → KeepsProtocolBy fastforward r passes s x → Kept passes None x
-  unfolding Kept
   passes-keep nothing keeps = (tt, agrees)
   passes-keep (load a width v) keeps = (tt, agrees)
   passes-keep (store w) keeps = (off-keeps r is w keeps, agrees)
@@ -435,44 +420,14 @@ module _ (r : RingBuffer) (is : IsRingBuffer r) (kind : r.kind ≡ fastforward) 
   keeps-one : (e : Entry) → KeepsProtocolBy fastforward r (role_of r (hart_of e)) s (access_of e)
       → TellsAccess (slots_of r) (teller_of (slots_of r) (hart_of e)) c (access_of e)
       × Agrees r (next_by fastforward r (role_of r (hart_of e)) s (access_of e)) (after_entry (slots_of r) c e)
-  unfolding Kept
-  keeps-one e keeps = by (role-cases r (hart_of e)) (whose r.sender r.receiver (hart_of e))
-    where
-      x : Access
-      x = access_of e
-
-      Goal : Type 0
-      Goal = TellsAccess (slots_of r) (teller_of (slots_of r) (hart_of e)) c x
-          × Agrees r (next_by fastforward r (role_of r (hart_of e)) s x)
-          (told_access (slots_of r) (teller_of (slots_of r) (hart_of e)) x c)
-
-      of_role : (role : Role) (t : Option Party) → role_of r (hart_of e) ≡ role → teller_of (slots_of r) (hart_of e) ≡ t
-          → TellsAccess (slots_of r) t c x × Agrees r (next_by fastforward r role s x) (told_access (slots_of r) t x c) → Goal
-      of_role role t is_role is_party got = subst (λ g. TellsAccess (slots_of r) (teller_of (slots_of r) (hart_of e)) c x
-          × Agrees r (next_by fastforward r g s x) (told_access (slots_of r) (teller_of (slots_of r) (hart_of e)) x c)) (sym is_role)
-          (subst (λ g. TellsAccess (slots_of r) g c x × Agrees r (next_by fastforward r role s x) (told_access (slots_of r) g x c)) (sym is_party) got)
-
-      by : ((hart_of e ≡ r.sender) × (role_of r (hart_of e) ≡ sends))
-          ⊎ (((hart_of e ≢ r.sender) × (hart_of e ≡ r.receiver) × (role_of r (hart_of e) ≡ receives))
-          ⊎ ((hart_of e ≢ r.sender) × (hart_of e ≢ r.receiver) × (role_of r (hart_of e) ≡ passes))) → Whose r.sender r.receiver (hart_of e) → Goal
-      by (inl one) (mine the_sender at party) = of_role sends (Some the_sender) one.1 party
-          (sender-keeps x (subst (λ g. KeepsProtocolBy fastforward r g s x) one.1 keeps))
-      by (inl one) (mine the_receiver at party) = absurd (is.parties (sym one.0 ∙ at))
-      by (inl one) (theirs far party) = absurd (far the_sender one.0)
-      by (inr (inl one)) (mine the_sender at party) = absurd (one.0 at)
-      by (inr (inl one)) (mine the_receiver at party) = of_role receives (Some the_receiver) one.2 party
-          (receiver-keeps x (subst (λ g. KeepsProtocolBy fastforward r g s x) one.2 keeps))
-      by (inr (inl one)) (theirs far party) = absurd (far the_receiver one.1)
-      by (inr (inr one)) (mine the_sender at party) = absurd (one.0 at)
-      by (inr (inr one)) (mine the_receiver at party) = absurd (one.1 at)
-      by (inr (inr one)) (theirs far party) = of_role passes None one.2 party (passes-keep x (subst (λ g. KeepsProtocolBy fastforward r g s x) one.2 keeps))
+  keeps-one e = by-role r (hart_of e) (λ role t. KeepsProtocolBy fastforward r role s (access_of e) → Kept role t (access_of e))
+      (λ at. sender-keeps (access_of e)) (λ at. receiver-keeps (access_of e)) (passes-keep (access_of e))
 
 keeps-all : (B : ℕ) (r : RingBuffer) (o : OpeningValue) (before done es : List Entry) (c : QueueCounts)
     → r.kind ≡ fastforward → FollowsSpscProtocol B r o before (done ++ es)
     → KeepsProtocol r (protocol_after r at_start done) es → Agrees r (protocol_after r at_start done) c → KeepsTelling (slots_of r) c es
 keeps-all B r o before done [] c kind f keeps agrees = tt
 keeps-all B r o before done (e ∷ es) c kind f keeps agrees =
-    let s : ProtocolState = protocol_after r at_start done in
     let k = known-of B r o before done (e ∷ es) f in
     let one : TellsAccess (slots_of r) (teller_of (slots_of r) (hart_of e)) c (access_of e)
     × Agrees r (next_by fastforward r (role_of r (hart_of e)) (protocol_after r at_start done) (access_of e)) (after_entry (slots_of r) c e) =
