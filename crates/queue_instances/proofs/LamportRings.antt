@@ -20,7 +20,7 @@ use Rattle.store_buffers.specs.StoreBuffers.{LeavesByte, LeavesByteBy}
 use Rattle.spsc_queue.proofs.Words.{word_overlaps}
 use Rattle.spsc_queue.proofs.Copies.{IsAlone, CopyStays, copy-left, off_leaves, word_leaves, own_read, quiet_read, none_leave}
 use Rattle.spsc_queue.proofs.Rows.{more-of, kept-pending}
-use Rattle.spsc_queue.specs.RingBuffers.{lamport, RingBuffer, IsRingBuffer, IsWordIn, next, slot_offset, overlaps, writes_to, IsEmptyAndQuiescent}
+use Rattle.spsc_queue.specs.RingBuffers.{lamport, RingBuffer, IsRingBuffer, IsWordIn, next, slot_offset, overlaps, IsEmptyAndQuiescent}
 use Rattle.spsc_queue.specs.Protocol.{SenderState, resting, placed, renewing, roomy, filled, ReceiverState, idle, asked, waiting, holding, cleared}
 use Rattle.spsc_queue.specs.Protocol.{ProtocolState, at_start, Role, sends, receives, passes, role_of, send_look}
 use Rattle.spsc_queue.specs.Protocol.{send_load, send_store, receive_look, receive_load, receive_store}
@@ -34,7 +34,8 @@ use Rattle.slot_queue.specs.Laws.{FollowsOwnership, moved_on}
 use Rattle.queue_instances.specs.LamportRings.{queue_of}
 use Rattle.slot_queue.proofs.Codes.{least-near, word-small}
 use Rattle.slot_queue.proofs.Sides.{Side, moved-leaves, moved-index, fills-leaves, off-leaves}
-use Rattle.queue_parties.proofs.Parties.{harts-apart, Whose, mine, theirs, whose, count-set, count-set-other, known-set, Grows}
+use Rattle.queue_instances.proofs.Blocks.{by-role, all-off}
+use Rattle.queue_parties.proofs.Parties.{harts-apart, count-set, count-set-other, known-set, Grows}
 use Rattle.slot_queue.proofs.Looks.{bounds, Bounds, found, reads-other}
 use Rattle.slot_queue.proofs.Runs.{one-on, at-rest}
 use Rattle.slot_queue.proofs.Owned.{grows-access, loaded-count, grows-load}
@@ -620,35 +621,11 @@ module _ (B : ℕ) (r : RingBuffer) (is : IsRingBuffer r) (o : OpeningValue) (es
   -- one entry
   pub keeps-one : (e : Entry) → KeepsProtocolBy lamport r (role_of r (hart_of e)) s (access_of e) → Allowed B o es e
       → KeepsAccess q (party_of q (hart_of e)) c (access_of e) × Both r (counts_next q c e) (next_by lamport r (role_of r (hart_of e)) s (access_of e))
-  keeps-one e keeps allowed = by (Rattle.spsc_queue.proofs.Landings.role-cases r (hart_of e)) (whose q.sender q.receiver (hart_of e))
-    where
-      x : Access
-      x = access_of e
-
-      Goal : Type 0
-      Goal = KeepsAccess q (party_of q (hart_of e)) c x × Both r (after_access q (party_of q (hart_of e)) x c) (next_by lamport r (role_of r (hart_of e)) s x)
-
-      of_role : (role : Role) (t : Option Party) → role_of r (hart_of e) ≡ role → party_of q (hart_of e) ≡ t
-          → KeepsAccess q t c x × Both r (after_access q t x c) (next_by lamport r role s x) → Goal
-      of_role role t is_role is_party got = subst (λ g. KeepsAccess q (party_of q (hart_of e)) c x
-          × Both r (after_access q (party_of q (hart_of e)) x c) (next_by lamport r g s x)) (sym is_role)
-          (subst (λ g. KeepsAccess q g c x × Both r (after_access q g x c) (next_by lamport r role s x)) (sym is_party) got)
-
-      by : ((hart_of e ≡ r.sender) × (role_of r (hart_of e) ≡ sends))
-          ⊎ (((hart_of e ≢ r.sender) × (hart_of e ≡ r.receiver) × (role_of r (hart_of e) ≡ receives))
-          ⊎ ((hart_of e ≢ r.sender) × (hart_of e ≢ r.receiver) × (role_of r (hart_of e) ≡ passes))) → Whose q.sender q.receiver (hart_of e) → Goal
-      by (inl one) (mine the_sender at party) = of_role sends (Some the_sender) one.1 party
-          (sender-keeps x (subst (λ g. KeepsProtocolBy lamport r g s x) one.1 keeps)
-          (subst (λ h. AllowedBy B (pending h es) (read o es h) x) one.0 allowed))
-      by (inl one) (mine the_receiver at party) = absurd (is.parties (sym one.0 ∙ at))
-      by (inl one) (theirs far party) = absurd (far the_sender one.0)
-      by (inr (inl one)) (mine the_sender at party) = absurd (one.0 at)
-      by (inr (inl one)) (mine the_receiver at party) = of_role receives (Some the_receiver) one.2 party
-          (receiver-keeps x (subst (λ g. KeepsProtocolBy lamport r g s x) one.2 keeps) (subst (λ h. AllowedBy B (pending h es) (read o es h) x) one.1 allowed))
-      by (inr (inl one)) (theirs far party) = absurd (far the_receiver one.1)
-      by (inr (inr one)) (mine the_sender at party) = absurd (one.0 at)
-      by (inr (inr one)) (mine the_receiver at party) = absurd (one.1 at)
-      by (inr (inr one)) (theirs far party) = of_role passes None one.2 party (passes-keep x (subst (λ g. KeepsProtocolBy lamport r g s x) one.2 keeps))
+  keeps-one e = by-role r (hart_of e) (λ role t. KeepsProtocolBy lamport r role s (access_of e) → Allowed B o es e
+      → KeepsAccess q t c (access_of e) × Both r (after_access q t (access_of e) c) (next_by lamport r role s (access_of e)))
+      (λ at keeps allowed. sender-keeps (access_of e) keeps (subst (λ h. AllowedBy B (pending h es) (read o es h) (access_of e)) at allowed))
+      (λ at keeps allowed. receiver-keeps (access_of e) keeps (subst (λ h. AllowedBy B (pending h es) (read o es h) (access_of e)) at allowed))
+      (λ keeps allowed. passes-keep (access_of e) keeps)
 
   -- ---- the copy, after one entry
 
@@ -819,41 +796,10 @@ module _ (B : ℕ) (r : RingBuffer) (is : IsRingBuffer r) (o : OpeningValue) (es
 
     pub copy-keeps-one : KeepsProtocolBy lamport r (role_of r (hart_of e)) s (access_of e)
         → Copied (counts_next q c e) (next_by lamport r (role_of r (hart_of e)) s (access_of e))
-    copy-keeps-one keeps = by (Rattle.spsc_queue.proofs.Landings.role-cases r (hart_of e)) (whose q.sender q.receiver (hart_of e))
-      where
-        x : Access
-        x = access_of e
-
-        Goal : Type 0
-        Goal = CopyHolds r o (es ++ e ∷ []) ((after_access q (party_of q (hart_of e)) x c).published + ready
-            (next_by lamport r (role_of r (hart_of e)) s x).sending)
-            (after_access q (party_of q (hart_of e)) x c).known_taken
-
-        of_role : (role : Role) (t : Option Party) → role_of r (hart_of e) ≡ role → party_of q (hart_of e) ≡ t
-            → CopyHolds r o (es ++ e ∷ [])
-            ((after_access q t x c).published + ready (next_by lamport r role s x).sending)
-            (after_access q t x c).known_taken → Goal
-        of_role role t is_role is_party got = subst (λ g. CopyHolds r o (es ++ e ∷ [])
-            ((after_access q (party_of q (hart_of e)) x c).published + ready (next_by lamport r g s x).sending)
-            (after_access q (party_of q (hart_of e)) x c).known_taken) (sym is_role)
-            (subst (λ g. CopyHolds r o (es ++ e ∷ [])
-            ((after_access q g x c).published + ready (next_by lamport r role s x).sending)
-            (after_access q g x c).known_taken) (sym is_party) got)
-
-        by : ((hart_of e ≡ r.sender) × (role_of r (hart_of e) ≡ sends))
-            ⊎ (((hart_of e ≢ r.sender) × (hart_of e ≡ r.receiver) × (role_of r (hart_of e) ≡ receives))
-            ⊎ ((hart_of e ≢ r.sender) × (hart_of e ≢ r.receiver) × (role_of r (hart_of e) ≡ passes))) → Whose q.sender q.receiver (hart_of e) → Goal
-        by (inl one) (mine the_sender at party) = of_role sends (Some the_sender) one.1 party (sender-copy x refl one.0
-            (subst (λ h. AllowedBy B (pending h es) (read o es h) x) one.0 allowed) (subst (λ g. KeepsProtocolBy lamport r g s x) one.1 keeps))
-        by (inl one) (mine the_receiver at party) = absurd (is.parties (sym one.0 ∙ at))
-        by (inl one) (theirs far party) = absurd (far the_sender one.0)
-        by (inr (inl one)) (mine the_sender at party) = absurd (one.0 at)
-        by (inr (inl one)) (mine the_receiver at party) = of_role receives (Some the_receiver) one.2 party
-            (receiver-copy x refl (subst (λ g. KeepsProtocolBy lamport r g s x) one.2 keeps))
-        by (inr (inl one)) (theirs far party) = absurd (far the_receiver one.1)
-        by (inr (inr one)) (mine the_sender at party) = absurd (one.0 at)
-        by (inr (inr one)) (mine the_receiver at party) = absurd (one.1 at)
-        by (inr (inr one)) (theirs far party) = of_role passes None one.2 party (passes-copy x refl (subst (λ g. KeepsProtocolBy lamport r g s x) one.2 keeps))
+    copy-keeps-one = by-role r (hart_of e) (λ role t. KeepsProtocolBy lamport r role s (access_of e)
+        → Copied (after_access q t (access_of e) c) (next_by lamport r role s (access_of e)))
+        (λ at. sender-copy (access_of e) refl at (subst (λ h. AllowedBy B (pending h es) (read o es h) (access_of e)) at allowed))
+        (λ at. receiver-copy (access_of e) refl) (passes-copy (access_of e) refl)
 
 -- ---- whole runs
 
@@ -911,16 +857,6 @@ rest-copy r is o before quiet a some = by (Rattle.std.proofs.lemmas.Bool.cases_e
       alone = alone;
     }
 
--- nothing is pending to the block, so nothing to the queue
-none-pending : (r : RingBuffer) (is : IsRingBuffer r) (ws : List Write) → writes_to r ws ≡ [] → All (KeepsOff (queue_of r)) ws
-none-pending r is [] none = Rattle.std.proofs.lemmas.List.Elements.All-nil (KeepsOff (queue_of r))
-none-pending r is (w ∷ ws) none = at (overlaps r w) refl (λ more. none-pending r is ws more)
-  where
-    at : (b : Bool) → overlaps r w ≡ b → (writes_to r ws ≡ [] → All (KeepsOff (queue_of r)) ws) → All (KeepsOff (queue_of r)) (w ∷ ws)
-    at false off more = Rattle.std.proofs.lemmas.List.Elements.All-cons (KeepsOff (queue_of r)) w ws (off-keeps r is w off)
-        (more (sym (ap (λ b. if b then w ∷ writes_to r ws else writes_to r ws) off) ∙ none))
-    at true on more = let not : w ∷ writes_to r ws ≡ [] = sym (ap (λ b. if b then w ∷ writes_to r ws else writes_to r ws) on) ∙ none in absurd (cc)
-
 pub lamport_owns : (B : ℕ) (r : RingBuffer) (o : OpeningValue) (before es : List Entry) → r.kind ≡ lamport → FollowsSpscProtocol B r o before es
     → FollowsOwnership B (queue_of r) (all_at r.start) o before es
 lamport_owns B r o before es kind f = record {
@@ -940,5 +876,5 @@ lamport_owns B r o before es kind f = record {
       window = record { known_published = omega arith; published = omega arith; known_taken = omega arith; taken = omega arith };
       head = f.rest.head ∙ word;
       tail = f.rest.tail ∙ word;
-      pending = λ h. none-pending r f.ring (pending h before) (f.rest.pending h);
+      pending = λ h. all-off r (KeepsOff (queue_of r)) (off-keeps r f.ring) (pending h before) (f.rest.pending h);
     }

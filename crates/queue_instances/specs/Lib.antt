@@ -1,1 +1,2 @@
 pub mod LamportRings
+pub mod FastForwardRings

@@ -1,0 +1,458 @@
+-- Each run that keeps FastForward's protocol keeps that of slots that tell.
+use Rattle.std.proofs.Common.{ℕ, ◌+◌, ◌-◌, ◌*◌, ◌%◌, ◌^◌, ◌<◌, ◌≤◌, ◌≡◌, ◌==◌, ◌⊎◌, inl, inr, Bool, true, false, if◌then◌else◌}
+use Rattle.std.proofs.Common.{List, [], ◌∷◌, ◌++◌, Option, Some, None, refl, sym, ◌∙◌, ap, subst, arith, append_assoc}
+use Rattle.std.specs.Prelude.{not}
+use Rattle.std.proofs.lemmas.Bool.{eqb-true, eq-eqb, ne_eqb}
+use Rattle.std.proofs.lemmas.Bool.Decides.{nat_tests}
+use Rattle.std.proofs.Math.Nat.{mod-lt, mod-eq_of_lt}
+use Rattle.memory.specs.declared.writes.Write.{Write}
+use Rattle.memory.specs.Writes.{write}
+use Rattle.memory.proofs.Bytes.{covers-from}
+use Rattle.step_machine.specs.declared.events.Entry.{Entry}
+use Rattle.step_machine.specs.History.{OpeningValue}
+use Rattle.step_machine.specs.Access.{Access, nothing, load, store, exchange, fence, land, access_of}
+use Rattle.step_machine.specs.Entries.{hart_of, pending, memory_word}
+use Rattle.spsc_queue.specs.RingBuffers.{lamport, fastforward, RingBuffer, IsRingBuffer, slot_offset, overlaps, IsEmptyAndQuiescent}
+use Rattle.spsc_queue.specs.Protocol.{SenderState, resting, placed, renewing, roomy, filled, ReceiverState, idle, asked, waiting, holding, cleared}
+use Rattle.spsc_queue.specs.Protocol.{ProtocolState, at_start, Role, sends, receives, passes, role_of, looks_at}
+use Rattle.spsc_queue.specs.Protocol.{send_load, send_store, receive_load, receive_store}
+use Rattle.spsc_queue.specs.Protocol.{next_by, protocol_next, protocol_after, IsCopyStore, IsSenderStore}
+use Rattle.spsc_queue.specs.Protocol.{IsReceiverStore, KeepsProtocolBy, KeepsProtocol, IsWordAt}
+use Rattle.spsc_queue.specs.Laws.{FollowsSpscProtocol}
+use Rattle.spsc_queue.proofs.Invariants.{IsPlaced, IsAsked}
+use Rattle.spsc_queue.proofs.Runs.{known-of, protocol-append}
+use Rattle.queue_parties.specs.Parties.{Party, the_sender, the_receiver, other, QueueCounts, all_at, count, known, with_known}
+use Rattle.queue_parties.proofs.Positions.{ahead-is}
+use Rattle.slots_that_tell.specs.Slots.{Slots, IsSlots, IsEmptyAtRest, KeepsOff, gap, tag_of, slot_at, position_at, memory_tag}
+use Rattle.slots_that_tell.specs.Telling.{teller_of, owned_end, learned, moved, after_load, after_store, told_access, after_entry}
+use Rattle.slots_that_tell.specs.Telling.{MayStore, IsTagStore, TellsAccess, KeepsTelling}
+use Rattle.slots_that_tell.specs.Laws.{FollowsTelling}
+use Rattle.queue_instances.specs.FastForwardRings.{slots_of}
+use Rattle.slots_that_tell.proofs.Codecs.{zero_differs}
+use Rattle.slots_that_tell.proofs.Places.{slot_at-tag, is_tag-tag, moved-tag, moved-leaves, off-leaves}
+use Rattle.slots_that_tell.proofs.Owned.{loaded-count, grows-load}
+use Rattle.queue_parties.proofs.Parties.{known-set, Grows}
+use Rattle.queue_instances.proofs.Blocks.{by-role, all-off}
+
+pub is_slots : (r : RingBuffer) → IsRingBuffer r → IsSlots (slots_of r)
+is_slots r is = record {
+  parties = is.parties;
+  some = is.some_slots;
+  some_bytes = omega arith;
+  tag_within = omega arith;
+  differ = zero_differs (slots_of r);
+}
+
+off-keeps : (r : RingBuffer) (is : IsRingBuffer r) (w : Write) → overlaps r w ≡ false → KeepsOff (slots_of r) w
+off-keeps r is w off x on within = let part = covers-from w x on in
+    grind (arith, nat_tests, off, part.0, part.1, within.0, within.1, is.slots_above, is.slots_below)
+
+pub rests : (r : RingBuffer) (is : IsRingBuffer r) (o : OpeningValue) (before : List Entry) → r.kind ≡ fastforward → IsEmptyAndQuiescent r o before
+    → IsEmptyAtRest (slots_of r) o before r.start
+rests r is o before kind quiet = record {
+  free = free;
+  pending = λ h. all-off r (KeepsOff (slots_of r)) (off-keeps r is) (pending h before) (quiet.pending h);
+}
+  where
+    free : (k : ℕ) → r.start ≤ k → k < r.start + r.size → (memory_tag (slots_of r) o before k == 0) ≡ true
+    free k from below =
+        let j : ℕ = k - r.start in
+        let place : r.start + j ≡ k = omega (arith, from) in
+        let zero : memory_word o before (r.slots + 4 * ((r.start + j) % r.size)) ≡ 0 = quiet.slots kind j (omega (arith, from, below)) in
+        let at : r.slots + 4 * (k % r.size) + 0 ≡ r.slots + 4 * ((r.start + j) % r.size) =
+        (let z : r.slots + 4 * (k % r.size) + 0 ≡ r.slots + 4 * (k % r.size) = omega arith in z)
+        ∙ ap (λ i. r.slots + 4 * (i % r.size)) (sym place) in
+        eq-eqb (memory_tag (slots_of r) o before k) 0 (ap (λ a. memory_word o before a) at ∙ zero)
+
+-- what the phases say of the counts
+abbrev pub Sending : (size : ℕ) → QueueCounts → SenderState → Type 0
+Sending size c (roomy u) = c.published < c.known_taken + size
+Sending size c p = Unit {0}
+
+abbrev pub Receiving : (taken consumed : ℕ) → QueueCounts → ReceiverState → Type 0
+Receiving n m c (holding u w) = (n ≡ m) × (c.taken < c.known_published)
+Receiving n m c (cleared u) = n ≡ m + 1
+Receiving n m c (waiting u) = ⊥
+Receiving n m c p = n ≡ m
+
+pub record Agrees (r : RingBuffer) (s : ProtocolState) (c : QueueCounts) : Type 0 where
+  pub published : c.published ≡ r.start + s.stored
+  pub taken : c.taken ≡ r.start + s.taken
+  pub sending : Sending r.size c s.sending
+  pub receiving : Receiving s.taken s.consumed c s.receiving
+
+more-sending : (size : ℕ) (c d : QueueCounts) (p : SenderState) → c.published ≡ d.published
+    → c.known_taken ≤ d.known_taken → Sending size c p → Sending size d p
+more-sending size c d (roomy u) same more h = omega (arith, same, more, h)
+more-sending size c d resting same more h = tt
+more-sending size c d (placed u) same more h = tt
+more-sending size c d (renewing u v) same more h = tt
+more-sending size c d (filled u) same more h = tt
+
+more-receiving : (n m : ℕ) (c d : QueueCounts) (p : ReceiverState) → c.taken ≡ d.taken
+    → c.known_published ≤ d.known_published → Receiving n m c p → Receiving n m d p
+more-receiving n m c d (holding u w) same more h = (h.0, omega (arith, same, more, h.1))
+more-receiving n m c d (cleared u) same more h = h
+more-receiving n m c d idle same more h = h
+more-receiving n m c d (asked u) same more h = h
+more-receiving n m c d (waiting u) same more h = h
+
+-- a load of the own position's tag that tells
+module _ (r : RingBuffer) (is : IsRingBuffer r) (p : Party) (c : QueueCounts) (v : ℕ) where
+  told-own : (slots_of r).tells p (count p c) v ≡ true
+      → count p c < owned_end (slots_of r) p (after_load (slots_of r) p (tag_of (slots_of r) (count p c)) 4 v c)
+  told-own tells =
+      let slot : slot_at (slots_of r) (tag_of (slots_of r) (count p c)) ≡ count p c % r.size = slot_at-tag (slots_of r) (is_slots r is) (count p c) in
+      let here : position_at (slots_of r) (count p c) (tag_of (slots_of r) (count p c)) ≡ count p c =
+      ap (λ i. count p c + (i + (r.size - count p c % r.size)) % r.size) slot
+      ∙ (let z : count p c ≡ count p c + 0 = omega arith in ap (λ i. count p c + (i % r.size + (r.size - count p c % r.size)) % r.size) z)
+      ∙ ap (λ i. count p c + i) (ahead-is r.size (count p c) 0 (omega (arith, is.some_slots))) ∙ (let z : count p c + 0 ≡ count p c = omega arith in z) in
+      let new : after_load (slots_of r) p (tag_of (slots_of r) (count p c)) 4 v c ≡ learned (slots_of r) p (count p c) v c =
+      ap (λ b.
+      if b then learned (slots_of r) p (position_at (slots_of r) (count p c) (tag_of (slots_of r) (count p c))) v c
+      else c) (is_tag-tag (slots_of r) (is_slots r is) (count p c))
+      ∙ ap (λ j. learned (slots_of r) p j v c) here in
+      let set : learned (slots_of r) p (count p c) v c ≡ with_known p (known p c + (count p c + 1 - gap (slots_of r) (other p) - known p c)) c =
+      ap (λ b. if b then with_known p (known p c + (count p c + 1 - gap (slots_of r) (other p) - known p c)) c else c) tells in
+      let knows : known p (after_load (slots_of r) p (tag_of (slots_of r) (count p c)) 4 v c)
+      ≡ known p c + (count p c + 1 - gap (slots_of r) (other p) - known p c) =
+      ap (known p) (new ∙ set) ∙ known-set p (known p c + (count p c + 1 - gap (slots_of r) (other p) - known p c)) c in
+      omega (arith, knows)
+
+-- ---- one entry
+
+module _ (r : RingBuffer) (is : IsRingBuffer r) (kind : r.kind ≡ fastforward) (s : ProtocolState) (c : QueueCounts) (agrees : Agrees r s c)
+    (at_slot : IsPlaced r s.stored s.published s.sending) (at_word : IsAsked r s.consumed s.receiving) where
+  abbrev q : Slots
+  q = slots_of r
+
+  good : IsSlots (slots_of r)
+  good = is_slots r is
+
+  -- counts that stay, and knowledge that grows
+  kept : (d : QueueCounts) → d.published ≡ c.published → d.taken ≡ c.taken → c.known_taken ≤ d.known_taken
+      → c.known_published ≤ d.known_published → Agrees r s d
+  kept d one two three four = record {
+    published = one ∙ agrees.published;
+    taken = two ∙ agrees.taken;
+    sending = more-sending r.size c d s.sending (sym one) three agrees.sending;
+    receiving = more-receiving s.taken s.consumed c d s.receiving (sym two) four agrees.receiving;
+  }
+
+  kept-load : (p : Party) (a width v : ℕ) → Agrees r s (after_load q p a width v c)
+  kept-load p a width v =
+      let g : Grows c (after_load q p a width v c) = grows-load q p a width v c in
+      kept (after_load q p a width v c) (loaded-count q p the_sender a width v c)
+      (loaded-count q p the_receiver a width v c) (g.knows the_sender) (g.knows the_receiver)
+
+  no_copy : (t : Option ℕ) → r.copy ≡ t → t ≡ None
+  no_copy None same = refl
+  no_copy (Some a) same = absurd (let wrong : lamport ≡ fastforward = sym (is.copy a same).kind ∙ kind in cc)
+
+  sent_place : (u : ℕ) → u ≡ slot_offset r s.stored → r.slots + u ≡ tag_of (slots_of r) c.published
+  sent_place u at = (let z : r.slots + u ≡ r.slots + u + 0 = omega arith in z)
+      ∙ ap (λ i. r.slots + i + 0) (at ∙ ap (λ n. 4 * (n % r.size)) (sym agrees.published))
+
+  taken_place : (u : ℕ) → u ≡ slot_offset r s.taken → r.slots + u ≡ tag_of (slots_of r) c.taken
+  taken_place u at = (let z : r.slots + u ≡ r.slots + u + 0 = omega arith in z) ∙ ap (λ i. r.slots + i + 0) (at ∙ ap (λ n. 4 * (n % r.size)) (sym agrees.taken))
+
+  -- the sender's load
+  sends-load : (a v : ℕ) (p : SenderState) → IsPlaced r s.stored s.published p → Sending r.size c p
+      → Sending r.size (after_load q the_sender a 4 v c) (send_load fastforward r a v p)
+  sends-load a v (filled u) at h = tt
+  sends-load a v resting at h = by (a == r.head)
+    where
+      by : (b : Bool) → Sending r.size (after_load q the_sender a 4 v c) (if b then placed v else resting)
+      by true = tt
+      by false = tt
+  sends-load a v (renewing u w) at h = by (a == r.head)
+    where
+      by : (b : Bool) → Sending r.size (after_load q the_sender a 4 v c) (if b then placed v else renewing u w)
+      by true = tt
+      by false = tt
+  sends-load a v (roomy u) at h = by (a == r.head)
+    where
+      by : (b : Bool) → Sending r.size (after_load q the_sender a 4 v c) (if b then placed v else roomy u)
+      by true = tt
+      by false =
+          let g : Grows c (after_load q the_sender a 4 v c) = grows-load q the_sender a 4 v c in
+          let n : (after_load q the_sender a 4 v c).published ≡ c.published = loaded-count q the_sender the_sender a 4 v c in
+          let k : c.known_taken ≤ (after_load q the_sender a 4 v c).known_taken = g.knows the_sender in
+          omega (arith, n, k, h)
+  sends-load a v (placed u) at h = by (a == r.head)
+    where
+      room : (b2 : Bool) → (v == 0) ≡ b2 → a ≡ r.slots + u → Sending r.size (after_load q the_sender a 4 v c) (if not b2 then placed u else roomy u)
+      room false full place = tt
+      room true free place =
+          let here : a ≡ tag_of (slots_of r) c.published = place ∙ sent_place u (at.1 ∙ ap (slot_offset r) (sym at.0)) in
+          let d : c.published < owned_end (slots_of r) the_sender (after_load (slots_of r) the_sender a 4 v c) =
+          subst (λ y. c.published < owned_end (slots_of r) the_sender (after_load (slots_of r) the_sender y 4 v c))
+          (sym here) (told-own r is the_sender c v free) in
+          let n : (after_load q the_sender a 4 v c).published ≡ c.published = loaded-count q the_sender the_sender a 4 v c in
+          omega (arith, n, d)
+
+      look : (b1 : Bool) → (a == r.slots + u) ≡ b1 → Sending r.size (after_load q the_sender a 4 v c)
+          (if b1 then (if not (v == 0) then placed u else roomy u) else placed u)
+      look false off = tt
+      look true on = room (v == 0) refl (eqb-true a (r.slots + u) on)
+
+      by : (b : Bool) → Sending r.size (after_load q the_sender a 4 v c) (if b then placed v else looks_at r.copy fastforward r a u v)
+      by true = tt
+      by false = subst (λ t. Sending r.size (after_load q the_sender a 4 v c) (looks_at t fastforward r a u v))
+          (sym (no_copy r.copy refl)) (look (a == r.slots + u) refl)
+
+  -- the receiver's
+  takes-load : (a v : ℕ) (p : ReceiverState) → IsAsked r s.consumed p → Receiving s.taken s.consumed c p
+      → Receiving s.taken s.consumed (after_load q the_receiver a 4 v c) (receive_load fastforward r a v p)
+  takes-load a v (cleared u) at h = h
+  takes-load a v (waiting u) at h = absurd h
+  takes-load a v idle at h = by (a == r.tail)
+    where
+      by : (b : Bool) → Receiving s.taken s.consumed (after_load q the_receiver a 4 v c) (if b then asked v else idle)
+      by true = h
+      by false = h
+  takes-load a v (holding u w) at h = by (a == r.tail)
+    where
+      by : (b : Bool) → Receiving s.taken s.consumed (after_load q the_receiver a 4 v c) (if b then asked v else holding u w)
+      by true = h.0
+      by false =
+          let g : Grows c (after_load q the_receiver a 4 v c) = grows-load q the_receiver a 4 v c in
+          let n : (after_load q the_receiver a 4 v c).taken ≡ c.taken = loaded-count q the_receiver the_receiver a 4 v c in
+          let k : c.known_published ≤ (after_load q the_receiver a 4 v c).known_published = g.knows the_receiver in
+          (h.0, omega (arith, n, k, h.1))
+  takes-load a v (asked u) at h = by (a == r.tail)
+    where
+      word : (b2 : Bool) → (v == 0) ≡ b2 → a ≡ r.slots + u
+          → Receiving s.taken s.consumed (after_load q the_receiver a 4 v c) (if b2 then asked u else holding u v)
+      word true free place = h
+      word false full place =
+          let here : a ≡ tag_of (slots_of r) c.taken = place ∙ taken_place u (at ∙ ap (slot_offset r) (sym h)) in
+          let d : c.taken < owned_end (slots_of r) the_receiver (after_load (slots_of r) the_receiver a 4 v c) =
+          subst (λ y. c.taken < owned_end (slots_of r) the_receiver (after_load (slots_of r) the_receiver y 4 v c))
+          (sym here) (told-own r is the_receiver c v (ap not full)) in
+          let n : (after_load q the_receiver a 4 v c).taken ≡ c.taken = loaded-count q the_receiver the_receiver a 4 v c in
+          (h, omega (arith, n, d))
+
+      look : (b1 : Bool) → (a == r.slots + u) ≡ b1
+          → Receiving s.taken s.consumed (after_load q the_receiver a 4 v c)
+          (if b1 then (if v == 0 then asked u else holding u v) else asked u)
+      look false off = h
+      look true on = word (v == 0) refl (eqb-true a (r.slots + u) on)
+
+      by : (b : Bool) → Receiving s.taken s.consumed (after_load q the_receiver a 4 v c)
+          (if b then asked v else (if a == r.slots + u then (if v == 0 then asked u else holding u v) else asked u))
+      by true = h
+      by false = look (a == r.slots + u) refl
+
+  sender-load : (a width v : ℕ) → Agrees r (next_by fastforward r sends s (load a width v)) (after_load q the_sender a width v c)
+  sender-load a width v = by (width == 4) refl
+    where
+      by : (b : Bool) → (width == 4) ≡ b
+          → Agrees r (if b then record s { sending = send_load fastforward r a v s.sending } else s)
+          (after_load q the_sender a width v c)
+      by false off = kept-load the_sender a width v
+      by true on =
+          let old : Agrees r s (after_load q the_sender a width v c) = kept-load the_sender a width v in
+          record {
+            published = old.published;
+            taken = old.taken;
+            sending = subst (λ y. Sending r.size (after_load q the_sender a y v c) (send_load fastforward r a v s.sending)) (sym (eqb-true width 4 on))
+                (sends-load a v s.sending at_slot agrees.sending);
+            receiving = old.receiving;
+          }
+
+  receiver-load : (a width v : ℕ) → Agrees r (next_by fastforward r receives s (load a width v)) (after_load q the_receiver a width v c)
+  receiver-load a width v = by (width == 4) refl
+    where
+      by : (b : Bool) → (width == 4) ≡ b
+          → Agrees r (if b then record s { receiving = receive_load fastforward r a v s.receiving } else s)
+          (after_load q the_receiver a width v c)
+      by false off = kept-load the_receiver a width v
+      by true on =
+          let old : Agrees r s (after_load q the_receiver a width v c) = kept-load the_receiver a width v in
+          record {
+            published = old.published;
+            taken = old.taken;
+            sending = old.sending;
+            receiving = subst (λ y. Receiving s.taken s.consumed (after_load q the_receiver a y v c)
+                (receive_load fastforward r a v s.receiving)) (sym (eqb-true width 4 on))
+                (takes-load a v s.receiving at_word agrees.receiving);
+          }
+
+  kept-store : (p : Party) (w : Write) → KeepsOff (slots_of r) w → Agrees r s (after_store q p w c)
+  kept-store the_sender w keeps = kept (after_store q the_sender w c)
+      (moved-leaves q good c.published w (off-leaves q good w keeps)) refl (omega arith) (omega arith)
+  kept-store the_receiver w keeps = kept (after_store q the_receiver w c) refl
+      (moved-leaves q good c.taken w (off-leaves q good w keeps)) (omega arith) (omega arith)
+
+  word-off : (w : Write) (a : ℕ) → IsWordAt w a → (a + 4 ≤ r.slots) ⊎ (r.slots + 4 * r.size ≤ a) → KeepsOff (slots_of r) w
+  word-off w a word apart x on within = let part = covers-from w x on in
+      elim apart [
+        | inl l ↦ omega (arith, l, part.0, part.1, word.place, word.width, within.0, within.1)
+        | inr l ↦ omega (arith, l, part.0, part.1, word.place, word.width, within.0, within.1)
+      ]
+
+  on-block : (w : Write) (a : ℕ) → IsWordAt w a → r.first ≤ a → a + 4 ≤ r.end → overlaps r w ≡ true
+  on-block w a word above below = grind (arith, nat_tests, above, below, word.place, word.width)
+
+  slot-on : (n : ℕ) (w : Write) → IsWordAt w (tag_of (slots_of r) n) → overlaps r w ≡ true
+  slot-on n w word =
+      let low : n % r.size < r.size = mod-lt n (omega (arith, is.some_slots)) in
+      on-block w (tag_of (slots_of r) n) word (omega (arith, is.slots_above)) (omega (arith, low, is.slots_below))
+
+  sender-made : (w : Write) (p : SenderState) → IsPlaced r s.stored s.published p → Sending r.size c p → IsSenderStore fastforward r p w
+      → MayStore (slots_of r) the_sender c w × Agrees r (if overlaps r w then send_store w p s else s) (after_store q the_sender w c)
+  sender-made w resting at h made = absurd made
+  sender-made w (placed u) at h made = absurd made
+  sender-made w (renewing u v) at h made = absurd (subst (λ t. IsCopyStore t v w) (no_copy r.copy refl) made)
+  sender-made w (filled u) at h made =
+      let off : KeepsOff (slots_of r) w = word-off w r.head made.0 is.head_apart in
+      let old : Agrees r s (after_store q the_sender w c) = kept-store the_sender w off in (
+        inr (λ x on. inl (off x on)),
+        subst (λ b. Agrees r (if b then send_store w (filled u) s else s) (after_store q the_sender w c))
+            (sym (on-block w r.head made.0 is.head.above is.head.below))
+            (record { published = old.published; taken = old.taken; sending = tt; receiving = old.receiving }),
+      )
+  sender-made w (roomy u) at h made =
+      let place : w.addr ≡ tag_of (slots_of r) c.published = made.0.place ∙ sent_place u (at.1 ∙ ap (slot_offset r) (sym at.0)) in
+      let tells : not (w.value % 256 ^ 4 == 0) ≡ true = ap (λ v. not (v == 0)) (mod-eq_of_lt (small made.1)) ∙ ap not (ne_eqb w.value 0 made.2) in
+      let tag : IsTagStore (slots_of r) the_sender c.published w = record { place = place; width = made.0.width; word = tells } in
+      let more : moved (slots_of r) c.published w ≡ c.published + 1 = moved-tag (slots_of r) good the_sender c.published c.published w tag in (
+        inl (record { tag = tag; owned = h }),
+        subst (λ b. Agrees r (if b then send_store w (roomy u) s else s) (after_store q the_sender w c))
+            (sym (slot-on c.published w (record { place = place; width = made.0.width })))
+            (record {
+              published = more ∙ (let n : c.published ≡ r.start + s.stored = agrees.published in omega (arith, n));
+              taken = agrees.taken;
+              sending = tt;
+              receiving = more-receiving s.taken s.consumed c (after_store q the_sender w c) s.receiving refl (omega arith) agrees.receiving;
+            }),
+      )
+    where
+      small : w.value < 2 ^ 32 → w.value < 256 ^ 4
+      small lt = omega (arith, lt)
+
+  receiver-made : (w : Write) (p : ReceiverState) → IsAsked r s.consumed p → Receiving s.taken s.consumed c p → IsReceiverStore fastforward r p w
+      → MayStore (slots_of r) the_receiver c w × Agrees r (if overlaps r w then receive_store fastforward p s else s) (after_store q the_receiver w c)
+  receiver-made w idle at h made = absurd made
+  receiver-made w (asked u) at h made = absurd made
+  receiver-made w (waiting u) at h made = absurd h
+  receiver-made w (cleared u) at h made =
+      let off : KeepsOff (slots_of r) w = word-off w r.tail made.0 is.tail_apart in
+      let old : Agrees r s (after_store q the_receiver w c) = kept-store the_receiver w off in (
+        inr (λ x on. inl (off x on)),
+        subst (λ b. Agrees r (if b then receive_store fastforward (cleared u) s else s) (after_store q the_receiver w c))
+            (sym (on-block w r.tail made.0 is.tail.above is.tail.below))
+            (record { published = old.published; taken = old.taken; sending = old.sending; receiving = h }),
+      )
+  receiver-made w (holding u v) at h made =
+      let place : w.addr ≡ tag_of (slots_of r) c.taken = made.0.place ∙ taken_place u (at ∙ ap (slot_offset r) (sym h.0)) in
+      let tells : (w.value % 256 ^ 4 == 0) ≡ true = ap (λ v. v % 256 ^ 4 == 0) made.1 in
+      let tag : IsTagStore (slots_of r) the_receiver c.taken w = record { place = place; width = made.0.width; word = tells } in
+      let more : moved (slots_of r) c.taken w ≡ c.taken + 1 = moved-tag (slots_of r) good the_receiver c.taken c.taken w tag in (
+        inl (record { tag = tag; owned = omega (arith, h.1) }),
+        subst
+            (λ b. Agrees r (if b then receive_store fastforward (holding u v) s else s) (after_store q the_receiver w c))
+            (sym (slot-on c.taken w (record { place = place; width = made.0.width })))
+            (record {
+              published = agrees.published;
+              taken = more ∙ (let n : c.taken ≡ r.start + s.taken = agrees.taken in omega (arith, n));
+              sending = more-sending r.size c (after_store q the_receiver w c) s.sending refl (omega arith) agrees.sending;
+              receiving = ap (λ n. n + 1) h.0;
+            }),
+      )
+
+  sender-store : (w : Write) → (overlaps r w ≡ false) ⊎ IsSenderStore fastforward r s.sending w
+      → MayStore (slots_of r) the_sender c w × Agrees r (if overlaps r w then send_store w s.sending s else s) (after_store q the_sender w c)
+  sender-store w (inr made) = sender-made w s.sending at_slot agrees.sending made
+  sender-store w (inl off) = (
+    inr (λ x on. inl (off-keeps r is w off x on)),
+    subst (λ b. Agrees r (if b then send_store w s.sending s else s) (after_store q the_sender w c)) (sym off) (kept-store the_sender w (off-keeps r is w off)),
+  )
+
+  receiver-store : (w : Write) → (overlaps r w ≡ false) ⊎ IsReceiverStore fastforward r s.receiving w
+      → MayStore (slots_of r) the_receiver c w × Agrees r (if overlaps r w then receive_store fastforward s.receiving s else s) (after_store q the_receiver w c)
+  receiver-store w (inr made) = receiver-made w s.receiving at_word agrees.receiving made
+  receiver-store w (inl off) = (
+    inr (λ x on. inl (off-keeps r is w off x on)),
+    subst (λ b. Agrees r (if b then receive_store fastforward s.receiving s else s) (after_store q the_receiver w c))
+        (sym off) (kept-store the_receiver w (off-keeps r is w off)),
+  )
+
+module _ (r : RingBuffer) (is : IsRingBuffer r) (kind : r.kind ≡ fastforward) (s : ProtocolState) (c : QueueCounts) (agrees : Agrees r s c)
+    (at_slot : IsPlaced r s.stored s.published s.sending) (at_word : IsAsked r s.consumed s.receiving) where
+  exchanged : (p : Party) (a old new : ℕ) → overlaps r (write a 4 new) ≡ false
+      → MayStore (slots_of r) p (after_load (slots_of r) p a 4 old c) (write a 4 new)
+      × Agrees r s (after_store (slots_of r) p (write a 4 new) (after_load (slots_of r) p a 4 old c))
+  exchanged p a old new off = (
+    inr (λ x on. inl (off-keeps r is (write a 4 new) off x on)),
+    kept-store r is kind s (after_load (slots_of r) p a 4 old c) (kept-load r is kind s c agrees at_slot at_word p a 4 old) at_slot at_word p (write a 4 new)
+        (off-keeps r is (write a 4 new) off),
+  )
+
+  abbrev Kept : Role → Option Party → Access → Type 0
+  Kept role t x = TellsAccess (slots_of r) t c x × Agrees r (next_by fastforward r role s x) (told_access (slots_of r) t x c)
+
+  sender-keeps : (x : Access) → KeepsProtocolBy fastforward r sends s x → Kept sends (Some the_sender) x
+  sender-keeps nothing keeps = (tt, agrees)
+  sender-keeps (load a width v) keeps = (tt, sender-load r is kind s c agrees at_slot at_word a width v)
+  sender-keeps (store w) keeps = sender-store r is kind s c agrees at_slot at_word w keeps
+  sender-keeps (exchange a old new) keeps = exchanged the_sender a old new keeps
+  sender-keeps (fence full) keeps = (tt, agrees)
+  sender-keeps land keeps = (tt, agrees)
+
+  receiver-keeps : (x : Access) → KeepsProtocolBy fastforward r receives s x → Kept receives (Some the_receiver) x
+  receiver-keeps nothing keeps = (tt, agrees)
+  receiver-keeps (load a width v) keeps = (tt, receiver-load r is kind s c agrees at_slot at_word a width v)
+  receiver-keeps (store w) keeps = receiver-store r is kind s c agrees at_slot at_word w keeps
+  receiver-keeps (exchange a old new) keeps = exchanged the_receiver a old new keeps
+  receiver-keeps (fence full) keeps = (tt, agrees)
+  receiver-keeps land keeps = (tt, agrees)
+
+  passes-keep : (x : Access) → KeepsProtocolBy fastforward r passes s x → Kept passes None x
+  passes-keep nothing keeps = (tt, agrees)
+  passes-keep (load a width v) keeps = (tt, agrees)
+  passes-keep (store w) keeps = (off-keeps r is w keeps, agrees)
+  passes-keep (exchange a old new) keeps = (off-keeps r is (write a 4 new) keeps, agrees)
+  passes-keep (fence full) keeps = (tt, agrees)
+  passes-keep land keeps = (tt, agrees)
+
+  keeps-one : (e : Entry) → KeepsProtocolBy fastforward r (role_of r (hart_of e)) s (access_of e)
+      → TellsAccess (slots_of r) (teller_of (slots_of r) (hart_of e)) c (access_of e)
+      × Agrees r (next_by fastforward r (role_of r (hart_of e)) s (access_of e)) (after_entry (slots_of r) c e)
+  keeps-one e = by-role r (hart_of e) (λ role t. KeepsProtocolBy fastforward r role s (access_of e) → Kept role t (access_of e))
+      (λ at. sender-keeps (access_of e)) (λ at. receiver-keeps (access_of e)) (passes-keep (access_of e))
+
+keeps-all : (B : ℕ) (r : RingBuffer) (o : OpeningValue) (before done es : List Entry) (c : QueueCounts)
+    → r.kind ≡ fastforward → FollowsSpscProtocol B r o before (done ++ es)
+    → KeepsProtocol r (protocol_after r at_start done) es → Agrees r (protocol_after r at_start done) c → KeepsTelling (slots_of r) c es
+keeps-all B r o before done [] c kind f keeps agrees = tt
+keeps-all B r o before done (e ∷ es) c kind f keeps agrees =
+    let k = known-of B r o before done (e ∷ es) f in
+    let one : TellsAccess (slots_of r) (teller_of (slots_of r) (hart_of e)) c (access_of e)
+    × Agrees r (next_by fastforward r (role_of r (hart_of e)) (protocol_after r at_start done) (access_of e)) (after_entry (slots_of r) c e) =
+    keeps-one r f.ring kind (protocol_after r at_start done) c agrees k.sending k.receiving e
+    (subst (λ t. KeepsProtocolBy t r (role_of r (hart_of e)) (protocol_after r at_start done) (access_of e)) kind keeps.0) in
+    let step : protocol_after r at_start (done ++ e ∷ []) ≡ protocol_next r (protocol_after r at_start done) e = protocol-append r at_start done (e ∷ []) in (
+      one.0,
+      keeps-all B r o before (done ++ e ∷ []) es (after_entry (slots_of r) c e) kind
+          (subst (FollowsSpscProtocol B r o before) (sym (append_assoc done (e ∷ []) es)) f)
+          (subst (λ t. KeepsProtocol r t es) (sym step) keeps.1)
+          (subst (λ t. Agrees r t (after_entry (slots_of r) c e)) (sym step)
+          (subst (λ t. Agrees r (next_by t r (role_of r (hart_of e)) (protocol_after r at_start done) (access_of e))
+          (after_entry (slots_of r) c e)) (sym kind) one.1)),
+    )
+
+pub fastforward_tells : (B : ℕ) (r : RingBuffer) (o : OpeningValue) (before es : List Entry) → r.kind ≡ fastforward → FollowsSpscProtocol B r o before es
+    → FollowsTelling B (slots_of r) r.start o before es
+fastforward_tells B r o before es kind f = record {
+  slots = is_slots r f.ring;
+  legal = f.legal;
+  rest = rests r f.ring o before kind f.rest;
+  keeps = keeps-all B r o before [] es (all_at r.start) kind f f.keeps (record {
+    published = omega arith;
+    taken = omega arith;
+    sending = tt;
+    receiving = refl;
+  });
+}
