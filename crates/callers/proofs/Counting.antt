@@ -1,5 +1,5 @@
 -- How many calls returned, one entry more, and what runs count to, one more and those of two parts together.
-use Rattle.std.proofs.Common.{ℕ, zero, ◌≡◌, ◌==◌, ◌&&◌, not, ◌+◌, ◌≤◌, min, inl, inr, ◌⊎◌, Bool, true, false, List, [], ◌∷◌, ◌++◌, length, Some}
+use Rattle.std.proofs.Common.{ℕ, ◌≡◌, ◌==◌, ◌&&◌, not, ◌+◌, ◌≤◌, min, inl, inr, Bool, true, false, List, [], ◌∷◌, ◌++◌, length, Some}
 use Rattle.std.proofs.Common.{refl, sym, ap, subst, ◌∙◌, arith, append_assoc, append-nil, add_assoc}
 use Rattle.std.specs.Prelude.{if◌then◌else◌}
 use Rattle.std.proofs.lemmas.Bool.{eqb-true}
@@ -11,13 +11,12 @@ use Rattle.step_machine.specs.History.{OpeningValue, History, history_of}
 use Rattle.step_machine.specs.Entries.{hart_of, is_land, is_own}
 use Rattle.step_machine.specs.Paths.{state_of}
 use Rattle.step_machine.proofs.Placing.{land_other}
-use Rattle.litmus.specs.Verdicts.{IsFinished, IsVerdict}
+use Rattle.litmus.specs.Verdicts.{IsVerdict}
 use Rattle.litmus.specs.LitmusTests.{LitmusTest}
 use Rattle.litmus.specs.declared.verdict.Verdict.{Verdict}
 use Rattle.litmus.specs.declared.verdict.Verdict.TheVariants.{Holds, Fails, Unfinished}
 use Rattle.spsc_queue.specs.Calls.{Block, SpscQueue, is_in_call, is_in_call_from, is_in_call_with}
 use Rattle.spsc_queue.proofs.OwnEntries.{own_is}
-use Rattle.judged_runs.specs.Histories.{AreRuns, summed}
 use Rattle.judged_runs.proofs.Histories.{runs_both, runs_count, total_both}
 use Rattle.callers.specs.Queues.{spsc_of}
 use Rattle.callers.specs.Counts.{MOST, returns_now, returns_in, returned_by, returned_from, returned, sends, receives, AreCalls, HasCalls, HaveUnfinished}

@@ -1,6 +1,6 @@
 -- A run that keeps what callers owe has no debt.
-use Rattle.std.proofs.Common.{ℕ, ◌≡◌, ◌≢◌, ◌==◌, ◌*◌, ◌||◌, not, Bool, true, false, List, [], ◌∷◌, ◌++◌, Option, Some, None}
-use Rattle.std.proofs.Common.{arith, refl, sym, ap, subst, ◌∙◌, append_assoc, append-nil, eq-eqb}
+use Rattle.std.proofs.Common.{ℕ, ◌≡◌, ◌≢◌, ◌==◌, ◌*◌, ◌||◌, Bool, true, false, List, [], ◌∷◌, ◌++◌, Option, Some, None}
+use Rattle.std.proofs.Common.{refl, sym, ap, subst, ◌∙◌, append_assoc, append-nil, eq-eqb}
 use Rattle.std.specs.Prelude.{if◌then◌else◌, option_map, slice_index}
 use Rattle.std.specs.Option.{option_or}
 use Rattle.std.proofs.lemmas.Bool.{ne_eqb, eqb-true, eqb-false}
@@ -12,13 +12,14 @@ use Rattle.step_machine.specs.History.{OpeningValue, history_of}
 use Rattle.step_machine.specs.Entries.{hart_of, is_land}
 use Rattle.step_machine.specs.Paths.{number_read, state_of}
 use Rattle.step_machine.proofs.Follows.{advance_by, state_of-mine}
-use Rattle.spsc_queue.specs.RingBuffers.{Kind, lamport, fastforward, RingBuffer}
+use Rattle.spsc_queue.specs.RingBuffers.{RingBuffer}
 use Rattle.spsc_queue.specs.Protocol.{WritesNothingTo}
 use Rattle.rv_decode.specs.Listings.{Listed}
 use Rattle.spsc_queue.specs.Calls.{Block, SpscQueue, Party, the_sender, the_receiver, party_hart, party_line, buffer}
 use Rattle.spsc_queue.specs.Calls.{enters, is_in_call, is_sender_in_call, is_receiver_in_call}
-use Rattle.spsc_queue.specs.Calls.{MayPass, HasArguments, HasFunction, PartyObligation, CallerObligation, UsesAsSpscQueue}
+use Rattle.spsc_queue.specs.Calls.{HasArguments, HasFunction, PartyObligation, CallerObligation, UsesAsSpscQueue}
 use Rattle.spsc_queue.specs.Obligations.{may_pass, has_arguments}
+use Rattle.spsc_queue.proofs.Decided.{passes_said, arguments_said}
 use Rattle.spsc_queue.proofs.OwnEntries.{state_here, is_here}
 use Rattle.callers.specs.Debts.{is_in_its_call, written_at, arguments_debt, entering_debt, party_debt, pc_in}
 use Rattle.callers.specs.Debts.{idle_debt, debt_of, debt_after, first_debt}
@@ -32,18 +33,10 @@ nothing_written r (load a width v) is = refl
 nothing_written r (fence full) is = refl
 nothing_written r land is = refl
 
-passes_right : (p : Party) (K : Kind) (w : ℕ) → MayPass p K w → may_pass p K w ≡ true
-passes_right the_sender lamport w given = refl
-passes_right the_sender fastforward w given = ap not (ne_eqb w 0 given)
-passes_right the_receiver K w given = refl
-
-given_right : (p : Party) (n : ℕ) (k : Block) (z : HartState) → HasArguments p n k z → has_arguments p n k z ≡ true
-given_right p n k z given = grind (arith, given, eq-eqb, ne_eqb, passes_right p k.kind (slice_index z.registers 11) given.sendable)
-
 arguments_free : (p : Party) (h n : ℕ) (k : Block) (z : HartState) → HasArguments p n k z → arguments_debt p h n k z ≡ None
 arguments_free p h n k z given = by (slice_index z.registers 12 == 4 * k.size) (may_pass p k.kind (slice_index z.registers 11)) (has_arguments p n k z)
-    (eq-eqb (slice_index z.registers 12) (4 * k.size) given.bytes) (passes_right p k.kind (slice_index z.registers 11) given.sendable)
-    (given_right p n k z given)
+    (eq-eqb (slice_index z.registers 12) (4 * k.size) given.bytes) (passes_said p k.kind (slice_index z.registers 11) given.sendable)
+    (arguments_said p n k z given)
   where
     by : (a b c : Bool) → a ≡ true → b ≡ true → c ≡ true
         → (if a then (if b then (if c then None else Some (debt.PassedReturn h (slice_index z.registers 1))) else Some (debt.PassedWord h))

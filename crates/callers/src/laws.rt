@@ -1,4 +1,4 @@
-//! Laws of debts, and of what is told.
+//! Laws of debts, and of answers.
 
 ghost use Rattle.std.specs.Prelude.{◌≡◌, ℕ, Bool, List, [], None};
 ghost use Rattle.rand_core.specs.Stream.{Stream};
@@ -25,7 +25,7 @@ pub fn laws_of_debts()
 {}
 
 /// Two answers of one test's runs both say that all keep what callers owe and some call returned, or neither does. Which debt
-/// is told, and by which of the parts from which no event can go, isn't said. It does nothing.
+/// an answer names, and which of the parts that no event can leave it shows, is left open. It does nothing.
 #[tactic(auto, using(crate::proofs::Alike::status_alike))]
 pub fn callers_alike()
     ensures { (B M : ℕ) (o : OpeningValue) (q : Queue) (stream : Stream) (runs size : ℕ) (text other : List ℕ) (a b : Bool)

@@ -1,4 +1,4 @@
--- The table of commands, as it is described to clap.
+-- clap's description of the table of commands.
 use Rattle.std.specs.Prelude.{◌≡◌, false, List, [], ◌∷◌, map, codes}
 use Rattle.clap.specs.Words.{App, Rule, app_of, new_app, rule_of, with_rule, with_subcommand}
 use Rattle.clap.specs.declared.builder.arg.Arg.{Arg}
@@ -21,7 +21,7 @@ abbrev pub with_rules : App → List Rule → App
 with_rules app [] = app
 with_rules app (rule ∷ rules) = with_rules (with_rule app rule) rules
 
--- a command, as clap is told of it
+-- clap's description of a command
 abbrev pub app_for : CommandRow → App
 app_for r = with_rules (new_app r.name) (map rule_for r.parameters)
 

@@ -43,7 +43,7 @@ word_in_place (positional id ∷ parameters) zero = Some id
 word_in_place (positional id ∷ parameters) (suc place) = word_in_place parameters place
 word_in_place (_ ∷ parameters) place = word_in_place parameters place
 
--- as clap is told of it
+-- clap's description of a word or an option
 abbrev pub rule_for : Parameter → Rule
 rule_for (positional id) = record (new_rule id) { required = true }
 rule_for (required name) = record (new_rule name) { long = Some name; action = Some Set; required = true }

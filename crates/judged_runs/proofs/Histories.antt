@@ -1,5 +1,5 @@
 -- Runs of two lists of lists of events together, and that there is one run of each.
-use Rattle.std.proofs.Common.{ℕ, suc, ◌≡◌, ◌+◌, List, [], ◌∷◌, ◌++◌, length, refl, ap, ap₂, ◌∙◌, arith}
+use Rattle.std.proofs.Common.{ℕ, suc, ◌≡◌, ◌+◌, List, [], ◌∷◌, ◌++◌, length, refl, ap, ap₂, arith}
 use Rattle.step_machine.specs.declared.events.Event.{Event}
 use Rattle.step_machine.specs.History.{OpeningValue, History, at_opening}
 use Rattle.step_machine.proofs.Running.{run-one}

@@ -4,7 +4,7 @@ use Rattle.step_machine.specs.declared.events.Event.{Event}
 use Rattle.judged_runs.specs.declared.finding.Found.{Found}
 use Rattle.judged_runs.specs.declared.finding.Found.TheVariants as found
 
--- so many schedules, from the one of this number on
+-- the schedules of `count` numbers, from `first` on
 abbrev pub schedules_from : (schedule : ℕ → List Event) → (first count : ℕ) → List (List Event)
 schedules_from schedule first zero = []
 schedules_from schedule first (suc count) = schedule first ∷ schedules_from schedule (first + 1) count
@@ -13,7 +13,7 @@ schedules_from schedule first (suc count) = schedule first ∷ schedules_from sc
 abbrev pub AreGood : (Good : List Event → Type 0) → (schedule : ℕ → List Event) → (first end : ℕ) → Type 0
 AreGood Good schedule first end = (i : ℕ) → first ≤ i → i < end → Good (schedule i)
 
--- all are, and count to this
+-- all of them are good, and `tally` is their count
 pub record AreAllGood {T : Type 0} (Good : List Event → Type 0) (Counts : List (List Event) → T → Type 0) (schedule : ℕ → List Event)
     (first end : ℕ) (tally : T) : Type 0 where
   pub order : first ≤ end

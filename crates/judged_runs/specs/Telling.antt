@@ -1,4 +1,4 @@
--- What is told of many runs: what all of them count to, or a short schedule with a flaw like that of the first other one.
+-- The answer of many runs: what all of them count to, or a short schedule with a flaw like that of the first other one.
 use Rattle.std.specs.Prelude.{ℕ, ◌≤◌, ◌<◌, List, length}
 use Rattle.step_machine.specs.declared.events.Event.{Event}
 use Rattle.shrink.specs.Shrinking.{IsPartOf, without}

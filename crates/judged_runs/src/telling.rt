@@ -1,4 +1,4 @@
-//! The answer of many runs.
+//! Makes the answer of many runs.
 
 ghost use Rattle.std.specs.Prelude.{IfOk};
 ghost use Rattle.jumping.specs.Draws.{schedule_by};
@@ -12,7 +12,7 @@ use shrink::{Question, leave_out};
 use std::alloc::{AllocError, Global};
 use step_machine::Event;
 
-/// What is told of many runs.
+/// The answer of many runs.
 #[derive(Drop)]
 pub enum Told<T, F> {
     /// All are good, and count to this.
@@ -74,7 +74,7 @@ fn shown<J: Judge, G: Jump + Drop>(
     }
 }
 
-/// What is told of `number` runs, of which this was found.
+/// The answer of `number` runs, of which this was found.
 ///
 /// If all are good, that is what they count to. Otherwise it is a part of the events of the first run with a flaw, from which
 /// events were left out until none could go, and the flaw that the part's run has.

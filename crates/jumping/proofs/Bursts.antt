@@ -1,8 +1,9 @@
 -- Events that are drawn in bursts, one more at a time.
-use Rattle.std.proofs.Common.{◌≡◌, ℕ, zero, suc, ◌+◌, List, [], ◌∷◌, ◌++◌, refl, sym, ap, ap₂, ◌∙◌, add-one}
+use Rattle.std.proofs.Common.{◌≡◌, ℕ, ◌+◌, List, [], ◌∷◌, ◌++◌, refl, sym, ap, ap₂, ◌∙◌, add-one}
 use Rattle.rand_core.specs.Stream.{Stream, next_u32}
 use Rattle.step_machine.specs.declared.events.Event.{Event}
 use Rattle.recorder.specs.Drawing.{drawn_words, left_after}
+use Rattle.recorder.proofs.Drawn.{words-suc}
 use Rattle.jumping.specs.declared.draws.Burst.{Burst}
 use Rattle.jumping.specs.Draws.{burst_event, burst_after, burst_events, no_burst}
 
@@ -20,11 +21,6 @@ burst-more : (harts : ℕ) (b : Burst) (words : List ℕ) (word : ℕ)
     → burst_in harts b (words ++ word ∷ []) ≡ burst_after harts (burst_in harts b words) word
 burst-more harts b [] word = refl
 burst-more harts b (w ∷ words) word = burst-more harts (burst_after harts b w) words word
-
-words-suc : (i : ℕ) (stream : Stream) → drawn_words (suc i) stream ≡ drawn_words i stream ++ (next_u32 (left_after i stream)).0 ∷ []
-unfolding drawn_words left_after
-words-suc zero stream = refl
-words-suc (suc i) stream = ap (λ (rest : List ℕ). (next_u32 stream).0 ∷ rest) (words-suc i (next_u32 stream).1)
 
 -- what is drawn after i words: their events, and the burst after them
 pub record AreInBursts (harts i : ℕ) (first : Stream) (events : List Event) (burst : Burst) : Type 0 where

@@ -1,6 +1,6 @@
 //! How the events of runs are drawn: each by itself, or in bursts of one hart.
 
-ghost use Rattle.std.specs.Prelude.{◌≡◌, ◌≤◌, OnOk};
+ghost use Rattle.std.specs.Prelude.{◌≡◌, ◌≤◌, OnOk, OnErr};
 ghost use Rattle.recorder.specs.Drawing.{drawn_words, left_after};
 ghost use Rattle.step_machine.specs.declared.opening.TheConstants.{MAX_HARTS};
 ghost use Rattle.jumping.specs.Draws.{acted, burst_event, burst_after, burst_of, events_by};
@@ -84,6 +84,7 @@ fn draw_bursts<R: Rng>(
     requires most_harts { harts ≤ MAX_HARTS }
     ensures drawn { OnOk result (events.new.items ≡ events_by Draw.Bursts harts (drawn_words n (R.stream generator.old))) }
     ensures rest { OnOk result (R.stream generator.new ≡ left_after n (R.stream generator.old)) }
+    ensures err { OnErr result (generator.new ≡ generator.old) }
 {
     events.clear();
     events.reserve(n as usize)?;
@@ -100,7 +101,8 @@ fn draw_bursts<R: Rng>(
     Ok(())
 }
 
-/// `n` events of `harts` harts, 1 to 64, in the place of what a vector holds, each drawn by one word of 32 bits.
+/// `n` events of `harts` harts, 1 to 64, in the place of what a vector holds, each drawn by one word of 32 bits. If the vector
+/// can't take them, no word is drawn.
 pub fn draw_by<R: Rng>(
     by: Draw,
     events: &mut Vec<Event>,
@@ -112,6 +114,7 @@ pub fn draw_by<R: Rng>(
     requires most_harts { harts ≤ MAX_HARTS }
     ensures drawn { OnOk result (events.new.items ≡ events_by by harts (drawn_words n (R.stream generator.old))) }
     ensures rest { OnOk result (R.stream generator.new ≡ left_after n (R.stream generator.old)) }
+    ensures err { OnErr result (generator.new ≡ generator.old) }
 {
     match by {
         Draw::Uniform => draw(events, generator, harts, n),

@@ -16,12 +16,8 @@ use Rattle.step_machine.specs.Entries.{own_stores, lands, pending, write_of, lan
 use Rattle.step_machine.specs.Legal.{AllowedBy, Allowed}
 use Rattle.step_machine.proofs.Appended.{landed-last, pending-last}
 use Rattle.store_buffers.specs.StoreBuffers.{LeavesByte, LeavesByteBy, IsOnlyWriter}
-use Rattle.store_buffers.proofs.Reading.{newest-found}
+use Rattle.store_buffers.proofs.Reading.{view}
 use Rattle.owned_run.specs.Certified.{byte_then}
-
-view : (o : OpeningValue) (es : List Entry) (a x : ℕ)
-    → read_byte o es a x ≡ unwrap_or (newest_of x (newest_of x None (landed es)) (pending a es)) (opening_byte o x)
-view o es a x = sym (newest-found x (opening_byte o x) (newest_of x None (landed es)) (pending a es))
 
 chosen : (c : Bool) (b op : ℕ) (g : Option ℕ) → unwrap_or (if c then Some b else g) op ≡ (if c then b else unwrap_or g op)
 chosen true b op g = refl

@@ -10,10 +10,6 @@ use Rattle.queue_certificates.specs.Forms.{combined, substituted, factor_at, rai
 abbrev pub values_of : List Form → List ℕ → List ℕ
 values_of gs xs = map (λ g. form_value g xs) gs
 
-pub dot-none : (ms : List ℕ) → dot ms [] ≡ 0
-dot-none [] = refl
-dot-none (m ∷ ms) = refl
-
 pub dot-sums : (ms ns xs : List ℕ) → dot (sums ms ns) xs ≡ dot ms xs + dot ns xs
 dot-sums [] ns xs = omega arith
 dot-sums (m ∷ ms) [] xs = omega arith

@@ -15,8 +15,7 @@ use Rattle.step_machine.specs.Entries.{hart_of, pending, memory_word}
 use Rattle.spsc_queue.specs.RingBuffers.{lamport, fastforward, RingBuffer, IsRingBuffer, slot_offset, overlaps, IsEmptyAndQuiescent}
 use Rattle.spsc_queue.specs.Protocol.{SenderState, resting, placed, renewing, roomy, filled, ReceiverState, idle, asked, waiting, holding, cleared}
 use Rattle.spsc_queue.specs.Protocol.{ProtocolState, at_start, Role, sends, receives, passes, role_of, looks_at}
-use Rattle.spsc_queue.specs.Protocol.{send_load, send_store, receive_load, receive_store}
-use Rattle.spsc_queue.specs.Protocol.{next_by, protocol_next, protocol_after, IsCopyStore, IsSenderStore}
+use Rattle.spsc_queue.specs.Protocol.{send_load, send_store, receive_load, receive_store, next_by, protocol_next, protocol_after, IsCopyStore, IsSenderStore}
 use Rattle.spsc_queue.specs.Protocol.{IsReceiverStore, KeepsProtocolBy, KeepsProtocol, IsWordAt}
 use Rattle.spsc_queue.specs.Laws.{FollowsSpscProtocol}
 use Rattle.spsc_queue.proofs.Invariants.{IsPlaced, IsAsked}

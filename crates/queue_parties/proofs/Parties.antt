@@ -93,44 +93,28 @@ grows-on {c} {d} e one more = record {
 
 -- a party's new count, or new knowledge, that is no less than the old
 pub grows-count : (r : Party) (n : ℕ) (c : QueueCounts) → count r c ≤ n → Grows c (with_count r n c)
-grows-count the_sender n c le = record {
-  counts = more;
-  knows = λ p.
-      (let k : known p (with_count the_sender n c) ≡ known p c = known-set-count the_sender p n c in omega (arith, k));
+grows-count r n c le = record {
+  counts = λ p. more r p le;
+  knows = λ p. (let k : known p (with_count r n c) ≡ known p c = known-set-count r p n c in omega (arith, k));
 }
   where
-    more : (p : Party) → count p c ≤ count p (with_count the_sender n c)
-    more the_sender = le
-    more the_receiver = omega arith
-grows-count the_receiver n c le = record {
-  counts = more;
-  knows = λ p. (let k : known p (with_count the_receiver n c) ≡ known p c = known-set-count the_receiver p n c in
-      omega (arith, k));
-}
-  where
-    more : (p : Party) → count p c ≤ count p (with_count the_receiver n c)
-    more the_sender = omega arith
-    more the_receiver = le
+    more : (r p : Party) → count r c ≤ n → count p c ≤ count p (with_count r n c)
+    more the_sender the_sender le = le
+    more the_receiver the_receiver le = le
+    more the_sender the_receiver le = omega arith
+    more the_receiver the_sender le = omega arith
 
 pub grows-known : (r : Party) (n : ℕ) (c : QueueCounts) → known r c ≤ n → Grows c (with_known r n c)
-grows-known the_sender n c le = record {
-  counts = λ p.
-      (let k : count p (with_known the_sender n c) ≡ count p c = count-set-known the_sender p n c in omega (arith, k));
-  knows = more;
+grows-known r n c le = record {
+  counts = λ p. (let k : count p (with_known r n c) ≡ count p c = count-set-known r p n c in omega (arith, k));
+  knows = λ p. more r p le;
 }
   where
-    more : (p : Party) → known p c ≤ known p (with_known the_sender n c)
-    more the_sender = le
-    more the_receiver = omega arith
-grows-known the_receiver n c le = record {
-  counts = λ p. (let k : count p (with_known the_receiver n c) ≡ count p c = count-set-known the_receiver p n c in
-      omega (arith, k));
-  knows = more;
-}
-  where
-    more : (p : Party) → known p c ≤ known p (with_known the_receiver n c)
-    more the_sender = omega arith
-    more the_receiver = le
+    more : (r p : Party) → known r c ≤ n → known p c ≤ known p (with_known r n c)
+    more the_sender the_sender le = le
+    more the_receiver the_receiver le = le
+    more the_sender the_receiver le = omega arith
+    more the_receiver the_sender le = omega arith
 
 -- ---- runs in parts
 

@@ -12,7 +12,7 @@ unfolding left_after
 left_after-suc zero stream = refl
 left_after-suc (suc i) stream = left_after-suc i (next_u32 stream).1
 
-words-suc : (i : ℕ) (stream : Stream) → drawn_words (suc i) stream ≡ drawn_words i stream ++ (next_u32 (left_after i stream)).0 ∷ []
+pub words-suc : (i : ℕ) (stream : Stream) → drawn_words (suc i) stream ≡ drawn_words i stream ++ (next_u32 (left_after i stream)).0 ∷ []
 unfolding drawn_words left_after
 words-suc zero stream = refl
 words-suc (suc i) stream = ap (λ (rest : List ℕ). (next_u32 stream).0 ∷ rest) (words-suc i (next_u32 stream).1)

@@ -18,8 +18,7 @@ use Rattle.queue_parties.specs.Parties.{Party, the_sender, the_receiver, other, 
 use Rattle.queue_parties.proofs.Parties.{Whose, mine, theirs, whose, harts-apart, two, twice, count-set}
 use Rattle.queue_parties.proofs.Parties.{count-set-other, known-set-count, count-set-known, keeps-front}
 use Rattle.slot_queue.specs.Queues.{Queue, index_word, IsQueue, IsAtRest, KeepsOff}
-use Rattle.slot_queue.specs.Ownership.{party_of, hart, index, end}
-use Rattle.slot_queue.specs.Ownership.{after_load, after_store, moved, after_access, counts_next, counts_after}
+use Rattle.slot_queue.specs.Ownership.{party_of, hart, index, end, after_load, after_store, moved, after_access, counts_next, counts_after}
 use Rattle.slot_queue.specs.Ownership.{MayStore, KeepsAccess, KeepsEntry, KeepsOwnership}
 use Rattle.slot_queue.specs.Laws.{FollowsOwnership, moved_on}
 use Rattle.slot_queue.proofs.Sides.{Leaves, IsClean, Side, off-leaves, stores-clean, stores-leave, stores-room, moved-leaves, moved-same}

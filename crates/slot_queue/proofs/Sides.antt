@@ -22,8 +22,7 @@ use Rattle.queue_parties.specs.Positions.{IsInBytes}
 use Rattle.queue_parties.proofs.Parties.{both-equal}
 use Rattle.queue_parties.proofs.Positions.{slot-within}
 use Rattle.slot_queue.specs.Queues.{Queue, index_word, least, IsOutside, IsQueue, KeepsOff}
-use Rattle.slot_queue.specs.Ownership.{hart, index, end}
-use Rattle.slot_queue.specs.Ownership.{is_index_store, moved, FillsOwned, MayStore}
+use Rattle.slot_queue.specs.Ownership.{hart, index, end, is_index_store, moved, FillsOwned, MayStore}
 use Rattle.slot_queue.specs.Laws.{moved_on}
 use Rattle.slot_queue.proofs.Codes.{least-near, word-least, word-small}
 

@@ -1,6 +1,5 @@
 -- What one entry makes of a party's index.
-use Rattle.std.proofs.Common.{ℕ, ◌≤◌, ◌≡◌, ◌≢◌, ◌==◌, ◌⊎◌, inl, inr, false, if◌then◌else◌}
-use Rattle.std.proofs.Common.{List, [], ◌∷◌, ◌++◌, length, take, refl, sym, ◌∙◌, ap, subst, arith}
+use Rattle.std.proofs.Common.{ℕ, ◌≤◌, ◌≡◌, ◌≢◌, ◌==◌, ◌⊎◌, inl, inr, if◌then◌else◌, List, [], ◌∷◌, ◌++◌, length, take, refl, sym, ◌∙◌, ap, subst, arith}
 use Rattle.std.specs.Prelude.{All}
 use Rattle.std.proofs.lemmas.Bool.{cases_eq, eq-eqb, ne_eqb}
 use Rattle.std.proofs.lemmas.List.Elements.{All-head, All-tail, All-nil, All-cons, All-append}
@@ -18,10 +17,6 @@ use Rattle.queue_parties.specs.Parties.{Party, other, QueueCounts, count, known}
 use Rattle.slot_queue.specs.Ownership.{hart, index, end, moved}
 use Rattle.slot_queue.specs.Laws.{moved_on}
 use Rattle.slot_queue.proofs.Sides.{Leaves, IsClean, Side, moved-more, moved_on-append, moved-leaves, word-written, word-same, moved-same}
-
-stored_none : (x : Access) → stored_by false x ≡ []
-stored_none (store w) = refl
-stored_none x = refl
 
 module _ (q : Queue) (is : IsQueue q) (o : OpeningValue) (es : List Entry) (e : Entry) (even : (h : ℕ) → lands h es ≤ length (own_stores h es))
     (c : QueueCounts) (p : Party) (m : ℕ) (side : Side q o es c p m) where

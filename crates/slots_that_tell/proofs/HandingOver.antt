@@ -16,14 +16,12 @@ use Rattle.step_machine.proofs.Appended.{stores-append, lands-append}
 use Rattle.store_buffers.specs.StoreBuffers.{LeavesByte, LeavesByteBy, AllLeaveByte, IsOnlyWriter, LeavesByteAt}
 use Rattle.store_buffers.proofs.MessagePassing.{handed_over}
 use Rattle.queue_parties.specs.Parties.{Party, other, QueueCounts, all_at, count, known}
-use Rattle.queue_parties.proofs.Parties.{two, twice, Grows, Whose, mine, theirs, whose, keeps-back, counts-append}
-use Rattle.store_buffers.proofs.LateStores.{late-stores, all-by-parts}
-use Rattle.queue_parties.proofs.Parties.{keeps-front, keeps-at}
-use Rattle.store_buffers.proofs.LateStores.{leaves-at}
+use Rattle.queue_parties.proofs.Parties.{two, twice, Grows, Whose, mine, theirs, whose, keeps-back, counts-append, keeps-front, keeps-at}
+use Rattle.store_buffers.proofs.Effects.{stored_none}
+use Rattle.store_buffers.proofs.LateStores.{late-stores, all-by-parts, leaves-at}
 use Rattle.slots_that_tell.specs.Slots.{Slots, IsSlots, gap, IsSlotByte}
 use Rattle.slots_that_tell.specs.Telling.{KeepsEntry, teller_of, teller_hart, owned_end, told_access, after_entry, told_counts, TellsAccess, KeepsTelling}
 use Rattle.slots_that_tell.specs.Laws.{FollowsTelling, counts}
-use Rattle.slots_that_tell.proofs.Steps.{stored_none}
 use Rattle.slots_that_tell.proofs.Publication.{follows-front, published, published_last}
 use Rattle.slots_that_tell.proofs.Owned.{grows-after, Window, window-of, given-up, not-owned, off-byte, Owned, access-byte, Moving, moving, most-one, mine-of}
 

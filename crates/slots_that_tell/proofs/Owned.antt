@@ -12,8 +12,7 @@ use Rattle.step_machine.specs.Entries.{hart_of}
 use Rattle.store_buffers.specs.StoreBuffers.{LeavesByte, LeavesByteBy}
 use Rattle.queue_parties.specs.Parties.{Party, the_sender, the_receiver, other, QueueCounts, count, known, with_known}
 use Rattle.queue_parties.proofs.Parties.{two, count-set, count-set-other, known-set-count, count-set-known, known-set}
-use Rattle.queue_parties.proofs.Parties.{known-set-other, Grows, grows-same, grows-on, Whose, mine, theirs, whose}
-use Rattle.queue_parties.proofs.Parties.{grows-count, grows-known, grows-from}
+use Rattle.queue_parties.proofs.Parties.{known-set-other, Grows, grows-same, grows-on, Whose, mine, theirs, whose, grows-count, grows-known, grows-from}
 use Rattle.slots_that_tell.specs.Slots.{Slots, IsSlots, gap, is_tag, position_at, IsSlotByte, KeepsOff}
 use Rattle.slots_that_tell.specs.Telling.{teller_of, owned_end, told, learned, moved, after_load, after_store}
 use Rattle.slots_that_tell.specs.Telling.{told_access, after_entry, told_counts, MayStore, TellsAccess}

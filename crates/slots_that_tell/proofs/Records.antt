@@ -11,12 +11,10 @@ use Rattle.step_machine.specs.History.{OpeningValue}
 use Rattle.step_machine.specs.Access.{Access, nothing, load, store, exchange, fence, land, access_of}
 use Rattle.step_machine.specs.Entries.{hart_of, read_byte}
 use Rattle.store_buffers.specs.StoreBuffers.{LeavesByte, LeavesByteBy, LeavesByteAt}
-use Rattle.queue_parties.specs.Positions.{IsPrefix}
+use Rattle.queue_parties.specs.Positions.{IsPrefix, numbers_from}
 use Rattle.queue_parties.specs.Parties.{Party, the_sender, the_receiver, QueueCounts, all_at, count, known}
-use Rattle.queue_parties.proofs.Parties.{count-set, Grows, Whose, mine, theirs, whose, counts-append, keeps-at}
+use Rattle.queue_parties.proofs.Parties.{count-set, Grows, Whose, mine, theirs, whose, counts-append, keeps-at, Passed}
 use Rattle.store_buffers.proofs.LateStores.{at-by-parts, leaves-part}
-use Rattle.queue_parties.specs.Positions.{numbers_from}
-use Rattle.queue_parties.proofs.Parties.{Passed}
 use Rattle.queue_parties.proofs.Records.{numbers-prefix, passed, HasRecords, records-are, record_passed, own-records}
 use Rattle.slots_that_tell.specs.Slots.{Slots, IsSlots, tagged_slot, IsSlotByte, IsTagByte, tag_of}
 use Rattle.slots_that_tell.specs.Telling.{KeepsEntry, teller_hart, teller_of, owned_end, moved, after_load, after_store}

@@ -12,7 +12,7 @@ use Rattle.step_machine.specs.Access.{Access, nothing, load, store, exchange, fe
 use Rattle.step_machine.specs.Entries.{hart_of, stored_by, landed_by, written_by, own_store, land_of, write_of, pending, own_stores, lands, read}
 use Rattle.step_machine.specs.Legal.{AllowedBy, Allowed}
 use Rattle.step_machine.proofs.Lists.{some_first}
-use Rattle.store_buffers.proofs.Effects.{pending-quiet, pending-more, pending-first}
+use Rattle.store_buffers.proofs.Effects.{stored_none, pending-quiet, pending-more, pending-first}
 use Rattle.queue_parties.specs.Parties.{Party, the_sender, the_receiver, other, QueueCounts, count, known, with_known}
 use Rattle.queue_parties.proofs.Parties.{two, twice, count-set, count-set-other, known-set-count, count-set-known, known-set, known-set-other}
 use Rattle.queue_parties.proofs.Parties.{Whose, mine, theirs, whose, harts-apart}
@@ -37,10 +37,6 @@ module _ (q : Slots) (is : IsSlots q) (p : Party) (c : QueueCounts) (w : Write) 
   stores-room (inr fills) le =
       let same : moved q (count p c) w ≡ count p c = moved-leaves q is (count p c) w (fills-leaves q is p c w fills) in
       omega (arith, same, le)
-
-pub stored_none : (x : Access) → stored_by false x ≡ []
-stored_none (store w) = refl
-stored_none x = refl
 
 landed_none : (x : Access) → landed_by false x ≡ 0
 landed_none land = refl

@@ -30,7 +30,7 @@ nothing_said r (store w) is = ap not is
 nothing_said r (exchange a old new) is = ap not is
 nothing_said r y is = refl
 
-passes_said : (p : Party) (K : Kind) (w : ℕ) → MayPass p K w → may_pass p K w ≡ true
+pub passes_said : (p : Party) (K : Kind) (w : ℕ) → MayPass p K w → may_pass p K w ≡ true
 passes_said the_sender lamport w is = refl
 passes_said the_sender fastforward w is = ap not (ne_eqb w 0 is)
 passes_said the_receiver K w is = refl
@@ -38,7 +38,7 @@ passes_said the_receiver K w is = refl
 less_said : (a b : ℕ) → a < b → nat_lt a b ≡ true
 less_said a b less = grind (arith, nat_tests)
 
-arguments_said : (p : Party) (n : ℕ) (k : Block) (s : HartState) → HasArguments p n k s → has_arguments p n k s ≡ true
+pub arguments_said : (p : Party) (n : ℕ) (k : Block) (s : HartState) → HasArguments p n k s → has_arguments p n k s ≡ true
 arguments_said p n k s is =
     let x : ℕ → ℕ = slice_index s.registers in
     let back : ℕ = x 1 / 2 * 2 in

@@ -1,22 +1,13 @@
 -- The own entries of a hart that opens with a function.
-use Rattle.std.proofs.Common.{ℕ, ◌<◌, ◌≡◌, ◌==◌, not, ◌&&◌, Bool, true, false, List, [], ◌∷◌, ◌++◌, length, Some, refl, sym, ◌∙◌, ap, subst}
-use Rattle.std.proofs.Common.{append_assoc}
-use Rattle.std.specs.Prelude.{All, option_map}
-use Rattle.std.specs.List.{slice_get}
-use Rattle.std.proofs.Math.Seq.{drop-append_seam}
-use Rattle.std.proofs.lemmas.List.Elements.{All-head, All-drop}
-use Rattle.std.proofs.lemmas.Bool.{eq-eqb, eqb-true}
+use Rattle.std.proofs.Common.{ℕ, ◌≡◌, false, List, [], ◌∷◌, ◌++◌, Some, sym, ◌∙◌, ap, subst}
+use Rattle.std.specs.Prelude.{option_map}
 use Rattle.hart.specs.State.{HartState}
 use Rattle.hart.specs.Steps.{advanced}
 use Rattle.step_machine.specs.declared.events.Entry.{Entry}
 use Rattle.step_machine.specs.History.{OpeningValue, history_of}
-use Rattle.step_machine.specs.Access.{Access, land}
-use Rattle.step_machine.specs.Entries.{hart_of, is_landing, is_land, is_own, own}
-use Rattle.step_machine.specs.Paths.{number_read, CanMake, state_of, PathOf, Path}
-use Rattle.step_machine.specs.Legal.{WellFormed, IsOfHarts}
-use Rattle.step_machine.proofs.Appended.{own-append}
-use Rattle.step_machine.proofs.Follows.{state_after, advance_by, state_of-mine, state_of-other, Path-last}
-use Rattle.step_machine.proofs.OwnRuns.{path_front}
+use Rattle.step_machine.specs.Entries.{hart_of, is_land, is_own, own}
+use Rattle.step_machine.specs.Paths.{number_read, state_of}
+use Rattle.step_machine.proofs.Follows.{state_after}
 use Rattle.step_machine.proofs.States.{state_keeps}
 use Rattle.rv_decode.specs.Listings.{Listed}
 use Rattle.spsc_queue.specs.Calls.{StandsIn, HasFunction}

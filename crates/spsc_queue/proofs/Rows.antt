@@ -14,7 +14,7 @@ use Rattle.step_machine.proofs.Lists.{some_first}
 use Rattle.spsc_queue.specs.RingBuffers.{RingBuffer, IsRingBuffer, IsWordIn}
 use Rattle.spsc_queue.proofs.Words.{shared, row_of}
 use Rattle.spsc_queue.proofs.Spread.{spread, spread-more}
-use Rattle.store_buffers.proofs.Effects.{pending-quiet, pending-more, pending-first}
+use Rattle.store_buffers.proofs.Effects.{stored_none, pending-quiet, pending-more, pending-first}
 use Rattle.spsc_queue.proofs.Effects.{memory-quiet, memory-off, memory-whole, on-append, on-one, on-none}
 
 -- where what is on the block is a word of a row, and what comes after it
@@ -131,10 +131,6 @@ rows-stay r c f g o es fs i n j m rows stays = record {
   theirs_made = stays.made r.receiver ∙ rows.theirs_made;
   others = λ h not_sender not_receiver. stays.pends h ∙ rows.others h not_sender not_receiver;
 }
-
-stored_none : (x : Access) → stored_by false x ≡ []
-stored_none nothing = refl
-stored_none x = refl
 
 module _ (r : RingBuffer) (is : IsRingBuffer r) (o : OpeningValue) (es : List Entry) (e : Entry) (even : (h : ℕ) → lands h es ≤ length (own_stores h es)) where
   abbrev after : List Entry

@@ -9,12 +9,16 @@ use Rattle.memory.specs.Writes.{write, covers, byte_after, newest_of, joined}
 use Rattle.memory.proofs.Bytes.{joined-same, byte_below, byte_of_joined, covers-from}
 use Rattle.step_machine.specs.declared.events.Entry.{Entry}
 use Rattle.step_machine.specs.History.{OpeningValue}
-use Rattle.step_machine.specs.Access.{exchange, access_of}
-use Rattle.step_machine.specs.Entries.{hart_of, written_by, own_store, land_of, write_of, pending, landed, opening_byte, memory_byte, own_stores, lands, read}
+use Rattle.step_machine.specs.Access.{Access, store, exchange, access_of}
+use Rattle.step_machine.specs.Entries.{hart_of, stored_by, written_by, own_store, land_of, write_of, pending, landed, opening_byte, memory_byte, own_stores, lands, read}
 use Rattle.step_machine.specs.Legal.{AllowedBy, Allowed}
 use Rattle.step_machine.proofs.Appended.{pending-last}
 use Rattle.step_machine.proofs.Stays.{memory_byte-other, memory_byte-write}
 use Rattle.store_buffers.specs.StoreBuffers.{memory_number}
+
+pub stored_none : (x : Access) → stored_by false x ≡ []
+stored_none (store w) = refl
+stored_none x = refl
 
 -- the number of a few bytes of memory, where nothing is written, and after a write
 module _ (o : OpeningValue) (es : List Entry) (e : Entry) (a width : ℕ) where

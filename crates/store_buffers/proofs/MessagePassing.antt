@@ -17,12 +17,8 @@ use Rattle.step_machine.specs.Legal.{AllowedBy, Allowed, LegalAfter, Legal}
 use Rattle.step_machine.proofs.Appended.{stores-append, landed-last, pending-last, LegalAfter-back, LegalAfter-front}
 use Rattle.step_machine.proofs.Balanced.{balanced-last, balanced}
 use Rattle.store_buffers.specs.StoreBuffers.{LeavesByte, LeavesByteBy, AllLeaveByte, IsOnlyWriter}
-use Rattle.store_buffers.proofs.Reading.{passed_over, newest-found}
+use Rattle.store_buffers.proofs.Reading.{passed_over, view}
 use Rattle.store_buffers.proofs.Effects.{pending-quiet, same-memory}
-
-view : (o : OpeningValue) (es : List Entry) (a x : ℕ)
-    → read_byte o es a x ≡ unwrap_or (newest_of x (newest_of x None (landed es)) (pending a es)) (opening_byte o x)
-view o es a x = sym (newest-found x (opening_byte o x) (newest_of x None (landed es)) (pending a es))
 
 one : (x : ℕ) (f : Option ℕ) (w : Write) → covers w x ≡ false → newest_of x f (w ∷ []) ≡ f
 one x f w off = passed_over x f (w ∷ []) (All-cons (LeavesByte x) w [] off (All-nil (LeavesByte x)))

@@ -15,9 +15,8 @@ use Rattle.step_machine.specs.Entries.{hart_of, is_landing, is_land, is_own, own
 use Rattle.step_machine.specs.Paths.{number_read, CanMake, state_of, PathOf, Path}
 use Rattle.step_machine.specs.Legal.{WellFormed, IsOfHarts}
 use Rattle.step_machine.proofs.Appended.{own-append}
-use Rattle.step_machine.proofs.Follows.{state_after, advance_by, state_of-mine, state_of-other, Path-last}
+use Rattle.step_machine.proofs.Follows.{advance_by, state_of-mine, state_of-other, Path-last}
 use Rattle.step_machine.proofs.OwnRuns.{path_front}
-use Rattle.step_machine.proofs.States.{state_keeps}
 
 pub joined_on : (before done : List Entry) (e : Entry) (more : List Entry) → before ++ (done ++ e ∷ more) ≡ ((before ++ done) ++ e ∷ []) ++ more
 joined_on before done e more = sym (append_assoc before done (e ∷ more)) ∙ sym (append_assoc (before ++ done) (e ∷ []) more)

@@ -8,7 +8,7 @@ use Rattle.memory.specs.Writes.{covers, byte_after, newest_of}
 use Rattle.memory.proofs.Newest.{newest_of-append}
 use Rattle.step_machine.specs.declared.events.Entry.{Entry}
 use Rattle.step_machine.specs.History.{OpeningValue}
-use Rattle.step_machine.specs.Entries.{pending, opening_byte, memory_byte, read_byte}
+use Rattle.step_machine.specs.Entries.{pending, landed, opening_byte, memory_byte, read_byte}
 use Rattle.store_buffers.specs.StoreBuffers.{IsGloballyPerformed, LeavesByte}
 
 pub passed_over : (x : ℕ) (found : Option ℕ) (ws : List Write) → All (LeavesByte x) ws → newest_of x found ws ≡ found
@@ -33,7 +33,7 @@ read_seen o es w h hart x on all own =
     ap (λ f. unwrap_or f (memory_byte o es x)) (passed_over x None (pending hart es) own) ∙ byte_seen o es w h x on all
 
 -- what is found before a list counts where nothing is found in it
-pub newest-found : (x d : ℕ) (found : Option ℕ) (ws : List Write) → unwrap_or (newest_of x found ws) d ≡ unwrap_or (newest_of x None ws) (unwrap_or found d)
+newest-found : (x d : ℕ) (found : Option ℕ) (ws : List Write) → unwrap_or (newest_of x found ws) d ≡ unwrap_or (newest_of x None ws) (unwrap_or found d)
 newest-found x d found [] = refl
 newest-found x d found (w ∷ ws) = at (covers w x) (λ e g. newest-found x e g ws)
   where
@@ -44,6 +44,11 @@ newest-found x d found (w ∷ ws) = at (covers w x) (λ e g. newest-found x e g 
         → unwrap_or (newest_of x (if c then Some b else found) ws) d ≡ unwrap_or (newest_of x (if c then Some b else None) ws) (unwrap_or found d)
     at true more = more d (Some b) ∙ sym (more (unwrap_or found d) (Some b))
     at false more = more d found
+
+-- what a hart reads is the newest of what has landed and then of its own pending stores
+pub view : (o : OpeningValue) (es : List Entry) (a x : ℕ)
+    → read_byte o es a x ≡ unwrap_or (newest_of x (newest_of x None (landed es)) (pending a es)) (opening_byte o x)
+view o es a x = sym (newest-found x (opening_byte o x) (newest_of x None (landed es)) (pending a es))
 
 pub newest-first : (x d : ℕ) (w : Write) (ws : List Write) → unwrap_or (newest_of x None (w ∷ ws)) d ≡ unwrap_or (newest_of x None ws) (byte_after w x d)
 newest-first x d w ws = at (covers w x)

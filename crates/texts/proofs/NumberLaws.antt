@@ -9,7 +9,7 @@ use Rattle.std.proofs.lemmas.Bool.{ltb-true, lt-ltb, le-ltb, cases_lt, eqb-true,
 use Rattle.std.proofs.lemmas.List.Folds.{list_all_more, list_all_at}
 use Rattle.std.proofs.lemmas.Int.Digits.{digits_value_more, digits_value-lt}
 use Rattle.std.proofs.Math.Nat.{mul-le-mul_left, mul-le-mul_right}
-use Rattle.texts.specs.Numbers.{SaysDecimal, SaysInHex, IsHexWord, capped, is_numeral}
+use Rattle.texts.specs.Numbers.{SaysDecimal, IsHexWord, capped, is_numeral}
 use Rattle.texts.specs.Numbers.{capped_value, number_of, hex_number_of, below_cap_of, word_of}
 use Rattle.texts.specs.Numbers.{hex_word_of}
 
@@ -74,18 +74,6 @@ capped_value-said radix digits n e = grind (arith, IsNumeral-from_test)
 pub capped_value-of_IsNumeral : (radix : ℕ) (digits : List ℕ) → IsNumeral radix digits → capped_value radix digits ≡ Some (capped (digits_value radix digits))
 unfolding capped_value
 capped_value-of_IsNumeral radix digits h = rw (is_numeral-from_IsNumeral radix digits h) refl
-
-pub number_said : (digits : List ℕ) (n : ℕ) → number_of digits ≡ Some n → n < 2 ^ 32 → SaysDecimal digits n
-number_said digits n e lt = let said = capped_value-said 10 digits n e in (said.0, omega (arith, said.1))
-
-pub says_number : (digits : List ℕ) (n : ℕ) → SaysDecimal digits n → number_of digits ≡ Some (capped n)
-says_number digits n h = subst (λ (m : ℕ). number_of digits ≡ Some (capped m)) h.1 (capped_value-of_IsNumeral 10 digits h.0)
-
-pub hex_number_said : (digits : List ℕ) (n : ℕ) → hex_number_of digits ≡ Some n → n < 2 ^ 32 → SaysInHex digits n
-hex_number_said digits n e lt = let said = capped_value-said 16 digits n e in (said.0, omega (arith, said.1))
-
-pub says_hex_number : (digits : List ℕ) (n : ℕ) → SaysInHex digits n → hex_number_of digits ≡ Some (capped n)
-says_hex_number digits n h = subst (λ (m : ℕ). hex_number_of digits ≡ Some (capped m)) h.1 (capped_value-of_IsNumeral 16 digits h.0)
 
 -- what a digit's reader says of the byte that it read
 pub other_digit : (radix byte read : ℕ) → read ≡ byte → (digit_value read < radix → ⊥) → radix ≤ digit_value byte

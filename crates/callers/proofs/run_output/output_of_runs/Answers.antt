@@ -1,13 +1,12 @@
-use Rattle.std.proofs.Common.{◌++◌, ◌*◌, ◌≡◌, inl, inr, not, List, sym, ap, subst, ◌∙◌}
+use Rattle.std.proofs.Common.{◌++◌, ◌*◌, ◌≡◌, inr, not, List, ap, subst, ◌∙◌}
 use Rattle.rand_core.specs.Stream.{Stream}
 use Rattle.step_machine.specs.declared.events.Event.{Event}
-use Rattle.step_machine.specs.History.{OpeningValue}
 use Rattle.recorder.specs.Drawing.{left_after}
 use Rattle.recorder.specs.Writing.{canon}
 use Rattle.judged_runs.specs.Finding.{AreAllGood}
 use Rattle.judged_runs.specs.Telling.{IsFlawTold, IsTold}
-use Rattle.callers.specs.Answers.{IsKeptOutput, IsOutputOfRuns, debt_line}
-use Rattle.callers.specs.Counts.{AreCountsOf, are_none}
+use Rattle.callers.specs.Answers.{debt_line}
+use Rattle.callers.specs.Counts.{AreCountsOf}
 use Rattle.callers.specs.Runs.{CallSource, call_source, call_schedule, HasNoDebt, HasDebt}
 use Rattle.callers.specs.declared.debts.Debt.{Debt}
 use Rattle.callers.proofs.Alike.{kept_output}

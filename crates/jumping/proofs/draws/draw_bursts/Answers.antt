@@ -1,4 +1,4 @@
-use Rattle.std.proofs.Common.{◌++◌, [], ◌∷◌, arith, rules}
+use Rattle.std.proofs.Common.{arith, rules}
 use Rattle.recorder.proofs.Drawn.{left_more}
 use Rattle.jumping.proofs.Bursts.{bursts-none, bursts-more, left-none}
 use Rattle.jumping.proofs.draws.draw_bursts.Goals as goal

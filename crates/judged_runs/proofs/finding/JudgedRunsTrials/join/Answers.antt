@@ -1,4 +1,4 @@
-use Rattle.std.proofs.Common.{ℕ, ◌+◌, ◌-◌, arith, subst}
+use Rattle.std.proofs.Common.{◌-◌, arith, subst}
 use Rattle.jumping.specs.Draws.{schedule_by}
 use Rattle.judged_runs.specs.Finding.{IsFoundFrom}
 use Rattle.judged_runs.proofs.Schedules.{all_both, all_count, flawed_later}

@@ -1,4 +1,4 @@
-use Rattle.std.proofs.Common.{ap, subst, arith, rules, ◌≡◌, List}
+use Rattle.std.proofs.Common.{subst, arith, rules, ◌≡◌, List}
 use Rattle.step_machine.specs.declared.events.Event.{Event}
 use Rattle.recorder.proofs.Drawn.{left_after-more}
 use Rattle.jumping.specs.Draws.{schedule_by}

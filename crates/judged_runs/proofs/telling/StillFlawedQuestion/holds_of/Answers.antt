@@ -1,4 +1,4 @@
-use Rattle.std.proofs.Common.{◌≡◌, subst}
+use Rattle.std.proofs.Common.{subst}
 use Rattle.judged_runs.proofs.telling.StillFlawedQuestion.holds_of.Goals as goal
 
 pub returns-in-Some-clause-holds : goal.returns-in-Some-clause-holds
