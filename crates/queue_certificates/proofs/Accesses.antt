@@ -1,10 +1,9 @@
 -- What is found by going through queues and words, and what single accesses make of a hart's shares.
-use Rattle.std.proofs.Common.{ℕ, zero, suc, ◌+◌, ◌-◌, ◌*◌, ◌/◌, ◌%◌, ◌<◌, ◌≤◌, ◌≡◌, ◌==◌, ◌&&◌, ◌||◌, inl, inr}
+use Rattle.std.proofs.Common.{ℕ, zero, suc, ◌+◌, ◌-◌, ◌%◌, ◌<◌, ◌≤◌, ◌≡◌, ◌==◌, ◌&&◌, ◌||◌, inl, inr}
 use Rattle.std.proofs.Common.{if◌then◌else◌, not, Bool, true, false, Option, Some, None, List, ◌∷◌, refl, sym, ◌∙◌, ap}
 use Rattle.std.proofs.Common.{subst, arith}
 use Rattle.std.specs.Prelude.{nat_lt}
 use Rattle.std.proofs.lemmas.Bool.{and_parts, or_cases, and_left, and_right, eqb-true, ltb-true, ne_eqb, eq-eqb, not-true}
-use Rattle.std.proofs.Math.Nat.{add-mul-mod_self_left, mod-add-div, mod-lt}
 use Rattle.step_machine.specs.Access.{load}
 use Rattle.slot_queue.specs.Queues.{Queue, IsQueue, TellsFull, index_word, least}
 use Rattle.queue_parties.specs.Parties.{Party, the_sender, the_receiver, other, QueueCounts, count, known, with_known}
@@ -15,7 +14,7 @@ use Rattle.owned_run.proofs.Accesses.{looked}
 use Rattle.queue_certificates.specs.Forms.{form_value, number, plus, lifted, first_variable, Bounds}
 use Rattle.queue_certificates.specs.States.{Share, HasShare}
 use Rattle.queue_certificates.specs.Steps.{last_below, is_just, is_whole, misses, behind, owned_then, looked_share}
-use Rattle.queue_certificates.proofs.Forms.{value-plus, value-lifted, value-number, value-first}
+use Rattle.queue_certificates.proofs.Forms.{round-up, value-plus, value-lifted, value-number, value-first}
 use Rattle.queue_certificates.proofs.Values.{word-of-remainder}
 
 pub found-below : (n : ℕ) (f : ℕ → Bool) (i : ℕ) → last_below n f ≡ Some i → (i < n) × (f i ≡ true)
@@ -86,13 +85,6 @@ missed q (Some p) b a width v c ok low high =
     ]
 
 -- ---- a look
-
-round-up : (m k c : ℕ) → 1 ≤ m → (k + c + (m - c % m)) % m ≡ k % m
-round-up m k c some =
-    let low : c % m < m = mod-lt c (omega (arith, some)) in
-    let parts : c % m + m * (c / m) ≡ c = mod-add-div c m in
-    (let turned : k + c + (m - c % m) ≡ (k + m * (c / m)) + m * 1 = omega (arith, parts, low) in ap (λ y. y % m) turned)
-    ∙ add-mul-mod_self_left (k + m * (c / m)) m 1 ∙ add-mul-mod_self_left k m (c / m)
 
 -- the word of the other's count, by the end of what is owned
 behind-end : (q : Queue) (p : Party) (k : ℕ) (c : QueueCounts) → 1 ≤ q.modulus → index_word q (end q p (with_known p k c) + behind q p) ≡ index_word q k

@@ -1,14 +1,14 @@
 -- What forms come to at most, and between which words they lie.
-use Rattle.std.proofs.Common.{ℕ, ◌+◌, ◌-◌, ◌*◌, ◌%◌, ◌^◌, ◌<◌, ◌≤◌, ◌≡◌, ◌==◌, ◌&&◌, if◌then◌else◌, Bool, true, false}
+use Rattle.std.proofs.Common.{ℕ, ◌+◌, ◌-◌, ◌*◌, ◌%◌, ◌<◌, ◌≤◌, ◌≡◌, ◌==◌, ◌&&◌, inl, inr, if◌then◌else◌, Bool, true, false}
 use Rattle.std.proofs.Common.{Option, Some, None, List, [], ◌∷◌, refl, sym, ◌∙◌, ap, subst, arith}
 use Rattle.std.specs.Prelude.{map, nat_le}
-use Rattle.std.proofs.lemmas.Bool.{and_parts, eqb-true, leb-true}
+use Rattle.std.proofs.lemmas.Bool.{and_parts, eqb-true, leb-true, cases_lt}
 use Rattle.std.proofs.lemmas.Nat.{mul-le}
-use Rattle.std.proofs.Math.Nat.{mul-zero, mod-mod, mod-eq_of_lt, add-mul, zero-mul, mod-lt}
+use Rattle.std.proofs.Math.Nat.{mul-zero, mod-mod, mod-eq_of_lt, add-mul, zero-mul, mod-lt, add-mul-mod_self_left}
 use Rattle.queue_certificates.specs.Forms.{Form, dot, form_value, IsAtMost, InRanges, most_of_multiple, added}
 use Rattle.queue_certificates.specs.Forms.{most_of_sum, most, fits_in, are_in, Bounds, kept, settled, reduced}
 use Rattle.queue_certificates.specs.Forms.{remainder, risings, fallings, bounds_between, bounds_of}
-use Rattle.queue_certificates.proofs.Forms.{values_of, mod-sum, mod-product}
+use Rattle.queue_certificates.proofs.Forms.{values_of, mod-sum, mod-product, round-up}
 
 pub record IsSum (a b : Option ℕ) (n : ℕ) : Type 0 where
   pub left : ℕ
@@ -99,63 +99,75 @@ value-remainder rs f n g xs ranges is = by (nat_le 1 n && fits_in (most rs (redu
         mod-sum (f.constant % n) (dot (map (λ m. m % n) f.factors) xs) f.constant (dot f.factors xs) n (mod-mod f.constant n) (reduced-dot n f.factors xs) in
         (subst (λ h. form_value h xs ≡ form_value f xs % n) (let e : reduced n f ≡ g = cc in e) (sym (mod-eq_of_lt (omega (arith, low, some))) ∙ same), some)
 
--- ---- bounds of a word
+-- ---- bounds of a remainder
 
-abbrev rising : ℕ → ℕ
-rising m = if nat_le (2 ^ 31) (m % 2 ^ 32) then 0 else m % 2 ^ 32
+abbrev rising : (n m : ℕ) → ℕ
+rising n m = if nat_le (n - m % n) (m % n) then 0 else m % n
 
-abbrev falling : ℕ → ℕ
-falling m = if nat_le (2 ^ 31) (m % 2 ^ 32) then 2 ^ 32 - m % 2 ^ 32 else 0
+abbrev falling : (n m : ℕ) → ℕ
+falling n m = if nat_le (n - m % n) (m % n) then n - m % n else 0
 
-balanced : (m : ℕ) → (m + falling m) % 2 ^ 32 ≡ rising m % 2 ^ 32
-balanced m = by (nat_le (2 ^ 31) (m % 2 ^ 32))
+balanced : (n m : ℕ) → 1 ≤ n → (m + falling n m) % n ≡ rising n m % n
+balanced n m some = by (nat_le (n - m % n) (m % n))
   where
-    by : (t : Bool) → (m + (if t then 2 ^ 32 - m % 2 ^ 32 else 0)) % 2 ^ 32 ≡ (if t then 0 else m % 2 ^ 32) % 2 ^ 32
-    by true = omega arith
-    by false = omega arith
+    by : (t : Bool) → (m + (if t then n - m % n else 0)) % n ≡ (if t then 0 else m % n) % n
+    by true = (let e : m + (n - m % n) ≡ 0 + m + (n - m % n) = omega arith in ap (λ y. y % n) e) ∙ round-up n 0 m some
+    by false = (let e : m + 0 ≡ m = omega arith in ap (λ y. y % n) e) ∙ sym (mod-mod m n)
 
-all-balanced : (ms xs : List ℕ) → (dot ms xs + dot (fallings ms) xs) % 2 ^ 32 ≡ dot (risings ms) xs % 2 ^ 32
-all-balanced [] xs = refl
-all-balanced (m ∷ ms) [] = refl
-all-balanced (m ∷ ms) (x ∷ xs) =
-    (let turned : m * x + dot ms xs + (falling m * x + dot (fallings ms) xs) ≡ (m + falling m) * x + (dot ms xs + dot (fallings ms) xs) =
-    (let e : (m + falling m) * x ≡ m * x + falling m * x = add-mul m (falling m) x in omega (arith, e)) in ap (λ y. y % 2 ^ 32) turned)
-    ∙ mod-sum ((m + falling m) * x) (dot ms xs + dot (fallings ms) xs) (rising m * x) (dot (risings ms) xs) (2 ^ 32)
-    (mod-product (m + falling m) (rising m) x (2 ^ 32) (balanced m)) (all-balanced ms xs)
+all-balanced : (n : ℕ) (ms xs : List ℕ) → 1 ≤ n → (dot ms xs + dot (fallings n ms) xs) % n ≡ dot (risings n ms) xs % n
+all-balanced n [] xs some = refl
+all-balanced n (m ∷ ms) [] some = refl
+all-balanced n (m ∷ ms) (x ∷ xs) some =
+    (let turned : m * x + dot ms xs + (falling n m * x + dot (fallings n ms) xs) ≡ (m + falling n m) * x + (dot ms xs + dot (fallings n ms) xs) =
+    (let e : (m + falling n m) * x ≡ m * x + falling n m * x = add-mul m (falling n m) x in omega (arith, e)) in ap (λ y. y % n) turned)
+    ∙ mod-sum ((m + falling n m) * x) (dot ms xs + dot (fallings n ms) xs) (rising n m * x) (dot (risings n ms) xs) n
+    (mod-product (m + falling n m) (rising n m) x n (balanced n m some)) (all-balanced n ms xs some)
 
-in-between : (v c up down rise fall : ℕ) → v < 2 ^ 32 → (v + fall) % 2 ^ 32 ≡ (c + rise) % 2 ^ 32 → fall ≤ down → rise ≤ up → down ≤ c → c + up + 1 ≤ 2 ^ 32
+in-between : (n v c up down rise fall : ℕ) → v < n → (v + fall) % n ≡ (c + rise) % n → fall ≤ down → rise ≤ up → down ≤ c → c + up + 1 ≤ n
     → (c - down ≤ v) × (v ≤ c + up)
-in-between v c up down rise fall small same f r d u = (omega arith, omega arith)
-
-pub value-between : (rs : List (Option ℕ)) (f : Form) (xs : List ℕ) (b : Bounds) → InRanges rs xs → bounds_of rs f ≡ Some b
-    → (b.low ≤ form_value f xs % 2 ^ 32) × (form_value f xs % 2 ^ 32 ≤ b.high)
-value-between rs f xs b ranges is = by (most_of_sum rs (risings f.factors)) (most_of_sum rs (fallings f.factors)) refl refl is
+in-between n v c up down rise fall small same f r d u = elim (cases_lt (v + fall) n) [
+  | inl under ↦ (let e : v + fall ≡ c + rise = sym (mod-eq_of_lt under) ∙ level in (omega (arith, e, f, d), omega (arith, e, r)))
+  | inr over ↦ absurd (
+      let once : v + fall ≡ v + fall - n + n * 1 = omega (arith, over) in
+      let e : v + fall - n ≡ c + rise = sym (ap (λ y. y % n) once ∙ add-mul-mod_self_left (v + fall - n) n 1
+      ∙ mod-eq_of_lt (omega (arith, small, f, d, u))) ∙ level in
+      omega (arith, e, small, f, d, over))
+]
   where
-    c : ℕ
-    c = f.constant % 2 ^ 32
+    level : (v + fall) % n ≡ c + rise
+    level = same ∙ mod-eq_of_lt (omega (arith, r, u))
 
-    level : (form_value f xs % 2 ^ 32 + dot (fallings f.factors) xs) % 2 ^ 32 ≡ (f.constant % 2 ^ 32 + dot (risings f.factors) xs) % 2 ^ 32
-    level =
-        let all : (dot f.factors xs + dot (fallings f.factors) xs) % 2 ^ 32 ≡ dot (risings f.factors) xs % 2 ^ 32 =
-        all-balanced f.factors xs in
-        omega (arith, all)
+-- a form's remainder lies between the bounds, and these are of a remainder
+pub value-between : (n : ℕ) (rs : List (Option ℕ)) (f : Form) (xs : List ℕ) (b : Bounds) → InRanges rs xs → bounds_of n rs f ≡ Some b
+    → (1 ≤ n) × (b.low ≤ form_value f xs % n) × (form_value f xs % n ≤ b.high)
+value-between n rs f xs b ranges is = by (most_of_sum rs (risings n f.factors)) (most_of_sum rs (fallings n f.factors)) refl refl is
+  where
+    level : 1 ≤ n → (form_value f xs % n + dot (fallings n f.factors) xs) % n ≡ (f.constant % n + dot (risings n f.factors) xs) % n
+    level some = mod-sum (form_value f xs % n) (dot (fallings n f.factors) xs) (form_value f xs)
+        (dot (fallings n f.factors) xs) n (mod-mod (form_value f xs) n) refl
+        ∙ (let turned : form_value f xs + dot (fallings n f.factors) xs ≡ f.constant + (dot f.factors xs + dot (fallings n f.factors) xs) =
+        omega arith in ap (λ y. y % n) turned)
+        ∙ mod-sum f.constant (dot f.factors xs + dot (fallings n f.factors) xs) (f.constant % n) (dot (risings n f.factors) xs) n
+        (sym (mod-mod f.constant n)) (all-balanced n f.factors xs some)
 
-    by : (up down : Option ℕ) → most_of_sum rs (risings f.factors) ≡ up → most_of_sum rs (fallings f.factors) ≡ down
-        → bounds_between (f.constant % 2 ^ 32) up down ≡ Some b
-        → (b.low ≤ form_value f xs % 2 ^ 32) × (form_value f xs % 2 ^ 32 ≤ b.high)
+    by : (up down : Option ℕ) → most_of_sum rs (risings n f.factors) ≡ up → most_of_sum rs (fallings n f.factors) ≡ down
+        → bounds_between n (f.constant % n) up down ≡ Some b
+        → (1 ≤ n) × (b.low ≤ form_value f xs % n) × (form_value f xs % n ≤ b.high)
     by None down u d is = absurd (cc)
     by (Some up) None u d is = absurd (cc)
-    by (Some up) (Some down) u d is = at (nat_le down (f.constant % 2 ^ 32) && nat_le (f.constant % 2 ^ 32 + up + 1) (2 ^ 32)) refl is
+    by (Some up) (Some down) u d is = at (nat_le down (f.constant % n) && nat_le (f.constant % n + up + 1) n) refl is
       where
-        at : (t : Bool) → (nat_le down (f.constant % 2 ^ 32) && nat_le (f.constant % 2 ^ 32 + up + 1) (2 ^ 32)) ≡ t
-            → (if t then Some (record { low = f.constant % 2 ^ 32 - down; high = f.constant % 2 ^ 32 + up }) else None) ≡ Some b
-            → (b.low ≤ form_value f xs % 2 ^ 32) × (form_value f xs % 2 ^ 32 ≤ b.high)
+        at : (t : Bool) → (nat_le down (f.constant % n) && nat_le (f.constant % n + up + 1) n) ≡ t
+            → (if t then Some (record { low = f.constant % n - down; high = f.constant % n + up }) else None) ≡ Some b
+            → (1 ≤ n) × (b.low ≤ form_value f xs % n) × (form_value f xs % n ≤ b.high)
         at false off is = absurd (cc)
         at true ok is =
-            let parts = and_parts (nat_le down (f.constant % 2 ^ 32)) (nat_le (f.constant % 2 ^ 32 + up + 1) (2 ^ 32)) ok in
-            let at = in-between (form_value f xs % 2 ^ 32) (f.constant % 2 ^ 32) up down (dot (risings f.factors) xs) (dot (fallings f.factors) xs)
-            (mod-lt (form_value f xs) (omega arith)) level (dot-below rs (fallings f.factors) xs down ranges d)
-            (dot-below rs (risings f.factors) xs up ranges u)
-            (leb-true down (f.constant % 2 ^ 32) parts.0) (leb-true (f.constant % 2 ^ 32 + up + 1) (2 ^ 32) parts.1) in
-            subst (λ z. (z.low ≤ form_value f xs % 2 ^ 32) × (form_value f xs % 2 ^ 32 ≤ z.high))
-            (let e : record { low = f.constant % 2 ^ 32 - down; high = f.constant % 2 ^ 32 + up } ≡ b = cc in e) at
+            let parts = and_parts (nat_le down (f.constant % n)) (nat_le (f.constant % n + up + 1) n) ok in
+            let high : f.constant % n + up + 1 ≤ n = leb-true (f.constant % n + up + 1) n parts.1 in
+            let some : 1 ≤ n = omega (arith, high) in
+            let at = in-between n (form_value f xs % n) (f.constant % n) up down (dot (risings n f.factors) xs) (dot (fallings n f.factors) xs)
+            (mod-lt (form_value f xs) some) (level some) (dot-below rs (fallings n f.factors) xs down ranges d)
+            (dot-below rs (risings n f.factors) xs up ranges u)
+            (leb-true down (f.constant % n) parts.0) high in
+            subst (λ z. (1 ≤ n) × (z.low ≤ form_value f xs % n) × (form_value f xs % n ≤ z.high))
+            (let e : record { low = f.constant % n - down; high = f.constant % n + up } ≡ b = cc in e) (some, at.0, at.1)

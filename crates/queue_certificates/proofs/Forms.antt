@@ -1,9 +1,10 @@
 -- What sums, multiples and substituted forms come to.
-use Rattle.std.proofs.Common.{ℕ, zero, suc, ◌+◌, ◌-◌, ◌*◌, ◌%◌, ◌<◌, ◌≤◌, ◌≡◌, ◌==◌, true, List, [], ◌∷◌, get_or, refl, sym, ◌∙◌, ap, arith}
+use Rattle.std.proofs.Common.{ℕ, zero, suc, ◌+◌, ◌-◌, ◌*◌, ◌/◌, ◌%◌, ◌<◌, ◌≤◌, ◌≡◌, ◌==◌, true, List, [], ◌∷◌, get_or, refl, sym, ◌∙◌, ap, arith}
 use Rattle.std.specs.Prelude.{map}
 use Rattle.std.proofs.lemmas.Bool.{and_parts, eqb-true}
 use Rattle.std.proofs.lemmas.Nat.{mul-mod_first}
 use Rattle.std.proofs.Math.Nat.{mul-add, add-mul, zero-mul, mul-zero, mul_assoc, mul_comm, add-mod, mod-zero, zero-mod}
+use Rattle.std.proofs.Math.Nat.{add-mul-mod_self_left, mod-add-div, mod-lt}
 use Rattle.queue_certificates.specs.Forms.{Form, dot, form_value, number, first_variable, sums, plus, times, lifted}
 use Rattle.queue_certificates.specs.Forms.{combined, substituted, factor_at, raised, vanishes, agree, is_same}
 
@@ -77,6 +78,14 @@ mod-sum a b c d n first second = add-mod a b n ∙ ap (λ x. (x + b % n) % n) fi
 
 pub mod-product : (a c x n : ℕ) → a % n ≡ c % n → (a * x) % n ≡ (c * x) % n
 mod-product a c x n same = sym (mul-mod_first a x n) ∙ ap (λ y. (y * x) % n) same ∙ mul-mod_first c x n
+
+-- what lacks of a multiple of m, added
+pub round-up : (m k c : ℕ) → 1 ≤ m → (k + c + (m - c % m)) % m ≡ k % m
+round-up m k c some =
+    let low : c % m < m = mod-lt c (omega (arith, some)) in
+    let parts : c % m + m * (c / m) ≡ c = mod-add-div c m in
+    (let turned : k + c + (m - c % m) ≡ (k + m * (c / m)) + m * 1 = omega (arith, parts, low) in ap (λ y. y % m) turned)
+    ∙ add-mul-mod_self_left (k + m * (c / m)) m 1 ∙ add-mul-mod_self_left k m (c / m)
 
 pub dot-vanishes : (n : ℕ) (ms xs : List ℕ) → vanishes n ms ≡ true → dot ms xs % n ≡ 0 % n
 dot-vanishes n [] xs ok = refl

@@ -2,6 +2,7 @@ mod OneSlotQueue
 mod Forms
 mod Bounds
 mod Values
+mod Equals
 mod Results
 mod States
 mod Accesses

@@ -4,7 +4,7 @@ use Rattle.std.proofs.Common.{◌+ℤ◌, inl, inr, if◌then◌else◌, not, Bo
 use Rattle.std.proofs.Common.{refl, sym, ◌∙◌, ap, subst, arith}
 use Rattle.std.specs.Prelude.{int_lt, nat_lt, nat_le, ◌-ℤ◌, bit_and, count_ones}
 use Rattle.std.proofs.lemmas.Int.{ints}
-use Rattle.std.proofs.lemmas.Bool.{and_parts, eqb-true, ltb-true, leb-true, lt-ltb, le-ltb, eq-eqb, ne_eqb, cases_lt}
+use Rattle.std.proofs.lemmas.Bool.{and_parts, eqb-true, ltb-true, leb-true, lt-ltb, le-ltb, cases_lt}
 use Rattle.std.proofs.lemmas.Nat.{le-div, pow_pos, and_mask, and_le_r}
 use Rattle.std.proofs.Math.Nat.{mod-eq_of_lt, mod-lt, mod-mod_of_dvd, div-mul-le_self}
 use Rattle.std.proofs.lemmas.Nat.Gcd.{dvd_of_mod-eq-zero}
@@ -19,17 +19,18 @@ use Rattle.rv_decode.specs.declared.instruction.RegisterOp.TheVariants as regist
 use Rattle.rv_decode.specs.Word.{signed}
 use Rattle.hart.specs.Effects.{word, computed, with_immediate, shifted, is_taken, flag}
 use Rattle.slot_queue.specs.Queues.{Queue}
-use Rattle.queue_certificates.specs.Forms.{remainder, Form, form_value, number, first_variable, plus, times, InRanges, Bounds, bounds_of}
+use Rattle.queue_certificates.specs.Forms.{remainder, Form, form_value, number, first_variable, plus, times, InRanges, Bounds}
 use Rattle.queue_certificates.specs.States.{KnownValue, any, linear, index_for, Has}
 use Rattle.queue_certificates.specs.Results.{Result, just, exactly, any_up_to, as_number, or_else, both, is_below}
-use Rattle.queue_certificates.specs.Results.{is_below_signed, set_less, is_nothing, negated, flag_of, shifted_left}
+use Rattle.queue_certificates.specs.Results.{is_below_signed, set_less, negated, flag_of, shifted_left}
 use Rattle.queue_certificates.specs.Results.{shifted_right, sum_of, difference_of, number_and, taken_known}
 use Rattle.queue_certificates.specs.Results.{low_bits, masked, masked_by, bounds, is_equal, immediate_part}
 use Rattle.queue_certificates.specs.Results.{of_immediate, shift_part, of_shift, register_part, of_registers}
 use Rattle.queue_certificates.specs.Results.{branch_part, is_branch_taken}
 use Rattle.queue_certificates.proofs.Forms.{value-number, value-first, plus-value, times-value}
-use Rattle.queue_certificates.proofs.Bounds.{value-between, value-remainder}
+use Rattle.queue_certificates.proofs.Bounds.{value-remainder}
 use Rattle.queue_certificates.proofs.Values.{has-lifted, known-is, has-bounds}
+use Rattle.queue_certificates.proofs.Equals.{equal-is}
 
 pub word-of-sum : (x : ℕ) (n : ℤ) → word (pos x +ℤ n) ≡ (x + word n) % 2 ^ 32
 word-of-sum x (pos k) = omega arith
@@ -279,49 +280,14 @@ module _ (queues : ℕ → Queue) (xs : List ℕ) where
 
     -- ---- branches
 
-    equal-is : (v w : KnownValue) (x y : ℕ) → Has queues xs v x → Has queues xs w y → (t : Bool) → is_equal rs v w ≡ Some t → (x == y) ≡ t
-    equal-is any w x y one two t is = absurd (cc)
-    equal-is (index_for i f) w x y one two t is = absurd (cc)
-    equal-is (linear f) any x y one two t is = absurd (cc)
-    equal-is (linear f) (index_for i g) x y one two t is = absurd (cc)
-    equal-is (linear f) (linear g) x y one two t is = by (bounds_of rs d) refl is
-      where
-        d : Form
-        d = plus f (times (2 ^ 32 - 1) g)
-
-        apart : (x + y * (2 ^ 32 - 1)) % 2 ^ 32 ≡ form_value (plus f (times (2 ^ 32 - 1) g)) xs % 2 ^ 32
-        apart = minus-has f g x y one two
-
-        x-small : x < 2 ^ 32
-        x-small = subst (λ z. z < 2 ^ 32) (sym one) (mod-lt (form_value f xs) (omega arith))
-
-        y-small : y < 2 ^ 32
-        y-small = subst (λ z. z < 2 ^ 32) (sym two) (mod-lt (form_value g xs) (omega arith))
-
-        by : (b : Option Bounds) → bounds_of rs (plus f (times (2 ^ 32 - 1) g)) ≡ b → is_nothing b ≡ Some t → (x == y) ≡ t
-        by None of is = absurd (cc)
-        by (Some b) of is = at (nat_lt 0 b.low) (b.high == 0) refl refl is
-          where
-            within : (b.low ≤ (x + y * (2 ^ 32 - 1)) % 2 ^ 32) × ((x + y * (2 ^ 32 - 1)) % 2 ^ 32 ≤ b.high)
-            within = subst (λ z. (b.low ≤ z) × (z ≤ b.high)) (sym apart) (value-between rs (plus f (times (2 ^ 32 - 1) g)) xs b ranges of)
-
-            at : (r s : Bool) → nat_lt 0 b.low ≡ r → (b.high == 0) ≡ s → (if r then Some false else (if s then Some true else None)) ≡ Some t → (x == y) ≡ t
-            at true s low high is =
-                let some : 0 < b.low = ltb-true 0 b.low low in let u = within.0 in
-                ne_eqb x y (λ same. omega (arith, some, u, same)) ∙ (let e : false ≡ t = cc in e)
-            at false true low high is =
-                let none : b.high ≡ 0 = eqb-true b.high 0 high in let u = within.1 in
-                eq-eqb x y (omega (arith, none, u, x-small, y-small)) ∙ (let e : true ≡ t = cc in e)
-            at false false low high is = absurd (cc)
-
     negated-is : (o : Option Bool) (b : Bool) → ((t : Bool) → o ≡ Some t → b ≡ t) → (t : Bool) → negated o ≡ Some t → not b ≡ t
     negated-is None b is t e = absurd (cc)
     negated-is (Some c) b is t e = ap not (is c refl) ∙ (let same : not c ≡ t = cc in same)
 
     branch-part : (op : BranchOp) (v w : KnownValue) (x y : ℕ) → Has queues xs v x → Has queues xs w y → (t : Bool)
-        → branch_part rs op v w ≡ Some t → is_taken op x y ≡ t
-    branch-part branch.Equal v w x y one two t is = equal-is v w x y one two t is
-    branch-part branch.NotEqual v w x y one two t is = negated-is (is_equal rs v w) (x == y) (equal-is v w x y one two) t is
+        → branch_part queues rs op v w ≡ Some t → is_taken op x y ≡ t
+    branch-part branch.Equal v w x y one two t is = equal-is queues xs rs ranges v w x y one two t is
+    branch-part branch.NotEqual v w x y one two t is = negated-is (is_equal queues rs v w) (x == y) (equal-is queues xs rs ranges v w x y one two) t is
     branch-part branch.Less v w x y one two t is = below-signed (bounds rs v) (bounds rs w) x y (in-bounds v x one) (in-bounds w y two) t is
     branch-part branch.GreaterEqual v w x y one two t is = negated-is (is_below_signed (bounds rs v) (bounds rs w)) (int_lt (signed x) (signed y))
         (below-signed (bounds rs v) (bounds rs w) x y (in-bounds v x one) (in-bounds w y two)) t is
@@ -330,10 +296,10 @@ module _ (queues : ℕ → Queue) (xs : List ℕ) where
         (below-is (bounds rs v) (bounds rs w) x y (in-bounds v x one) (in-bounds w y two)) t is
 
     pub branch-is : (op : BranchOp) (v w : KnownValue) (x y : ℕ) → Has queues xs v x → Has queues xs w y → (t : Bool)
-        → is_branch_taken rs op v w ≡ Some t → is_taken op x y ≡ t
+        → is_branch_taken queues rs op v w ≡ Some t → is_taken op x y ≡ t
     branch-is op v w x y one two t is = by (as_number v) (as_number w) refl refl is
       where
-        by : (k l : Option ℕ) → as_number v ≡ k → as_number w ≡ l → taken_known op k l (branch_part rs op v w) ≡ Some t → is_taken op x y ≡ t
+        by : (k l : Option ℕ) → as_number v ≡ k → as_number w ≡ l → taken_known op k l (branch_part queues rs op v w) ≡ Some t → is_taken op x y ≡ t
         by None l vk wl is = branch-part op v w x y one two t is
         by (Some a) None vk wl is = branch-part op v w x y one two t is
         by (Some a) (Some b) vk wl is = ap (λ z. is_taken op z y) (known-is queues xs v x a vk one) ∙ ap (is_taken op a) (known-is queues xs w y b wl two)

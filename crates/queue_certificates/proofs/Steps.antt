@@ -249,7 +249,7 @@ module _ (M : ℕ) (o : OpeningValue) (queues : ℕ → Queue) (N : ℕ) (own_of
 
   branch-goes : (op : BranchOp) (rs1 rs2 : Reg) (offset : ℤ) → IsAt s (Branch op rs1 rs2 offset)
       → Goes queues N own_of h owns (goes_by k (address k.pc offset)
-      (is_branch_taken k.ranges op (operand queues N own_of H h k rs1) (operand queues N own_of H h k rs2))) m cs
+      (is_branch_taken queues k.ranges op (operand queues N own_of H h k rs1) (operand queues N own_of H h k rs2))) m cs
       (access_of e) (advanced s v)
   branch-goes op rs1 rs2 offset here = by (is_taken op a b) refl
     where
@@ -260,7 +260,7 @@ module _ (M : ℕ) (o : OpeningValue) (queues : ℕ → Queue) (N : ℕ) (own_of
       b = register_value s.registers rs2
 
       told : Option Bool
-      told = is_branch_taken k.ranges op (operand queues N own_of H h k rs1) (operand queues N own_of H h k rs2)
+      told = is_branch_taken queues k.ranges op (operand queues N own_of H h k rs1) (operand queues N own_of H h k rs2)
 
       i : Instr
       i = Branch op rs1 rs2 offset
@@ -272,7 +272,7 @@ module _ (M : ℕ) (o : OpeningValue) (queues : ℕ → Queue) (N : ℕ) (own_of
       z = after_instruction s v (Branch op rs1 rs2 offset)
 
       right : (t : Bool)
-          → is_branch_taken k.ranges op (operand queues N own_of H h k rs1) (operand queues N own_of H h k rs2) ≡ Some t
+          → is_branch_taken queues k.ranges op (operand queues N own_of H h k rs1) (operand queues N own_of H h k rs2) ≡ Some t
           → is_taken op (register_value s.registers rs1) (register_value s.registers rs2) ≡ t
       right t is = branch-is queues xs k.ranges means.ranges op (operand queues N own_of H h k rs1)
           (operand queues N own_of H h k rs2) (register_value s.registers rs1) (register_value s.registers rs2)
@@ -300,7 +300,7 @@ module _ (M : ℕ) (o : OpeningValue) (queues : ℕ → Queue) (N : ℕ) (own_of
 
       by : (t : Bool) → is_taken op (register_value s.registers rs1) (register_value s.registers rs2) ≡ t
           → Goes queues N own_of h owns (goes_by k (address k.pc offset)
-          (is_branch_taken k.ranges op (operand queues N own_of H h k rs1) (operand queues N own_of H h k rs2))) m
+          (is_branch_taken queues k.ranges op (operand queues N own_of H h k rs1) (operand queues N own_of H h k rs2))) m
           cs (access_of e) (advanced s v)
       by true is = jump-goes _ (Branch op rs1 rs2 offset) (address s.pc offset) here
           (need_at here ∙ ap (λ t. if t then jump_need (address s.pc offset) else need.Inner) is) (among true is _ right)
@@ -1102,7 +1102,7 @@ module _ (M : ℕ) (o : OpeningValue) (queues : ℕ → Queue) (N : ℕ) (own_of
   instruction-goes past d (Jalr rd rs1 offset) ks here is = jalr-goes rd rs1 offset ks here is
   instruction-goes past d (Branch op rs1 rs2 offset) ks here is = subst (λ ts. Goes queues N own_of h owns ts m cs (access_of e) (advanced s v))
       (let e : goes_by k (address k.pc offset)
-      (is_branch_taken k.ranges op (operand queues N own_of H h k rs1) (operand queues N own_of H h k rs2)) ≡ ks =
+      (is_branch_taken queues k.ranges op (operand queues N own_of H h k rs1) (operand queues N own_of H h k rs2)) ≡ ks =
       cc in
       e) (branch-goes op rs1 rs2 offset here)
   instruction-goes past d (Load op rd rs1 offset) ks here is = load-goes op rd rs1 offset ks here is

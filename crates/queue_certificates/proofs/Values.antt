@@ -17,12 +17,12 @@ use Rattle.queue_certificates.proofs.Bounds.{value-between, value-below, fits-be
 pub word-of-remainder : (q : Queue) (n m : ℕ) → n % q.modulus ≡ m % q.modulus → index_word q n ≡ index_word q m
 word-of-remainder q n m same = ap (λ r. q.base + q.scale * r) (mod-sum n q.offset m q.offset q.modulus same refl)
 
-value-scaled : (q : Queue) (f : Form) (xs : List ℕ) → form_value (scaled q f) xs ≡ q.base + q.scale * form_value f xs
+pub value-scaled : (q : Queue) (f : Form) (xs : List ℕ) → form_value (scaled q f) xs ≡ q.base + q.scale * form_value f xs
 value-scaled q f xs = value-plus (number q.base) (times q.scale f) xs
     ∙ ap (λ n. n + form_value (times q.scale f) xs) (value-number q.base xs)
     ∙ ap (λ n. q.base + n) (value-times q.scale f xs)
 
-value-offset : (q : Queue) (f : Form) (xs : List ℕ) → form_value (plus f (number q.offset)) xs ≡ form_value f xs + q.offset
+pub value-offset : (q : Queue) (f : Form) (xs : List ℕ) → form_value (plus f (number q.offset)) xs ≡ form_value f xs + q.offset
 value-offset q f xs = value-plus f (number q.offset) xs ∙ ap (λ n. form_value f xs + n) (value-number q.offset xs)
 
 scaled-mod : (s m n : ℕ) → s * m ≡ 2 ^ 32 → s * (n % m) ≡ s * n % 2 ^ 32
@@ -167,4 +167,5 @@ module _ (queues : ℕ → Queue) where
       → (b.low ≤ x) × (x ≤ b.high)
   has-bounds rs xs any x b ranges is has = absurd (cc)
   has-bounds rs xs (index_for i f) x b ranges is has = absurd (cc)
-  has-bounds rs xs (linear f) x b ranges is has = subst (λ z. (b.low ≤ z) × (z ≤ b.high)) (sym has) (value-between rs f xs b ranges is)
+  has-bounds rs xs (linear f) x b ranges is has = let e = value-between (2 ^ 32) rs f xs b ranges is in
+      subst (λ z. (b.low ≤ z) × (z ≤ b.high)) (sym has) (e.1, e.2)

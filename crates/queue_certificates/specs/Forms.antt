@@ -1,5 +1,5 @@
 -- Numbers that depend on a few numbers that aren't known: sums of multiples of them.
-use Rattle.std.specs.Prelude.{ℕ, zero, suc, ◌+◌, ◌-◌, ◌*◌, ◌%◌, ◌^◌, ◌≤◌, ◌==◌, ◌&&◌, nat_le, if◌then◌else◌, Bool, true}
+use Rattle.std.specs.Prelude.{ℕ, zero, suc, ◌+◌, ◌-◌, ◌*◌, ◌%◌, ◌≤◌, ◌==◌, ◌&&◌, nat_le, if◌then◌else◌, Bool, true}
 use Rattle.std.specs.Prelude.{false, Option, None, Some, List, [], ◌∷◌, map}
 
 -- a constant, and of each variable how often it is taken
@@ -142,24 +142,24 @@ reduced n f = record { constant = f.constant % n; factors = map (λ m. m % n) f.
 abbrev pub remainder : List (Option ℕ) → Form → (n : ℕ) → Option Form
 remainder rs f n = if nat_le 1 n && fits_in (most rs (reduced n f)) (Some (n - 1)) then Some (reduced n f) else None
 
--- ---- bounds of a form as a word, where it doesn't wrap. A factor from 2 ^ 31 on counts as negative
+-- ---- bounds of a form's remainder by n, where it doesn't wrap. A factor that is no farther from n than from 0 counts as negative
 
 pub record Bounds : Type 0 where
   pub low : ℕ
   pub high : ℕ
 
-abbrev pub risings : List ℕ → List ℕ
-risings [] = []
-risings (m ∷ ms) = (if nat_le (2 ^ 31) (m % 2 ^ 32) then 0 else m % 2 ^ 32) ∷ risings ms
+abbrev pub risings : (n : ℕ) → List ℕ → List ℕ
+risings n [] = []
+risings n (m ∷ ms) = (if nat_le (n - m % n) (m % n) then 0 else m % n) ∷ risings n ms
 
-abbrev pub fallings : List ℕ → List ℕ
-fallings [] = []
-fallings (m ∷ ms) = (if nat_le (2 ^ 31) (m % 2 ^ 32) then 2 ^ 32 - m % 2 ^ 32 else 0) ∷ fallings ms
+abbrev pub fallings : (n : ℕ) → List ℕ → List ℕ
+fallings n [] = []
+fallings n (m ∷ ms) = (if nat_le (n - m % n) (m % n) then n - m % n else 0) ∷ fallings n ms
 
-abbrev pub bounds_between : (c : ℕ) → (up down : Option ℕ) → Option Bounds
-bounds_between c None down = None
-bounds_between c (Some up) None = None
-bounds_between c (Some up) (Some down) = if nat_le down c && nat_le (c + up + 1) (2 ^ 32) then Some (record { low = c - down; high = c + up }) else None
+abbrev pub bounds_between : (n c : ℕ) → (up down : Option ℕ) → Option Bounds
+bounds_between n c None down = None
+bounds_between n c (Some up) None = None
+bounds_between n c (Some up) (Some down) = if nat_le down c && nat_le (c + up + 1) n then Some (record { low = c - down; high = c + up }) else None
 
-abbrev pub bounds_of : List (Option ℕ) → Form → Option Bounds
-bounds_of rs f = bounds_between (f.constant % 2 ^ 32) (most_of_sum rs (risings f.factors)) (most_of_sum rs (fallings f.factors))
+abbrev pub bounds_of : (n : ℕ) → List (Option ℕ) → Form → Option Bounds
+bounds_of n rs f = bounds_between n (f.constant % n) (most_of_sum rs (risings n f.factors)) (most_of_sum rs (fallings n f.factors))

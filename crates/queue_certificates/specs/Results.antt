@@ -1,6 +1,6 @@
 -- What an instruction leaves in a register, as far as it is known. What isn't treated becomes any number.
 use Rattle.std.specs.Prelude.{ℕ, ℤ, pos, negsuc, ◌+◌, ◌-◌, ◌/◌, ◌%◌, ◌^◌, ◌==◌, ◌&&◌, not, nat_le, nat_lt}
-use Rattle.std.specs.Prelude.{if◌then◌else◌, Bool, true, false, Option, None, Some, List, count_ones}
+use Rattle.std.specs.Prelude.{if◌then◌else◌, Bool, true, false, Option, None, Some, List, map, count_ones}
 use Rattle.rv_decode.specs.declared.instruction.BranchOp.{BranchOp}
 use Rattle.rv_decode.specs.declared.instruction.BranchOp.TheVariants as branch
 use Rattle.rv_decode.specs.declared.instruction.ImmediateOp.{ImmediateOp}
@@ -10,8 +10,10 @@ use Rattle.rv_decode.specs.declared.instruction.ShiftOp.TheVariants as shift
 use Rattle.rv_decode.specs.declared.instruction.RegisterOp.{RegisterOp}
 use Rattle.rv_decode.specs.declared.instruction.RegisterOp.TheVariants as register
 use Rattle.hart.specs.Effects.{word, computed, with_immediate, shifted, is_taken, flag}
-use Rattle.queue_certificates.specs.Forms.{Form, number, first_variable, plus, times, lifted, vanishes, remainder, Bounds, bounds_of}
-use Rattle.queue_certificates.specs.States.{KnownValue, any, linear, index_for, value_by}
+use Rattle.slot_queue.specs.Queues.{Queue}
+use Rattle.queue_certificates.specs.Forms.{Form, number, first_variable, plus, times, lifted, vanishes, is_same, most, fits_in}
+use Rattle.queue_certificates.specs.Forms.{remainder, Bounds, bounds_of}
+use Rattle.queue_certificates.specs.States.{KnownValue, any, linear, index_for, value_by, scaled}
 
 -- a value over one variable more, the first, which is at most so much
 pub record Result : Type 0 where
@@ -102,15 +104,12 @@ taken_known op (Some a) (Some b) other = Some (is_taken op a b)
 module _ (ranges : List (Option ℕ)) where
   abbrev pub bounds : KnownValue → Option Bounds
   bounds any = None
-  bounds (linear f) = bounds_of ranges f
+  bounds (linear f) = bounds_of (2 ^ 32) ranges f
   bounds (index_for i f) = None
 
-  abbrev pub is_equal : KnownValue → KnownValue → Option Bool
-  is_equal any w = None
-  is_equal (index_for i f) w = None
-  is_equal (linear f) any = None
-  is_equal (linear f) (index_for i g) = None
-  is_equal (linear f) (linear g) = is_nothing (bounds_of ranges (plus f (times (2 ^ 32 - 1) g)))
+  -- whether their remainders by n are the same, where bounds of the difference tell
+  abbrev pub agrees : (n : ℕ) → Form → Form → Option Bool
+  agrees n f g = is_nothing (bounds_of n ranges (plus f (times (n - 1) g)))
 
   -- of a value and an immediate
   -- the low bits
@@ -161,14 +160,45 @@ module _ (ranges : List (Option ℕ)) where
   abbrev pub of_registers : RegisterOp → KnownValue → KnownValue → Result
   of_registers op v w = or_else (both (computed op) (as_number v) (as_number w)) (register_part op v w)
 
+module _ (queues : ℕ → Queue) (ranges : List (Option ℕ)) where
+  -- what a form comes to without base and scale, and that it is a word of a queue's index which stands for that
+  abbrev pub unscaled : Queue → Form → Form
+  unscaled q f = record { constant = (f.constant % 2 ^ 32 - q.base) / q.scale; factors = map (λ m. m % 2 ^ 32 / q.scale) f.factors }
+
+  abbrev pub is_scaled : Queue → Form → (k : Form) → Bool
+  is_scaled q f k = is_same (2 ^ 32) f (scaled q k) && fits_in (most ranges (scaled q k)) (Some (2 ^ 32 - 1))
+      && fits_in (most ranges k) (Some (q.modulus - 1))
+
+  -- the count that a value stands for as a word of queue i's index, with the offset, up to the modulus
+  abbrev pub standing : (i : ℕ) → KnownValue → Option Form
+  standing i any = None
+  standing i (linear f) = if is_scaled (queues i) f (unscaled (queues i) f) then Some (unscaled (queues i) f) else None
+  standing i (index_for j f) = if i == j then Some (plus f (number (queues i).offset)) else None
+
+  abbrev pub both_agree : (n : ℕ) → Option Form → Option Form → Option Bool
+  both_agree n None k = None
+  both_agree n (Some j) None = None
+  both_agree n (Some j) (Some k) = agrees ranges n j k
+
+  -- of two words of queue i's index
+  abbrev pub is_equal_word : (i : ℕ) → KnownValue → KnownValue → Option Bool
+  is_equal_word i v w = if nat_le 1 (queues i).scale then both_agree (queues i).modulus (standing i v) (standing i w) else None
+
+  abbrev pub is_equal : KnownValue → KnownValue → Option Bool
+  is_equal any w = None
+  is_equal (index_for i f) w = is_equal_word i (index_for i f) w
+  is_equal (linear f) any = None
+  is_equal (linear f) (index_for i g) = is_equal_word i (linear f) (index_for i g)
+  is_equal (linear f) (linear g) = agrees ranges (2 ^ 32) f g
+
   -- whether a branch is taken, where that is known
   abbrev pub branch_part : BranchOp → KnownValue → KnownValue → Option Bool
   branch_part branch.Equal v w = is_equal v w
   branch_part branch.NotEqual v w = negated (is_equal v w)
-  branch_part branch.Less v w = is_below_signed (bounds v) (bounds w)
-  branch_part branch.GreaterEqual v w = negated (is_below_signed (bounds v) (bounds w))
-  branch_part branch.LessUnsigned v w = is_below (bounds v) (bounds w)
-  branch_part branch.GreaterEqualUnsigned v w = negated (is_below (bounds v) (bounds w))
+  branch_part branch.Less v w = is_below_signed (bounds ranges v) (bounds ranges w)
+  branch_part branch.GreaterEqual v w = negated (is_below_signed (bounds ranges v) (bounds ranges w))
+  branch_part branch.LessUnsigned v w = is_below (bounds ranges v) (bounds ranges w)
+  branch_part branch.GreaterEqualUnsigned v w = negated (is_below (bounds ranges v) (bounds ranges w))
 
   abbrev pub is_branch_taken : BranchOp → KnownValue → KnownValue → Option Bool
   is_branch_taken op v w = taken_known op (as_number v) (as_number w) (branch_part op v w)

@@ -276,7 +276,7 @@ module _ (queues : ℕ → Queue) (N : ℕ) (own_of : ℕ → List ℕ) (H h : �
   follow k d (Some (Auipc rd upper)) = Some (with_result k rd.number (next_pc k.pc) (exactly ((k.pc + upper * 2 ^ 12) % 2 ^ 32)) ∷ [])
   follow k d (Some (Jal rd offset)) = Some (with_result k rd.number (address k.pc offset) (exactly (next_pc k.pc)) ∷ [])
   follow k d (Some (Jalr rd rs1 offset)) = jumping k rd.number offset (as_number (operand k rs1))
-  follow k d (Some (Branch op rs1 rs2 offset)) = Some (goes_by k (address k.pc offset) (is_branch_taken k.ranges op (operand k rs1) (operand k rs2)))
+  follow k d (Some (Branch op rs1 rs2 offset)) = Some (goes_by k (address k.pc offset) (is_branch_taken queues k.ranges op (operand k rs1) (operand k rs2)))
   follow k d (Some (Load op rd rs1 offset)) = loading k op rd.number (addresses k rs1 offset)
   follow k d (Some (Store op rs1 rs2 offset)) = storing k d (store_width op) (register_at k rs2) (address_value k rs1 offset) (addresses k rs1 offset)
   follow k d (Some (Immediate op rd rs1 n)) = Some (with_result k rd.number (next_pc k.pc) (of_immediate k.ranges op (operand k rs1) n) ∷ [])

@@ -1,0 +1,145 @@
+-- When two values are equal: by bounds of the difference of their forms, or of what they count as words of one index.
+use Rattle.std.proofs.Common.{ℕ, ◌+◌, ◌-◌, ◌*◌, ◌/◌, ◌%◌, ◌^◌, ◌<◌, ◌≤◌, ◌≡◌, ◌==◌, ◌&&◌, if◌then◌else◌, Bool, true, false}
+use Rattle.std.proofs.Common.{Option, Some, None, List, refl, sym, ◌∙◌, ap, subst, arith}
+use Rattle.std.specs.Prelude.{nat_lt, nat_le}
+use Rattle.std.proofs.lemmas.Bool.{and_parts, eqb-true, ltb-true, leb-true, eq-eqb, ne_eqb}
+use Rattle.std.proofs.Math.Nat.{mod-eq_of_lt, add-mul-mod_self_left, add-mul, mul-mod_left, mul_comm, mul-div_cancel_left}
+use Rattle.slot_queue.specs.Queues.{Queue, index_word}
+use Rattle.queue_certificates.specs.Forms.{Form, form_value, number, plus, times, is_same, most, fits_in, InRanges, Bounds, bounds_of}
+use Rattle.queue_certificates.specs.States.{KnownValue, any, linear, index_for, Has, scaled}
+use Rattle.queue_certificates.specs.Results.{is_nothing, agrees, unscaled, is_scaled, standing, both_agree, is_equal_word, is_equal}
+use Rattle.queue_certificates.proofs.Forms.{value-plus, value-times, mod-sum, same-value}
+use Rattle.queue_certificates.proofs.Bounds.{value-between, value-below, fits-below}
+use Rattle.queue_certificates.proofs.Values.{value-scaled, value-offset}
+
+-- a + (n - 1) * b is a multiple of n where a and b have the same remainder, and only there
+taken-away : (n a b : ℕ) → 1 ≤ n → ((a + (n - 1) * b) % n ≡ 0 → a % n ≡ b % n) × (a % n ≡ b % n → (a + (n - 1) * b) % n ≡ 0)
+taken-away n a b some = (
+  λ none. sym (add-mul-mod_self_left a n b) ∙ ap (λ y. y % n) (sym once)
+      ∙ mod-sum (a + (n - 1) * b) b 0 b n (none ∙ sym (mod-eq_of_lt some)) refl
+      ∙ (let e : 0 + b ≡ b = omega arith in ap (λ y. y % n) e),
+  λ same. mod-sum a ((n - 1) * b) b ((n - 1) * b) n same refl
+      ∙ (let e : b + (n - 1) * b ≡ b * n = whole in ap (λ y. y % n) e) ∙ mul-mod_left b n,
+)
+  where
+    whole : b + (n - 1) * b ≡ b * n
+    whole =
+        let e : (1 + (n - 1)) * b ≡ 1 * b + (n - 1) * b = add-mul 1 (n - 1) b in
+        let one : 1 + (n - 1) ≡ n = omega (arith, some) in
+        let all : n * b ≡ (1 + (n - 1)) * b = ap (λ y. y * b) (sym one) in
+        let turned : n * b ≡ b * n = mul_comm n b in
+        omega (arith, e, all, turned)
+
+    once : a + (n - 1) * b + b ≡ a + n * b
+    once = let turned : n * b ≡ b * n = mul_comm n b in omega (arith, whole, turned)
+
+module _ (queues : ℕ → Queue) (xs : List ℕ) (rs : List (Option ℕ)) (ranges : InRanges rs xs) where
+  agrees-is : (n : ℕ) (f g : Form) (t : Bool) → agrees rs n f g ≡ Some t → (1 ≤ n) × ((form_value f xs % n == form_value g xs % n) ≡ t)
+  agrees-is n f g t is = by (bounds_of n rs (plus f (times (n - 1) g))) refl is
+    where
+      value : form_value (plus f (times (n - 1) g)) xs ≡ form_value f xs + (n - 1) * form_value g xs
+      value = value-plus f (times (n - 1) g) xs ∙ ap (λ y. form_value f xs + y) (value-times (n - 1) g xs)
+
+      by : (o : Option Bounds) → bounds_of n rs (plus f (times (n - 1) g)) ≡ o → is_nothing o ≡ Some t
+          → (1 ≤ n) × ((form_value f xs % n == form_value g xs % n) ≡ t)
+      by None of is = absurd (cc)
+      by (Some b) of is = at (nat_lt 0 b.low) (b.high == 0) refl refl is
+        where
+          between : (1 ≤ n) × (b.low ≤ form_value (plus f (times (n - 1) g)) xs % n) × (form_value (plus f (times (n - 1) g)) xs % n ≤ b.high)
+          between = value-between n rs (plus f (times (n - 1) g)) xs b ranges of
+
+          differs : form_value (plus f (times (n - 1) g)) xs % n ≡ (form_value f xs + (n - 1) * form_value g xs) % n
+          differs = ap (λ y. y % n) value
+
+          at : (r s : Bool) → nat_lt 0 b.low ≡ r → (b.high == 0) ≡ s → (if r then Some false else (if s then Some true else None)) ≡ Some t
+              → (1 ≤ n) × ((form_value f xs % n == form_value g xs % n) ≡ t)
+          at true s low high is = (
+            between.0,
+            ne_eqb (form_value f xs % n) (form_value g xs % n) (λ same.
+                (let none : (form_value f xs + (n - 1) * form_value g xs) % n ≡ 0 =
+                (taken-away n (form_value f xs) (form_value g xs) between.0).1 same in
+                let some : 0 < b.low = ltb-true 0 b.low low in let u = between.1 in omega (arith, none, differs, some, u)))
+                ∙ (let e : false ≡ t = cc in e),
+          )
+          at false true low high is = (
+            between.0,
+            eq-eqb (form_value f xs % n) (form_value g xs % n) ((taken-away n (form_value f xs) (form_value g xs) between.0).0
+                (let zero-high : b.high ≡ 0 = eqb-true b.high 0 high in let u = between.2 in omega (arith, differs, zero-high, u)))
+                ∙ (let e : true ≡ t = cc in e),
+          )
+          at false false low high is = absurd (cc)
+
+  -- what a value stands for as a word of queue i's index
+  standing-is : (i : ℕ) (v : KnownValue) (x : ℕ) (k : Form) → 1 ≤ (queues i).modulus → standing queues rs i v ≡ Some k → Has queues xs v x
+      → x ≡ (queues i).base + (queues i).scale * (form_value k xs % (queues i).modulus)
+  standing-is i any x k some is has = absurd (cc)
+  standing-is i (index_for j f) x k some is has = by (i == j) refl is
+    where
+      by : (t : Bool) → (i == j) ≡ t → (if t then Some (plus f (number (queues i).offset)) else None) ≡ Some k
+          → x ≡ (queues i).base + (queues i).scale * (form_value k xs % (queues i).modulus)
+      by false other is = absurd (cc)
+      by true same is =
+          let e : plus f (number (queues i).offset) ≡ k = cc in
+          has ∙ ap (λ n. index_word (queues n) (form_value f xs)) (sym (eqb-true i j same))
+          ∙ ap (λ n. (queues i).base + (queues i).scale * (n % (queues i).modulus)) (sym (value-offset (queues i) f xs) ∙ ap (λ g. form_value g xs) e)
+  standing-is i (linear f) x k some is has = by (is_scaled queues rs (queues i) f (unscaled queues rs (queues i) f)) refl is
+    where
+      q : Queue
+      q = queues i
+
+      j : Form
+      j = unscaled queues rs (queues i) f
+
+      at : (j : Form) → is_scaled queues rs (queues i) f j ≡ true
+          → x ≡ (queues i).base + (queues i).scale * (form_value j xs % (queues i).modulus)
+      at j ok =
+          let p2 = and_parts (is_same (2 ^ 32) f (scaled (queues i) j) && fits_in (most rs (scaled (queues i) j)) (Some (2 ^ 32 - 1)))
+          (fits_in (most rs j) (Some ((queues i).modulus - 1))) ok in
+          let p1 = and_parts (is_same (2 ^ 32) f (scaled (queues i) j)) (fits_in (most rs (scaled (queues i) j)) (Some (2 ^ 32 - 1))) p2.0 in
+          let low : form_value (scaled (queues i) j) xs ≤ 2 ^ 32 - 1 =
+          fits-below (most rs (scaled (queues i) j)) (Some (2 ^ 32 - 1)) (form_value (scaled (queues i) j) xs) p1.1
+          (λ n at. value-below rs (scaled (queues i) j) xs n ranges at) in
+          let less : form_value j xs ≤ (queues i).modulus - 1 =
+          fits-below (most rs j) (Some ((queues i).modulus - 1)) (form_value j xs) p2.1 (λ n at. value-below rs j xs n ranges at) in
+          has ∙ same-value (2 ^ 32) f (scaled (queues i) j) xs p1.0 ∙ mod-eq_of_lt (omega (arith, low)) ∙ value-scaled (queues i) j xs
+          ∙ ap (λ n. (queues i).base + (queues i).scale * n) (sym (mod-eq_of_lt (omega (arith, less, some))))
+
+      by : (t : Bool) → is_scaled queues rs (queues i) f (unscaled queues rs (queues i) f) ≡ t
+          → (if t then Some (unscaled queues rs (queues i) f) else None) ≡ Some k
+          → x ≡ (queues i).base + (queues i).scale * (form_value k xs % (queues i).modulus)
+      by false other is = absurd (cc)
+      by true ok is = subst (λ g. x ≡ (queues i).base + (queues i).scale * (form_value g xs % (queues i).modulus))
+          (let e : unscaled queues rs (queues i) f ≡ k = cc in e) (at (unscaled queues rs (queues i) f) ok)
+
+  equal-words : (base scale a b : ℕ) (t : Bool) → 1 ≤ scale → (a == b) ≡ t → (base + scale * a == base + scale * b) ≡ t
+  equal-words base scale a b true some is = eq-eqb (base + scale * a) (base + scale * b) (ap (λ n. base + scale * n) (eqb-true a b is))
+  equal-words base scale a b false some is = ne_eqb (base + scale * a) (base + scale * b) (λ same.
+      (let e : scale * a ≡ scale * b = omega (arith, same) in
+      let one : a ≡ b = sym (mul-div_cancel_left a some) ∙ ap (λ n. n / scale) e ∙ mul-div_cancel_left b some in
+      let no : true ≡ false = sym (eq-eqb a b one) ∙ is in cc))
+
+  equal-word : (i : ℕ) (v w : KnownValue) (x y : ℕ) → Has queues xs v x → Has queues xs w y → (t : Bool)
+      → is_equal_word queues rs i v w ≡ Some t → (x == y) ≡ t
+  equal-word i v w x y one two t is = by (nat_le 1 (queues i).scale) refl is
+    where
+      both : 1 ≤ (queues i).scale → (j k : Option Form) → standing queues rs i v ≡ j → standing queues rs i w ≡ k
+          → both_agree queues rs (queues i).modulus j k ≡ Some t → (x == y) ≡ t
+      both scale None k left right is = absurd (cc)
+      both scale (Some j) None left right is = absurd (cc)
+      both scale (Some j) (Some k) left right is =
+          let a = agrees-is (queues i).modulus j k t is in
+          ap (λ n. n == y) (standing-is i v x j a.0 left one)
+          ∙ ap (λ n. (queues i).base + (queues i).scale * (form_value j xs % (queues i).modulus) == n) (standing-is i w y k a.0 right two)
+          ∙ equal-words (queues i).base (queues i).scale (form_value j xs % (queues i).modulus) (form_value k xs % (queues i).modulus) t scale a.1
+
+      by : (u : Bool) → nat_le 1 (queues i).scale ≡ u
+          → (if u then both_agree queues rs (queues i).modulus (standing queues rs i v) (standing queues rs i w) else None) ≡ Some t → (x == y) ≡ t
+      by false none is = absurd (cc)
+      by true some is = both (leb-true 1 (queues i).scale some) (standing queues rs i v) (standing queues rs i w) refl refl is
+
+  pub equal-is : (v w : KnownValue) (x y : ℕ) → Has queues xs v x → Has queues xs w y → (t : Bool) → is_equal queues rs v w ≡ Some t → (x == y) ≡ t
+  equal-is any w x y one two t is = absurd (cc)
+  equal-is (index_for i f) w x y one two t is = equal-word i (index_for i f) w x y one two t is
+  equal-is (linear f) any x y one two t is = absurd (cc)
+  equal-is (linear f) (index_for i g) x y one two t is = equal-word i (linear f) (index_for i g) x y one two t is
+  equal-is (linear f) (linear g) x y one two t is = ap (λ n. n == y) one ∙ ap (λ n. form_value f xs % 2 ^ 32 == n) two ∙ (agrees-is (2 ^ 32) f g t is).1
