@@ -10,7 +10,8 @@ use Rattle.memory.proofs.Bytes.{joined-same, byte_below, byte_of_joined, covers-
 use Rattle.step_machine.specs.declared.events.Entry.{Entry}
 use Rattle.step_machine.specs.History.{OpeningValue}
 use Rattle.step_machine.specs.Access.{Access, store, exchange, access_of}
-use Rattle.step_machine.specs.Entries.{hart_of, stored_by, written_by, own_store, land_of, write_of, pending, landed, opening_byte, memory_byte, own_stores, lands, read}
+use Rattle.step_machine.specs.Entries.{hart_of, stored_by, written_by, own_store, land_of, write_of, pending, landed}
+use Rattle.step_machine.specs.Entries.{opening_byte, memory_byte, own_stores, lands, read}
 use Rattle.step_machine.specs.Legal.{AllowedBy, Allowed}
 use Rattle.step_machine.proofs.Appended.{pending-last}
 use Rattle.step_machine.proofs.Stays.{memory_byte-other, memory_byte-write}
