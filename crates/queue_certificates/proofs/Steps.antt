@@ -1,5 +1,5 @@
 -- What an instruction comes to: one of the states that may follow, and allowed accesses. Here of all that load and store nothing.
-use Rattle.std.proofs.Common.{ℕ, ℤ, pos, ◌+ℤ◌, zero, suc, ◌+◌, ◌-◌, ◌*◌, ◌/◌, ◌%◌, ◌^◌, ◌<◌, ◌≤◌, ◌≡◌, ◌≢◌, ◌==◌, ◌&&◌}
+use Rattle.std.proofs.Common.{ℕ, ℤ, pos, negsuc, ◌+ℤ◌, zero, suc, ◌+◌, ◌-◌, ◌*◌, ◌/◌, ◌%◌, ◌^◌, ◌<◌, ◌≤◌, ◌≡◌, ◌≢◌, ◌==◌, ◌&&◌}
 use Rattle.std.proofs.Common.{◌||◌, ◌⊎◌, inl, inr, if◌then◌else◌, Bool, true, false, Option, Some, None, List, [], ◌∷◌}
 use Rattle.std.proofs.Common.{length, get_or, refl, sym, ◌∙◌, ap, subst, arith}
 use Rattle.std.specs.Prelude.{nat_lt, map, slice_index, set}
@@ -9,6 +9,8 @@ use Rattle.std.proofs.lemmas.List.{length-set, set-get_or, get_or-set_same, get_
 use Rattle.rv_decode.specs.Meaning.{meaning}
 use Rattle.rv_decode.specs.declared.instruction.Reg.{Reg}
 use Rattle.rv_decode.specs.declared.instruction.BranchOp.{BranchOp}
+use Rattle.rv_decode.specs.declared.instruction.ImmediateOp.{ImmediateOp}
+use Rattle.rv_decode.specs.declared.instruction.ImmediateOp.TheVariants as immediate
 use Rattle.rv_decode.specs.declared.instruction.LoadOp.{LoadOp}
 use Rattle.rv_decode.specs.declared.instruction.LoadOp.TheVariants as load_op
 use Rattle.rv_decode.specs.declared.instruction.AmoOp.{AmoOp}
@@ -43,7 +45,7 @@ use Rattle.slot_queue.specs.Ownership.{hart, index, party_of, after_load as afte
 use Rattle.owned_run.specs.Certified.{View, AllCounts, number_seen, view_then, Acts, ReadsFrom, IsSameFor, LoadsOwned, OwnsSlotsOf}
 use Rattle.queue_certificates.specs.Forms.{Form, form_value, number, plus, minus, is_same, most, fits_in, lifted, Bounds}
 use Rattle.queue_certificates.specs.States.{KnownValue, any, linear, index_for, Share, no_share, share_by, KnownState}
-use Rattle.queue_certificates.specs.States.{value_by, state_by, plain, is_within, Has, HasShare, MeansAt, Means}
+use Rattle.queue_certificates.specs.States.{value_by, state_by, scaled, plain, is_within, Has, HasShare, MeansAt, Means}
 use Rattle.queue_certificates.specs.Results.{Result, just, exactly, as_number, bounds, sum_of, of_immediate, of_shift, of_registers, is_branch_taken}
 use Rattle.queue_certificates.specs.Steps.{with_register, with_result, going_to, goes_by, operand, jumping}
 use Rattle.queue_certificates.specs.Steps.{called as called_state, follow, register_at, instruction_at, loads_owned}
@@ -52,13 +54,14 @@ use Rattle.queue_certificates.specs.Steps.{address_value, anywhere, is_one, is_w
 use Rattle.queue_certificates.specs.Steps.{is_own_word, word_loaded, index_loaded, value_loaded, zero_extended}
 use Rattle.queue_certificates.specs.Steps.{last_below, is_just, may_load, after_load, looked_word, owned_then}
 use Rattle.queue_certificates.specs.Steps.{looked_share, back_of, loading, all_below, shares_moved, moved_share}
-use Rattle.queue_certificates.specs.Steps.{may_move, may_fill, may_store, leaves_words, is_off, is_owned, is_apart}
+use Rattle.queue_certificates.specs.Steps.{is_copy, immediate_result, is_cut, may_move, may_fill, may_store, leaves_words, is_off, is_owned, is_apart}
 use Rattle.queue_certificates.specs.Steps.{storable, word_then, words_then, after_store, storing}
-use Rattle.queue_certificates.proofs.Values.{has-plain, known-is, has-bounds, within}
+use Rattle.queue_certificates.proofs.Values.{word-linear, has-plain, known-is, has-bounds, within}
+use Rattle.queue_certificates.proofs.Forms.{same-value}
 use Rattle.queue_certificates.proofs.Results.{word-of-sum, word-small, word-has, sum-has, Gives, just-gives}
 use Rattle.queue_certificates.proofs.Results.{exactly-gives, immediate-gives, shift-gives, register-gives, branch-is}
 use Rattle.queue_certificates.proofs.States.{means-result, means-going, means-lifted, means-moved, means-frame, written-has, at-below}
-use Rattle.queue_certificates.proofs.Stores.{apart-from, stored-number, left-number, stored-whole, stored-word}
+use Rattle.queue_certificates.proofs.Stores.{stored-low, apart-from, stored-number, left-number, stored-whole, stored-word}
 use Rattle.queue_certificates.proofs.Stores.{keeps-off, Stored, stays-off, stays-filled, moves-on, owned-slots}
 use Rattle.queue_certificates.proofs.Stores.{off-slots}
 use Rattle.queue_certificates.proofs.Bounds.{value-below, fits-below}
@@ -132,6 +135,15 @@ quiet-owns q p c (load a width v) quiet = absurd quiet
 quiet-owns q p c (store w) quiet = absurd quiet
 quiet-owns q p c (exchange a old new) quiet = absurd quiet
 quiet-owns q p c land quiet = absurd quiet
+
+copied : (op : ImmediateOp) (n : ℤ) → is_copy op n ≡ true → (x : ℕ) → x < 2 ^ 32 → with_immediate op x n ≡ x
+copied immediate.Add (pos n) is x small = word-of-sum x (pos n) ∙ (let none : n ≡ 0 = eqb-true n 0 is in omega (arith, none, small))
+copied immediate.Add (negsuc n) is x small = absurd (cc)
+copied immediate.SetLess n is x small = absurd (cc)
+copied immediate.SetLessUnsigned n is x small = absurd (cc)
+copied immediate.Xor n is x small = absurd (cc)
+copied immediate.Or n is x small = absurd (cc)
+copied immediate.And n is x small = absurd (cc)
 
 module _ (queues : ℕ → Queue) (N : ℕ) (own_of : ℕ → List ℕ) (h : ℕ) where
   -- one of these states says what is so
@@ -375,6 +387,29 @@ module _ (M : ℕ) (o : OpeningValue) (queues : ℕ → Queue) (N : ℕ) (own_of
           → Goes queues N own_of h owns (called_state k ∷ []) m cs (access_of e) (advanced s v)
       first true needs = gives (slice_get s.inbox 0) needs
       first false needs = second (slice_index s.registers 17 == 2) needs
+
+  storable-has : (n x : ℕ) (u : KnownValue) → Has queues xs u x → (Has queues xs u x → x < 2 ^ 32 → n ≡ x) → Has queues xs (storable queues N own_of H h u) n
+  storable-has n x any has is = tt
+  storable-has n x (linear f) has is = is has (subst (λ y. y < 2 ^ 32) (sym has) (mod-lt (form_value f xs) (omega arith))) ∙ has
+  storable-has n x (index_for i f) has is = by (nat_lt i N) refl
+    where
+      by : (t : Bool) → nat_lt i N ≡ t → Has queues xs (if t then index_for i f else any) n
+      by false other = tt
+      by true listed =
+          let less : i < N = ltb-true i N listed in
+          let small : index_word (queues i) (form_value f xs) < 256 ^ (queues i).index_width = word-fits (queues i) (fine i less).0 (form_value f xs) in
+          let four : 256 ^ (queues i).index_width ≤ 2 ^ 32 = pow-le-pow_right {n = 256} (omega arith) {i = (queues i).index_width} {j = 4} (fine i less).2 in
+          is has (omega (arith, has, small, four)) ∙ has
+
+  immediate-result : (op : ImmediateOp) (v : KnownValue) (x : ℕ) (n : ℤ) → Has queues xs v x
+      → Gives queues xs (immediate_result queues N own_of H h k op v n) (with_immediate op x n)
+  immediate-result op v x n has = by (is_copy op n) refl
+    where
+      by : (t : Bool) → is_copy op n ≡ t
+          → Gives queues xs (if t then just (storable queues N own_of H h v) else of_immediate k.ranges op v n) (with_immediate op x n)
+      by false other = immediate-gives queues xs k.ranges means.ranges op v x n has
+      by true copy = just-gives queues xs (storable queues N own_of H h v) (with_immediate op x n)
+          (storable-has (with_immediate op x n) x v has (λ has small. copied op n copy x small))
 
   -- ---- loads and stores: where they point, and that the hart stops where it may not
 
@@ -671,6 +706,31 @@ module _ (M : ℕ) (o : OpeningValue) (queues : ℕ → Queue) (N : ℕ) (own_of
           w.whole,
         )
 
+    -- the word that a move stores, also where its number is cut to the index's bytes
+    moved-word : (i : ℕ) → i < N → (f : Form) → store_width op ≡ (queues i).index_width
+        → (is_within queues k.ranges vx (index_for i f) || is_cut (queues i) vx f) ≡ true → stored op x ≡ index_word (queues i) (form_value f xs)
+    moved-word i less f width ok = elim (or_cases (is_within queues k.ranges vx (index_for i f)) (is_cut (queues i) vx f) ok) [
+      | inl whole ↦ (
+          let word : x ≡ index_word (queues i) (form_value f xs) = within queues k.ranges xs means.ranges vx (index_for i f) x whole has-x in
+          let small : x < 256 ^ (queues i).index_width = subst (λ n. n < 256 ^ (queues i).index_width) (sym word)
+          (word-fits (queues i) (fine i less).0 (form_value f xs)) in
+          stored-whole op x (subst (λ n. x < 256 ^ n) (sym width) small) ∙ word)
+      | inr low ↦ cut vx has-x low
+    ]
+      where
+        cut : (u : KnownValue) → Has queues xs u x → is_cut (queues i) u f ≡ true → stored op x ≡ index_word (queues i) (form_value f xs)
+        cut any has low = absurd (cc)
+        cut (index_for j g) has low = absurd (cc)
+        cut (linear g) has low =
+            let p2 = and_parts (((queues i).scale * (queues i).modulus == 256 ^ (queues i).index_width) && nat_lt (queues i).base (queues i).scale)
+            (is_same (256 ^ (queues i).index_width) g (scaled (queues i) (plus f (number (queues i).offset)))) low in
+            let p1 = and_parts ((queues i).scale * (queues i).modulus == 256 ^ (queues i).index_width) (nat_lt (queues i).base (queues i).scale) p2.0 in
+            stored-low op x (form_value g xs) has ∙ ap (λ n. form_value g xs % 256 ^ n) width
+            ∙ same-value (256 ^ (queues i).index_width) g (scaled (queues i) (plus f (number (queues i).offset))) xs p2.1
+            ∙ sym (word-linear (256 ^ (queues i).index_width) (queues i) f xs
+            (pow-le-pow_right {n = 256} (omega arith) {i = 0} {j = (queues i).index_width} (omega arith))
+            (eqb-true ((queues i).scale * (queues i).modulus) (256 ^ (queues i).index_width) p1.0) (ltb-true (queues i).base (queues i).scale p1.1))
+
     party-store : (i : ℕ) (less : i < N) (p : Party) (mine : h ≡ hart (queues i) p)
         → Stored (queues i) (fine i less).0 p (cs i) xs (get_or k.shares i no_share) (means.shares i less p mine) w
         (get_or (shares_moved queues N own_of H h k.shares d move) i no_share)
@@ -685,23 +745,20 @@ module _ (M : ℕ) (o : OpeningValue) (queues : ℕ → Queue) (N : ℕ) (own_of
         by true just ok =
             let here = moved-here i just p mine less in
             let p1 = and_parts
-            (is_within queues k.ranges vx (index_for i (plus (get_or k.shares i no_share).own d)) && is_same 0
+            ((is_within queues k.ranges vx (index_for i (plus (get_or k.shares i no_share).own d))
+            || is_cut (queues i) vx (plus (get_or k.shares i no_share).own d)) && is_same 0
             (plus d (minus (get_or k.shares i no_share).owned d)) (get_or k.shares i no_share).owned
             && fits_in (most k.ranges d) (Some ((queues i).modulus - 1))) (nat_lt i (length k.shares)) ok in
             let p2 = and_parts
-            (is_within queues k.ranges vx (index_for i (plus (get_or k.shares i no_share).own d)) && is_same 0
+            ((is_within queues k.ranges vx (index_for i (plus (get_or k.shares i no_share).own d))
+            || is_cut (queues i) vx (plus (get_or k.shares i no_share).own d)) && is_same 0
             (plus d (minus (get_or k.shares i no_share).owned d)) (get_or k.shares i no_share).owned)
             (fits_in (most k.ranges d) (Some ((queues i).modulus - 1))) p1.0 in
             let p3 =
-            and_parts (is_within queues k.ranges vx (index_for i (plus (get_or k.shares i no_share).own d)))
+            and_parts (is_within queues k.ranges vx (index_for i (plus (get_or k.shares i no_share).own d))
+            || is_cut (queues i) vx (plus (get_or k.shares i no_share).own d))
             (is_same 0 (plus d (minus (get_or k.shares i no_share).owned d)) (get_or k.shares i no_share).owned)
             p2.0 in
-            let word : x ≡ index_word (queues i) (form_value (plus (get_or k.shares i no_share).own d) xs) =
-            within queues k.ranges xs means.ranges vx (index_for i (plus (get_or k.shares i no_share).own d)) x p3.0
-            has-x in
-            let small : x < 256 ^ (queues i).index_width = subst (λ n. n < 256 ^ (queues i).index_width) (sym word)
-            (word-fits (queues i) (fine i less).0 (form_value (plus (get_or k.shares i no_share).own d) xs)) in
-            let fits : x < 256 ^ store_width op = subst (λ n. x < 256 ^ n) (sym here.2) small in
             let most-d : form_value d xs ≤ (queues i).modulus - 1 =
             fits-below (most k.ranges d) (Some ((queues i).modulus - 1)) (form_value d xs) p2.1
             (λ n is. value-below k.ranges d xs n means.ranges is) in
@@ -712,7 +769,8 @@ module _ (M : ℕ) (o : OpeningValue) (queues : ℕ → Queue) (N : ℕ) (own_of
             (subst (Stored (queues i) (fine i less).0 p (cs i) xs (get_or k.shares i no_share) (means.shares i less p mine) w)
             (sym (set-share k.shares d i (ltb-true i (length k.shares) p1.1)))
             (moves-on (queues i) (fine i less).0 p (cs i) xs (get_or k.shares i no_share)
-            (means.shares i less p mine) w d here.1 here.2 (stored-whole op x fits ∙ word) p3.1
+            (means.shares i less p mine) w d here.1 here.2
+            (moved-word i less (plus (get_or k.shares i no_share).own d) here.2 p3.0) p3.1
             (omega (arith, most-d, one))))
         by false other ok = subst (Stored (queues i) (fine i less).0 p (cs i) xs (get_or k.shares i no_share) (means.shares i less p mine) w)
             (sym (left-share k.shares d move i other))
@@ -766,19 +824,6 @@ module _ (M : ℕ) (o : OpeningValue) (queues : ℕ → Queue) (N : ℕ) (own_of
           ]
     ]
 
-    storable-has : (n : ℕ) (u : KnownValue) → Has queues xs u x → (Has queues xs u x → x < 2 ^ 32 → n ≡ x) → Has queues xs (storable queues N own_of H h u) n
-    storable-has n any has is = tt
-    storable-has n (linear f) has is = is has (subst (λ y. y < 2 ^ 32) (sym has) (mod-lt (form_value f xs) (omega arith))) ∙ has
-    storable-has n (index_for i f) has is = by (nat_lt i N) refl
-      where
-        by : (t : Bool) → nat_lt i N ≡ t → Has queues xs (if t then index_for i f else any) n
-        by false other = tt
-        by true listed =
-            let less : i < N = ltb-true i N listed in
-            let small : index_word (queues i) (form_value f xs) < 256 ^ (queues i).index_width = word-fits (queues i) (fine i less).0 (form_value f xs) in
-            let four : 256 ^ (queues i).index_width ≤ 2 ^ 32 = pow-le-pow_right {n = 256} (omega arith) {i = (queues i).index_width} {j = 4} (fine i less).2 in
-            is has (omega (arith, has, small, four)) ∙ has
-
     word-then : (own v : ℕ) (u : KnownValue) → Has queues xs u (number_seen m own 4)
         → Has queues xs (word_then queues N own_of H h b (store_width op) vx own u)
         (number_seen (view_then (store w) m) own 4)
@@ -793,7 +838,7 @@ module _ (M : ℕ) (o : OpeningValue) (queues : ℕ → Queue) (N : ℕ) (own_of
             let front = and_parts (is_one b) (b.low == own) parts.0 in
             let place : a ≡ own = one-place b a front.0 low high ∙ eqb-true b.low own front.1 in
             let wide : store_width op ≡ 4 = eqb-true (store_width op) 4 parts.1 in
-            storable-has (number_seen (view_then (store w) m) own 4) vx has-x (λ has small.
+            storable-has (number_seen (view_then (store w) m) own 4) x vx has-x (λ has small.
             subst (λ n. number_seen (view_then (store w) m) n 4 ≡ x) place
             (subst (λ z. number_seen (view_then (store z) m) a 4 ≡ x)
             (sym (ap (λ n. write a n (stored op x)) wide ∙ ap (write a 4) (stored-word op x wide)))
@@ -1110,9 +1155,8 @@ module _ (M : ℕ) (o : OpeningValue) (queues : ℕ → Queue) (N : ℕ) (own_of
   instruction-goes past d (Immediate op rd rs1 n) ks here is = inner-goes ks (Immediate op rd rs1 n) here (need_at here)
       (exact-goes ks (Immediate op rd rs1 n) rd (next_pc k.pc)
       (with_immediate op (register_value s.registers rs1) n)
-      (of_immediate k.ranges op (operand queues N own_of H h k rs1) n)
-      (immediate-gives queues xs k.ranges means.ranges op (operand queues N own_of H h k rs1)
-      (register_value s.registers rs1) n (operand-has rs1)) (ap next_pc means.pc) refl is)
+      (immediate_result queues N own_of H h k op (operand queues N own_of H h k rs1) n)
+      (immediate-result op (operand queues N own_of H h k rs1) (register_value s.registers rs1) n (operand-has rs1)) (ap next_pc means.pc) refl is)
   instruction-goes past d (Shift op rd rs1 amount) ks here is = inner-goes ks (Shift op rd rs1 amount) here (need_at here)
       (exact-goes ks (Shift op rd rs1 amount) rd (next_pc k.pc) (shifted op (register_value s.registers rs1) amount)
       (of_shift k.ranges op (operand queues N own_of H h k rs1) amount)

@@ -1,9 +1,11 @@
 -- What an instruction makes of a known state: the states that may follow, or nothing where it isn't shown that it may be executed.
-use Rattle.std.specs.Prelude.{ℕ, ℤ, zero, suc, ◌+◌, ◌-◌, ◌*◌, ◌/◌, ◌%◌, ◌^◌, ◌==◌, ◌&&◌, ◌||◌, not, nat_le, nat_lt}
+use Rattle.std.specs.Prelude.{ℕ, ℤ, pos, zero, suc, ◌+◌, ◌-◌, ◌*◌, ◌/◌, ◌%◌, ◌^◌, ◌==◌, ◌&&◌, ◌||◌, not, nat_le, nat_lt}
 use Rattle.std.specs.Prelude.{if◌then◌else◌, Bool, true, false, Option, None, Some, List, [], ◌∷◌, map, length, get_or}
 use Rattle.std.specs.Prelude.{set, slice_index}
 use Rattle.rv_decode.specs.Meaning.{meaning}
 use Rattle.rv_decode.specs.declared.instruction.Reg.{Reg}
+use Rattle.rv_decode.specs.declared.instruction.ImmediateOp.{ImmediateOp}
+use Rattle.rv_decode.specs.declared.instruction.ImmediateOp.TheVariants as immediate
 use Rattle.rv_decode.specs.declared.instruction.LoadOp.{LoadOp}
 use Rattle.rv_decode.specs.declared.instruction.LoadOp.TheVariants as load
 use Rattle.rv_decode.specs.declared.instruction.AmoOp.{AmoOp}
@@ -17,7 +19,8 @@ use Rattle.slot_queue.specs.Queues.{Queue}
 use Rattle.queue_parties.specs.Parties.{Party, the_sender, the_receiver, other}
 use Rattle.slot_queue.specs.Ownership.{party_of, index}
 use Rattle.queue_certificates.specs.Forms.{Form, number, first_variable, plus, times, remainder, lifted, is_same, most, fits_in, Bounds, minus}
-use Rattle.queue_certificates.specs.States.{KnownValue, any, linear, index_for, Share, no_share, KnownState, value_by, share_by, state_by, plain, is_within}
+use Rattle.queue_certificates.specs.States.{KnownValue, any, linear, index_for, Share, no_share, KnownState, value_by}
+use Rattle.queue_certificates.specs.States.{share_by, state_by, scaled, plain, is_within}
 use Rattle.queue_certificates.specs.Results.{Result, just, exactly, as_number, bounds, sum_of, of_immediate, of_shift, of_registers, is_branch_taken}
 
 -- at each number below n; and the last number below n at which it is so
@@ -64,6 +67,13 @@ is_owned rs q s (linear f) width = nat_lt (position_at q s.own.constant f.consta
 abbrev pub behind : Queue → Party → ℕ
 behind q the_sender = q.modulus - q.capacity % q.modulus
 behind q the_receiver = 0
+
+-- the bytes of the index that a store of this number writes are the word that stands for count f
+abbrev pub is_cut : Queue → KnownValue → (f : Form) → Bool
+is_cut q any f = false
+is_cut q (index_for i g) f = false
+is_cut q (linear g) f = (q.scale * q.modulus == 256 ^ q.index_width) && nat_lt q.base q.scale
+    && is_same (256 ^ q.index_width) g (scaled q (plus f (number q.offset)))
 
 abbrev pub anywhere : Option Bounds → Bounds
 anywhere None = record { low = 0; high = 2 ^ 32 - 1 }
@@ -132,6 +142,10 @@ register_at k r = if r.number == 0 then linear (number 0) else get_or k.register
 abbrev pub instruction_at : (code : List ℕ) (pc : ℕ) → Option Instr
 instruction_at code pc = if nat_lt pc (4 * length code) then meaning (slice_index code (pc / 4)) else None
 
+abbrev pub is_copy : ImmediateOp → ℤ → Bool
+is_copy immediate.Add (pos n) = n == 0
+is_copy op n = false
+
 -- of hart h, where there are N queues and H harts with own words at these addresses
 module _ (queues : ℕ → Queue) (N : ℕ) (own_of : ℕ → List ℕ) (H h : ℕ) where
   abbrev pub operand : KnownState → Reg → KnownValue
@@ -142,6 +156,16 @@ module _ (queues : ℕ → Queue) (N : ℕ) (own_of : ℕ → List ℕ) (H h : �
 
   abbrev pub addresses : KnownState → Reg → ℤ → Bounds
   addresses k r offset = anywhere (bounds k.ranges (address_value k r offset))
+
+  -- what a word is known as that holds a number of which this is known, so that it is less than 2 ^ 32
+  abbrev pub storable : KnownValue → KnownValue
+  storable any = any
+  storable (linear f) = linear f
+  storable (index_for i f) = if nat_lt i N then index_for i f else any
+
+  -- a copy keeps what is known
+  abbrev pub immediate_result : KnownState → ImmediateOp → KnownValue → ℤ → Result
+  immediate_result k op v n = if is_copy op n then just (storable v) else of_immediate k.ranges op v n
 
   -- ---- loads
 
@@ -201,7 +225,8 @@ module _ (queues : ℕ → Queue) (N : ℕ) (own_of : ℕ → List ℕ) (H h : �
 
   -- d positions are handed over: the word is of the count d further, and d are owned
   abbrev pub may_move : KnownState → (d : Form) → KnownValue → (i : ℕ) → Share → Bool
-  may_move k d v i s = is_within queues k.ranges v (index_for i (plus s.own d)) && is_same 0 (plus d (minus s.owned d)) s.owned
+  may_move k d v i s = (is_within queues k.ranges v (index_for i (plus s.own d)) || is_cut (queues i) v (plus s.own d))
+      && is_same 0 (plus d (minus s.owned d)) s.owned
       && fits_in (most k.ranges d) (Some ((queues i).modulus - 1)) && nat_lt i (length k.shares)
 
   abbrev pub may_fill : KnownState → Option Party → (place : KnownValue) (width : ℕ) → (i : ℕ) → Bool
@@ -215,11 +240,6 @@ module _ (queues : ℕ → Queue) (N : ℕ) (own_of : ℕ → List ℕ) (H h : �
   -- it writes no other hart's own word
   abbrev pub leaves_words : Bounds → (width : ℕ) → (g : ℕ) → Bool
   leaves_words b width g = (g == h) || all_below (length (own_of g)) (λ j. is_apart b width (slice_index (own_of g) j) 4)
-
-  abbrev pub storable : KnownValue → KnownValue
-  storable any = any
-  storable (linear f) = linear f
-  storable (index_for i f) = if nat_lt i N then index_for i f else any
 
   abbrev pub word_then : Bounds → (width : ℕ) → KnownValue → (a : ℕ) → KnownValue → KnownValue
   word_then b width v a w = if is_apart b width a 4 then w else (if is_one b && (b.low == a) && (width == 4) then storable v else any)
@@ -279,7 +299,7 @@ module _ (queues : ℕ → Queue) (N : ℕ) (own_of : ℕ → List ℕ) (H h : �
   follow k d (Some (Branch op rs1 rs2 offset)) = Some (goes_by k (address k.pc offset) (is_branch_taken queues k.ranges op (operand k rs1) (operand k rs2)))
   follow k d (Some (Load op rd rs1 offset)) = loading k op rd.number (addresses k rs1 offset)
   follow k d (Some (Store op rs1 rs2 offset)) = storing k d (store_width op) (register_at k rs2) (address_value k rs1 offset) (addresses k rs1 offset)
-  follow k d (Some (Immediate op rd rs1 n)) = Some (with_result k rd.number (next_pc k.pc) (of_immediate k.ranges op (operand k rs1) n) ∷ [])
+  follow k d (Some (Immediate op rd rs1 n)) = Some (with_result k rd.number (next_pc k.pc) (immediate_result k op (operand k rs1) n) ∷ [])
   follow k d (Some (Shift op rd rs1 amount)) = Some (with_result k rd.number (next_pc k.pc) (of_shift k.ranges op (operand k rs1) amount) ∷ [])
   follow k d (Some (Register op rd rs1 rs2)) = Some (with_result k rd.number (next_pc k.pc) (of_registers k.ranges op (operand k rs1) (operand k rs2)) ∷ [])
   follow k d (Some (Fence pred succ)) = Some (going_to k (next_pc k.pc) ∷ [])
