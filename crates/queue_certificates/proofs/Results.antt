@@ -21,7 +21,7 @@ use Rattle.hart.specs.Effects.{word, computed, with_immediate, shifted, is_taken
 use Rattle.slot_queue.specs.Queues.{Queue}
 use Rattle.queue_certificates.specs.Forms.{remainder_word, is_same, bounds_of, Form, form_value, number, first_variable, plus, times, InRanges, Bounds}
 use Rattle.queue_certificates.specs.States.{KnownValue, any, linear, index_for, Has}
-use Rattle.queue_certificates.specs.Results.{Result, just, exactly, any_up_to, as_number, or_else, both, is_below}
+use Rattle.queue_certificates.specs.Results.{Result, just, exactly, any_up_to, or_up_to, as_number, or_else, both, is_below}
 use Rattle.queue_certificates.specs.Results.{is_below_signed, set_less, negated, flag_of, shifted_left}
 use Rattle.queue_certificates.specs.Results.{shifted_right, sum_of, difference_of, number_and, taken_known}
 use Rattle.queue_certificates.specs.Results.{without, high_bits, shifted_back, low_bits, masked, masked_by, bounds, is_equal, immediate_part}
@@ -92,6 +92,11 @@ module _ (queues : ℕ → Queue) (xs : List ℕ) where
           let low : n < 2 ^ 32 = ltb-true n (2 ^ 32) small in
           let less : x < 2 ^ 32 = omega (arith, le, low) in
           (x, le, sym (ap (λ z. z % 2 ^ 32) (value-first x xs) ∙ mod-eq_of_lt less))
+
+  pub or-up-to-gives : (n x : ℕ) (v : KnownValue) → x ≤ n → Has queues xs v x → Gives (or_up_to n v) x
+  or-up-to-gives n x any low has = up-to-gives n x low
+  or-up-to-gives n x (linear f) low has = just-gives (linear f) x has
+  or-up-to-gives n x (index_for i f) low has = just-gives (index_for i f) x has
 
   else-gives : (a : Option ℕ) (r : Result) (x : ℕ) → ((n : ℕ) → a ≡ Some n → x ≡ n) → Gives r x → Gives (or_else a r) x
   else-gives None r x is gives = gives

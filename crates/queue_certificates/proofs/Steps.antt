@@ -2,9 +2,9 @@
 use Rattle.std.proofs.Common.{ℕ, ℤ, pos, negsuc, ◌+ℤ◌, zero, suc, ◌+◌, ◌-◌, ◌*◌, ◌/◌, ◌%◌, ◌^◌, ◌<◌, ◌≤◌, ◌≡◌, ◌≢◌, ◌==◌, ◌&&◌}
 use Rattle.std.proofs.Common.{◌||◌, ◌⊎◌, inl, inr, if◌then◌else◌, Bool, true, false, Option, Some, None, List, [], ◌∷◌}
 use Rattle.std.proofs.Common.{length, get_or, refl, sym, ◌∙◌, ap, subst, arith}
-use Rattle.std.specs.Prelude.{nat_lt, map, slice_index, set}
+use Rattle.std.specs.Prelude.{nat_lt, nat_le, ◌-ℤ◌, map, slice_index, set}
 use Rattle.std.specs.List.{slice_get}
-use Rattle.std.proofs.lemmas.Bool.{and_parts, or_cases, eqb-true, eqb-false, ltb-true, lt-ltb, cases_eq, cases_lt}
+use Rattle.std.proofs.lemmas.Bool.{and_parts, or_cases, eqb-true, eqb-false, ltb-true, leb-true, lt-ltb, cases_eq, cases_lt}
 use Rattle.std.proofs.lemmas.List.{length-set, set-get_or, get_or-set_same, get_or-set_other, length-map}
 use Rattle.rv_decode.specs.Meaning.{meaning}
 use Rattle.rv_decode.specs.declared.instruction.Reg.{Reg}
@@ -23,7 +23,7 @@ use Rattle.rv_decode.specs.declared.instruction.Instr.TheVariants.{Ebreak, Amo}
 use Rattle.hart.specs.State.{HartState}
 use Rattle.hart.specs.Steps.{need_of, advanced, advanced_by, after_instruction, jump_need, access_need, is_full, called, given}
 use Rattle.hart.specs.Effects.{register_value, written_at, word, next_pc, address, is_taken, with_immediate, shifted}
-use Rattle.hart.specs.Effects.{computed, extended, load_width, stored, store_width, updated}
+use Rattle.hart.specs.Effects.{computed, sign_extended, extended, load_width, stored, store_width, updated}
 use Rattle.hart.specs.declared.status.Stop.{Stop}
 use Rattle.hart.specs.declared.status.Stop.TheVariants as stop
 use Rattle.hart.specs.declared.status.Status.TheVariants as status
@@ -52,6 +52,7 @@ use Rattle.queue_certificates.specs.Steps.{called as called_state, follow, regis
 use Rattle.queue_certificates.specs.Steps.{reads_owned, updated_value, after_exchange, exchanging, addresses}
 use Rattle.queue_certificates.specs.Steps.{address_value, anywhere, is_one, is_whole, misses, is_look, is_own_index}
 use Rattle.queue_certificates.specs.Steps.{is_own_word, word_loaded, index_loaded, value_loaded, zero_extended}
+use Rattle.queue_certificates.specs.Steps.{is_index_below, loaded}
 use Rattle.queue_certificates.specs.Steps.{last_below, is_just, may_load, after_load, looked_word, owned_then}
 use Rattle.queue_certificates.specs.Steps.{looked_share, back_of, loading, all_below, shares_moved, moved_share}
 use Rattle.queue_certificates.specs.Steps.{is_copy, immediate_result, is_cut, may_move, may_fill, may_store, leaves_words, is_off, is_owned, is_apart}
@@ -59,7 +60,7 @@ use Rattle.queue_certificates.specs.Steps.{storable, word_then, words_then, afte
 use Rattle.queue_certificates.proofs.Values.{word-linear, has-plain, known-is, has-bounds, within}
 use Rattle.queue_certificates.proofs.Forms.{same-value}
 use Rattle.queue_certificates.proofs.Results.{word-of-sum, word-small, word-has, sum-has, Gives, just-gives}
-use Rattle.queue_certificates.proofs.Results.{exactly-gives, immediate-gives, shift-gives, register-gives, branch-is}
+use Rattle.queue_certificates.proofs.Results.{or-up-to-gives, exactly-gives, immediate-gives, shift-gives, register-gives, branch-is}
 use Rattle.queue_certificates.proofs.States.{means-result, means-going, means-lifted, means-moved, means-frame, written-has, at-below}
 use Rattle.queue_certificates.proofs.Stores.{stored-low, apart-from, stored-number, left-number, stored-whole, stored-word}
 use Rattle.queue_certificates.proofs.Stores.{keeps-off, Stored, stays-off, stays-filled, moves-on, owned-slots}
@@ -69,6 +70,8 @@ use Rattle.slot_queue.proofs.Codes.{word-small as word-fits}
 use Rattle.queue_parties.proofs.Parties.{Whose, mine as is_party, theirs as is_third, whose}
 use Rattle.memory.specs.declared.writes.Write.{Write}
 use Rattle.memory.specs.Writes.{write, covers}
+use Rattle.memory.proofs.Joined.{joined-below}
+use Rattle.std.proofs.lemmas.Nat.{mul-le}
 use Rattle.std.proofs.Math.Nat.{mod-lt, pow-le-pow_right}
 use Rattle.rv_decode.specs.declared.instruction.StoreOp.{StoreOp}
 use Rattle.queue_certificates.proofs.Accesses.{found-below, just-is, same-party, party-hart, hart-party, IsWholeIndex, whole-index, missed, Looked, looks, hits}
@@ -452,10 +455,33 @@ module _ (M : ℕ) (o : OpeningValue) (queues : ℕ → Queue) (N : ℕ) (own_of
 
   -- ---- loads
 
+  index-below : (ys : List ℕ) (limit : ℕ) (w : KnownValue) (x : ℕ) → is_index_below queues N own_of H h limit w ≡ true → Has queues ys w x → x < limit
+  index-below ys limit any x ok has = absurd (cc)
+  index-below ys limit (linear f) x ok has = absurd (cc)
+  index-below ys limit (index_for i f) x ok has =
+      let p = and_parts (nat_le 1 (queues i).modulus) (nat_lt ((queues i).base + (queues i).scale * ((queues i).modulus - 1)) limit) ok in
+      let some : 1 ≤ (queues i).modulus = leb-true 1 (queues i).modulus p.0 in
+      let under : (form_value f ys + (queues i).offset) % (queues i).modulus < (queues i).modulus = mod-lt (form_value f ys + (queues i).offset) some in
+      let most : (queues i).scale * ((form_value f ys + (queues i).offset) % (queues i).modulus) ≤ (queues i).scale * ((queues i).modulus - 1) =
+      mul-le (queues i).scale ((form_value f ys + (queues i).offset) % (queues i).modulus) (queues i).scale ((queues i).modulus - 1)
+      (omega arith) (omega (arith, under)) in
+      let low : (queues i).base + (queues i).scale * ((queues i).modulus - 1) < limit =
+      ltb-true ((queues i).base + (queues i).scale * ((queues i).modulus - 1)) limit p.1 in
+      omega (arith, has, most, low)
+
+  sign-kept : (ys : List ℕ) (bits : ℕ) (w : KnownValue) (x : ℕ) → Has queues ys w x
+      → Has queues ys (if is_index_below queues N own_of H h (2 ^ (bits - 1)) w then w else any) (sign_extended bits x)
+  sign-kept ys bits w x has = by (is_index_below queues N own_of H h (2 ^ (bits - 1)) w) refl
+    where
+      by : (t : Bool) → is_index_below queues N own_of H h (2 ^ (bits - 1)) w ≡ t → Has queues ys (if t then w else any) (sign_extended bits x)
+      by false other = tt
+      by true low = subst (Has queues ys w)
+          (sym (ap (λ t. if t then x else word (pos x -ℤ pos (2 ^ bits))) (lt-ltb x (2 ^ (bits - 1)) (index-below ys (2 ^ (bits - 1)) w x low has)))) has
+
   extended-has : (ys : List ℕ) (op : LoadOp) (w : KnownValue) (x : ℕ) → Has queues ys w x
       → Has queues ys (zero_extended queues N own_of H h op w) (extended op x)
-  extended-has ys load_op.Byte w x has = tt
-  extended-has ys load_op.Half w x has = tt
+  extended-has ys load_op.Byte w x has = sign-kept ys 8 w x has
+  extended-has ys load_op.Half w x has = sign-kept ys 16 w x has
   extended-has ys load_op.Word w x has = has
   extended-has ys load_op.ByteUnsigned w x has = has
   extended-has ys load_op.HalfUnsigned w x has = has
@@ -488,6 +514,16 @@ module _ (M : ℕ) (o : OpeningValue) (queues : ℕ → Queue) (N : ℕ) (own_of
           read ∙ ap (number_seen m a) w.whole ∙ ap (λ z. number_seen m z ((queues i).index_width)) (one-place b a parts.0 low high ∙ w.place) ∙ sees.own
           ∙ ap (index_word (queues i)) (means.shares i f.0 w.party mine).own
 
+  loaded-gives : (op : LoadOp) (w : KnownValue) (x : ℕ) → x < 256 ^ load_width op → Has queues xs w x
+      → Gives queues xs (loaded queues N own_of H h op w) (extended op x)
+  loaded-gives load_op.Byte w x low has =
+      just-gives queues xs (zero_extended queues N own_of H h load_op.Byte w) (extended load_op.Byte x) (extended-has xs load_op.Byte w x has)
+  loaded-gives load_op.Half w x low has =
+      just-gives queues xs (zero_extended queues N own_of H h load_op.Half w) (extended load_op.Half x) (extended-has xs load_op.Half w x has)
+  loaded-gives load_op.Word w x low has = just-gives queues xs w x has
+  loaded-gives load_op.ByteUnsigned w x low has = or-up-to-gives queues xs 255 x w (omega (arith, low)) has
+  loaded-gives load_op.HalfUnsigned w x low has = or-up-to-gives queues xs 65535 x w (omega (arith, low)) has
+
   load-keeps : (q : Queue) (t : Option Party) (c : QueueCounts) (a width x : ℕ) → KeepsAccess q t c (load a width x)
   load-keeps q None c a width x = tt
   load-keeps q (Some p) c a width x = tt
@@ -498,10 +534,11 @@ module _ (M : ℕ) (o : OpeningValue) (queues : ℕ → Queue) (N : ℕ) (own_of
       → Means queues N (own_of h) h (after_load queues N own_of H h k op rd.number b look) z m
       (λ i. after_access (queues i) (party_of (queues i) h) (load a (load_width op) v) (cs i))
   load-known op rd a b None z low high read is ok at regs =
-      let g = just-gives queues xs (zero_extended queues N own_of H h op (value_loaded queues N own_of H h k b (load_width op))) (extended op v)
-      (extended-has xs op (value_loaded queues N own_of H h k b (load_width op)) v (value-loaded b (load_width op) a v low high read)) in
+      let g = loaded-gives op (value_loaded queues N own_of H h k b (load_width op)) v
+      (subst (λ n. n < 256 ^ load_width op) (sym read) (joined-below (λ i. m (a + i)) (λ i. acts.bytes (a + i)) (load_width op)))
+      (value-loaded b (load_width op) a v low high read) in
       let z-means = means-result queues N (own_of h) h xs k s z m cs rd.number (next_pc k.pc) (extended op v)
-      (just (zero_extended queues N own_of H h op (value_loaded queues N own_of H h k b (load_width op))))
+      (loaded queues N own_of H h op (value_loaded queues N own_of H h k b (load_width op)))
       means (omega (arith, size, rd.below_32)) g.0 g.1 g.2 at regs in (
         g.0 ∷ xs,
         means-frame queues N (own_of h) h (g.0 ∷ xs) (after_load queues N own_of H h k op rd.number b None) z m m cs

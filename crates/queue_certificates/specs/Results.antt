@@ -30,6 +30,11 @@ exactly n = just (if nat_lt n (2 ^ 32) then linear (number n) else any)
 abbrev pub any_up_to : ℕ → Result
 any_up_to n = if nat_lt n (2 ^ 32) then record { most = n; value = linear first_variable } else just any
 
+-- what is known, or some number up to n
+abbrev pub or_up_to : (n : ℕ) → KnownValue → Result
+or_up_to n any = any_up_to n
+or_up_to n v = just v
+
 -- the number, where a value is one
 abbrev pub as_number : KnownValue → Option ℕ
 as_number any = None

@@ -21,7 +21,7 @@ use Rattle.slot_queue.specs.Ownership.{party_of, index}
 use Rattle.queue_certificates.specs.Forms.{Form, number, first_variable, plus, times, remainder, lifted, is_same, most, fits_in, Bounds, minus}
 use Rattle.queue_certificates.specs.States.{KnownValue, any, linear, index_for, Share, no_share, KnownState, value_by}
 use Rattle.queue_certificates.specs.States.{share_by, state_by, scaled, plain, is_within}
-use Rattle.queue_certificates.specs.Results.{Result, just, exactly, as_number, bounds, sum_of, of_immediate, of_shift, of_registers, is_branch_taken}
+use Rattle.queue_certificates.specs.Results.{Result, just, exactly, or_up_to, as_number, bounds, sum_of, of_immediate, of_shift, of_registers, is_branch_taken}
 
 -- at each number below n; and the last number below n at which it is so
 abbrev pub all_below : ℕ → (ℕ → Bool) → Bool
@@ -194,10 +194,22 @@ module _ (queues : ℕ → Queue) (N : ℕ) (own_of : ℕ → List ℕ) (H h : �
   abbrev pub value_loaded : KnownState → (b : Bounds) (width : ℕ) → KnownValue
   value_loaded k b width = index_loaded k (last_below N (is_own_index b width)) (word_loaded k (last_below (length (own_of h)) (is_own_word b width)))
 
+  -- the word of an index, each of which is below a limit
+  abbrev pub is_index_below : (limit : ℕ) → KnownValue → Bool
+  is_index_below limit any = false
+  is_index_below limit (linear f) = false
+  is_index_below limit (index_for i f) = nat_le 1 (queues i).modulus && nat_lt ((queues i).base + (queues i).scale * ((queues i).modulus - 1)) limit
+
+  -- a signed load leaves a number as it is if its highest bit is 0
   abbrev pub zero_extended : LoadOp → KnownValue → KnownValue
-  zero_extended load.Byte v = any
-  zero_extended load.Half v = any
+  zero_extended load.Byte v = if is_index_below (2 ^ 7) v then v else any
+  zero_extended load.Half v = if is_index_below (2 ^ 15) v then v else any
   zero_extended op v = v
+
+  abbrev pub loaded : LoadOp → KnownValue → Result
+  loaded load.ByteUnsigned v = or_up_to 255 v
+  loaded load.HalfUnsigned v = or_up_to 65535 v
+  loaded op v = just (zero_extended op v)
 
   abbrev pub looked_word : (i : ℕ) → Share → KnownValue
   looked_word i s = index_for i (plus (plus (lifted s.own) (owned_then s)) (number (back_of (queues i) (party_of (queues i) h))))
@@ -209,7 +221,7 @@ module _ (queues : ℕ → Queue) (N : ℕ) (own_of : ℕ → List ℕ) (H h : �
   })) { shares = set (map (share_by lifted) k.shares) i (looked_share s) }
 
   abbrev pub after_load : KnownState → LoadOp → (rd : ℕ) → Bounds → Option ℕ → KnownState
-  after_load k op rd b None = with_result k rd (next_pc k.pc) (just (zero_extended op (value_loaded k b (load_width op))))
+  after_load k op rd b None = with_result k rd (next_pc k.pc) (loaded op (value_loaded k b (load_width op)))
   after_load k op rd b (Some i) = after_look k op rd i (share_at k i)
 
   abbrev pub may_load : KnownState → Bounds → (width : ℕ) → Option ℕ → Bool
