@@ -2,13 +2,14 @@
 use Rattle.std.proofs.Common.{ℕ, ℤ, pos, negsuc, ◌+ℤ◌, zero, suc, ◌+◌, ◌-◌, ◌*◌, ◌/◌, ◌%◌, ◌^◌, ◌<◌, ◌≤◌, ◌≡◌, ◌≢◌, ◌==◌, ◌&&◌}
 use Rattle.std.proofs.Common.{◌||◌, ◌⊎◌, inl, inr, if◌then◌else◌, Bool, true, false, Option, Some, None, List, [], ◌∷◌}
 use Rattle.std.proofs.Common.{length, get_or, refl, sym, ◌∙◌, ap, subst, arith}
-use Rattle.std.specs.Prelude.{nat_lt, nat_le, ◌-ℤ◌, map, slice_index, set}
+use Rattle.std.specs.Prelude.{nat_lt, nat_le, ◌-ℤ◌, not, map, slice_index, slice_set, set}
 use Rattle.std.specs.List.{slice_get}
 use Rattle.std.proofs.lemmas.Bool.{and_parts, or_cases, eqb-true, eqb-false, ltb-true, leb-true, lt-ltb, cases_eq, cases_lt}
 use Rattle.std.proofs.lemmas.List.{length-set, set-get_or, get_or-set_same, get_or-set_other, length-map}
 use Rattle.rv_decode.specs.Meaning.{meaning}
 use Rattle.rv_decode.specs.declared.instruction.Reg.{Reg}
 use Rattle.rv_decode.specs.declared.instruction.BranchOp.{BranchOp}
+use Rattle.rv_decode.specs.declared.instruction.BranchOp.TheVariants as branch
 use Rattle.rv_decode.specs.declared.instruction.ImmediateOp.{ImmediateOp}
 use Rattle.rv_decode.specs.declared.instruction.ImmediateOp.TheVariants as immediate
 use Rattle.rv_decode.specs.declared.instruction.LoadOp.{LoadOp}
@@ -52,7 +53,7 @@ use Rattle.queue_certificates.specs.Steps.{called as called_state, follow, regis
 use Rattle.queue_certificates.specs.Steps.{reads_owned, updated_value, after_exchange, exchanging, addresses}
 use Rattle.queue_certificates.specs.Steps.{address_value, anywhere, is_one, is_whole, misses, is_look, is_own_index}
 use Rattle.queue_certificates.specs.Steps.{is_own_word, word_loaded, index_loaded, value_loaded, zero_extended}
-use Rattle.queue_certificates.specs.Steps.{is_index_below, loaded}
+use Rattle.queue_certificates.specs.Steps.{is_index_below, loaded, shared, with_equal, when_taken, when_passed}
 use Rattle.queue_certificates.specs.Steps.{last_below, is_just, may_load, after_load, looked_word, owned_then}
 use Rattle.queue_certificates.specs.Steps.{looked_share, back_of, loading, all_below, shares_moved, moved_share}
 use Rattle.queue_certificates.specs.Steps.{is_copy, immediate_result, is_cut, may_move, may_fill, may_store, leaves_words, is_off, is_owned, is_apart}
@@ -262,30 +263,72 @@ module _ (M : ℕ) (o : OpeningValue) (queues : ℕ → Queue) (N : ℕ) (own_of
       by true needs = inner-goes ks i here needs next
       by false needs = stop-goes ks stop.MisalignedJump needs
 
+  -- ---- branches
+
+  same-register : (n : ℕ) → written_at s.registers n (slice_index s.registers n) ≡ s.registers
+  same-register n = by (n == 0)
+    where
+      by : (t : Bool) → (if t then s.registers else slice_set s.registers n (slice_index s.registers n)) ≡ s.registers
+      by true = refl
+      by false = set-get_or s.registers n 0
+
+  -- what is so of a register may be known of it
+  learns : (r : Reg) (u : KnownValue) → Has queues xs u (register_value s.registers r)
+      → MeansAt queues N (own_of h) h xs (record k { registers = with_register k.registers r.number u }) s m cs
+  learns r u has = record {
+    ranges = means.ranges;
+    pc = means.pc;
+    registers = λ j. subst (λ zs. Has queues xs (get_or (with_register k.registers r.number u) j any) (slice_index zs j)) (same-register r.number)
+        (written-has queues N (own_of h) h xs k.registers s.registers r.number (slice_index s.registers r.number) u
+        means.registers (omega (arith, size, r.below_32)) has j);
+    words = means.words;
+    shares = means.shares;
+  }
+
+  equal-means : (rs1 rs2 : Reg) → register_value s.registers rs1 ≡ register_value s.registers rs2
+      → MeansAt queues N (own_of h) h xs (with_equal k rs1 rs2) s m cs
+  equal-means rs1 rs2 same = by (register_at k rs1) (register_at k rs2) (register-has rs1) (register-has rs2)
+    where
+      by : (v w : KnownValue) → Has queues xs v (register_value s.registers rs1) → Has queues xs w (register_value s.registers rs2)
+          → MeansAt queues N (own_of h) h xs (shared k rs1 rs2 v w) s m cs
+      by any w one two = learns rs1 w (subst (Has queues xs w) (sym same) two)
+      by (linear f) any one two = learns rs2 (linear f) (subst (Has queues xs (linear f)) same one)
+      by (index_for i f) any one two = learns rs2 (index_for i f) (subst (Has queues xs (index_for i f)) same one)
+      by (linear f) (linear g) one two = means
+      by (linear f) (index_for i g) one two = means
+      by (index_for i f) (linear g) one two = means
+      by (index_for i f) (index_for j g) one two = means
+
+  taken-means : (op : BranchOp) (rs1 rs2 : Reg) → is_taken op (register_value s.registers rs1) (register_value s.registers rs2) ≡ true
+      → MeansAt queues N (own_of h) h xs (when_taken k op rs1 rs2) s m cs
+  taken-means branch.Equal rs1 rs2 is = equal-means rs1 rs2 (eqb-true (register_value s.registers rs1) (register_value s.registers rs2) is)
+  taken-means branch.NotEqual rs1 rs2 is = means
+  taken-means branch.Less rs1 rs2 is = means
+  taken-means branch.GreaterEqual rs1 rs2 is = means
+  taken-means branch.LessUnsigned rs1 rs2 is = means
+  taken-means branch.GreaterEqualUnsigned rs1 rs2 is = means
+
+  passed-means : (op : BranchOp) (rs1 rs2 : Reg) → is_taken op (register_value s.registers rs1) (register_value s.registers rs2) ≡ false
+      → MeansAt queues N (own_of h) h xs (when_passed k op rs1 rs2) s m cs
+  passed-means branch.Equal rs1 rs2 is = means
+  passed-means branch.NotEqual rs1 rs2 none = equal-means rs1 rs2
+      (by (register_value s.registers rs1 == register_value s.registers rs2) refl none)
+    where
+      by : (t : Bool) → (register_value s.registers rs1 == register_value s.registers rs2) ≡ t → not t ≡ false
+          → register_value s.registers rs1 ≡ register_value s.registers rs2
+      by true is none = eqb-true (register_value s.registers rs1) (register_value s.registers rs2) is
+      by false is none = absurd (cc)
+  passed-means branch.Less rs1 rs2 is = means
+  passed-means branch.GreaterEqual rs1 rs2 is = means
+  passed-means branch.LessUnsigned rs1 rs2 is = means
+  passed-means branch.GreaterEqualUnsigned rs1 rs2 is = means
+
   branch-goes : (op : BranchOp) (rs1 rs2 : Reg) (offset : ℤ) → IsAt s (Branch op rs1 rs2 offset)
-      → Goes queues N own_of h owns (goes_by k (address k.pc offset)
+      → Goes queues N own_of h owns (goes_by (when_taken k op rs1 rs2) (when_passed k op rs1 rs2) (address k.pc offset) (next_pc k.pc)
       (is_branch_taken queues k.ranges op (operand queues N own_of H h k rs1) (operand queues N own_of H h k rs2))) m cs
       (access_of e) (advanced s v)
-  branch-goes op rs1 rs2 offset here = by (is_taken op a b) refl
+  branch-goes op rs1 rs2 offset here = by (is_taken op (register_value s.registers rs1) (register_value s.registers rs2)) refl
     where
-      a : ℕ
-      a = register_value s.registers rs1
-
-      b : ℕ
-      b = register_value s.registers rs2
-
-      told : Option Bool
-      told = is_branch_taken queues k.ranges op (operand queues N own_of H h k rs1) (operand queues N own_of H h k rs2)
-
-      i : Instr
-      i = Branch op rs1 rs2 offset
-
-      target : ℕ
-      target = address k.pc offset
-
-      z : HartState
-      z = after_instruction s v (Branch op rs1 rs2 offset)
-
       right : (t : Bool)
           → is_branch_taken queues k.ranges op (operand queues N own_of H h k rs1) (operand queues N own_of H h k rs2) ≡ Some t
           → is_taken op (register_value s.registers rs1) (register_value s.registers rs2) ≡ t
@@ -294,27 +337,35 @@ module _ (M : ℕ) (o : OpeningValue) (queues : ℕ → Queue) (N : ℕ) (own_of
           (operand-has rs1) (operand-has rs2) t is
 
       turned : is_taken op (register_value s.registers rs1) (register_value s.registers rs2) ≡ true
-          → Means queues N (own_of h) h (going_to k (address k.pc offset))
+          → Means queues N (own_of h) h (going_to (when_taken k op rs1 rs2) (address k.pc offset))
           (after_instruction s v (Branch op rs1 rs2 offset)) m cs
-      turned yes-taken = going-means (address k.pc offset) (after_instruction s v (Branch op rs1 rs2 offset))
-          (ap (λ t. if t then address s.pc offset else next_pc s.pc) yes-taken ∙ ap (λ x. address x offset) means.pc) refl
+      turned yes-taken = (
+        0 ∷ xs,
+        means-going queues N (own_of h) h xs (when_taken k op rs1 rs2) s (after_instruction s v (Branch op rs1 rs2 offset)) m cs (address k.pc offset)
+            (taken-means op rs1 rs2 yes-taken)
+            (ap (λ t. if t then address s.pc offset else next_pc s.pc) yes-taken ∙ ap (λ x. address x offset) means.pc) refl,
+      )
 
       onward : is_taken op (register_value s.registers rs1) (register_value s.registers rs2) ≡ false
-          → Means queues N (own_of h) h (going_to k (next_pc k.pc)) (after_instruction s v (Branch op rs1 rs2 offset)) m
-          cs
-      onward not-taken = going-means (next_pc k.pc) (after_instruction s v (Branch op rs1 rs2 offset))
-          (ap (λ t. if t then address s.pc offset else next_pc s.pc) not-taken ∙ ap next_pc means.pc) refl
+          → Means queues N (own_of h) h (going_to (when_passed k op rs1 rs2) (next_pc k.pc)) (after_instruction s v (Branch op rs1 rs2 offset)) m cs
+      onward not-taken = (
+        0 ∷ xs,
+        means-going queues N (own_of h) h xs (when_passed k op rs1 rs2) s (after_instruction s v (Branch op rs1 rs2 offset)) m cs (next_pc k.pc)
+            (passed-means op rs1 rs2 not-taken)
+            (ap (λ t. if t then address s.pc offset else next_pc s.pc) not-taken ∙ ap next_pc means.pc) refl,
+      )
 
       among : (t : Bool) → is_taken op (register_value s.registers rs1) (register_value s.registers rs2) ≡ t → (o : Option Bool)
           → ((u : Bool) → o ≡ Some u → is_taken op (register_value s.registers rs1) (register_value s.registers rs2) ≡ u)
-          → IsAmong queues N own_of h (goes_by k (address k.pc offset) o) (after_instruction s v (Branch op rs1 rs2 offset)) m cs
+          → IsAmong queues N own_of h (goes_by (when_taken k op rs1 rs2) (when_passed k op rs1 rs2) (address k.pc offset) (next_pc k.pc) o)
+          (after_instruction s v (Branch op rs1 rs2 offset)) m cs
       among true is None right = inl (turned is)
       among false is None right = inr (inl (onward is))
       among t is (Some true) right = inl (turned (right true refl))
       among t is (Some false) right = inl (onward (right false refl))
 
       by : (t : Bool) → is_taken op (register_value s.registers rs1) (register_value s.registers rs2) ≡ t
-          → Goes queues N own_of h owns (goes_by k (address k.pc offset)
+          → Goes queues N own_of h owns (goes_by (when_taken k op rs1 rs2) (when_passed k op rs1 rs2) (address k.pc offset) (next_pc k.pc)
           (is_branch_taken queues k.ranges op (operand queues N own_of H h k rs1) (operand queues N own_of H h k rs2))) m
           cs (access_of e) (advanced s v)
       by true is = jump-goes _ (Branch op rs1 rs2 offset) (address s.pc offset) here
@@ -1183,7 +1234,7 @@ module _ (M : ℕ) (o : OpeningValue) (queues : ℕ → Queue) (N : ℕ) (own_of
       (ap (λ n. address n offset) means.pc) refl is)
   instruction-goes past d (Jalr rd rs1 offset) ks here is = jalr-goes rd rs1 offset ks here is
   instruction-goes past d (Branch op rs1 rs2 offset) ks here is = subst (λ ts. Goes queues N own_of h owns ts m cs (access_of e) (advanced s v))
-      (let e : goes_by k (address k.pc offset)
+      (let e : goes_by (when_taken k op rs1 rs2) (when_passed k op rs1 rs2) (address k.pc offset) (next_pc k.pc)
       (is_branch_taken queues k.ranges op (operand queues N own_of H h k rs1) (operand queues N own_of H h k rs2)) ≡ ks =
       cc in
       e) (branch-goes op rs1 rs2 offset here)

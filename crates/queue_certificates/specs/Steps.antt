@@ -4,6 +4,8 @@ use Rattle.std.specs.Prelude.{if◌then◌else◌, Bool, true, false, Option, No
 use Rattle.std.specs.Prelude.{set, slice_index}
 use Rattle.rv_decode.specs.Meaning.{meaning}
 use Rattle.rv_decode.specs.declared.instruction.Reg.{Reg}
+use Rattle.rv_decode.specs.declared.instruction.BranchOp.{BranchOp}
+use Rattle.rv_decode.specs.declared.instruction.BranchOp.TheVariants as branch
 use Rattle.rv_decode.specs.declared.instruction.ImmediateOp.{ImmediateOp}
 use Rattle.rv_decode.specs.declared.instruction.ImmediateOp.TheVariants as immediate
 use Rattle.rv_decode.specs.declared.instruction.LoadOp.{LoadOp}
@@ -120,10 +122,11 @@ with_result k rd pc r = record (state_by lifted (Some r.most ∷ k.ranges) k) {
 abbrev pub going_to : KnownState → (pc : ℕ) → KnownState
 going_to k pc = record (state_by lifted (Some 0 ∷ k.ranges) k) { pc = pc }
 
-abbrev pub goes_by : KnownState → (target : ℕ) → Option Bool → List KnownState
-goes_by k target None = going_to k target ∷ going_to k (next_pc k.pc) ∷ []
-goes_by k target (Some true) = going_to k target ∷ []
-goes_by k target (Some false) = going_to k (next_pc k.pc) ∷ []
+-- from the one state where a branch is taken, and from the other where it isn't
+abbrev pub goes_by : (taken passed : KnownState) → (target next : ℕ) → Option Bool → List KnownState
+goes_by t p target next None = going_to t target ∷ going_to p next ∷ []
+goes_by t p target next (Some true) = going_to t target ∷ []
+goes_by t p target next (Some false) = going_to p next ∷ []
 
 -- where a register's value is known, it goes there
 abbrev pub jumping : KnownState → (rd : ℕ) → ℤ → Option ℕ → Option (List KnownState)
@@ -137,6 +140,24 @@ called k = record (going_to k (next_pc k.pc)) { registers = with_register (with_
 -- what a register holds; x0 is 0
 abbrev pub register_at : KnownState → Reg → KnownValue
 register_at k r = if r.number == 0 then linear (number 0) else get_or k.registers r.number any
+
+-- two registers hold the same number: where nothing is known of one, what is known of the other
+abbrev pub shared : KnownState → (rs1 rs2 : Reg) → (v w : KnownValue) → KnownState
+shared k rs1 rs2 any w = record k { registers = with_register k.registers rs1.number w }
+shared k rs1 rs2 (linear f) any = record k { registers = with_register k.registers rs2.number (linear f) }
+shared k rs1 rs2 (index_for i f) any = record k { registers = with_register k.registers rs2.number (index_for i f) }
+shared k rs1 rs2 v w = k
+
+abbrev pub with_equal : KnownState → (rs1 rs2 : Reg) → KnownState
+with_equal k rs1 rs2 = shared k rs1 rs2 (register_at k rs1) (register_at k rs2)
+
+abbrev pub when_taken : KnownState → BranchOp → (rs1 rs2 : Reg) → KnownState
+when_taken k branch.Equal rs1 rs2 = with_equal k rs1 rs2
+when_taken k op rs1 rs2 = k
+
+abbrev pub when_passed : KnownState → BranchOp → (rs1 rs2 : Reg) → KnownState
+when_passed k branch.NotEqual rs1 rs2 = with_equal k rs1 rs2
+when_passed k op rs1 rs2 = k
 
 -- what the pc says
 abbrev pub instruction_at : (code : List ℕ) (pc : ℕ) → Option Instr
@@ -308,7 +329,8 @@ module _ (queues : ℕ → Queue) (N : ℕ) (own_of : ℕ → List ℕ) (H h : �
   follow k d (Some (Auipc rd upper)) = Some (with_result k rd.number (next_pc k.pc) (exactly ((k.pc + upper * 2 ^ 12) % 2 ^ 32)) ∷ [])
   follow k d (Some (Jal rd offset)) = Some (with_result k rd.number (address k.pc offset) (exactly (next_pc k.pc)) ∷ [])
   follow k d (Some (Jalr rd rs1 offset)) = jumping k rd.number offset (as_number (operand k rs1))
-  follow k d (Some (Branch op rs1 rs2 offset)) = Some (goes_by k (address k.pc offset) (is_branch_taken queues k.ranges op (operand k rs1) (operand k rs2)))
+  follow k d (Some (Branch op rs1 rs2 offset)) = Some (goes_by (when_taken k op rs1 rs2) (when_passed k op rs1 rs2) (address k.pc offset) (next_pc k.pc)
+      (is_branch_taken queues k.ranges op (operand k rs1) (operand k rs2)))
   follow k d (Some (Load op rd rs1 offset)) = loading k op rd.number (addresses k rs1 offset)
   follow k d (Some (Store op rs1 rs2 offset)) = storing k d (store_width op) (register_at k rs2) (address_value k rs1 offset) (addresses k rs1 offset)
   follow k d (Some (Immediate op rd rs1 n)) = Some (with_result k rd.number (next_pc k.pc) (immediate_result k op (operand k rs1) n) ∷ [])
