@@ -22,6 +22,7 @@ use Rattle.step_machine.proofs.States.{state_keeps}
 use Rattle.store_buffers.specs.StoreBuffers.{LeavesByte, LeavesByteBy, IsOnlyWriter}
 use Rattle.store_buffers.proofs.OwnEntries.{made_by, known_hart, same_state, next_state, land_is, own_is, own_parts}
 use Rattle.store_buffers.proofs.MessagePassing.{kept}
+use Rattle.store_buffers.proofs.Effects.{read-below}
 use Rattle.slot_queue.specs.Queues.{Queue, IsByteOf}
 use Rattle.queue_parties.specs.Positions.{IsInBytes}
 use Rattle.queue_parties.specs.Parties.{Party, the_sender, the_receiver, all_at, IsWindow}
@@ -116,6 +117,7 @@ module _ (B M : ℕ) (o : OpeningValue) (N : ℕ) (queues : ℕ → Queue) (star
               act = act;
               can = made_by B M o [] done e [] run act s known (ap (state_of M (history_of o done)) mine ∙ at);
               reads = reads_view h (access_of e) (subst (λ g. AllowedBy B (pending g done) (read o done g) (access_of e)) mine allowed);
+              bytes = λ x. read-below o done h x;
               sees = λ i less p same. seen B (queues i) (starts i) o done (w.follows i less) p h same;
               received = λ i less told same k from below. received i less told h same k from below;
               opens = x;

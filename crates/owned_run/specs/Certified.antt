@@ -71,6 +71,7 @@ module _ (M : ℕ) (o : OpeningValue) (N : ℕ) (queues : ℕ → Queue) (Told :
     pub act : is_land e ≡ false
     pub can : CanMake s e
     pub reads : ReadsFrom m (access_of e)
+    pub bytes : (x : ℕ) → m x < 256
     pub sees : (i : ℕ) → i < N → (p : Party) → h ≡ hart (queues i) p → SeesIndices (queues i) p (cs i) m
     pub received : (i : ℕ) → i < N → Told i → h ≡ (queues i).receiver → (k : ℕ) → (cs i).taken ≤ k → k < (cs i).known_published → Sent i k m
     pub opens : HartOpeningValue

@@ -1,5 +1,5 @@
 -- What forms come to at most, and between which words they lie.
-use Rattle.std.proofs.Common.{ℕ, ◌+◌, ◌-◌, ◌*◌, ◌%◌, ◌<◌, ◌≤◌, ◌≡◌, ◌==◌, ◌&&◌, inl, inr, if◌then◌else◌, Bool, true, false}
+use Rattle.std.proofs.Common.{ℕ, ◌+◌, ◌-◌, ◌*◌, ◌%◌, ◌^◌, ◌<◌, ◌≤◌, ◌≡◌, ◌==◌, ◌&&◌, inl, inr, if◌then◌else◌, Bool, true, false}
 use Rattle.std.proofs.Common.{Option, Some, None, List, [], ◌∷◌, refl, sym, ◌∙◌, ap, subst, arith}
 use Rattle.std.specs.Prelude.{map, nat_le}
 use Rattle.std.proofs.lemmas.Bool.{and_parts, eqb-true, leb-true, cases_lt}
@@ -8,6 +8,7 @@ use Rattle.std.proofs.Math.Nat.{mul-zero, mod-mod, mod-eq_of_lt, add-mul, zero-m
 use Rattle.queue_certificates.specs.Forms.{Form, dot, form_value, IsAtMost, InRanges, most_of_multiple, added}
 use Rattle.queue_certificates.specs.Forms.{most_of_sum, most, fits_in, are_in, Bounds, kept, settled, reduced}
 use Rattle.queue_certificates.specs.Forms.{remainder, risings, fallings, bounds_between, bounds_of}
+use Rattle.queue_certificates.specs.Forms.{balanced, where_bounded, first_form, remainder_word}
 use Rattle.queue_certificates.proofs.Forms.{values_of, mod-sum, mod-product, round-up}
 
 pub record IsSum (a b : Option ℕ) (n : ℕ) : Type 0 where
@@ -107,8 +108,8 @@ rising n m = if nat_le (n - m % n) (m % n) then 0 else m % n
 abbrev falling : (n m : ℕ) → ℕ
 falling n m = if nat_le (n - m % n) (m % n) then n - m % n else 0
 
-balanced : (n m : ℕ) → 1 ≤ n → (m + falling n m) % n ≡ rising n m % n
-balanced n m some = by (nat_le (n - m % n) (m % n))
+evened : (n m : ℕ) → 1 ≤ n → (m + falling n m) % n ≡ rising n m % n
+evened n m some = by (nat_le (n - m % n) (m % n))
   where
     by : (t : Bool) → (m + (if t then n - m % n else 0)) % n ≡ (if t then 0 else m % n) % n
     by true = (let e : m + (n - m % n) ≡ 0 + m + (n - m % n) = omega arith in ap (λ y. y % n) e) ∙ round-up n 0 m some
@@ -121,12 +122,12 @@ all-balanced n (m ∷ ms) (x ∷ xs) some =
     (let turned : m * x + dot ms xs + (falling n m * x + dot (fallings n ms) xs) ≡ (m + falling n m) * x + (dot ms xs + dot (fallings n ms) xs) =
     (let e : (m + falling n m) * x ≡ m * x + falling n m * x = add-mul m (falling n m) x in omega (arith, e)) in ap (λ y. y % n) turned)
     ∙ mod-sum ((m + falling n m) * x) (dot ms xs + dot (fallings n ms) xs) (rising n m * x) (dot (risings n ms) xs) n
-    (mod-product (m + falling n m) (rising n m) x n (balanced n m some)) (all-balanced n ms xs some)
+    (mod-product (m + falling n m) (rising n m) x n (evened n m some)) (all-balanced n ms xs some)
 
 in-between : (n v c up down rise fall : ℕ) → v < n → (v + fall) % n ≡ (c + rise) % n → fall ≤ down → rise ≤ up → down ≤ c → c + up + 1 ≤ n
-    → (c - down ≤ v) × (v ≤ c + up)
+    → v + fall ≡ c + rise
 in-between n v c up down rise fall small same f r d u = elim (cases_lt (v + fall) n) [
-  | inl under ↦ (let e : v + fall ≡ c + rise = sym (mod-eq_of_lt under) ∙ level in (omega (arith, e, f, d), omega (arith, e, r)))
+  | inl under ↦ sym (mod-eq_of_lt under) ∙ level
   | inr over ↦ absurd (
       let once : v + fall ≡ v + fall - n + n * 1 = omega (arith, over) in
       let e : v + fall - n ≡ c + rise = sym (ap (λ y. y % n) once ∙ add-mul-mod_self_left (v + fall - n) n 1
@@ -137,9 +138,15 @@ in-between n v c up down rise fall small same f r d u = elim (cases_lt (v + fall
     level : (v + fall) % n ≡ c + rise
     level = same ∙ mod-eq_of_lt (omega (arith, r, u))
 
--- a form's remainder lies between the bounds, and these are of a remainder
+-- a form's remainder lies between the bounds, and what falls in it may be added to it
+pub record IsBetween (n : ℕ) (f : Form) (xs : List ℕ) (b : Bounds) : Type 0 where
+  pub some : 1 ≤ n
+  pub low : b.low ≤ form_value f xs % n
+  pub high : form_value f xs % n ≤ b.high
+  pub level : form_value f xs % n + dot (fallings n f.factors) xs ≡ f.constant % n + dot (risings n f.factors) xs
+
 pub value-between : (n : ℕ) (rs : List (Option ℕ)) (f : Form) (xs : List ℕ) (b : Bounds) → InRanges rs xs → bounds_of n rs f ≡ Some b
-    → (1 ≤ n) × (b.low ≤ form_value f xs % n) × (form_value f xs % n ≤ b.high)
+    → IsBetween n f xs b
 value-between n rs f xs b ranges is = by (most_of_sum rs (risings n f.factors)) (most_of_sum rs (fallings n f.factors)) refl refl is
   where
     level : 1 ≤ n → (form_value f xs % n + dot (fallings n f.factors) xs) % n ≡ (f.constant % n + dot (risings n f.factors) xs) % n
@@ -152,22 +159,65 @@ value-between n rs f xs b ranges is = by (most_of_sum rs (risings n f.factors)) 
 
     by : (up down : Option ℕ) → most_of_sum rs (risings n f.factors) ≡ up → most_of_sum rs (fallings n f.factors) ≡ down
         → bounds_between n (f.constant % n) up down ≡ Some b
-        → (1 ≤ n) × (b.low ≤ form_value f xs % n) × (form_value f xs % n ≤ b.high)
+        → IsBetween n f xs b
     by None down u d is = absurd (cc)
     by (Some up) None u d is = absurd (cc)
     by (Some up) (Some down) u d is = at (nat_le down (f.constant % n) && nat_le (f.constant % n + up + 1) n) refl is
       where
         at : (t : Bool) → (nat_le down (f.constant % n) && nat_le (f.constant % n + up + 1) n) ≡ t
             → (if t then Some (record { low = f.constant % n - down; high = f.constant % n + up }) else None) ≡ Some b
-            → (1 ≤ n) × (b.low ≤ form_value f xs % n) × (form_value f xs % n ≤ b.high)
+            → IsBetween n f xs b
         at false off is = absurd (cc)
         at true ok is =
             let parts = and_parts (nat_le down (f.constant % n)) (nat_le (f.constant % n + up + 1) n) ok in
             let high : f.constant % n + up + 1 ≤ n = leb-true (f.constant % n + up + 1) n parts.1 in
             let some : 1 ≤ n = omega (arith, high) in
-            let at = in-between n (form_value f xs % n) (f.constant % n) up down (dot (risings n f.factors) xs) (dot (fallings n f.factors) xs)
-            (mod-lt (form_value f xs) some) (level some) (dot-below rs (fallings n f.factors) xs down ranges d)
-            (dot-below rs (risings n f.factors) xs up ranges u)
-            (leb-true down (f.constant % n) parts.0) high in
-            subst (λ z. (1 ≤ n) × (z.low ≤ form_value f xs % n) × (form_value f xs % n ≤ z.high))
-            (let e : record { low = f.constant % n - down; high = f.constant % n + up } ≡ b = cc in e) (some, at.0, at.1)
+            let fall : dot (fallings n f.factors) xs ≤ down = dot-below rs (fallings n f.factors) xs down ranges d in
+            let rise : dot (risings n f.factors) xs ≤ up = dot-below rs (risings n f.factors) xs up ranges u in
+            let at : form_value f xs % n + dot (fallings n f.factors) xs ≡ f.constant % n + dot (risings n f.factors) xs =
+            in-between n (form_value f xs % n) (f.constant % n) up down (dot (risings n f.factors) xs) (dot (fallings n f.factors) xs)
+            (mod-lt (form_value f xs) some) (level some) fall rise (leb-true down (f.constant % n) parts.0) high in
+            subst (IsBetween n f xs) (let e : record { low = f.constant % n - down; high = f.constant % n + up } ≡ b = cc in e)
+            (record { some = some; low = omega (arith, at, fall); high = omega (arith, at, rise); level = at })
+
+balanced-dot : (n : ℕ) (ms xs : List ℕ) → n ≤ 2 ^ 32 → (dot (balanced n ms) xs + dot (fallings n ms) xs) % 2 ^ 32 ≡ dot (risings n ms) xs % 2 ^ 32
+balanced-dot n [] xs low = refl
+balanced-dot n (m ∷ ms) [] low = refl
+balanced-dot n (m ∷ ms) (x ∷ xs) low = by (nat_le (n - m % n) (m % n)) (balanced-dot n ms xs low)
+  where
+    by : (t : Bool) → (dot (balanced n ms) xs + dot (fallings n ms) xs) % 2 ^ 32 ≡ dot (risings n ms) xs % 2 ^ 32
+        → ((if t then 2 ^ 32 - (n - m % n) else m % n) * x + dot (balanced n ms) xs + ((if t then n - m % n else 0) * x + dot (fallings n ms) xs)) % 2 ^ 32
+        ≡ ((if t then 0 else m % n) * x + dot (risings n ms) xs) % 2 ^ 32
+    by true rest =
+        let e : (2 ^ 32 - (n - m % n) + (n - m % n)) * x ≡ (2 ^ 32 - (n - m % n)) * x + (n - m % n) * x = add-mul (2 ^ 32 - (n - m % n)) (n - m % n) x in
+        let whole : 2 ^ 32 - (n - m % n) + (n - m % n) ≡ 2 ^ 32 = omega (arith, low) in
+        let all : (2 ^ 32 - (n - m % n) + (n - m % n)) * x ≡ 2 ^ 32 * x = ap (λ y. y * x) whole in
+        let none : 0 * x ≡ 0 = zero-mul x in
+        omega (arith, e, all, none, rest)
+    by false rest = let none : 0 * x ≡ 0 = zero-mul x in omega (arith, none, rest)
+
+pub value-word : (rs : List (Option ℕ)) (f : Form) (n : ℕ) (g : Form) (xs : List ℕ) → InRanges rs xs → n ≤ 2 ^ 32 → remainder_word rs f n ≡ Some g
+    → form_value f xs % n ≡ form_value g xs % 2 ^ 32
+value-word rs f n g xs ranges small is = by (remainder rs f n) refl is
+  where
+    at : (b : Option Bounds) → bounds_of n rs f ≡ b → where_bounded b (record { constant = f.constant % n; factors = balanced n f.factors }) ≡ Some g
+        → form_value f xs % n ≡ form_value g xs % 2 ^ 32
+    at None of is = absurd (cc)
+    at (Some b) of is =
+        let between = value-between n rs f xs b ranges of in
+        let level : form_value f xs % n + dot (fallings n f.factors) xs ≡ f.constant % n + dot (risings n f.factors) xs = between.level in
+        let turned : (dot (balanced n f.factors) xs + dot (fallings n f.factors) xs) % 2 ^ 32 ≡ dot (risings n f.factors) xs % 2 ^ 32 =
+        balanced-dot n f.factors xs small in
+        let under : form_value f xs % n < n = mod-lt (form_value f xs) between.some in
+        let e : form_value f xs % n ≡ (f.constant % n + dot (balanced n f.factors) xs) % 2 ^ 32 = omega (arith, level, turned, under, small) in
+        e ∙ ap (λ k. form_value k xs % 2 ^ 32) (let same : record { constant = f.constant % n; factors = balanced n f.factors } ≡ g = cc in same)
+
+    by : (o : Option Form) → remainder rs f n ≡ o
+        → first_form o (where_bounded (bounds_of n rs f) (record { constant = f.constant % n; factors = balanced n f.factors })) ≡ Some g
+        → form_value f xs % n ≡ form_value g xs % 2 ^ 32
+    by None none is = at (bounds_of n rs f) refl is
+    by (Some k) some is =
+        let r = value-remainder rs f n k xs ranges some in
+        let under : form_value f xs % n < n = mod-lt (form_value f xs) r.1 in
+        let e : form_value k xs ≡ form_value f xs % n = r.0 in
+        sym (sym (ap (λ j. form_value j xs % 2 ^ 32) (let same : k ≡ g = cc in same)) ∙ ap (λ y. y % 2 ^ 32) e ∙ mod-eq_of_lt (omega (arith, under, small)))

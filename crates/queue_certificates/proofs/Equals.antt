@@ -9,7 +9,7 @@ use Rattle.queue_certificates.specs.Forms.{Form, form_value, number, plus, times
 use Rattle.queue_certificates.specs.States.{KnownValue, any, linear, index_for, Has, scaled}
 use Rattle.queue_certificates.specs.Results.{is_nothing, agrees, unscaled, is_scaled, standing, both_agree, is_equal_word, is_equal}
 use Rattle.queue_certificates.proofs.Forms.{value-plus, value-times, mod-sum, same-value}
-use Rattle.queue_certificates.proofs.Bounds.{value-between, value-below, fits-below}
+use Rattle.queue_certificates.proofs.Bounds.{IsBetween, value-between, value-below, fits-below}
 use Rattle.queue_certificates.proofs.Values.{value-scaled, value-offset}
 
 -- a + (n - 1) * b is a multiple of n where a and b have the same remainder, and only there
@@ -45,7 +45,7 @@ module _ (queues : ℕ → Queue) (xs : List ℕ) (rs : List (Option ℕ)) (rang
       by None of is = absurd (cc)
       by (Some b) of is = at (nat_lt 0 b.low) (b.high == 0) refl refl is
         where
-          between : (1 ≤ n) × (b.low ≤ form_value (plus f (times (n - 1) g)) xs % n) × (form_value (plus f (times (n - 1) g)) xs % n ≤ b.high)
+          between : IsBetween n (plus f (times (n - 1) g)) xs b
           between = value-between n rs (plus f (times (n - 1) g)) xs b ranges of
 
           differs : form_value (plus f (times (n - 1) g)) xs % n ≡ (form_value f xs + (n - 1) * form_value g xs) % n
@@ -54,17 +54,17 @@ module _ (queues : ℕ → Queue) (xs : List ℕ) (rs : List (Option ℕ)) (rang
           at : (r s : Bool) → nat_lt 0 b.low ≡ r → (b.high == 0) ≡ s → (if r then Some false else (if s then Some true else None)) ≡ Some t
               → (1 ≤ n) × ((form_value f xs % n == form_value g xs % n) ≡ t)
           at true s low high is = (
-            between.0,
+            between.some,
             ne_eqb (form_value f xs % n) (form_value g xs % n) (λ same.
                 (let none : (form_value f xs + (n - 1) * form_value g xs) % n ≡ 0 =
-                (taken-away n (form_value f xs) (form_value g xs) between.0).1 same in
-                let some : 0 < b.low = ltb-true 0 b.low low in let u = between.1 in omega (arith, none, differs, some, u)))
+                (taken-away n (form_value f xs) (form_value g xs) between.some).1 same in
+                let some : 0 < b.low = ltb-true 0 b.low low in let u = between.low in omega (arith, none, differs, some, u)))
                 ∙ (let e : false ≡ t = cc in e),
           )
           at false true low high is = (
-            between.0,
-            eq-eqb (form_value f xs % n) (form_value g xs % n) ((taken-away n (form_value f xs) (form_value g xs) between.0).0
-                (let zero-high : b.high ≡ 0 = eqb-true b.high 0 high in let u = between.2 in omega (arith, differs, zero-high, u)))
+            between.some,
+            eq-eqb (form_value f xs % n) (form_value g xs % n) ((taken-away n (form_value f xs) (form_value g xs) between.some).0
+                (let zero-high : b.high ≡ 0 = eqb-true b.high 0 high in let u = between.high in omega (arith, differs, zero-high, u)))
                 ∙ (let e : true ≡ t = cc in e),
           )
           at false false low high is = absurd (cc)

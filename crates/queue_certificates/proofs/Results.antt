@@ -5,8 +5,8 @@ use Rattle.std.proofs.Common.{refl, sym, ◌∙◌, ap, subst, arith}
 use Rattle.std.specs.Prelude.{int_lt, nat_lt, nat_le, ◌-ℤ◌, bit_and, count_ones}
 use Rattle.std.proofs.lemmas.Int.{ints}
 use Rattle.std.proofs.lemmas.Bool.{and_parts, eqb-true, ltb-true, leb-true, lt-ltb, le-ltb, cases_lt}
-use Rattle.std.proofs.lemmas.Nat.{le-div, pow_pos, and_mask, and_le_r}
-use Rattle.std.proofs.Math.Nat.{mod-eq_of_lt, mod-lt, mod-mod_of_dvd, div-mul-le_self}
+use Rattle.std.proofs.lemmas.Nat.{le-div, pow_pos, pow-add, and_mask, and_le_r, and_comm}
+use Rattle.std.proofs.Math.Nat.{mod-eq_of_lt, mod-mod_of_dvd, div-mul-le_self, pow-le-pow_right, mul-div_cancel_left}
 use Rattle.std.proofs.lemmas.Nat.Gcd.{dvd_of_mod-eq-zero}
 use Rattle.rv_decode.specs.declared.instruction.BranchOp.{BranchOp}
 use Rattle.rv_decode.specs.declared.instruction.BranchOp.TheVariants as branch
@@ -19,17 +19,17 @@ use Rattle.rv_decode.specs.declared.instruction.RegisterOp.TheVariants as regist
 use Rattle.rv_decode.specs.Word.{signed}
 use Rattle.hart.specs.Effects.{word, computed, with_immediate, shifted, is_taken, flag}
 use Rattle.slot_queue.specs.Queues.{Queue}
-use Rattle.queue_certificates.specs.Forms.{remainder, Form, form_value, number, first_variable, plus, times, InRanges, Bounds}
+use Rattle.queue_certificates.specs.Forms.{remainder_word, is_same, bounds_of, Form, form_value, number, first_variable, plus, times, InRanges, Bounds}
 use Rattle.queue_certificates.specs.States.{KnownValue, any, linear, index_for, Has}
-use Rattle.queue_certificates.specs.Results.{Result, just, exactly, any_up_to, as_number, or_else, both, is_below}
+use Rattle.queue_certificates.specs.Results.{Result, just, exactly, any_up_to, or_up_to, as_number, or_else, both, is_below}
 use Rattle.queue_certificates.specs.Results.{is_below_signed, set_less, negated, flag_of, shifted_left}
 use Rattle.queue_certificates.specs.Results.{shifted_right, sum_of, difference_of, number_and, taken_known}
-use Rattle.queue_certificates.specs.Results.{low_bits, masked, masked_by, bounds, is_equal, immediate_part}
+use Rattle.queue_certificates.specs.Results.{without, high_bits, shifted_back, low_bits, masked, masked_by, bounds, is_equal, immediate_part}
 use Rattle.queue_certificates.specs.Results.{of_immediate, shift_part, of_shift, register_part, of_registers}
 use Rattle.queue_certificates.specs.Results.{branch_part, is_branch_taken}
-use Rattle.queue_certificates.proofs.Forms.{value-number, value-first, plus-value, times-value}
-use Rattle.queue_certificates.proofs.Bounds.{value-remainder}
-use Rattle.queue_certificates.proofs.Values.{has-lifted, known-is, has-bounds}
+use Rattle.queue_certificates.proofs.Forms.{same-exactly, value-times, value-number, value-first, plus-value, times-value}
+use Rattle.queue_certificates.proofs.Bounds.{value-word}
+use Rattle.queue_certificates.proofs.Values.{scaled-mod, has-lifted, known-is, has-bounds}
 use Rattle.queue_certificates.proofs.Equals.{equal-is}
 
 pub word-of-sum : (x : ℕ) (n : ℤ) → word (pos x +ℤ n) ≡ (x + word n) % 2 ^ 32
@@ -92,6 +92,11 @@ module _ (queues : ℕ → Queue) (xs : List ℕ) where
           let low : n < 2 ^ 32 = ltb-true n (2 ^ 32) small in
           let less : x < 2 ^ 32 = omega (arith, le, low) in
           (x, le, sym (ap (λ z. z % 2 ^ 32) (value-first x xs) ∙ mod-eq_of_lt less))
+
+  pub or-up-to-gives : (n x : ℕ) (v : KnownValue) → x ≤ n → Has queues xs v x → Gives (or_up_to n v) x
+  or-up-to-gives n x any low has = up-to-gives n x low
+  or-up-to-gives n x (linear f) low has = just-gives (linear f) x has
+  or-up-to-gives n x (index_for i f) low has = just-gives (index_for i f) x has
 
   else-gives : (a : Option ℕ) (r : Result) (x : ℕ) → ((n : ℕ) → a ≡ Some n → x ≡ n) → Gives r x → Gives (or_else a r) x
   else-gives None r x is gives = gives
@@ -210,29 +215,58 @@ module _ (queues : ℕ → Queue) (xs : List ℕ) where
     masked-gives (index_for i f) x mask has = up-to-gives mask (bit_and x mask) (and_le_r x mask)
     masked-gives (linear f) x mask has = by ((mask + 1 == 2 ^ count_ones mask) && (2 ^ 32 % (mask + 1) == 0)) refl
       where
-        at : (mask + 1 == 2 ^ count_ones mask) ≡ true → (2 ^ 32 % (mask + 1) == 0) ≡ true → (o : Option Form) → remainder rs f (mask + 1) ≡ o
+        at : (mask + 1 == 2 ^ count_ones mask) ≡ true → (2 ^ 32 % (mask + 1) == 0) ≡ true → (o : Option Form) → remainder_word rs f (mask + 1) ≡ o
             → Gives (low_bits rs o mask) (bit_and x mask)
         at pow dvd None is = up-to-gives mask (bit_and x mask) (and_le_r x mask)
         at pow dvd (Some g) is =
             let power : mask + 1 ≡ 2 ^ count_ones mask = eqb-true (mask + 1) (2 ^ count_ones mask) pow in
             let ones : mask ≡ 2 ^ count_ones mask - 1 = omega (arith, power) in
-            let r = value-remainder rs f (mask + 1) g xs ranges is in
             let divides : 2 ^ 32 % (mask + 1) ≡ 0 = eqb-true (2 ^ 32 % (mask + 1)) 0 dvd in
-            let value : bit_and x mask ≡ form_value g xs = ap (bit_and x) ones ∙ and_mask x (count_ones mask) ∙ ap (λ m. x % m) (sym power)
-            ∙ ap (λ z. z % (mask + 1)) has ∙ mod-mod_of_dvd (mask + 1) (form_value f xs) (dvd_of_mod-eq-zero (mask + 1) divides) ∙ sym r.0 in
-            let under : form_value f xs % (mask + 1) < mask + 1 = mod-lt (form_value f xs) (omega arith) in
-            let bound : mask + 1 ≤ 2 ^ 32 = divisor-below (mask + 1) divides in
-            just-gives (linear g) (bit_and x mask) (value ∙ sym (mod-eq_of_lt (omega (arith, r.0, under, bound))))
+            just-gives (linear g) (bit_and x mask) (ap (bit_and x) ones ∙ and_mask x (count_ones mask) ∙ ap (λ m. x % m) (sym power)
+            ∙ ap (λ z. z % (mask + 1)) has ∙ mod-mod_of_dvd (mask + 1) (form_value f xs) (dvd_of_mod-eq-zero (mask + 1) divides)
+            ∙ value-word rs f (mask + 1) g xs ranges (divisor-below (mask + 1) divides) is)
 
         by : (t : Bool) → ((mask + 1 == 2 ^ count_ones mask) && (2 ^ 32 % (mask + 1) == 0)) ≡ t
-            → Gives (if t then low_bits rs (remainder rs f (mask + 1)) mask else any_up_to mask) (bit_and x mask)
+            → Gives (if t then low_bits rs (remainder_word rs f (mask + 1)) mask else any_up_to mask) (bit_and x mask)
         by false other = up-to-gives mask (bit_and x mask) (and_le_r x mask)
         by true ok = let parts = and_parts (mask + 1 == 2 ^ count_ones mask) (2 ^ 32 % (mask + 1) == 0) ok in
-            at parts.0 parts.1 (remainder rs f (mask + 1)) refl
+            at parts.0 parts.1 (remainder_word rs f (mask + 1)) refl
 
-    masked-by : (v : KnownValue) (x : ℕ) (b : Option ℕ) (y : ℕ) → Has queues xs v x → ((m : ℕ) → b ≡ Some m → y ≡ m) → Gives (masked_by rs v b) (bit_and x y)
-    masked-by v x None y has is = just-gives any (bit_and x y) tt
-    masked-by v x (Some m) y has is = subst (λ z. Gives (masked rs v m) (bit_and x z)) (sym (is m refl)) (masked-gives v x m has)
+    masked-by : (v : KnownValue) (x : ℕ) (b : Option ℕ) (y : ℕ) (r : Result) → Has queues xs v x → ((m : ℕ) → b ≡ Some m → y ≡ m)
+        → Gives r (bit_and x y) → Gives (masked_by rs v b r) (bit_and x y)
+    masked-by v x None y r has is gives = gives
+    masked-by v x (Some m) y r has is gives = subst (λ z. Gives (masked rs v m) (bit_and x z)) (sym (is m refl)) (masked-gives v x m has)
+
+    shifted-back : (v : KnownValue) (x amount : ℕ) → Has queues xs v x → Gives (shifted_back rs v amount) (x / 2 ^ amount)
+    shifted-back any x amount has = just-gives any (x / 2 ^ amount) tt
+    shifted-back (index_for i f) x amount has = just-gives any (x / 2 ^ amount) tt
+    shifted-back (linear f) x amount has = by (nat_le amount 32 && is_same 0 f (times (2 ^ amount) (without rs (2 ^ amount) f))) refl
+      where
+        bounded : Gives (shifted_right (bounds_of (2 ^ 32) rs f) amount) (x / 2 ^ amount)
+        bounded = shifted-right (bounds_of (2 ^ 32) rs f) x amount (λ c is. (in-bounds (linear f) x has c is).1)
+
+        at : (g : Form) → amount ≤ 32 → form_value f xs ≡ 2 ^ amount * form_value g xs
+            → (o : Option Form) → remainder_word rs g (2 ^ (32 - amount)) ≡ o
+            → Gives (high_bits rs o (bounds_of (2 ^ 32) rs f) amount) (x / 2 ^ amount)
+        at g low multiple None is = bounded
+        at g low multiple (Some h) is =
+            let parts : 2 ^ amount * 2 ^ (32 - amount) ≡ 2 ^ 32 =
+            sym (pow-add 2 amount (32 - amount)) ∙ ap (λ n. 2 ^ n) (let e : amount + (32 - amount) ≡ 32 = omega (arith, low) in e) in
+            let less : 2 ^ (32 - amount) ≤ 2 ^ 32 = pow-le-pow_right {n = 2} (omega arith) {i = 32 - amount} {j = 32} (omega arith) in
+            let word : x ≡ 2 ^ amount * (form_value g xs % 2 ^ (32 - amount)) =
+            has ∙ ap (λ n. n % 2 ^ 32) multiple ∙ sym (scaled-mod (2 ^ 32) (2 ^ amount) (2 ^ (32 - amount)) (form_value g xs) (omega arith) parts) in
+            just-gives (linear h) (x / 2 ^ amount) (ap (λ n. n / 2 ^ amount) word
+            ∙ mul-div_cancel_left (form_value g xs % 2 ^ (32 - amount)) (pow_pos amount) ∙ value-word rs g (2 ^ (32 - amount)) h xs ranges less is)
+
+        by : (t : Bool) → (nat_le amount 32 && is_same 0 f (times (2 ^ amount) (without rs (2 ^ amount) f))) ≡ t
+            → Gives (if t then high_bits rs (remainder_word rs (without rs (2 ^ amount) f) (2 ^ (32 - amount))) (bounds_of (2 ^ 32) rs f) amount
+            else shifted_right (bounds_of (2 ^ 32) rs f) amount) (x / 2 ^ amount)
+        by false other = bounded
+        by true ok =
+            let p = and_parts (nat_le amount 32) (is_same 0 f (times (2 ^ amount) (without rs (2 ^ amount) f))) ok in
+            at (without rs (2 ^ amount) f) (leb-true amount 32 p.0)
+            (same-exactly f (times (2 ^ amount) (without rs (2 ^ amount) f)) xs p.1 ∙ value-times (2 ^ amount) (without rs (2 ^ amount) f) xs)
+            (remainder_word rs (without rs (2 ^ amount) f) (2 ^ (32 - amount))) refl
 
     immediate-part : (op : ImmediateOp) (v : KnownValue) (x : ℕ) (n : ℤ) → Has queues xs v x → Gives (immediate_part rs op v n) (with_immediate op x n)
     immediate-part immediate.Add v x n has = subst (Gives (just (sum_of v (linear (number (word n)))))) (sym (word-of-sum x n))
@@ -251,7 +285,7 @@ module _ (queues : ℕ → Queue) (xs : List ℕ) where
 
     shift-part : (op : ShiftOp) (v : KnownValue) (x amount : ℕ) → Has queues xs v x → Gives (shift_part rs op v amount) (shifted op x amount)
     shift-part shift.Left v x amount has = shifted-left v x amount has
-    shift-part shift.Right v x amount has = shifted-right (bounds rs v) x amount (λ c is. (in-bounds v x has c is).1)
+    shift-part shift.Right v x amount has = shifted-back v x amount has
     shift-part shift.RightArithmetic v x amount has = just-gives any (shifted shift.RightArithmetic x amount) tt
 
     pub shift-gives : (op : ShiftOp) (v : KnownValue) (x amount : ℕ) → Has queues xs v x → Gives (of_shift rs op v amount) (shifted op x amount)
@@ -271,7 +305,10 @@ module _ (queues : ℕ → Queue) (xs : List ℕ) where
     register-part register.ShiftRight v w x y one two = just-gives any (computed register.ShiftRight x y) tt
     register-part register.ShiftRightArithmetic v w x y one two = just-gives any (computed register.ShiftRightArithmetic x y) tt
     register-part register.Or v w x y one two = just-gives any (computed register.Or x y) tt
-    register-part register.And v w x y one two = masked-by v x (as_number w) y one (λ m is. known-is queues xs w y m is two)
+    register-part register.And v w x y one two =
+        masked-by v x (as_number w) y (masked_by rs w (as_number v) (just any)) one (λ m is. known-is queues xs w y m is two)
+        (subst (Gives (masked_by rs w (as_number v) (just any))) (and_comm y x)
+        (masked-by w y (as_number v) x (just any) two (λ m is. known-is queues xs v x m is one) (just-gives any (bit_and y x) tt)))
 
     pub register-gives : (op : RegisterOp) (v w : KnownValue) (x y : ℕ) → Has queues xs v x → Has queues xs w y
         → Gives (of_registers rs op v w) (computed op x y)

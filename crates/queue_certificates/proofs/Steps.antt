@@ -1,14 +1,17 @@
 -- What an instruction comes to: one of the states that may follow, and allowed accesses. Here of all that load and store nothing.
-use Rattle.std.proofs.Common.{ℕ, ℤ, pos, ◌+ℤ◌, zero, suc, ◌+◌, ◌-◌, ◌*◌, ◌/◌, ◌%◌, ◌^◌, ◌<◌, ◌≤◌, ◌≡◌, ◌≢◌, ◌==◌, ◌&&◌}
+use Rattle.std.proofs.Common.{ℕ, ℤ, pos, negsuc, ◌+ℤ◌, zero, suc, ◌+◌, ◌-◌, ◌*◌, ◌/◌, ◌%◌, ◌^◌, ◌<◌, ◌≤◌, ◌≡◌, ◌≢◌, ◌==◌, ◌&&◌}
 use Rattle.std.proofs.Common.{◌||◌, ◌⊎◌, inl, inr, if◌then◌else◌, Bool, true, false, Option, Some, None, List, [], ◌∷◌}
 use Rattle.std.proofs.Common.{length, get_or, refl, sym, ◌∙◌, ap, subst, arith}
-use Rattle.std.specs.Prelude.{nat_lt, map, slice_index, set}
+use Rattle.std.specs.Prelude.{nat_lt, nat_le, ◌-ℤ◌, not, map, slice_index, slice_set, set}
 use Rattle.std.specs.List.{slice_get}
-use Rattle.std.proofs.lemmas.Bool.{and_parts, or_cases, eqb-true, eqb-false, ltb-true, lt-ltb, cases_eq, cases_lt}
+use Rattle.std.proofs.lemmas.Bool.{and_parts, or_cases, eqb-true, eqb-false, ltb-true, leb-true, lt-ltb, cases_eq, cases_lt}
 use Rattle.std.proofs.lemmas.List.{length-set, set-get_or, get_or-set_same, get_or-set_other, length-map}
 use Rattle.rv_decode.specs.Meaning.{meaning}
 use Rattle.rv_decode.specs.declared.instruction.Reg.{Reg}
 use Rattle.rv_decode.specs.declared.instruction.BranchOp.{BranchOp}
+use Rattle.rv_decode.specs.declared.instruction.BranchOp.TheVariants as branch
+use Rattle.rv_decode.specs.declared.instruction.ImmediateOp.{ImmediateOp}
+use Rattle.rv_decode.specs.declared.instruction.ImmediateOp.TheVariants as immediate
 use Rattle.rv_decode.specs.declared.instruction.LoadOp.{LoadOp}
 use Rattle.rv_decode.specs.declared.instruction.LoadOp.TheVariants as load_op
 use Rattle.rv_decode.specs.declared.instruction.AmoOp.{AmoOp}
@@ -21,7 +24,7 @@ use Rattle.rv_decode.specs.declared.instruction.Instr.TheVariants.{Ebreak, Amo}
 use Rattle.hart.specs.State.{HartState}
 use Rattle.hart.specs.Steps.{need_of, advanced, advanced_by, after_instruction, jump_need, access_need, is_full, called, given}
 use Rattle.hart.specs.Effects.{register_value, written_at, word, next_pc, address, is_taken, with_immediate, shifted}
-use Rattle.hart.specs.Effects.{computed, extended, load_width, stored, store_width, updated}
+use Rattle.hart.specs.Effects.{computed, sign_extended, extended, load_width, stored, store_width, updated}
 use Rattle.hart.specs.declared.status.Stop.{Stop}
 use Rattle.hart.specs.declared.status.Stop.TheVariants as stop
 use Rattle.hart.specs.declared.status.Status.TheVariants as status
@@ -43,22 +46,24 @@ use Rattle.slot_queue.specs.Ownership.{hart, index, party_of, after_load as afte
 use Rattle.owned_run.specs.Certified.{View, AllCounts, number_seen, view_then, Acts, ReadsFrom, IsSameFor, LoadsOwned, OwnsSlotsOf}
 use Rattle.queue_certificates.specs.Forms.{Form, form_value, number, plus, minus, is_same, most, fits_in, lifted, Bounds}
 use Rattle.queue_certificates.specs.States.{KnownValue, any, linear, index_for, Share, no_share, share_by, KnownState}
-use Rattle.queue_certificates.specs.States.{value_by, state_by, plain, is_within, Has, HasShare, MeansAt, Means}
+use Rattle.queue_certificates.specs.States.{value_by, state_by, scaled, plain, is_within, Has, HasShare, MeansAt, Means}
 use Rattle.queue_certificates.specs.Results.{Result, just, exactly, as_number, bounds, sum_of, of_immediate, of_shift, of_registers, is_branch_taken}
 use Rattle.queue_certificates.specs.Steps.{with_register, with_result, going_to, goes_by, operand, jumping}
 use Rattle.queue_certificates.specs.Steps.{called as called_state, follow, register_at, instruction_at, loads_owned}
 use Rattle.queue_certificates.specs.Steps.{reads_owned, updated_value, after_exchange, exchanging, addresses}
 use Rattle.queue_certificates.specs.Steps.{address_value, anywhere, is_one, is_whole, misses, is_look, is_own_index}
 use Rattle.queue_certificates.specs.Steps.{is_own_word, word_loaded, index_loaded, value_loaded, zero_extended}
+use Rattle.queue_certificates.specs.Steps.{is_index_below, loaded, shared, with_equal, when_taken, when_passed}
 use Rattle.queue_certificates.specs.Steps.{last_below, is_just, may_load, after_load, looked_word, owned_then}
 use Rattle.queue_certificates.specs.Steps.{looked_share, back_of, loading, all_below, shares_moved, moved_share}
-use Rattle.queue_certificates.specs.Steps.{may_move, may_fill, may_store, leaves_words, is_off, is_owned, is_apart}
+use Rattle.queue_certificates.specs.Steps.{is_copy, immediate_result, is_cut, may_move, may_fill, may_store, leaves_words, is_off, is_owned, is_apart}
 use Rattle.queue_certificates.specs.Steps.{storable, word_then, words_then, after_store, storing}
-use Rattle.queue_certificates.proofs.Values.{has-plain, known-is, has-bounds, within}
+use Rattle.queue_certificates.proofs.Values.{word-linear, has-plain, known-is, has-bounds, within}
+use Rattle.queue_certificates.proofs.Forms.{same-value}
 use Rattle.queue_certificates.proofs.Results.{word-of-sum, word-small, word-has, sum-has, Gives, just-gives}
-use Rattle.queue_certificates.proofs.Results.{exactly-gives, immediate-gives, shift-gives, register-gives, branch-is}
+use Rattle.queue_certificates.proofs.Results.{or-up-to-gives, exactly-gives, immediate-gives, shift-gives, register-gives, branch-is}
 use Rattle.queue_certificates.proofs.States.{means-result, means-going, means-lifted, means-moved, means-frame, written-has, at-below}
-use Rattle.queue_certificates.proofs.Stores.{apart-from, stored-number, left-number, stored-whole, stored-word}
+use Rattle.queue_certificates.proofs.Stores.{stored-low, apart-from, stored-number, left-number, stored-whole, stored-word}
 use Rattle.queue_certificates.proofs.Stores.{keeps-off, Stored, stays-off, stays-filled, moves-on, owned-slots}
 use Rattle.queue_certificates.proofs.Stores.{off-slots}
 use Rattle.queue_certificates.proofs.Bounds.{value-below, fits-below}
@@ -66,6 +71,8 @@ use Rattle.slot_queue.proofs.Codes.{word-small as word-fits}
 use Rattle.queue_parties.proofs.Parties.{Whose, mine as is_party, theirs as is_third, whose}
 use Rattle.memory.specs.declared.writes.Write.{Write}
 use Rattle.memory.specs.Writes.{write, covers}
+use Rattle.memory.proofs.Joined.{joined-below}
+use Rattle.std.proofs.lemmas.Nat.{mul-le}
 use Rattle.std.proofs.Math.Nat.{mod-lt, pow-le-pow_right}
 use Rattle.rv_decode.specs.declared.instruction.StoreOp.{StoreOp}
 use Rattle.queue_certificates.proofs.Accesses.{found-below, just-is, same-party, party-hart, hart-party, IsWholeIndex, whole-index, missed, Looked, looks, hits}
@@ -132,6 +139,15 @@ quiet-owns q p c (load a width v) quiet = absurd quiet
 quiet-owns q p c (store w) quiet = absurd quiet
 quiet-owns q p c (exchange a old new) quiet = absurd quiet
 quiet-owns q p c land quiet = absurd quiet
+
+copied : (op : ImmediateOp) (n : ℤ) → is_copy op n ≡ true → (x : ℕ) → x < 2 ^ 32 → with_immediate op x n ≡ x
+copied immediate.Add (pos n) is x small = word-of-sum x (pos n) ∙ (let none : n ≡ 0 = eqb-true n 0 is in omega (arith, none, small))
+copied immediate.Add (negsuc n) is x small = absurd (cc)
+copied immediate.SetLess n is x small = absurd (cc)
+copied immediate.SetLessUnsigned n is x small = absurd (cc)
+copied immediate.Xor n is x small = absurd (cc)
+copied immediate.Or n is x small = absurd (cc)
+copied immediate.And n is x small = absurd (cc)
 
 module _ (queues : ℕ → Queue) (N : ℕ) (own_of : ℕ → List ℕ) (h : ℕ) where
   -- one of these states says what is so
@@ -247,30 +263,72 @@ module _ (M : ℕ) (o : OpeningValue) (queues : ℕ → Queue) (N : ℕ) (own_of
       by true needs = inner-goes ks i here needs next
       by false needs = stop-goes ks stop.MisalignedJump needs
 
+  -- ---- branches
+
+  same-register : (n : ℕ) → written_at s.registers n (slice_index s.registers n) ≡ s.registers
+  same-register n = by (n == 0)
+    where
+      by : (t : Bool) → (if t then s.registers else slice_set s.registers n (slice_index s.registers n)) ≡ s.registers
+      by true = refl
+      by false = set-get_or s.registers n 0
+
+  -- what is so of a register may be known of it
+  learns : (r : Reg) (u : KnownValue) → Has queues xs u (register_value s.registers r)
+      → MeansAt queues N (own_of h) h xs (record k { registers = with_register k.registers r.number u }) s m cs
+  learns r u has = record {
+    ranges = means.ranges;
+    pc = means.pc;
+    registers = λ j. subst (λ zs. Has queues xs (get_or (with_register k.registers r.number u) j any) (slice_index zs j)) (same-register r.number)
+        (written-has queues N (own_of h) h xs k.registers s.registers r.number (slice_index s.registers r.number) u
+        means.registers (omega (arith, size, r.below_32)) has j);
+    words = means.words;
+    shares = means.shares;
+  }
+
+  equal-means : (rs1 rs2 : Reg) → register_value s.registers rs1 ≡ register_value s.registers rs2
+      → MeansAt queues N (own_of h) h xs (with_equal k rs1 rs2) s m cs
+  equal-means rs1 rs2 same = by (register_at k rs1) (register_at k rs2) (register-has rs1) (register-has rs2)
+    where
+      by : (v w : KnownValue) → Has queues xs v (register_value s.registers rs1) → Has queues xs w (register_value s.registers rs2)
+          → MeansAt queues N (own_of h) h xs (shared k rs1 rs2 v w) s m cs
+      by any w one two = learns rs1 w (subst (Has queues xs w) (sym same) two)
+      by (linear f) any one two = learns rs2 (linear f) (subst (Has queues xs (linear f)) same one)
+      by (index_for i f) any one two = learns rs2 (index_for i f) (subst (Has queues xs (index_for i f)) same one)
+      by (linear f) (linear g) one two = means
+      by (linear f) (index_for i g) one two = means
+      by (index_for i f) (linear g) one two = means
+      by (index_for i f) (index_for j g) one two = means
+
+  taken-means : (op : BranchOp) (rs1 rs2 : Reg) → is_taken op (register_value s.registers rs1) (register_value s.registers rs2) ≡ true
+      → MeansAt queues N (own_of h) h xs (when_taken k op rs1 rs2) s m cs
+  taken-means branch.Equal rs1 rs2 is = equal-means rs1 rs2 (eqb-true (register_value s.registers rs1) (register_value s.registers rs2) is)
+  taken-means branch.NotEqual rs1 rs2 is = means
+  taken-means branch.Less rs1 rs2 is = means
+  taken-means branch.GreaterEqual rs1 rs2 is = means
+  taken-means branch.LessUnsigned rs1 rs2 is = means
+  taken-means branch.GreaterEqualUnsigned rs1 rs2 is = means
+
+  passed-means : (op : BranchOp) (rs1 rs2 : Reg) → is_taken op (register_value s.registers rs1) (register_value s.registers rs2) ≡ false
+      → MeansAt queues N (own_of h) h xs (when_passed k op rs1 rs2) s m cs
+  passed-means branch.Equal rs1 rs2 is = means
+  passed-means branch.NotEqual rs1 rs2 none = equal-means rs1 rs2
+      (by (register_value s.registers rs1 == register_value s.registers rs2) refl none)
+    where
+      by : (t : Bool) → (register_value s.registers rs1 == register_value s.registers rs2) ≡ t → not t ≡ false
+          → register_value s.registers rs1 ≡ register_value s.registers rs2
+      by true is none = eqb-true (register_value s.registers rs1) (register_value s.registers rs2) is
+      by false is none = absurd (cc)
+  passed-means branch.Less rs1 rs2 is = means
+  passed-means branch.GreaterEqual rs1 rs2 is = means
+  passed-means branch.LessUnsigned rs1 rs2 is = means
+  passed-means branch.GreaterEqualUnsigned rs1 rs2 is = means
+
   branch-goes : (op : BranchOp) (rs1 rs2 : Reg) (offset : ℤ) → IsAt s (Branch op rs1 rs2 offset)
-      → Goes queues N own_of h owns (goes_by k (address k.pc offset)
+      → Goes queues N own_of h owns (goes_by (when_taken k op rs1 rs2) (when_passed k op rs1 rs2) (address k.pc offset) (next_pc k.pc)
       (is_branch_taken queues k.ranges op (operand queues N own_of H h k rs1) (operand queues N own_of H h k rs2))) m cs
       (access_of e) (advanced s v)
-  branch-goes op rs1 rs2 offset here = by (is_taken op a b) refl
+  branch-goes op rs1 rs2 offset here = by (is_taken op (register_value s.registers rs1) (register_value s.registers rs2)) refl
     where
-      a : ℕ
-      a = register_value s.registers rs1
-
-      b : ℕ
-      b = register_value s.registers rs2
-
-      told : Option Bool
-      told = is_branch_taken queues k.ranges op (operand queues N own_of H h k rs1) (operand queues N own_of H h k rs2)
-
-      i : Instr
-      i = Branch op rs1 rs2 offset
-
-      target : ℕ
-      target = address k.pc offset
-
-      z : HartState
-      z = after_instruction s v (Branch op rs1 rs2 offset)
-
       right : (t : Bool)
           → is_branch_taken queues k.ranges op (operand queues N own_of H h k rs1) (operand queues N own_of H h k rs2) ≡ Some t
           → is_taken op (register_value s.registers rs1) (register_value s.registers rs2) ≡ t
@@ -279,27 +337,35 @@ module _ (M : ℕ) (o : OpeningValue) (queues : ℕ → Queue) (N : ℕ) (own_of
           (operand-has rs1) (operand-has rs2) t is
 
       turned : is_taken op (register_value s.registers rs1) (register_value s.registers rs2) ≡ true
-          → Means queues N (own_of h) h (going_to k (address k.pc offset))
+          → Means queues N (own_of h) h (going_to (when_taken k op rs1 rs2) (address k.pc offset))
           (after_instruction s v (Branch op rs1 rs2 offset)) m cs
-      turned yes-taken = going-means (address k.pc offset) (after_instruction s v (Branch op rs1 rs2 offset))
-          (ap (λ t. if t then address s.pc offset else next_pc s.pc) yes-taken ∙ ap (λ x. address x offset) means.pc) refl
+      turned yes-taken = (
+        0 ∷ xs,
+        means-going queues N (own_of h) h xs (when_taken k op rs1 rs2) s (after_instruction s v (Branch op rs1 rs2 offset)) m cs (address k.pc offset)
+            (taken-means op rs1 rs2 yes-taken)
+            (ap (λ t. if t then address s.pc offset else next_pc s.pc) yes-taken ∙ ap (λ x. address x offset) means.pc) refl,
+      )
 
       onward : is_taken op (register_value s.registers rs1) (register_value s.registers rs2) ≡ false
-          → Means queues N (own_of h) h (going_to k (next_pc k.pc)) (after_instruction s v (Branch op rs1 rs2 offset)) m
-          cs
-      onward not-taken = going-means (next_pc k.pc) (after_instruction s v (Branch op rs1 rs2 offset))
-          (ap (λ t. if t then address s.pc offset else next_pc s.pc) not-taken ∙ ap next_pc means.pc) refl
+          → Means queues N (own_of h) h (going_to (when_passed k op rs1 rs2) (next_pc k.pc)) (after_instruction s v (Branch op rs1 rs2 offset)) m cs
+      onward not-taken = (
+        0 ∷ xs,
+        means-going queues N (own_of h) h xs (when_passed k op rs1 rs2) s (after_instruction s v (Branch op rs1 rs2 offset)) m cs (next_pc k.pc)
+            (passed-means op rs1 rs2 not-taken)
+            (ap (λ t. if t then address s.pc offset else next_pc s.pc) not-taken ∙ ap next_pc means.pc) refl,
+      )
 
       among : (t : Bool) → is_taken op (register_value s.registers rs1) (register_value s.registers rs2) ≡ t → (o : Option Bool)
           → ((u : Bool) → o ≡ Some u → is_taken op (register_value s.registers rs1) (register_value s.registers rs2) ≡ u)
-          → IsAmong queues N own_of h (goes_by k (address k.pc offset) o) (after_instruction s v (Branch op rs1 rs2 offset)) m cs
+          → IsAmong queues N own_of h (goes_by (when_taken k op rs1 rs2) (when_passed k op rs1 rs2) (address k.pc offset) (next_pc k.pc) o)
+          (after_instruction s v (Branch op rs1 rs2 offset)) m cs
       among true is None right = inl (turned is)
       among false is None right = inr (inl (onward is))
       among t is (Some true) right = inl (turned (right true refl))
       among t is (Some false) right = inl (onward (right false refl))
 
       by : (t : Bool) → is_taken op (register_value s.registers rs1) (register_value s.registers rs2) ≡ t
-          → Goes queues N own_of h owns (goes_by k (address k.pc offset)
+          → Goes queues N own_of h owns (goes_by (when_taken k op rs1 rs2) (when_passed k op rs1 rs2) (address k.pc offset) (next_pc k.pc)
           (is_branch_taken queues k.ranges op (operand queues N own_of H h k rs1) (operand queues N own_of H h k rs2))) m
           cs (access_of e) (advanced s v)
       by true is = jump-goes _ (Branch op rs1 rs2 offset) (address s.pc offset) here
@@ -376,6 +442,29 @@ module _ (M : ℕ) (o : OpeningValue) (queues : ℕ → Queue) (N : ℕ) (own_of
       first true needs = gives (slice_get s.inbox 0) needs
       first false needs = second (slice_index s.registers 17 == 2) needs
 
+  storable-has : (n x : ℕ) (u : KnownValue) → Has queues xs u x → (Has queues xs u x → x < 2 ^ 32 → n ≡ x) → Has queues xs (storable queues N own_of H h u) n
+  storable-has n x any has is = tt
+  storable-has n x (linear f) has is = is has (subst (λ y. y < 2 ^ 32) (sym has) (mod-lt (form_value f xs) (omega arith))) ∙ has
+  storable-has n x (index_for i f) has is = by (nat_lt i N) refl
+    where
+      by : (t : Bool) → nat_lt i N ≡ t → Has queues xs (if t then index_for i f else any) n
+      by false other = tt
+      by true listed =
+          let less : i < N = ltb-true i N listed in
+          let small : index_word (queues i) (form_value f xs) < 256 ^ (queues i).index_width = word-fits (queues i) (fine i less).0 (form_value f xs) in
+          let four : 256 ^ (queues i).index_width ≤ 2 ^ 32 = pow-le-pow_right {n = 256} (omega arith) {i = (queues i).index_width} {j = 4} (fine i less).2 in
+          is has (omega (arith, has, small, four)) ∙ has
+
+  immediate-result : (op : ImmediateOp) (v : KnownValue) (x : ℕ) (n : ℤ) → Has queues xs v x
+      → Gives queues xs (immediate_result queues N own_of H h k op v n) (with_immediate op x n)
+  immediate-result op v x n has = by (is_copy op n) refl
+    where
+      by : (t : Bool) → is_copy op n ≡ t
+          → Gives queues xs (if t then just (storable queues N own_of H h v) else of_immediate k.ranges op v n) (with_immediate op x n)
+      by false other = immediate-gives queues xs k.ranges means.ranges op v x n has
+      by true copy = just-gives queues xs (storable queues N own_of H h v) (with_immediate op x n)
+          (storable-has (with_immediate op x n) x v has (λ has small. copied op n copy x small))
+
   -- ---- loads and stores: where they point, and that the hart stops where it may not
 
   address-has : (r : Reg) (offset : ℤ) → Has queues xs (address_value queues N own_of H h k r offset) (address (register_value s.registers r) offset)
@@ -417,10 +506,33 @@ module _ (M : ℕ) (o : OpeningValue) (queues : ℕ → Queue) (N : ℕ) (own_of
 
   -- ---- loads
 
+  index-below : (ys : List ℕ) (limit : ℕ) (w : KnownValue) (x : ℕ) → is_index_below queues N own_of H h limit w ≡ true → Has queues ys w x → x < limit
+  index-below ys limit any x ok has = absurd (cc)
+  index-below ys limit (linear f) x ok has = absurd (cc)
+  index-below ys limit (index_for i f) x ok has =
+      let p = and_parts (nat_le 1 (queues i).modulus) (nat_lt ((queues i).base + (queues i).scale * ((queues i).modulus - 1)) limit) ok in
+      let some : 1 ≤ (queues i).modulus = leb-true 1 (queues i).modulus p.0 in
+      let under : (form_value f ys + (queues i).offset) % (queues i).modulus < (queues i).modulus = mod-lt (form_value f ys + (queues i).offset) some in
+      let most : (queues i).scale * ((form_value f ys + (queues i).offset) % (queues i).modulus) ≤ (queues i).scale * ((queues i).modulus - 1) =
+      mul-le (queues i).scale ((form_value f ys + (queues i).offset) % (queues i).modulus) (queues i).scale ((queues i).modulus - 1)
+      (omega arith) (omega (arith, under)) in
+      let low : (queues i).base + (queues i).scale * ((queues i).modulus - 1) < limit =
+      ltb-true ((queues i).base + (queues i).scale * ((queues i).modulus - 1)) limit p.1 in
+      omega (arith, has, most, low)
+
+  sign-kept : (ys : List ℕ) (bits : ℕ) (w : KnownValue) (x : ℕ) → Has queues ys w x
+      → Has queues ys (if is_index_below queues N own_of H h (2 ^ (bits - 1)) w then w else any) (sign_extended bits x)
+  sign-kept ys bits w x has = by (is_index_below queues N own_of H h (2 ^ (bits - 1)) w) refl
+    where
+      by : (t : Bool) → is_index_below queues N own_of H h (2 ^ (bits - 1)) w ≡ t → Has queues ys (if t then w else any) (sign_extended bits x)
+      by false other = tt
+      by true low = subst (Has queues ys w)
+          (sym (ap (λ t. if t then x else word (pos x -ℤ pos (2 ^ bits))) (lt-ltb x (2 ^ (bits - 1)) (index-below ys (2 ^ (bits - 1)) w x low has)))) has
+
   extended-has : (ys : List ℕ) (op : LoadOp) (w : KnownValue) (x : ℕ) → Has queues ys w x
       → Has queues ys (zero_extended queues N own_of H h op w) (extended op x)
-  extended-has ys load_op.Byte w x has = tt
-  extended-has ys load_op.Half w x has = tt
+  extended-has ys load_op.Byte w x has = sign-kept ys 8 w x has
+  extended-has ys load_op.Half w x has = sign-kept ys 16 w x has
   extended-has ys load_op.Word w x has = has
   extended-has ys load_op.ByteUnsigned w x has = has
   extended-has ys load_op.HalfUnsigned w x has = has
@@ -453,6 +565,16 @@ module _ (M : ℕ) (o : OpeningValue) (queues : ℕ → Queue) (N : ℕ) (own_of
           read ∙ ap (number_seen m a) w.whole ∙ ap (λ z. number_seen m z ((queues i).index_width)) (one-place b a parts.0 low high ∙ w.place) ∙ sees.own
           ∙ ap (index_word (queues i)) (means.shares i f.0 w.party mine).own
 
+  loaded-gives : (op : LoadOp) (w : KnownValue) (x : ℕ) → x < 256 ^ load_width op → Has queues xs w x
+      → Gives queues xs (loaded queues N own_of H h op w) (extended op x)
+  loaded-gives load_op.Byte w x low has =
+      just-gives queues xs (zero_extended queues N own_of H h load_op.Byte w) (extended load_op.Byte x) (extended-has xs load_op.Byte w x has)
+  loaded-gives load_op.Half w x low has =
+      just-gives queues xs (zero_extended queues N own_of H h load_op.Half w) (extended load_op.Half x) (extended-has xs load_op.Half w x has)
+  loaded-gives load_op.Word w x low has = just-gives queues xs w x has
+  loaded-gives load_op.ByteUnsigned w x low has = or-up-to-gives queues xs 255 x w (omega (arith, low)) has
+  loaded-gives load_op.HalfUnsigned w x low has = or-up-to-gives queues xs 65535 x w (omega (arith, low)) has
+
   load-keeps : (q : Queue) (t : Option Party) (c : QueueCounts) (a width x : ℕ) → KeepsAccess q t c (load a width x)
   load-keeps q None c a width x = tt
   load-keeps q (Some p) c a width x = tt
@@ -463,10 +585,11 @@ module _ (M : ℕ) (o : OpeningValue) (queues : ℕ → Queue) (N : ℕ) (own_of
       → Means queues N (own_of h) h (after_load queues N own_of H h k op rd.number b look) z m
       (λ i. after_access (queues i) (party_of (queues i) h) (load a (load_width op) v) (cs i))
   load-known op rd a b None z low high read is ok at regs =
-      let g = just-gives queues xs (zero_extended queues N own_of H h op (value_loaded queues N own_of H h k b (load_width op))) (extended op v)
-      (extended-has xs op (value_loaded queues N own_of H h k b (load_width op)) v (value-loaded b (load_width op) a v low high read)) in
+      let g = loaded-gives op (value_loaded queues N own_of H h k b (load_width op)) v
+      (subst (λ n. n < 256 ^ load_width op) (sym read) (joined-below (λ i. m (a + i)) (λ i. acts.bytes (a + i)) (load_width op)))
+      (value-loaded b (load_width op) a v low high read) in
       let z-means = means-result queues N (own_of h) h xs k s z m cs rd.number (next_pc k.pc) (extended op v)
-      (just (zero_extended queues N own_of H h op (value_loaded queues N own_of H h k b (load_width op))))
+      (loaded queues N own_of H h op (value_loaded queues N own_of H h k b (load_width op)))
       means (omega (arith, size, rd.below_32)) g.0 g.1 g.2 at regs in (
         g.0 ∷ xs,
         means-frame queues N (own_of h) h (g.0 ∷ xs) (after_load queues N own_of H h k op rd.number b None) z m m cs
@@ -671,6 +794,31 @@ module _ (M : ℕ) (o : OpeningValue) (queues : ℕ → Queue) (N : ℕ) (own_of
           w.whole,
         )
 
+    -- the word that a move stores, also where its number is cut to the index's bytes
+    moved-word : (i : ℕ) → i < N → (f : Form) → store_width op ≡ (queues i).index_width
+        → (is_within queues k.ranges vx (index_for i f) || is_cut (queues i) vx f) ≡ true → stored op x ≡ index_word (queues i) (form_value f xs)
+    moved-word i less f width ok = elim (or_cases (is_within queues k.ranges vx (index_for i f)) (is_cut (queues i) vx f) ok) [
+      | inl whole ↦ (
+          let word : x ≡ index_word (queues i) (form_value f xs) = within queues k.ranges xs means.ranges vx (index_for i f) x whole has-x in
+          let small : x < 256 ^ (queues i).index_width = subst (λ n. n < 256 ^ (queues i).index_width) (sym word)
+          (word-fits (queues i) (fine i less).0 (form_value f xs)) in
+          stored-whole op x (subst (λ n. x < 256 ^ n) (sym width) small) ∙ word)
+      | inr low ↦ cut vx has-x low
+    ]
+      where
+        cut : (u : KnownValue) → Has queues xs u x → is_cut (queues i) u f ≡ true → stored op x ≡ index_word (queues i) (form_value f xs)
+        cut any has low = absurd (cc)
+        cut (index_for j g) has low = absurd (cc)
+        cut (linear g) has low =
+            let p2 = and_parts (((queues i).scale * (queues i).modulus == 256 ^ (queues i).index_width) && nat_lt (queues i).base (queues i).scale)
+            (is_same (256 ^ (queues i).index_width) g (scaled (queues i) (plus f (number (queues i).offset)))) low in
+            let p1 = and_parts ((queues i).scale * (queues i).modulus == 256 ^ (queues i).index_width) (nat_lt (queues i).base (queues i).scale) p2.0 in
+            stored-low op x (form_value g xs) has ∙ ap (λ n. form_value g xs % 256 ^ n) width
+            ∙ same-value (256 ^ (queues i).index_width) g (scaled (queues i) (plus f (number (queues i).offset))) xs p2.1
+            ∙ sym (word-linear (256 ^ (queues i).index_width) (queues i) f xs
+            (pow-le-pow_right {n = 256} (omega arith) {i = 0} {j = (queues i).index_width} (omega arith))
+            (eqb-true ((queues i).scale * (queues i).modulus) (256 ^ (queues i).index_width) p1.0) (ltb-true (queues i).base (queues i).scale p1.1))
+
     party-store : (i : ℕ) (less : i < N) (p : Party) (mine : h ≡ hart (queues i) p)
         → Stored (queues i) (fine i less).0 p (cs i) xs (get_or k.shares i no_share) (means.shares i less p mine) w
         (get_or (shares_moved queues N own_of H h k.shares d move) i no_share)
@@ -685,23 +833,20 @@ module _ (M : ℕ) (o : OpeningValue) (queues : ℕ → Queue) (N : ℕ) (own_of
         by true just ok =
             let here = moved-here i just p mine less in
             let p1 = and_parts
-            (is_within queues k.ranges vx (index_for i (plus (get_or k.shares i no_share).own d)) && is_same 0
+            ((is_within queues k.ranges vx (index_for i (plus (get_or k.shares i no_share).own d))
+            || is_cut (queues i) vx (plus (get_or k.shares i no_share).own d)) && is_same 0
             (plus d (minus (get_or k.shares i no_share).owned d)) (get_or k.shares i no_share).owned
             && fits_in (most k.ranges d) (Some ((queues i).modulus - 1))) (nat_lt i (length k.shares)) ok in
             let p2 = and_parts
-            (is_within queues k.ranges vx (index_for i (plus (get_or k.shares i no_share).own d)) && is_same 0
+            ((is_within queues k.ranges vx (index_for i (plus (get_or k.shares i no_share).own d))
+            || is_cut (queues i) vx (plus (get_or k.shares i no_share).own d)) && is_same 0
             (plus d (minus (get_or k.shares i no_share).owned d)) (get_or k.shares i no_share).owned)
             (fits_in (most k.ranges d) (Some ((queues i).modulus - 1))) p1.0 in
             let p3 =
-            and_parts (is_within queues k.ranges vx (index_for i (plus (get_or k.shares i no_share).own d)))
+            and_parts (is_within queues k.ranges vx (index_for i (plus (get_or k.shares i no_share).own d))
+            || is_cut (queues i) vx (plus (get_or k.shares i no_share).own d))
             (is_same 0 (plus d (minus (get_or k.shares i no_share).owned d)) (get_or k.shares i no_share).owned)
             p2.0 in
-            let word : x ≡ index_word (queues i) (form_value (plus (get_or k.shares i no_share).own d) xs) =
-            within queues k.ranges xs means.ranges vx (index_for i (plus (get_or k.shares i no_share).own d)) x p3.0
-            has-x in
-            let small : x < 256 ^ (queues i).index_width = subst (λ n. n < 256 ^ (queues i).index_width) (sym word)
-            (word-fits (queues i) (fine i less).0 (form_value (plus (get_or k.shares i no_share).own d) xs)) in
-            let fits : x < 256 ^ store_width op = subst (λ n. x < 256 ^ n) (sym here.2) small in
             let most-d : form_value d xs ≤ (queues i).modulus - 1 =
             fits-below (most k.ranges d) (Some ((queues i).modulus - 1)) (form_value d xs) p2.1
             (λ n is. value-below k.ranges d xs n means.ranges is) in
@@ -712,7 +857,8 @@ module _ (M : ℕ) (o : OpeningValue) (queues : ℕ → Queue) (N : ℕ) (own_of
             (subst (Stored (queues i) (fine i less).0 p (cs i) xs (get_or k.shares i no_share) (means.shares i less p mine) w)
             (sym (set-share k.shares d i (ltb-true i (length k.shares) p1.1)))
             (moves-on (queues i) (fine i less).0 p (cs i) xs (get_or k.shares i no_share)
-            (means.shares i less p mine) w d here.1 here.2 (stored-whole op x fits ∙ word) p3.1
+            (means.shares i less p mine) w d here.1 here.2
+            (moved-word i less (plus (get_or k.shares i no_share).own d) here.2 p3.0) p3.1
             (omega (arith, most-d, one))))
         by false other ok = subst (Stored (queues i) (fine i less).0 p (cs i) xs (get_or k.shares i no_share) (means.shares i less p mine) w)
             (sym (left-share k.shares d move i other))
@@ -766,19 +912,6 @@ module _ (M : ℕ) (o : OpeningValue) (queues : ℕ → Queue) (N : ℕ) (own_of
           ]
     ]
 
-    storable-has : (n : ℕ) (u : KnownValue) → Has queues xs u x → (Has queues xs u x → x < 2 ^ 32 → n ≡ x) → Has queues xs (storable queues N own_of H h u) n
-    storable-has n any has is = tt
-    storable-has n (linear f) has is = is has (subst (λ y. y < 2 ^ 32) (sym has) (mod-lt (form_value f xs) (omega arith))) ∙ has
-    storable-has n (index_for i f) has is = by (nat_lt i N) refl
-      where
-        by : (t : Bool) → nat_lt i N ≡ t → Has queues xs (if t then index_for i f else any) n
-        by false other = tt
-        by true listed =
-            let less : i < N = ltb-true i N listed in
-            let small : index_word (queues i) (form_value f xs) < 256 ^ (queues i).index_width = word-fits (queues i) (fine i less).0 (form_value f xs) in
-            let four : 256 ^ (queues i).index_width ≤ 2 ^ 32 = pow-le-pow_right {n = 256} (omega arith) {i = (queues i).index_width} {j = 4} (fine i less).2 in
-            is has (omega (arith, has, small, four)) ∙ has
-
     word-then : (own v : ℕ) (u : KnownValue) → Has queues xs u (number_seen m own 4)
         → Has queues xs (word_then queues N own_of H h b (store_width op) vx own u)
         (number_seen (view_then (store w) m) own 4)
@@ -793,7 +926,7 @@ module _ (M : ℕ) (o : OpeningValue) (queues : ℕ → Queue) (N : ℕ) (own_of
             let front = and_parts (is_one b) (b.low == own) parts.0 in
             let place : a ≡ own = one-place b a front.0 low high ∙ eqb-true b.low own front.1 in
             let wide : store_width op ≡ 4 = eqb-true (store_width op) 4 parts.1 in
-            storable-has (number_seen (view_then (store w) m) own 4) vx has-x (λ has small.
+            storable-has (number_seen (view_then (store w) m) own 4) x vx has-x (λ has small.
             subst (λ n. number_seen (view_then (store w) m) n 4 ≡ x) place
             (subst (λ z. number_seen (view_then (store z) m) a 4 ≡ x)
             (sym (ap (λ n. write a n (stored op x)) wide ∙ ap (write a 4) (stored-word op x wide)))
@@ -1101,7 +1234,7 @@ module _ (M : ℕ) (o : OpeningValue) (queues : ℕ → Queue) (N : ℕ) (own_of
       (ap (λ n. address n offset) means.pc) refl is)
   instruction-goes past d (Jalr rd rs1 offset) ks here is = jalr-goes rd rs1 offset ks here is
   instruction-goes past d (Branch op rs1 rs2 offset) ks here is = subst (λ ts. Goes queues N own_of h owns ts m cs (access_of e) (advanced s v))
-      (let e : goes_by k (address k.pc offset)
+      (let e : goes_by (when_taken k op rs1 rs2) (when_passed k op rs1 rs2) (address k.pc offset) (next_pc k.pc)
       (is_branch_taken queues k.ranges op (operand queues N own_of H h k rs1) (operand queues N own_of H h k rs2)) ≡ ks =
       cc in
       e) (branch-goes op rs1 rs2 offset here)
@@ -1110,9 +1243,8 @@ module _ (M : ℕ) (o : OpeningValue) (queues : ℕ → Queue) (N : ℕ) (own_of
   instruction-goes past d (Immediate op rd rs1 n) ks here is = inner-goes ks (Immediate op rd rs1 n) here (need_at here)
       (exact-goes ks (Immediate op rd rs1 n) rd (next_pc k.pc)
       (with_immediate op (register_value s.registers rs1) n)
-      (of_immediate k.ranges op (operand queues N own_of H h k rs1) n)
-      (immediate-gives queues xs k.ranges means.ranges op (operand queues N own_of H h k rs1)
-      (register_value s.registers rs1) n (operand-has rs1)) (ap next_pc means.pc) refl is)
+      (immediate_result queues N own_of H h k op (operand queues N own_of H h k rs1) n)
+      (immediate-result op (operand queues N own_of H h k rs1) (register_value s.registers rs1) n (operand-has rs1)) (ap next_pc means.pc) refl is)
   instruction-goes past d (Shift op rd rs1 amount) ks here is = inner-goes ks (Shift op rd rs1 amount) here (need_at here)
       (exact-goes ks (Shift op rd rs1 amount) rd (next_pc k.pc) (shifted op (register_value s.registers rs1) amount)
       (of_shift k.ranges op (operand queues N own_of H h k rs1) amount)

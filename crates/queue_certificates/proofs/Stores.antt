@@ -57,6 +57,12 @@ stored-whole store_op.Byte x small = mod-eq_of_lt (omega (arith, small))
 stored-whole store_op.Half x small = mod-eq_of_lt (omega (arith, small))
 stored-whole store_op.Word x small = refl
 
+-- the bytes that are stored of a number's word are that number's
+pub stored-low : (op : StoreOp) (x g : ℕ) → x ≡ g % 2 ^ 32 → stored op x ≡ g % 256 ^ store_width op
+stored-low store_op.Byte x g is = omega (arith, is)
+stored-low store_op.Half x g is = omega (arith, is)
+stored-low store_op.Word x g is = is
+
 pub stored-word : (op : StoreOp) (x : ℕ) → store_width op ≡ 4 → stored op x ≡ x
 stored-word store_op.Byte x wide = absurd (omega (arith, wide))
 stored-word store_op.Half x wide = absurd (omega (arith, wide))

@@ -25,54 +25,54 @@ value-scaled q f xs = value-plus (number q.base) (times q.scale f) xs
 pub value-offset : (q : Queue) (f : Form) (xs : List ℕ) → form_value (plus f (number q.offset)) xs ≡ form_value f xs + q.offset
 value-offset q f xs = value-plus f (number q.offset) xs ∙ ap (λ n. form_value f xs + n) (value-number q.offset xs)
 
-scaled-mod : (s m n : ℕ) → s * m ≡ 2 ^ 32 → s * (n % m) ≡ s * n % 2 ^ 32
-scaled-mod s m n whole = sym (ap (λ y. y % 2 ^ 32) parts ∙ add-mul-mod_self_left (s * (n % m)) (2 ^ 32) (n / m) ∙ mod-eq_of_lt small)
+pub scaled-mod : (w s m n : ℕ) → 1 ≤ w → s * m ≡ w → s * (n % m) ≡ s * n % w
+scaled-mod w s m n positive whole = sym (ap (λ y. y % w) parts ∙ add-mul-mod_self_left (s * (n % m)) w (n / m) ∙ mod-eq_of_lt small)
   where
     some : (1 ≤ s) × (0 < m)
     some = (
       elim (cases_eq s 0) [
-        | inl none ↦ absurd (let e : s * m ≡ 0 = ap (λ y. y * m) none ∙ zero-mul m in omega (arith, e, whole))
+        | inl none ↦ absurd (let e : s * m ≡ 0 = ap (λ y. y * m) none ∙ zero-mul m in omega (arith, e, whole, positive))
         | inr more ↦ omega (arith, more)
       ],
       elim (cases_eq m 0) [
-        | inl none ↦ absurd (let e : s * m ≡ 0 = ap (λ y. s * y) none ∙ mul-zero s in omega (arith, e, whole))
+        | inl none ↦ absurd (let e : s * m ≡ 0 = ap (λ y. s * y) none ∙ mul-zero s in omega (arith, e, whole, positive))
         | inr more ↦ omega (arith, more)
       ],
     )
 
-    parts : s * n ≡ s * (n % m) + 2 ^ 32 * (n / m)
+    parts : s * n ≡ s * (n % m) + w * (n / m)
     parts = sym (ap (λ y. s * y) (mod-add-div n m)) ∙ mul-add s (n % m) (m * (n / m))
         ∙ ap (λ y. s * (n % m) + y) (sym (mul_assoc s m (n / m)) ∙ ap (λ y. y * (n / m)) whole)
 
-    small : s * (n % m) < 2 ^ 32
+    small : s * (n % m) < w
     small =
         let low : n % m < m = mod-lt n some.1 in
         let up : s * (n % m + 1) ≤ s * m = mul-le s (n % m + 1) s m (omega arith) (omega (arith, low)) in
         let more : s * (n % m + 1) ≡ s * (n % m) + s * 1 = mul-add s (n % m) 1 in
         omega (arith, up, more, whole, some.0)
 
-whole-word : (b s m n : ℕ) → s * m ≡ 2 ^ 32 → b < s → b + s * (n % m) ≡ (b + s * n) % 2 ^ 32
-whole-word b s m n whole low = sym (mod-sum b (s * n) b (s * (n % m)) (2 ^ 32) refl
-    (sym (scaled-mod s m n whole) ∙ sym (mod-eq_of_lt (omega (arith, below)))) ∙ mod-eq_of_lt below)
+whole-word : (w b s m n : ℕ) → 1 ≤ w → s * m ≡ w → b < s → b + s * (n % m) ≡ (b + s * n) % w
+whole-word w b s m n positive whole low = sym (mod-sum b (s * n) b (s * (n % m)) w refl
+    (sym (scaled-mod w s m n positive whole) ∙ sym (mod-eq_of_lt (omega (arith, below)))) ∙ mod-eq_of_lt below)
   where
     some : 0 < m
     some = elim (cases_eq m 0) [
-      | inl none ↦ absurd (let e : s * m ≡ 0 = ap (λ y. s * y) none ∙ mul-zero s in omega (arith, e, whole))
+      | inl none ↦ absurd (let e : s * m ≡ 0 = ap (λ y. s * y) none ∙ mul-zero s in omega (arith, e, whole, positive))
       | inr more ↦ omega (arith, more)
     ]
 
-    below : b + s * (n % m) < 2 ^ 32
+    below : b + s * (n % m) < w
     below =
         let under : n % m < m = mod-lt n some in
         let up : s * (n % m + 1) ≤ s * m = mul-le s (n % m + 1) s m (omega arith) (omega (arith, under)) in
         let more : s * (n % m + 1) ≡ s * (n % m) + s * 1 = mul-add s (n % m) 1 in
         omega (arith, up, more, whole, low)
 
--- and is linear where it takes all of a word
-word-linear : (q : Queue) (f : Form) (xs : List ℕ) → q.scale * q.modulus ≡ 2 ^ 32 → q.base < q.scale
-    → index_word q (form_value f xs) ≡ form_value (scaled q (plus f (number q.offset))) xs % 2 ^ 32
-word-linear q f xs whole low = whole-word q.base q.scale q.modulus (form_value f xs + q.offset) whole low
-    ∙ ap (λ n. n % 2 ^ 32) (sym (value-scaled q (plus f (number q.offset)) xs ∙ ap (λ n. q.base + q.scale * n) (value-offset q f xs)))
+-- and is linear where it takes all of a word, or of its bytes
+pub word-linear : (w : ℕ) (q : Queue) (f : Form) (xs : List ℕ) → 1 ≤ w → q.scale * q.modulus ≡ w → q.base < q.scale
+    → index_word q (form_value f xs) ≡ form_value (scaled q (plus f (number q.offset))) xs % w
+word-linear w q f xs positive whole low = whole-word w q.base q.scale q.modulus (form_value f xs + q.offset) positive whole low
+    ∙ ap (λ n. n % w) (sym (value-scaled q (plus f (number q.offset)) xs ∙ ap (λ n. q.base + q.scale * n) (value-offset q f xs)))
 
 module _ (queues : ℕ → Queue) where
   pub has-by : (t : Form → Form) (xs ys : List ℕ) → ((f : Form) → form_value (t f) ys ≡ form_value f xs)
@@ -102,7 +102,7 @@ module _ (queues : ℕ → Queue) where
         linear-or true ok =
             let parts = and_parts ((queues i).scale * (queues i).modulus == 2 ^ 32) (nat_lt (queues i).base (queues i).scale) ok in
             let e : index_word (queues i) (form_value f xs) ≡ form_value (scaled (queues i) (plus f (number (queues i).offset))) xs % 2 ^ 32 =
-            word-linear (queues i) f xs (eqb-true ((queues i).scale * (queues i).modulus) (2 ^ 32) parts.0)
+            word-linear (2 ^ 32) (queues i) f xs (omega arith) (eqb-true ((queues i).scale * (queues i).modulus) (2 ^ 32) parts.0)
             (ltb-true (queues i).base (queues i).scale parts.1) in
             (λ has. has ∙ e, λ has. has ∙ sym e)
         linear-or false part = (λ has. has, λ has. has)
@@ -168,4 +168,4 @@ module _ (queues : ℕ → Queue) where
   has-bounds rs xs any x b ranges is has = absurd (cc)
   has-bounds rs xs (index_for i f) x b ranges is has = absurd (cc)
   has-bounds rs xs (linear f) x b ranges is has = let e = value-between (2 ^ 32) rs f xs b ranges is in
-      subst (λ z. (b.low ≤ z) × (z ≤ b.high)) (sym has) (e.1, e.2)
+      subst (λ z. (b.low ≤ z) × (z ≤ b.high)) (sym has) (e.low, e.high)

@@ -1,5 +1,5 @@
 -- Numbers that depend on a few numbers that aren't known: sums of multiples of them.
-use Rattle.std.specs.Prelude.{ℕ, zero, suc, ◌+◌, ◌-◌, ◌*◌, ◌%◌, ◌≤◌, ◌==◌, ◌&&◌, nat_le, if◌then◌else◌, Bool, true}
+use Rattle.std.specs.Prelude.{ℕ, zero, suc, ◌+◌, ◌-◌, ◌*◌, ◌%◌, ◌^◌, ◌≤◌, ◌==◌, ◌&&◌, nat_le, if◌then◌else◌, Bool, true}
 use Rattle.std.specs.Prelude.{false, Option, None, Some, List, [], ◌∷◌, map}
 
 -- a constant, and of each variable how often it is taken
@@ -163,3 +163,20 @@ bounds_between n c (Some up) (Some down) = if nat_le down c && nat_le (c + up + 
 
 abbrev pub bounds_of : (n : ℕ) → List (Option ℕ) → Form → Option Bounds
 bounds_of n rs f = bounds_between n (f.constant % n) (most_of_sum rs (risings n f.factors)) (most_of_sum rs (fallings n f.factors))
+
+-- the remainder by n, at most 2 ^ 32, as a word: where it doesn't wrap either, its factors may count as negative
+abbrev pub balanced : (n : ℕ) → List ℕ → List ℕ
+balanced n [] = []
+balanced n (m ∷ ms) = (if nat_le (n - m % n) (m % n) then 2 ^ 32 - (n - m % n) else m % n) ∷ balanced n ms
+
+abbrev pub where_bounded : Option Bounds → Form → Option Form
+where_bounded None f = None
+where_bounded (Some b) f = Some f
+
+abbrev pub first_form : Option Form → Option Form → Option Form
+first_form None g = g
+first_form (Some f) g = Some f
+
+abbrev pub remainder_word : List (Option ℕ) → Form → (n : ℕ) → Option Form
+remainder_word rs f n = first_form (remainder rs f n)
+    (where_bounded (bounds_of n rs f) (record { constant = f.constant % n; factors = balanced n f.factors }))

@@ -12,7 +12,7 @@ use Rattle.rv_decode.specs.declared.instruction.RegisterOp.TheVariants as regist
 use Rattle.hart.specs.Effects.{word, computed, with_immediate, shifted, is_taken, flag}
 use Rattle.slot_queue.specs.Queues.{Queue}
 use Rattle.queue_certificates.specs.Forms.{Form, number, first_variable, plus, times, lifted, vanishes, is_same, most, fits_in}
-use Rattle.queue_certificates.specs.Forms.{remainder, Bounds, bounds_of}
+use Rattle.queue_certificates.specs.Forms.{remainder_word, Bounds, bounds_of}
 use Rattle.queue_certificates.specs.States.{KnownValue, any, linear, index_for, value_by, scaled}
 
 -- a value over one variable more, the first, which is at most so much
@@ -29,6 +29,11 @@ exactly n = just (if nat_lt n (2 ^ 32) then linear (number n) else any)
 -- some number up to n
 abbrev pub any_up_to : ℕ → Result
 any_up_to n = if nat_lt n (2 ^ 32) then record { most = n; value = linear first_variable } else just any
+
+-- what is known, or some number up to n
+abbrev pub or_up_to : (n : ℕ) → KnownValue → Result
+or_up_to n any = any_up_to n
+or_up_to n v = just v
 
 -- the number, where a value is one
 abbrev pub as_number : KnownValue → Option ℕ
@@ -119,12 +124,12 @@ module _ (ranges : List (Option ℕ)) where
 
   abbrev pub masked : KnownValue → (mask : ℕ) → Result
   masked (linear f) mask = if (mask + 1 == 2 ^ count_ones mask) && (2 ^ 32 % (mask + 1) == 0)
-      then low_bits (remainder ranges f (mask + 1)) mask else any_up_to mask
+      then low_bits (remainder_word ranges f (mask + 1)) mask else any_up_to mask
   masked v mask = any_up_to mask
 
-  abbrev pub masked_by : KnownValue → Option ℕ → Result
-  masked_by v None = just any
-  masked_by v (Some mask) = masked v mask
+  abbrev pub masked_by : KnownValue → Option ℕ → (other : Result) → Result
+  masked_by v None other = other
+  masked_by v (Some mask) other = masked v mask
 
   abbrev pub immediate_part : ImmediateOp → KnownValue → ℤ → Result
   immediate_part immediate.Add v n = just (sum_of v (linear (number (word n))))
@@ -137,9 +142,24 @@ module _ (ranges : List (Option ℕ)) where
   abbrev pub of_immediate : ImmediateOp → KnownValue → ℤ → Result
   of_immediate op v n = or_else (number_and (λ a. with_immediate op a n) (as_number v)) (immediate_part op v n)
 
+  -- what is a multiple of a power of two, as after a shift to the left, shifted right: a remainder of what it is a multiple of
+  abbrev pub without : (n : ℕ) → Form → Form
+  without n f = record { constant = f.constant / n; factors = map (λ m. m / n) f.factors }
+
+  abbrev pub high_bits : Option Form → Option Bounds → (amount : ℕ) → Result
+  high_bits None b amount = shifted_right b amount
+  high_bits (Some f) b amount = just (linear f)
+
+  abbrev pub shifted_back : KnownValue → (amount : ℕ) → Result
+  shifted_back any amount = just any
+  shifted_back (index_for i f) amount = just any
+  shifted_back (linear f) amount = if nat_le amount 32 && is_same 0 f (times (2 ^ amount) (without (2 ^ amount) f))
+      then high_bits (remainder_word ranges (without (2 ^ amount) f) (2 ^ (32 - amount))) (bounds_of (2 ^ 32) ranges f) amount
+      else shifted_right (bounds_of (2 ^ 32) ranges f) amount
+
   abbrev pub shift_part : ShiftOp → KnownValue → (amount : ℕ) → Result
   shift_part shift.Left v amount = shifted_left v amount
-  shift_part shift.Right v amount = shifted_right (bounds v) amount
+  shift_part shift.Right v amount = shifted_back v amount
   shift_part shift.RightArithmetic v amount = just any
 
   abbrev pub of_shift : ShiftOp → KnownValue → (amount : ℕ) → Result
@@ -155,7 +175,7 @@ module _ (ranges : List (Option ℕ)) where
   register_part register.ShiftRight v w = just any
   register_part register.ShiftRightArithmetic v w = just any
   register_part register.Or v w = just any
-  register_part register.And v w = masked_by v (as_number w)
+  register_part register.And v w = masked_by v (as_number w) (masked_by w (as_number v) (just any))
 
   abbrev pub of_registers : RegisterOp → KnownValue → KnownValue → Result
   of_registers op v w = or_else (both (computed op) (as_number v) (as_number w)) (register_part op v w)

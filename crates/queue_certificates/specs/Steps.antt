@@ -1,9 +1,13 @@
 -- What an instruction makes of a known state: the states that may follow, or nothing where it isn't shown that it may be executed.
-use Rattle.std.specs.Prelude.{ℕ, ℤ, zero, suc, ◌+◌, ◌-◌, ◌*◌, ◌/◌, ◌%◌, ◌^◌, ◌==◌, ◌&&◌, ◌||◌, not, nat_le, nat_lt}
+use Rattle.std.specs.Prelude.{ℕ, ℤ, pos, zero, suc, ◌+◌, ◌-◌, ◌*◌, ◌/◌, ◌%◌, ◌^◌, ◌==◌, ◌&&◌, ◌||◌, not, nat_le, nat_lt}
 use Rattle.std.specs.Prelude.{if◌then◌else◌, Bool, true, false, Option, None, Some, List, [], ◌∷◌, map, length, get_or}
 use Rattle.std.specs.Prelude.{set, slice_index}
 use Rattle.rv_decode.specs.Meaning.{meaning}
 use Rattle.rv_decode.specs.declared.instruction.Reg.{Reg}
+use Rattle.rv_decode.specs.declared.instruction.BranchOp.{BranchOp}
+use Rattle.rv_decode.specs.declared.instruction.BranchOp.TheVariants as branch
+use Rattle.rv_decode.specs.declared.instruction.ImmediateOp.{ImmediateOp}
+use Rattle.rv_decode.specs.declared.instruction.ImmediateOp.TheVariants as immediate
 use Rattle.rv_decode.specs.declared.instruction.LoadOp.{LoadOp}
 use Rattle.rv_decode.specs.declared.instruction.LoadOp.TheVariants as load
 use Rattle.rv_decode.specs.declared.instruction.AmoOp.{AmoOp}
@@ -17,8 +21,9 @@ use Rattle.slot_queue.specs.Queues.{Queue}
 use Rattle.queue_parties.specs.Parties.{Party, the_sender, the_receiver, other}
 use Rattle.slot_queue.specs.Ownership.{party_of, index}
 use Rattle.queue_certificates.specs.Forms.{Form, number, first_variable, plus, times, remainder, lifted, is_same, most, fits_in, Bounds, minus}
-use Rattle.queue_certificates.specs.States.{KnownValue, any, linear, index_for, Share, no_share, KnownState, value_by, share_by, state_by, plain, is_within}
-use Rattle.queue_certificates.specs.Results.{Result, just, exactly, as_number, bounds, sum_of, of_immediate, of_shift, of_registers, is_branch_taken}
+use Rattle.queue_certificates.specs.States.{KnownValue, any, linear, index_for, Share, no_share, KnownState, value_by}
+use Rattle.queue_certificates.specs.States.{share_by, state_by, scaled, plain, is_within}
+use Rattle.queue_certificates.specs.Results.{Result, just, exactly, or_up_to, as_number, bounds, sum_of, of_immediate, of_shift, of_registers, is_branch_taken}
 
 -- at each number below n; and the last number below n at which it is so
 abbrev pub all_below : ℕ → (ℕ → Bool) → Bool
@@ -65,6 +70,13 @@ abbrev pub behind : Queue → Party → ℕ
 behind q the_sender = q.modulus - q.capacity % q.modulus
 behind q the_receiver = 0
 
+-- the bytes of the index that a store of this number writes are the word that stands for count f
+abbrev pub is_cut : Queue → KnownValue → (f : Form) → Bool
+is_cut q any f = false
+is_cut q (index_for i g) f = false
+is_cut q (linear g) f = (q.scale * q.modulus == 256 ^ q.index_width) && nat_lt q.base q.scale
+    && is_same (256 ^ q.index_width) g (scaled q (plus f (number q.offset)))
+
 abbrev pub anywhere : Option Bounds → Bounds
 anywhere None = record { low = 0; high = 2 ^ 32 - 1 }
 anywhere (Some b) = b
@@ -110,10 +122,11 @@ with_result k rd pc r = record (state_by lifted (Some r.most ∷ k.ranges) k) {
 abbrev pub going_to : KnownState → (pc : ℕ) → KnownState
 going_to k pc = record (state_by lifted (Some 0 ∷ k.ranges) k) { pc = pc }
 
-abbrev pub goes_by : KnownState → (target : ℕ) → Option Bool → List KnownState
-goes_by k target None = going_to k target ∷ going_to k (next_pc k.pc) ∷ []
-goes_by k target (Some true) = going_to k target ∷ []
-goes_by k target (Some false) = going_to k (next_pc k.pc) ∷ []
+-- from the one state where a branch is taken, and from the other where it isn't
+abbrev pub goes_by : (taken passed : KnownState) → (target next : ℕ) → Option Bool → List KnownState
+goes_by t p target next None = going_to t target ∷ going_to p next ∷ []
+goes_by t p target next (Some true) = going_to t target ∷ []
+goes_by t p target next (Some false) = going_to p next ∷ []
 
 -- where a register's value is known, it goes there
 abbrev pub jumping : KnownState → (rd : ℕ) → ℤ → Option ℕ → Option (List KnownState)
@@ -128,9 +141,31 @@ called k = record (going_to k (next_pc k.pc)) { registers = with_register (with_
 abbrev pub register_at : KnownState → Reg → KnownValue
 register_at k r = if r.number == 0 then linear (number 0) else get_or k.registers r.number any
 
+-- two registers hold the same number: where nothing is known of one, what is known of the other
+abbrev pub shared : KnownState → (rs1 rs2 : Reg) → (v w : KnownValue) → KnownState
+shared k rs1 rs2 any w = record k { registers = with_register k.registers rs1.number w }
+shared k rs1 rs2 (linear f) any = record k { registers = with_register k.registers rs2.number (linear f) }
+shared k rs1 rs2 (index_for i f) any = record k { registers = with_register k.registers rs2.number (index_for i f) }
+shared k rs1 rs2 v w = k
+
+abbrev pub with_equal : KnownState → (rs1 rs2 : Reg) → KnownState
+with_equal k rs1 rs2 = shared k rs1 rs2 (register_at k rs1) (register_at k rs2)
+
+abbrev pub when_taken : KnownState → BranchOp → (rs1 rs2 : Reg) → KnownState
+when_taken k branch.Equal rs1 rs2 = with_equal k rs1 rs2
+when_taken k op rs1 rs2 = k
+
+abbrev pub when_passed : KnownState → BranchOp → (rs1 rs2 : Reg) → KnownState
+when_passed k branch.NotEqual rs1 rs2 = with_equal k rs1 rs2
+when_passed k op rs1 rs2 = k
+
 -- what the pc says
 abbrev pub instruction_at : (code : List ℕ) (pc : ℕ) → Option Instr
 instruction_at code pc = if nat_lt pc (4 * length code) then meaning (slice_index code (pc / 4)) else None
+
+abbrev pub is_copy : ImmediateOp → ℤ → Bool
+is_copy immediate.Add (pos n) = n == 0
+is_copy op n = false
 
 -- of hart h, where there are N queues and H harts with own words at these addresses
 module _ (queues : ℕ → Queue) (N : ℕ) (own_of : ℕ → List ℕ) (H h : ℕ) where
@@ -142,6 +177,16 @@ module _ (queues : ℕ → Queue) (N : ℕ) (own_of : ℕ → List ℕ) (H h : �
 
   abbrev pub addresses : KnownState → Reg → ℤ → Bounds
   addresses k r offset = anywhere (bounds k.ranges (address_value k r offset))
+
+  -- what a word is known as that holds a number of which this is known, so that it is less than 2 ^ 32
+  abbrev pub storable : KnownValue → KnownValue
+  storable any = any
+  storable (linear f) = linear f
+  storable (index_for i f) = if nat_lt i N then index_for i f else any
+
+  -- a copy keeps what is known
+  abbrev pub immediate_result : KnownState → ImmediateOp → KnownValue → ℤ → Result
+  immediate_result k op v n = if is_copy op n then just (storable v) else of_immediate k.ranges op v n
 
   -- ---- loads
 
@@ -170,10 +215,22 @@ module _ (queues : ℕ → Queue) (N : ℕ) (own_of : ℕ → List ℕ) (H h : �
   abbrev pub value_loaded : KnownState → (b : Bounds) (width : ℕ) → KnownValue
   value_loaded k b width = index_loaded k (last_below N (is_own_index b width)) (word_loaded k (last_below (length (own_of h)) (is_own_word b width)))
 
+  -- the word of an index, each of which is below a limit
+  abbrev pub is_index_below : (limit : ℕ) → KnownValue → Bool
+  is_index_below limit any = false
+  is_index_below limit (linear f) = false
+  is_index_below limit (index_for i f) = nat_le 1 (queues i).modulus && nat_lt ((queues i).base + (queues i).scale * ((queues i).modulus - 1)) limit
+
+  -- a signed load leaves a number as it is if its highest bit is 0
   abbrev pub zero_extended : LoadOp → KnownValue → KnownValue
-  zero_extended load.Byte v = any
-  zero_extended load.Half v = any
+  zero_extended load.Byte v = if is_index_below (2 ^ 7) v then v else any
+  zero_extended load.Half v = if is_index_below (2 ^ 15) v then v else any
   zero_extended op v = v
+
+  abbrev pub loaded : LoadOp → KnownValue → Result
+  loaded load.ByteUnsigned v = or_up_to 255 v
+  loaded load.HalfUnsigned v = or_up_to 65535 v
+  loaded op v = just (zero_extended op v)
 
   abbrev pub looked_word : (i : ℕ) → Share → KnownValue
   looked_word i s = index_for i (plus (plus (lifted s.own) (owned_then s)) (number (back_of (queues i) (party_of (queues i) h))))
@@ -185,7 +242,7 @@ module _ (queues : ℕ → Queue) (N : ℕ) (own_of : ℕ → List ℕ) (H h : �
   })) { shares = set (map (share_by lifted) k.shares) i (looked_share s) }
 
   abbrev pub after_load : KnownState → LoadOp → (rd : ℕ) → Bounds → Option ℕ → KnownState
-  after_load k op rd b None = with_result k rd (next_pc k.pc) (just (zero_extended op (value_loaded k b (load_width op))))
+  after_load k op rd b None = with_result k rd (next_pc k.pc) (loaded op (value_loaded k b (load_width op)))
   after_load k op rd b (Some i) = after_look k op rd i (share_at k i)
 
   abbrev pub may_load : KnownState → Bounds → (width : ℕ) → Option ℕ → Bool
@@ -201,7 +258,8 @@ module _ (queues : ℕ → Queue) (N : ℕ) (own_of : ℕ → List ℕ) (H h : �
 
   -- d positions are handed over: the word is of the count d further, and d are owned
   abbrev pub may_move : KnownState → (d : Form) → KnownValue → (i : ℕ) → Share → Bool
-  may_move k d v i s = is_within queues k.ranges v (index_for i (plus s.own d)) && is_same 0 (plus d (minus s.owned d)) s.owned
+  may_move k d v i s = (is_within queues k.ranges v (index_for i (plus s.own d)) || is_cut (queues i) v (plus s.own d))
+      && is_same 0 (plus d (minus s.owned d)) s.owned
       && fits_in (most k.ranges d) (Some ((queues i).modulus - 1)) && nat_lt i (length k.shares)
 
   abbrev pub may_fill : KnownState → Option Party → (place : KnownValue) (width : ℕ) → (i : ℕ) → Bool
@@ -215,11 +273,6 @@ module _ (queues : ℕ → Queue) (N : ℕ) (own_of : ℕ → List ℕ) (H h : �
   -- it writes no other hart's own word
   abbrev pub leaves_words : Bounds → (width : ℕ) → (g : ℕ) → Bool
   leaves_words b width g = (g == h) || all_below (length (own_of g)) (λ j. is_apart b width (slice_index (own_of g) j) 4)
-
-  abbrev pub storable : KnownValue → KnownValue
-  storable any = any
-  storable (linear f) = linear f
-  storable (index_for i f) = if nat_lt i N then index_for i f else any
 
   abbrev pub word_then : Bounds → (width : ℕ) → KnownValue → (a : ℕ) → KnownValue → KnownValue
   word_then b width v a w = if is_apart b width a 4 then w else (if is_one b && (b.low == a) && (width == 4) then storable v else any)
@@ -276,10 +329,11 @@ module _ (queues : ℕ → Queue) (N : ℕ) (own_of : ℕ → List ℕ) (H h : �
   follow k d (Some (Auipc rd upper)) = Some (with_result k rd.number (next_pc k.pc) (exactly ((k.pc + upper * 2 ^ 12) % 2 ^ 32)) ∷ [])
   follow k d (Some (Jal rd offset)) = Some (with_result k rd.number (address k.pc offset) (exactly (next_pc k.pc)) ∷ [])
   follow k d (Some (Jalr rd rs1 offset)) = jumping k rd.number offset (as_number (operand k rs1))
-  follow k d (Some (Branch op rs1 rs2 offset)) = Some (goes_by k (address k.pc offset) (is_branch_taken queues k.ranges op (operand k rs1) (operand k rs2)))
+  follow k d (Some (Branch op rs1 rs2 offset)) = Some (goes_by (when_taken k op rs1 rs2) (when_passed k op rs1 rs2) (address k.pc offset) (next_pc k.pc)
+      (is_branch_taken queues k.ranges op (operand k rs1) (operand k rs2)))
   follow k d (Some (Load op rd rs1 offset)) = loading k op rd.number (addresses k rs1 offset)
   follow k d (Some (Store op rs1 rs2 offset)) = storing k d (store_width op) (register_at k rs2) (address_value k rs1 offset) (addresses k rs1 offset)
-  follow k d (Some (Immediate op rd rs1 n)) = Some (with_result k rd.number (next_pc k.pc) (of_immediate k.ranges op (operand k rs1) n) ∷ [])
+  follow k d (Some (Immediate op rd rs1 n)) = Some (with_result k rd.number (next_pc k.pc) (immediate_result k op (operand k rs1) n) ∷ [])
   follow k d (Some (Shift op rd rs1 amount)) = Some (with_result k rd.number (next_pc k.pc) (of_shift k.ranges op (operand k rs1) amount) ∷ [])
   follow k d (Some (Register op rd rs1 rs2)) = Some (with_result k rd.number (next_pc k.pc) (of_registers k.ranges op (operand k rs1) (operand k rs2)) ∷ [])
   follow k d (Some (Fence pred succ)) = Some (going_to k (next_pc k.pc) ∷ [])

@@ -11,7 +11,7 @@ use Rattle.step_machine.specs.declared.events.Entry.{Entry}
 use Rattle.step_machine.specs.History.{OpeningValue}
 use Rattle.step_machine.specs.Access.{Access, store, exchange, access_of}
 use Rattle.step_machine.specs.Entries.{hart_of, stored_by, written_by, own_store, land_of, write_of, pending, landed}
-use Rattle.step_machine.specs.Entries.{opening_byte, memory_byte, own_stores, lands, read}
+use Rattle.step_machine.specs.Entries.{opening_byte, memory_byte, read_byte, own_stores, lands, read}
 use Rattle.step_machine.specs.Legal.{AllowedBy, Allowed}
 use Rattle.step_machine.proofs.Appended.{pending-last}
 use Rattle.step_machine.proofs.Stays.{memory_byte-other, memory_byte-write}
@@ -44,6 +44,10 @@ newest-below x d found (w ∷ ws) low = at (covers w x) (λ f less. newest-below
 
 memory-below : (o : OpeningValue) (es : List Entry) (x : ℕ) → memory_byte o es x < 256
 memory-below o es x = newest-below x (opening_byte o x) None (landed es) (byte_below (x % 4) (slice_index o.words (x / 4)))
+
+-- and each that a hart reads
+pub read-below : (o : OpeningValue) (es : List Entry) (h x : ℕ) → read_byte o es h x < 256
+read-below o es h x = newest-below x (memory_byte o es x) None (pending h es) (memory-below o es x)
 
 -- an AMO reads memory's word
 pub amo-read : (B : ℕ) (o : OpeningValue) (es : List Entry) (e : Entry) (a old new : ℕ) → access_of e ≡ exchange a old new → Allowed B o es e
