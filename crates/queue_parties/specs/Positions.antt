@@ -20,8 +20,8 @@ unfoldable pub numbers_from : (ℕ → ℕ) → (k number : ℕ) → List ℕ
 numbers_from R k zero = []
 numbers_from R k (suc number) = R k ∷ numbers_from R (k + 1) number
 
--- the records past which entries move a count (`far` of the counts), in order, each as `record` has it where that is done: of the
--- entries before, the entry and the position
+-- of each position past which an entry moves a count (`far` of the counts), in order: `record_of` the entries before it, the entry and
+-- the position
 unfoldable pub records_passed : (next : QueueCounts → Entry → QueueCounts) (far : QueueCounts → ℕ) (record_of : List Entry → Entry → ℕ → ℕ) → QueueCounts
     → (before es : List Entry) → List ℕ
 records_passed next far record_of c before [] = []

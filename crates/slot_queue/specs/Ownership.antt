@@ -63,7 +63,8 @@ counts_after q c es = counts_from (counts_next q) c es
 
 -- ---- which stores are allowed. Loads are free
 
--- to the own index, whole, the word of a count from the own one on, up to the end of what is owned
+-- to the own index, whole, the word of a count from the own one on, up to the end of what is owned. A store has of a register only the
+-- bytes that it writes
 pub record MovesOn (q : Queue) (p : Party) (c : QueueCounts) (w : Write) : Type 0 where
   pub place : w.addr ≡ index q p
   pub width : w.width ≡ q.index_width

@@ -38,8 +38,8 @@ ghost use Rattle.slot_queue.specs.Laws.{FollowsOwnership, LeavesSlotsAt, moved_o
 /// - `in_order_as_learned`: the records of which the receiver learns, as its hart reads them then, are a beginning of those that
 ///   waited without its knowing and those that the sender published. Whatever it stores to its slots later.
 /// - `own_index`: a party reads in its own index the word of its count.
-/// - `look`: at a load of the other's index, the other's pending stores make its count of the one that is known then. So where
-///   it has none pending there, full means full, and empty means empty.
+/// - `look`: if an index tells all in use from none (`TellsFull`): at a load of the other's index, by no AMO, the other's pending
+///   stores make its count of the one that is known then. So where it has none pending there, full means full, and empty means empty.
 /// - `least_count`: less than one round ahead, a word tells the count that it stands for.
 pub fn laws_of_ownership()
     ensures window { (B : ℕ) (q : Queue) (start : QueueCounts) (o : OpeningValue) (before es : List Entry) → FollowsOwnership B q start o before es

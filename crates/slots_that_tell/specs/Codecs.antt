@@ -7,7 +7,8 @@ abbrev pub zero_is_free : Party → (k v : ℕ) → Bool
 zero_is_free the_sender k v = v == 0
 zero_is_free the_receiver k v = not (v == 0)
 
--- numbers of positions, mod m: a slot that is free for position k holds k, and one that is full of it k + 1
+-- numbers of positions, mod m: a slot that is free for position k holds k, and one that is full of it k + 1. They are one number where
+-- the number of slots is 1 mod m
 abbrev pub position_number : (m : ℕ) → Party → (k v : ℕ) → Bool
 position_number m the_sender k v = v == k % m
 position_number m the_receiver k v = v == (k + 1) % m

@@ -27,7 +27,7 @@ abbrev pub moved_on : Slots → (n : ℕ) → List Write → ℕ
 moved_on q n [] = n
 moved_on q n (w ∷ ws) = moved_on q (moved q n w) ws
 
--- this hart writes nothing to the slots but tags, and those by no AMO: so the receiver leaves what it is to take
+-- this hart writes nothing to the slots but tags, and makes no AMO, to whatever address: so the receiver leaves what it is to take
 pub record StoresTagsAlone (q : Slots) (h : ℕ) (es : List Entry) : Type 0 where
   pub rest : (k x : ℕ) → IsSlotByte q k x → (IsTagByte q k x → ⊥) → LeavesByteAt h x es
   pub no_amo : (es1 : List Entry) (e : Entry) (es2 : List Entry) (a old new : ℕ) → es ≡ es1 ++ e ∷ es2 → hart_of e ≡ h → access_of e ≡ exchange a old new → ⊥

@@ -15,7 +15,7 @@ teller_of q h = party_among q.sender q.receiver h
 abbrev pub teller_hart : Slots → Party → ℕ
 teller_hart q p = hart_among q.sender q.receiver p
 
--- Of the counts `published` is how many tags the sender stored, `taken` how many the receiver did.
+-- Of the counts `published` is how many tags the sender stored since they began at n, and n more, `taken` the same of the receiver.
 -- A party owns the positions from its own count up to here, this one not: the sender those below `known_taken + size`, and the
 -- receiver those below `known_published`
 abbrev pub owned_end : Slots → Party → QueueCounts → ℕ
@@ -63,7 +63,7 @@ told_counts q c es = counts_from (after_entry q) c es
 
 -- ---- which stores are allowed. Loads are free
 
--- to the tag of its own position n, whole, which it owns: what tells the other that it has the position handed over
+-- to the tag of its own position n, whole: what tells the other that it has the position handed over
 pub record IsTagStore (q : Slots) (p : Party) (n : ℕ) (w : Write) : Type 0 where
   pub place : w.addr ≡ tag_of q n
   pub width : w.width ≡ q.tag_width

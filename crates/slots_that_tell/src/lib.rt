@@ -29,7 +29,7 @@ ghost use Rattle.store_buffers.specs.StoreBuffers.{LeavesByteAt};
 /// - `delivery`: where the receiver owns position k, its hart reads each byte of the slot, of the tag or not, as the sender's hart
 ///   did just after it stored the tag of position k, unless the receiver's hart has stored there since.
 /// - `handing_back`: the same from the receiver to the sender, which then owns the slot's next position.
-/// - `in_order`: if the receiver's hart stores nothing to the slots but tags, and those by no AMO: the records whose tags it stores,
+/// - `in_order`: if the receiver's hart stores nothing to the slots but tags, and makes no AMO: the records whose tags it stores,
 ///   as it reads them just before, are a prefix of those whose tags the sender stored, as the sender reads them just after.
 /// - `look`: a tag that doesn't tell a party of position j, of its next round: the other's pending stores make its count of one at
 ///   which position j isn't this party's. So where it has none pending to tags, full means full, and empty means empty.
