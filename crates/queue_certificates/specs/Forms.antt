@@ -164,7 +164,7 @@ bounds_between n c (Some up) (Some down) = if nat_le down c && nat_le (c + up + 
 abbrev pub bounds_of : (n : ℕ) → List (Option ℕ) → Form → Option Bounds
 bounds_of n rs f = bounds_between n (f.constant % n) (most_of_sum rs (risings n f.factors)) (most_of_sum rs (fallings n f.factors))
 
--- the remainder by n, at most 2 ^ 32, as a word: where it doesn't wrap either, its factors may count as negative
+-- the remainder by n, which is at most 2 ^ 32, as a word: a remainder as above, or, within bounds, one whose factors may be negative
 abbrev pub balanced : (n : ℕ) → List ℕ → List ℕ
 balanced n [] = []
 balanced n (m ∷ ms) = (if nat_le (n - m % n) (m % n) then 2 ^ 32 - (n - m % n) else m % n) ∷ balanced n ms

@@ -142,7 +142,7 @@ module _ (ranges : List (Option ℕ)) where
   abbrev pub of_immediate : ImmediateOp → KnownValue → ℤ → Result
   of_immediate op v n = or_else (number_and (λ a. with_immediate op a n) (as_number v)) (immediate_part op v n)
 
-  -- what is a multiple of a power of two, as after a shift to the left, shifted right: a remainder of what it is a multiple of
+  -- a multiple of a power of two, as a shift to the left leaves it, shifted right: the remainder of what it is a multiple of
   abbrev pub without : (n : ℕ) → Form → Form
   without n f = record { constant = f.constant / n; factors = map (λ m. m / n) f.factors }
 
@@ -181,7 +181,7 @@ module _ (ranges : List (Option ℕ)) where
   of_registers op v w = or_else (both (computed op) (as_number v) (as_number w)) (register_part op v w)
 
 module _ (queues : ℕ → Queue) (ranges : List (Option ℕ)) where
-  -- what a form comes to without base and scale, and that it is a word of a queue's index which stands for that
+  -- a form without a queue's base and scale, and whether it is a word of the queue's index that stands for what is left
   abbrev pub unscaled : Queue → Form → Form
   unscaled q f = record { constant = (f.constant % 2 ^ 32 - q.base) / q.scale; factors = map (λ m. m % 2 ^ 32 / q.scale) f.factors }
 

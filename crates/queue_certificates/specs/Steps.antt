@@ -70,7 +70,7 @@ abbrev pub behind : Queue → Party → ℕ
 behind q the_sender = q.modulus - q.capacity % q.modulus
 behind q the_receiver = 0
 
--- the bytes of the index that a store of this number writes are the word that stands for count f
+-- the number's low bytes, as many as the index has, are the word that stands for count f
 abbrev pub is_cut : Queue → KnownValue → (f : Form) → Bool
 is_cut q any f = false
 is_cut q (index_for i g) f = false
@@ -122,7 +122,7 @@ with_result k rd pc r = record (state_by lifted (Some r.most ∷ k.ranges) k) {
 abbrev pub going_to : KnownState → (pc : ℕ) → KnownState
 going_to k pc = record (state_by lifted (Some 0 ∷ k.ranges) k) { pc = pc }
 
--- from the one state where a branch is taken, and from the other where it isn't
+-- a branch goes on from one state where it is taken, and from another where it isn't
 abbrev pub goes_by : (taken passed : KnownState) → (target next : ℕ) → Option Bool → List KnownState
 goes_by t p target next None = going_to t target ∷ going_to p next ∷ []
 goes_by t p target next (Some true) = going_to t target ∷ []
@@ -178,7 +178,7 @@ module _ (queues : ℕ → Queue) (N : ℕ) (own_of : ℕ → List ℕ) (H h : �
   abbrev pub addresses : KnownState → Reg → ℤ → Bounds
   addresses k r offset = anywhere (bounds k.ranges (address_value k r offset))
 
-  -- what a word is known as that holds a number of which this is known, so that it is less than 2 ^ 32
+  -- what is known of a number, if a number of which that is known surely fits into a word, as one of these queues' indices does
   abbrev pub storable : KnownValue → KnownValue
   storable any = any
   storable (linear f) = linear f
@@ -215,7 +215,7 @@ module _ (queues : ℕ → Queue) (N : ℕ) (own_of : ℕ → List ℕ) (H h : �
   abbrev pub value_loaded : KnownState → (b : Bounds) (width : ℕ) → KnownValue
   value_loaded k b width = index_loaded k (last_below N (is_own_index b width)) (word_loaded k (last_below (length (own_of h)) (is_own_word b width)))
 
-  -- the word of an index, each of which is below a limit
+  -- it is the word of an index all of whose words are below a limit
   abbrev pub is_index_below : (limit : ℕ) → KnownValue → Bool
   is_index_below limit any = false
   is_index_below limit (linear f) = false
