@@ -19,11 +19,11 @@ _ztso() {
     debug) inputs=(files files) options='--buffer' ;;
     check) inputs=(files) options='--buffer' ;;
     find) inputs=(files) options='--buffer --states' ;;
-    try) inputs=(files) options='--buffer --seed --runs --length --skip --jobs' ;;
+    try) inputs=(files) options='--buffer --seed --runs --length --skip --draw --jobs' ;;
     threads) inputs=(files) options='--buffer --turns' ;;
     channel) inputs=('lamport fastforward cached own' '' files) options='--buffer --base --stride --finish --sender --receiver' ;;
-    ring) inputs=(files files '') options='--buffer --seed --runs --length --skip --jobs --base --stride' ;;
-    callers) inputs=(files) options='--buffer --seed --runs --length --skip --jobs --slots --base --sender --receiver --kind' ;;
+    ring) inputs=(files files '') options='--buffer --seed --runs --length --skip --draw --jobs --base --stride' ;;
+    callers) inputs=(files) options='--buffer --seed --runs --length --skip --draw --jobs --slots --base --sender --receiver --kind' ;;
     steps) inputs=() options='--buffer' ;;
     asm) inputs=() options='' ;;
     dis) inputs=() options='' ;;
@@ -33,6 +33,7 @@ _ztso() {
     elif ((at > COMP_CWORD)); then
         case $last in
         --buffer) words='1 2 4 16' ;;
+        --draw) words='uniform bursts' ;;
         --kind) words='lamport cached fastforward' ;;
         --sender) [[ ' channel ' != *" $command "* ]] || compopt -o default ;;
         --receiver) [[ ' channel ' != *" $command "* ]] || compopt -o default ;;

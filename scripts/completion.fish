@@ -30,6 +30,7 @@ complete -c ztso -n '__fish_seen_subcommand_from callers' -l seed -x -d 'the gen
 complete -c ztso -n '__fish_seen_subcommand_from try ring callers' -l runs -x -d 'how many schedules are drawn, 1 to 100000'
 complete -c ztso -n '__fish_seen_subcommand_from try ring callers' -l length -x -d 'how many events each schedule has, 0 to 1048576'
 complete -c ztso -n '__fish_seen_subcommand_from try ring callers' -l skip -x -d 'the first K runs of the seed are passed over, 0 to 18446744073709551615; 0 if it is left out'
+complete -c ztso -n '__fish_seen_subcommand_from try ring callers' -l draw -x -a 'uniform bursts' -d 'schedules are drawn so: each event by itself, or in bursts of one hart: uniform or bursts; uniform if it is left out'
 complete -c ztso -n '__fish_seen_subcommand_from try ring callers' -l jobs -x -d 'J threads share the runs, with the same output, 1 to 64; 1 if it is left out'
 complete -c ztso -n '__fish_seen_subcommand_from threads' -l turns -x -d 'how many turns a thread takes at most, 0 to 10000000; 100000 if it is left out'
 complete -c ztso -n '__fish_seen_subcommand_from channel ring' -l base -x -d 'the first block begins at byte A of memory, a multiple of 4, 0 to 4294967295; 0 if it is left out'

@@ -89,6 +89,7 @@ _ztso() {
             '--runs[how many schedules are drawn, 1 to 100000]:N:()' \
             '--length[how many events each schedule has, 0 to 1048576]:L:()' \
             '--skip[the first K runs of the seed are passed over, 0 to 18446744073709551615; 0 if it is left out]:K:()' \
+            '--draw[schedules are drawn so: each event by itself, or in bursts of one hart: uniform or bursts; uniform if it is left out]:DRAW:(uniform bursts)' \
             '--jobs[J threads share the runs, with the same output, 1 to 64; 1 if it is left out]:J:()' \
             '1:FILE:_files'
         ;;
@@ -117,6 +118,7 @@ _ztso() {
             '--runs[how many schedules are drawn, 1 to 100000]:N:()' \
             '--length[how many events each schedule has, 0 to 1048576]:L:()' \
             '--skip[the first K runs of the seed are passed over, 0 to 18446744073709551615; 0 if it is left out]:K:()' \
+            '--draw[schedules are drawn so: each event by itself, or in bursts of one hart: uniform or bursts; uniform if it is left out]:DRAW:(uniform bursts)' \
             '--jobs[J threads share the runs, with the same output, 1 to 64; 1 if it is left out]:J:()' \
             '--base[the first block begins at byte A of memory, a multiple of 4, 0 to 4294967295; 0 if it is left out]:A:()' \
             '--stride[each block begins T bytes after the one before it (a multiple of 4 and at least 16 + 4 RING, which it is if it is left out), 0 to 4294967295]:T:()' \
@@ -131,6 +133,7 @@ _ztso() {
             '--runs[how many schedules are drawn, 1 to 100000]:N:()' \
             '--length[how many events each schedule has, 0 to 1048576]:L:()' \
             '--skip[the first K runs of the seed are passed over, 0 to 18446744073709551615; 0 if it is left out]:K:()' \
+            '--draw[schedules are drawn so: each event by itself, or in bursts of one hart: uniform or bursts; uniform if it is left out]:DRAW:(uniform bursts)' \
             '--jobs[J threads share the runs, with the same output, 1 to 64; 1 if it is left out]:J:()' \
             '--slots[the queue has S slots, 0 to 4294967295]:S:()' \
             '--base[the queue'\''s block begins at byte B of memory, 0 to 4294967295; 0 if it is left out]:B:()' \

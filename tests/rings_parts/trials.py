@@ -90,7 +90,8 @@ class Trial:
         return int(self.options[self.options.index(name) + 1]) if name in self.options else usual
 
     def drawing(self):
-        return [self.option(name, 0) for name in ("--seed", "--runs", "--length", "--skip")]
+        """How many runs there are, and how they are drawn."""
+        return self.option("--runs", 0), [*(self.option(name, 0) for name in ("--seed", "--length", "--skip")), "uniform"]
 
     def codes(self):
         return [rings.program(path.read_text(), role) for path, role in zip(self.paths, parts.ROLES)]

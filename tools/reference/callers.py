@@ -3,10 +3,9 @@ caller owes, for the command `callers`."""
 
 from collections import Counter
 
-import pcg
 import programs
 import words
-from draws import event_of
+from draws import event_of, runs_of
 from machine import MEMORY, Machine, is_finished, word_at
 
 # the functions as docs/functions.md lists them
@@ -264,17 +263,15 @@ def lines(callers, runs, counts):
             f"unfinished {counts['unfinished']}"], is_called
 
 
-def trial(callers, seed, runs, length, skip=0):
+def trial(callers, runs, drawing):
     """The lines of runs that keep what callers owe, whether a call returned in one, and None. Else None, False and the events
     and the line of what is owed: at the opening, or first in the earliest run that owes anything, made short."""
     if owed := callers.owed_at_opening():
         return None, False, ([], owed)
-    generator = pcg.Generator(pcg.seed_from_u64(seed))
-    generator.pass_over(skip * length)
     harts = len(callers.test.codes)
     counts = Counter()
-    for _ in range(runs):
-        events = [event_of(k, harts) for k in generator.remainders(2 * harts, length)]
+    for numbers in runs_of(harts, runs, *drawing):
+        events = [event_of(k, harts) for k in numbers]
         if owed := callers.first_owed(events):
             return None, False, (callers.shortened(events, owed), owed)
         callers.counted(events, counts)

@@ -2,10 +2,9 @@
 reports, for the command `ring`."""
 
 import channels
-import pcg
 import programs
 import words
-from draws import event_of
+from draws import event_of, runs_of
 from faults import Fault
 from machine import Machine
 
@@ -118,20 +117,18 @@ class Rings:
         return events
 
 
-def drawn(rings, seed, runs, length, skip=0):
+def drawn(rings, runs, drawing):
     """The events of each drawn run."""
-    generator = pcg.Generator(pcg.seed_from_u64(seed))
-    generator.pass_over(skip * length)
     harts = len(rings.lists) + 1
-    for _ in range(runs):
-        yield [event_of(k, harts) for k in generator.remainders(2 * harts, length)]
+    for numbers in runs_of(harts, runs, *drawing):
+        yield [event_of(k, harts) for k in numbers]
 
 
-def trial(rings, seed, runs, length, skip=0):
+def trial(rings, runs, drawing):
     """The lines of clean runs and None; or None and the earliest run that isn't clean: its events, made fewer, and
     their breach."""
     most, closed = [0] * len(rings.lists), [0] * len(rings.lists)
-    for events in drawn(rings, seed, runs, length, skip):
+    for events in drawn(rings, runs, drawing):
         judge, breach, _ = rings.judged(events)
         if breach:
             events = rings.shrunk(events)

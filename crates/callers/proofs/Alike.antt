@@ -13,6 +13,7 @@ use Rattle.spsc_queue.specs.RingBuffers.{slot_offset, slot_address}
 use Rattle.spsc_queue.specs.Calls.{copy_in, buffer, HasFunction}
 use Rattle.callers.specs.Queues.{kind_of, caches_tail, spsc_of, sends_by, receives_by, HasFirstCopy, IsLocated}
 use Rattle.callers.specs.Debts.{IsOpeningDebt, first_debt}
+use Rattle.jumping.specs.declared.draws.Draw.{Draw}
 use Rattle.judged_runs.specs.Finding.{AreAllGood}
 use Rattle.judged_runs.specs.Histories.{summed}
 use Rattle.judged_runs.proofs.Histories.{runs_one}
@@ -153,20 +154,20 @@ one_count B M o l all a b one other =
     ∙ ap (λ (n : ℕ). calls_of y.sent y.full y.received n)
     (one.calls.empty ∙ ap (λ hs. min (summed (λ t. receives_in M o q 0 t.entries) hs) MOST) same ∙ sym other.calls.empty)
 
-module _ (B M : ℕ) (o : OpeningValue) (q : Queue) (stream : Stream) (runs size : ℕ) (text other : List ℕ) where
-  runs_differ : (l : Located) → IsOutputOfRuns (call_source B M o l stream size) runs (text, true)
-      → IsOutputOfRuns (call_source B M o l stream size) runs (other, false) → ⊥
+module _ (B M : ℕ) (o : OpeningValue) (q : Queue) (draw : Draw) (stream : Stream) (runs size : ℕ) (text other : List ℕ) where
+  runs_differ : (l : Located) → IsOutputOfRuns (call_source B M o l draw stream size) runs (text, true)
+      → IsOutputOfRuns (call_source B M o l draw stream size) runs (other, false) → ⊥
   runs_differ l kept (inl uncalled) =
       let same = one_count B M o l _ kept.counts uncalled.counts kept.kept.counted uncalled.kept.counted in
       let differ : true ≡ false = kept.called_is ∙ ap (λ (c : Calls). not (are_none c)) same ∙ sym uncalled.called_is in
       absurd (cc)
   runs_differ l kept (inr shown) =
       let first = shown.is_told.is_first in
-      kept_or_owing B M o l (call_schedule (call_source B M o l stream size) shown.is_told.number) shown.is_told.flaw
+      kept_or_owing B M o l (call_schedule (call_source B M o l draw stream size) shown.is_told.number) shown.is_told.flaw
       (kept.kept.good shown.is_told.number (omega arith) first.within) first.has
 
-  never_both : IsCallersOutput B M o q stream runs size (text, true) → IsCallersOutput B M o q stream runs size (other, false) → ⊥
-  never_both kept (inl there) = no_opening_debt M o q kept.located there.debt kept.usable there.has_debt
+  never_both : IsCallersOutput B M o q draw stream runs size (text, true) → IsCallersOutput B M o q draw stream runs size (other, false) → ⊥
+  never_both kept (inl there) = no_opening_debt M o q kept.located there.debt kept.usable there.has_debt.0
   never_both kept (inr owing) =
       let l = kept.located in
       let m = owing.located in
@@ -174,11 +175,11 @@ module _ (B M : ℕ) (o : OpeningValue) (q : Queue) (stream : Stream) (runs size
       let two = subst (λ (x : Queue). IsLocated M o x m) (sym kept.usable.queue_is) owing.usable in
       let same : l ≡ m = one_way M o l m one two in
       runs_differ l kept.output_of
-      (subst (λ (x : Located). IsOutputOfRuns (call_source B M o x stream size) runs (other, false)) (sym same) owing.output_of)
+      (subst (λ (x : Located). IsOutputOfRuns (call_source B M o x draw stream size) runs (other, false)) (sym same) owing.output_of)
 
-pub status_alike : (B M : ℕ) (o : OpeningValue) (q : Queue) (stream : Stream) (runs size : ℕ) (text other : List ℕ) (a b : Bool)
-    → IsCallersOutput B M o q stream runs size (text, a) → IsCallersOutput B M o q stream runs size (other, b) → a ≡ b
-status_alike B M o q stream runs size text other true true one two = refl
-status_alike B M o q stream runs size text other false false one two = refl
-status_alike B M o q stream runs size text other true false one two = absurd (never_both B M o q stream runs size text other one two)
-status_alike B M o q stream runs size text other false true one two = absurd (never_both B M o q stream runs size other text two one)
+pub status_alike : (B M : ℕ) (o : OpeningValue) (q : Queue) (draw : Draw) (stream : Stream) (runs size : ℕ) (text other : List ℕ) (a b : Bool)
+    → IsCallersOutput B M o q draw stream runs size (text, a) → IsCallersOutput B M o q draw stream runs size (other, b) → a ≡ b
+status_alike B M o q draw stream runs size text other true true one two = refl
+status_alike B M o q draw stream runs size text other false false one two = refl
+status_alike B M o q draw stream runs size text other true false one two = absurd (never_both B M o q draw stream runs size text other one two)
+status_alike B M o q draw stream runs size text other false true one two = absurd (never_both B M o q draw stream runs size other text two one)

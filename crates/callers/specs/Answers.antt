@@ -6,13 +6,14 @@ use Rattle.step_machine.specs.declared.events.Event.{Event}
 use Rattle.step_machine.specs.History.{OpeningValue}
 use Rattle.litmus.specs.LitmusTests.{LitmusTest}
 use Rattle.recorder.specs.Writing.{canon}
+use Rattle.jumping.specs.declared.draws.Draw.{Draw}
 use Rattle.judged_runs.specs.Finding.{AreAllGood}
 use Rattle.judged_runs.specs.Telling.{IsFlawTold}
 use Rattle.engine_support.specs.declared.fault.Refusal.{Refusal}
 use Rattle.engine_support.specs.Inputs.{After}
 use Rattle.engine_support.specs.Tests.{tests}
 use Rattle.callers.specs.Queues.{IsLocated}
-use Rattle.callers.specs.Debts.{IsOpeningDebt}
+use Rattle.callers.specs.Debts.{IsFirstOpeningDebt}
 use Rattle.callers.specs.Counts.{AreCountsOf, are_none}
 use Rattle.callers.specs.Runs.{CallSource, call_source, call_schedule, KeepsObligations, HasDebt}
 use Rattle.callers.specs.declared.counts.Counts.{Counts}
@@ -91,10 +92,10 @@ pub record IsDebtOutput (s : CallSource) (runs : ℕ) (text : List ℕ) : Type 0
       (call_schedule s) runs part debt
   pub text_is : text ≡ canon part ++ debt_line debt
 
--- something is owed at the opening already, which a schedule of no events shows
+-- something is owed at the opening already, which a schedule of no events shows: the first of it
 pub record IsOpeningDebtOutput (M : ℕ) (o : OpeningValue) (queue : Queue) (text : List ℕ) : Type 0 where
   pub debt : Debt
-  pub has_debt : IsOpeningDebt M o queue debt
+  pub has_debt : IsFirstOpeningDebt M o queue debt
   pub text_is : text ≡ canon [] ++ debt_line debt
 
 -- the text for this number of runs, and whether all keep what callers owe and some call returned
@@ -103,22 +104,23 @@ IsOutputOfRuns s runs (text, true) = IsKeptOutput s runs text true
 IsOutputOfRuns s runs (text, false) = IsKeptOutput s runs text false ⊎ IsDebtOutput s runs text
 
 -- the same of a queue whose functions were found
-pub record IsLocatedOutput (B M : ℕ) (o : OpeningValue) (queue : Queue) (stream : Stream) (runs size : ℕ) (answer : List ℕ × Bool) : Type 0 where
+pub record IsLocatedOutput (B M : ℕ) (o : OpeningValue) (queue : Queue) (draw : Draw) (stream : Stream) (runs size : ℕ) (answer : List ℕ × Bool) : Type 0 where
   pub located : Located
   pub usable : IsLocated M o queue located
-  pub output_of : IsOutputOfRuns (call_source B M o located stream size) runs answer
+  pub output_of : IsOutputOfRuns (call_source B M o located draw stream size) runs answer
 
 -- the text for this many drawn runs from this opening, and whether all keep what callers owe and some call returned: what is owed at the opening
 -- already, or what the runs show
-abbrev pub IsCallersOutput : (B M : ℕ) → OpeningValue → Queue → Stream → (runs size : ℕ) → List ℕ × Bool → Type 0
-IsCallersOutput B M o queue stream runs size (text, true) = IsLocatedOutput B M o queue stream runs size (text, true)
-IsCallersOutput B M o queue stream runs size (text, false) = IsOpeningDebtOutput M o queue text ⊎ IsLocatedOutput B M o queue stream runs size (text, false)
+abbrev pub IsCallersOutput : (B M : ℕ) → OpeningValue → Queue → Draw → Stream → (runs size : ℕ) → List ℕ × Bool → Type 0
+IsCallersOutput B M o queue draw stream runs size (text, true) = IsLocatedOutput B M o queue draw stream runs size (text, true)
+IsCallersOutput B M o queue draw stream runs size (text, false) =
+    IsOpeningDebtOutput M o queue text ⊎ IsLocatedOutput B M o queue draw stream runs size (text, false)
 
 -- what answers a test; none is refused
-abbrev pub IsCallersGiven : (B M : ℕ) → Queue → Stream → (runs size : ℕ) → LitmusTest → Result (List ℕ × Bool) Refusal → Type 0
-IsCallersGiven B M queue stream runs size test (Ok answer) = IsCallersOutput B M test.opening queue stream runs size answer
-IsCallersGiven B M queue stream runs size test (Err refusal) = ⊥
+abbrev pub IsCallersGiven : (B M : ℕ) → Queue → Draw → Stream → (runs size : ℕ) → LitmusTest → Result (List ℕ × Bool) Refusal → Type 0
+IsCallersGiven B M queue draw stream runs size test (Ok answer) = IsCallersOutput B M test.opening queue draw stream runs size answer
+IsCallersGiven B M queue draw stream runs size test (Err refusal) = ⊥
 
 -- what answers a litmus text
-abbrev pub IsCallersAnswer : (B M : ℕ) → Queue → Stream → (runs size : ℕ) → (file : Option (List ℕ)) → Result (List ℕ × Bool) Refusal → Type 0
-IsCallersAnswer B M queue stream runs size file = After tests file (IsCallersGiven B M queue stream runs size)
+abbrev pub IsCallersAnswer : (B M : ℕ) → Queue → Draw → Stream → (runs size : ℕ) → (file : Option (List ℕ)) → Result (List ℕ × Bool) Refusal → Type 0
+IsCallersAnswer B M queue draw stream runs size file = After tests file (IsCallersGiven B M queue draw stream runs size)

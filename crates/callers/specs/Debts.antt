@@ -10,8 +10,10 @@ use Rattle.step_machine.specs.Access.{Access, store, exchange, access_of}
 use Rattle.step_machine.specs.History.{OpeningValue, history_of}
 use Rattle.step_machine.specs.Entries.{hart_of, is_land, memory_word}
 use Rattle.step_machine.specs.Paths.{state_of}
+use Rattle.rv_decode.specs.Listings.{Listed}
 use Rattle.spsc_queue.specs.RingBuffers.{RingBuffer, fastforward, overlaps}
-use Rattle.spsc_queue.specs.Calls.{Block, SpscQueue, Party, the_sender, the_receiver, IsBlock, buffer, enters, is_sender_in_call, is_receiver_in_call}
+use Rattle.spsc_queue.specs.Calls.{Block, SpscQueue, Party, the_sender, the_receiver, IsBlock, HasFunction, buffer}
+use Rattle.spsc_queue.specs.Calls.{enters, is_sender_in_call, is_receiver_in_call}
 use Rattle.spsc_queue.specs.Obligations.{may_pass, has_arguments}
 use Rattle.callers.specs.Queues.{kind_of, caches_tail, block_at, sends_by, receives_by, HasNoCopy}
 use Rattle.callers.specs.declared.queue.Queue.{Queue}
@@ -42,6 +44,42 @@ IsOpeningDebt M o q (debt.Wrote h pc a) = ⊥
 IsOpeningDebt M o q (debt.PassedBytes h bytes) = ⊥
 IsOpeningDebt M o q (debt.PassedWord h) = ⊥
 IsOpeningDebt M o q (debt.PassedReturn h back) = ⊥
+
+-- ---- in which order that is asked
+
+-- hart h has this function somewhere in its code
+abbrev pub HasCopy : OpeningValue → (h : ℕ) → List Listed → Type 0
+HasCopy o h listing = (n : ℕ) × HasFunction o h n listing
+
+pub record HasFunctions (M : ℕ) (o : OpeningValue) (q : Queue) : Type 0 where
+  pub block : IsBlock M (block_at q 0)
+  pub parties : q.sender ≢ q.receiver
+  pub sends : HasCopy o q.sender (sends_by q.kind)
+  pub receives : HasCopy o q.receiver (receives_by q.kind)
+
+pub record OpensAlike (M : ℕ) (o : OpeningValue) (q : Queue) : Type 0 where
+  pub functions : HasFunctions M o q
+  pub offset : IsOffset q (memory_word o [] q.base)
+  pub alike : memory_word o [] (q.base + 64) ≡ memory_word o [] q.base
+
+-- the lower slots are free
+abbrev pub AreFreeBelow : OpeningValue → Queue → (a : ℕ) → Type 0
+AreFreeBelow o q a = (j : ℕ) → q.base + 128 + 4 * j < a → memory_word o [] (q.base + 128 + 4 * j) ≡ 0
+
+-- all that is asked before it is as it is owed
+abbrev pub IsKeptBefore : (M : ℕ) → OpeningValue → Queue → Debt → Type 0
+IsKeptBefore M o q debt.NoBlock = Unit {0}
+IsKeptBefore M o q (debt.OneParty h) = IsBlock M (block_at q 0)
+IsKeptBefore M o q (debt.NoSend k h) = IsBlock M (block_at q 0) × (q.sender ≢ q.receiver)
+IsKeptBefore M o q (debt.NoReceive k h) = IsBlock M (block_at q 0) × (q.sender ≢ q.receiver) × HasCopy o q.sender (sends_by q.kind)
+IsKeptBefore M o q (debt.NoOffset a w) = HasFunctions M o q
+IsKeptBefore M o q (debt.NotEmpty head tail) = HasFunctions M o q × IsOffset q head
+IsKeptBefore M o q (debt.NoCopy a w) = OpensAlike M o q
+IsKeptBefore M o q (debt.NotFree a w) = OpensAlike M o q × AreFreeBelow o q a
+IsKeptBefore M o q other = Unit {0}
+
+abbrev pub IsFirstOpeningDebt : (M : ℕ) → OpeningValue → Queue → Debt → Type 0
+IsFirstOpeningDebt M o q d = IsOpeningDebt M o q d × IsKeptBefore M o q d
 
 -- ---- from then on
 

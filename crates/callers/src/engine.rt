@@ -14,7 +14,7 @@ use engine_support::fault::Fault;
 use engine_support::litmus_text::read_test;
 use engine_support::output::end_with;
 use jumping::progress::Progress;
-use jumping::{Jump, Runs};
+use jumping::{Draw, Jump, Runs};
 use litmus::Test;
 use std::alloc::Global;
 use std::io::{Read, Write};
@@ -26,6 +26,7 @@ fn answer<const B: usize, const M: usize, G: Jump + Sync + Drop, T: Threads + Sy
     alloc: Global,
     test: &Test,
     queue: Queue,
+    draw: Draw,
     generator: &G,
     runs: Runs,
     progress: &mut P,
@@ -35,10 +36,10 @@ fn answer<const B: usize, const M: usize, G: Jump + Sync + Drop, T: Threads + Sy
     requires words { MAX_LOCATIONS ≤ M }
     requires size { M ≤ 65536 }
     ensures { AnswersAs
-        (IsCallersGiven B M queue (left_after (runs.skip * runs.length) (G.Rng.stream generator.now)) runs.number runs.length test.now)
+        (IsCallersGiven B M queue draw (left_after (runs.skip * runs.length) (G.Rng.stream generator.now)) runs.number runs.length test.now)
         text_and_value result }
 {
-    Ok(check_callers::<B, M, G, T, P>(rt, alloc, test, queue, generator, runs, progress)?)
+    Ok(check_callers::<B, M, G, T, P>(rt, alloc, test, queue, draw, generator, runs, progress)?)
 }
 
 /// What is to be written for the input that the reader gives.
@@ -54,6 +55,7 @@ fn made<
     alloc: Global,
     file: &mut R,
     queue: Queue,
+    draw: Draw,
     generator: &G,
     runs: Runs,
     progress: &mut P,
@@ -63,11 +65,11 @@ fn made<
     requires words { MAX_LOCATIONS ≤ M }
     requires size { M ≤ 65536 }
     ensures { FindsUpToReads
-        (IsCallersAnswer B M queue (left_after (runs.skip * runs.length) (G.Rng.stream generator.now)) runs.number runs.length
+        (IsCallersAnswer B M queue draw (left_after (runs.skip * runs.length) (G.Rng.stream generator.now)) runs.number runs.length
         (R.remaining file.old)) text_and_value result }
 {
     let test = read_test(alloc, file)?;
-    answer::<B, M, G, T, P>(rt, alloc, &test, queue, generator, runs, progress)
+    answer::<B, M, G, T, P>(rt, alloc, &test, queue, draw, generator, runs, progress)
 }
 
 /// Reads a litmus text to its end, and writes what [`check_callers`] answers of its test. It answers whether every run keeps what
@@ -87,6 +89,7 @@ pub fn callers_engine<
     alloc: Global,
     file: &mut R,
     queue: Queue,
+    draw: Draw,
     generator: &G,
     runs: Runs,
     progress: &mut P,
@@ -97,11 +100,11 @@ pub fn callers_engine<
     requires words { MAX_LOCATIONS ≤ M }
     requires size { M ≤ 65536 }
     ensures { Ends
-        (IsCallersAnswer B M queue (left_after (runs.skip * runs.length) (G.Rng.stream generator.now)) runs.number runs.length
+        (IsCallersAnswer B M queue draw (left_after (runs.skip * runs.length) (G.Rng.stream generator.now)) runs.number runs.length
         (R.remaining file.old)) result W.contents writer.old writer.new }
 {
     end_with(
-        made::<B, M, R, G, T, P>(rt, alloc, file, queue, generator, runs, progress),
+        made::<B, M, R, G, T, P>(rt, alloc, file, queue, draw, generator, runs, progress),
         writer,
     )
 }

@@ -8,6 +8,7 @@ ghost use Rattle.step_machine.specs.Legal.{WellFormed};
 ghost use Rattle.spsc_queue.specs.Calls.{UsesAsSpscQueue};
 ghost use Rattle.callers.specs.Queues.{spsc_of, IsLocated};
 ghost use Rattle.callers.specs.Debts.{IsOpeningDebt, first_debt};
+ghost use Rattle.jumping.specs.declared.draws.Draw.{Draw};
 ghost use Rattle.callers.specs.Answers.{IsCallersOutput};
 ghost use Rattle.callers.specs.declared.debts.Debt.{Debt};
 ghost use Rattle.callers.specs.declared.queue.Queue.{Queue};
@@ -28,6 +29,6 @@ pub fn laws_of_debts()
 /// an answer names, and which of the parts that no event can leave it shows, is left open. It does nothing.
 #[tactic(auto, using(crate::proofs::Alike::status_alike))]
 pub fn callers_alike()
-    ensures { (B M : ℕ) (o : OpeningValue) (q : Queue) (stream : Stream) (runs size : ℕ) (text other : List ℕ) (a b : Bool)
-        → IsCallersOutput B M o q stream runs size (text, a) → IsCallersOutput B M o q stream runs size (other, b) → a ≡ b }
+    ensures { (B M : ℕ) (o : OpeningValue) (q : Queue) (draw : Draw) (stream : Stream) (runs size : ℕ) (text other : List ℕ) (a b : Bool)
+        → IsCallersOutput B M o q draw stream runs size (text, a) → IsCallersOutput B M o q draw stream runs size (other, b) → a ≡ b }
 {}

@@ -7,8 +7,8 @@ ghost use Rattle.spsc_queue.specs.RingBuffers.{fastforward};
 ghost use Rattle.rv_decode.specs.Listings.{words_of, Listed};
 ghost use Rattle.spsc_queue.specs.Calls.{IsBlock};
 ghost use Rattle.callers.specs.Queues.{kind_of, caches_tail, block_at, sends_by, receives_by, HasNoCopy, HasFirstCopy, IsLocated};
-ghost use Rattle.callers.specs.Debts.{IsOffset, IsOpeningDebt};
-ghost use Rattle.callers.specs.inner.Locating.{StandsAt};
+ghost use Rattle.callers.specs.Debts.{IsOffset, IsOpeningDebt, IsFirstOpeningDebt};
+ghost use Rattle.callers.specs.inner.Locating.{StandsAt, IsFirstOfIndices, IsFirstOfRest};
 
 use crate::debts::Debt;
 use crate::queue::{Located, Queue, QueueKind};
@@ -103,6 +103,7 @@ fn start_of<const B: usize, const M: usize>(
     ensures head { IfOk result (λ start. memory_word machine.now.history.opening [] queue.base ≡ 4 * start) }
     ensures tail { IfOk result (λ start. memory_word machine.now.history.opening [] (queue.base + 64) ≡ 4 * start) }
     ensures has_debt { IfErr result (λ debt. IsOpeningDebt M machine.now.history.opening queue debt) }
+    ensures first { IfErr result (λ debt. IsFirstOfIndices queue debt) }
 {
     let head = machine.word(queue.base);
     if !is_offset(queue, head) {
@@ -129,6 +130,7 @@ fn has_tail_copy<const B: usize, const M: usize>(
     requires kind { caches_tail queue.kind ≡ true }
     ensures copy { OnOk result (IsOffset queue (memory_word machine.now.history.opening [] (queue.base + 4))) }
     ensures has_debt { IfErr result (λ debt. IsOpeningDebt M machine.now.history.opening queue debt) }
+    ensures first { IfErr result (λ debt. IsFirstOfRest machine.now.history.opening queue debt) }
 {
     let address = queue.base + 4;
     let word = machine.word(address);
@@ -149,6 +151,7 @@ fn are_free<const B: usize, const M: usize>(
     requires kind { kind_of queue.kind ≡ fastforward }
     ensures free { OnOk result ((j : ℕ) → j < queue.slots → memory_word machine.now.history.opening [] (queue.base + 128 + 4 * j) ≡ 0) }
     ensures has_debt { IfErr result (λ debt. IsOpeningDebt M machine.now.history.opening queue debt) }
+    ensures first { IfErr result (λ debt. IsFirstOfRest machine.now.history.opening queue debt) }
 {
     for slot in 0..queue.slots {
         let address = queue.base + 128 + 4 * slot;
@@ -172,6 +175,7 @@ fn opens_as_owed<const B: usize, const M: usize>(
     ensures free { OnOk result (kind_of queue.kind ≡ fastforward
         → (j : ℕ) → j < queue.slots → memory_word machine.now.history.opening [] (queue.base + 128 + 4 * j) ≡ 0) }
     ensures has_debt { IfErr result (λ debt. IsOpeningDebt M machine.now.history.opening queue debt) }
+    ensures first { IfErr result (λ debt. IsFirstOfRest machine.now.history.opening queue debt) }
 {
     match queue.kind {
         QueueKind::Lamport => Ok(()),
@@ -180,8 +184,8 @@ fn opens_as_owed<const B: usize, const M: usize>(
     }
 }
 
-/// The queue with the lines of its functions, as it can be used from the machine's opening on. Err with what is owed
-/// there.
+/// The queue with the lines of its functions, as it can be used from the machine's opening on. Err with the first thing that is
+/// owed there, in the order in which docs/formats.md lists them.
 pub(crate) fn locate<const B: usize, const M: usize>(
     machine: &Machine<B, M>,
     queue: Queue,
@@ -189,7 +193,7 @@ pub(crate) fn locate<const B: usize, const M: usize>(
     requires opens { machine.now.history ≡ at_opening machine.now.history.opening }
     requires size { M ≤ 65536 }
     ensures located { IfOk result (λ located. IsLocated M machine.now.history.opening queue located) }
-    ensures has_debt { IfErr result (λ debt. IsOpeningDebt M machine.now.history.opening queue debt) }
+    ensures has_debt { IfErr result (λ debt. IsFirstOpeningDebt M machine.now.history.opening queue debt) }
 {
     let Queue {
         kind,

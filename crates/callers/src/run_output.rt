@@ -35,6 +35,7 @@ fn output_of_runs<
     alloc: Global,
     test: &Test,
     located: Located,
+    draw: Draw,
     generator: &G,
     runs: Runs,
     progress: &mut P,
@@ -45,7 +46,7 @@ fn output_of_runs<
     requires size { M ≤ 65536 }
     requires usable { IsLocated M test.now.opening located.queue located }
     ensures { IfOk result (λ t. IsOutputOfRuns
-        (call_source B M test.now.opening located (left_after (runs.skip * runs.length) (G.Rng.stream generator.now)) runs.length)
+        (call_source B M test.now.opening located draw (left_after (runs.skip * runs.length) (G.Rng.stream generator.now)) runs.length)
         runs.number (string_bytes t.0, t.1)) }
 {
     let judge = CallersJudge::<B, M> { test, located };
@@ -53,7 +54,7 @@ fn output_of_runs<
     let drawn = JudgedRuns {
         judge: &judge,
         generator: &start,
-        draw: Draw::Uniform,
+        draw,
         size: runs.length,
     };
     let found = in_rounds(rt, alloc, &drawn, runs.number, runs.jobs, progress);
@@ -68,7 +69,7 @@ fn output_of_runs<
 }
 
 /// Runs a test, whose harts call the functions of `spsc_queue` for this queue, `runs.number` times from its opening, with
-/// store buffers of `B` pairs and `M` words of memory, each time by `runs.length` events that the generator draws, after the
+/// store buffers of `B` pairs and `M` words of memory, each time by `runs.length` events that the generator draws so, after the
 /// events of the runs that are passed over. Gives the text of what is found, and whether every run keeps what callers owe and
 /// some call returned.
 ///
@@ -87,6 +88,7 @@ pub fn check_callers<
     alloc: Global,
     test: &Test,
     queue: Queue,
+    draw: Draw,
     generator: &G,
     runs: Runs,
     progress: &mut P,
@@ -95,14 +97,16 @@ pub fn check_callers<
     requires capacity { B ≤ 64 }
     requires words { MAX_LOCATIONS ≤ M }
     requires size { M ≤ 65536 }
-    ensures { IfOk result (λ t. IsCallersOutput B M test.now.opening queue
+    ensures { IfOk result (λ t. IsCallersOutput B M test.now.opening queue draw
         (left_after (runs.skip * runs.length) (G.Rng.stream generator.now)) runs.number runs.length (string_bytes t.0, t.1)) }
 {
     let opening = test.opening(alloc)?;
     let machine: Machine<B, M> = Machine::open(alloc, opening)?;
     match locate(&machine, queue) {
         Ok(located) => {
-            output_of_runs::<B, M, G, T, P>(rt, alloc, test, located, generator, runs, progress)
+            output_of_runs::<B, M, G, T, P>(
+                rt, alloc, test, located, draw, generator, runs, progress,
+            )
         }
         Err(debt) => Ok((owing_text(alloc, &[], debt)?, false)),
     }

@@ -7,7 +7,7 @@ use Rattle.std.specs.List.{slice_get}
 use Rattle.step_machine.specs.History.{History, OpeningValue, at_opening}
 use Rattle.step_machine.specs.Runs.{Run}
 use Rattle.step_machine.proofs.Running.{run-one}
-use Rattle.recorder.specs.Drawing.{schedule_drawn}
+use Rattle.jumping.specs.Draws.{schedule_by}
 use Rattle.poll_close.specs.Breaches.{first_breach}
 use Rattle.poll_close.specs.Laws.{opening_over}
 use Rattle.poll_close.specs.Layout.{Layout}
@@ -78,7 +78,7 @@ module _ (d : Draws) (channel also : UserChannel) (rings : ring_of channel ≡ r
       let has = other.is_told.is_first.has in
       let mine = is.clean.good number (omega arith) other.is_told.is_first.within in
       let run : Run d.B d.M (start_of channel) (schedule_of_run (source_drawn d channel) number) has.history =
-      subst (λ (o : OpeningValue). Run d.B d.M o (schedule_drawn (length o.harts) d.size d.stream number) has.history) (sym starts) has.run in
+      subst (λ (o : OpeningValue). Run d.B d.M o (schedule_by d.draw (length o.harts) d.size d.stream number) has.history) (sym starts) has.run in
       let same : mine.history ≡ has.history =
       run-one d.B d.M (at_opening (start_of channel)) (schedule_of_run (source_drawn d channel) number) mine.history has.history mine.run run in
       let none : first_breach (layout_from channel) (lists_of channel) mine.history.entries ≡ None =
@@ -93,7 +93,7 @@ module _ (d : Draws) (channel also : UserChannel) (rings : ring_of channel ≡ r
       let second = other.clean.counted in
       let all = schedules_from (schedule_of_run (source_drawn d channel)) 0 (d.runs - 0) in
       let others : AreRuns d.B d.M (start_of channel) all second.histories =
-      subst (λ (o : OpeningValue). AreRuns d.B d.M o (schedules_from (schedule_drawn (length o.harts) d.size d.stream) 0 (d.runs - 0)) second.histories)
+      subst (λ (o : OpeningValue). AreRuns d.B d.M o (schedules_from (schedule_by d.draw (length o.harts) d.size d.stream) 0 (d.runs - 0)) second.histories)
       (sym starts) second.runs in
       let runs : first.histories ≡ second.histories = runs_one d.B d.M (start_of channel) all first.histories second.histories first.runs others in
       let ts = second.histories in

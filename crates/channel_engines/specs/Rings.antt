@@ -2,6 +2,7 @@
 use Rattle.std.specs.Prelude.{ℕ, ◌≡◌, ◌*◌, Bool, true, false, List, [], Option, Result, Ok, Err}
 use Rattle.rand_core.specs.Stream.{Stream}
 use Rattle.jumping.specs.declared.Runs.{Runs}
+use Rattle.jumping.specs.declared.draws.Draw.{Draw}
 use Rattle.recorder.specs.Drawing.{left_after}
 use Rattle.poll_close.specs.Laws.{AcceptedAt as IsWithin}
 use Rattle.poll_close.specs.Places.{layout_of}
@@ -18,29 +19,31 @@ use Rattle.channel_engines.specs.Lists.{list_texts}
 use Rattle.channel_engines.specs.UserChannels.{ring_over}
 use Rattle.channel_engines.specs.Programs.{programs}
 
--- What is drawn: this many runs of a channel at this place, over buffers of B stores and a memory of M words, each of
--- `size` events, which the stream draws.
+-- What is drawn: this many runs of a channel at this place, over buffers of B stores and a memory of M words, each of `size` events,
+-- and how and by which stream.
 pub record Draws : Type 0 where
   pub B : ℕ
   pub M : ℕ
   pub place : BlockPlace
+  pub draw : Draw
   pub stream : Stream
   pub size : ℕ
   pub runs : ℕ
 
 -- what a generator of this stream draws
-abbrev pub draws : (B M : ℕ) → BlockPlace → Stream → Runs → Draws
-draws B M place stream runs = record {
+abbrev pub draws : (B M : ℕ) → BlockPlace → Draw → Stream → Runs → Draws
+draws B M place draw stream runs = record {
   B = B;
   M = M;
   place = place;
+  draw = draw;
   stream = left_after (runs.skip * runs.length) stream;
   size = runs.length;
   runs = runs.number;
 }
 
 abbrev pub source_drawn : Draws → UserChannel → ChannelSource
-source_drawn d channel = channel_source d.B d.M channel d.stream d.size
+source_drawn d channel = channel_source d.B d.M channel d.draw d.stream d.size
 
 -- the channel of these programs and lists at this place
 pub record IsUserChannel (place : BlockPlace) (sends receives : List ℕ) (lists : List (List ℕ)) (channel : UserChannel) : Type 0 where

@@ -14,7 +14,7 @@ use crate::programs::read_program;
 use engine_support::fault::{Fault, Role};
 use engine_support::output::end_with;
 use jumping::progress::Progress;
-use jumping::{Jump, Runs};
+use jumping::{Draw, Jump, Runs};
 use poll_close::BlockPlace;
 use ring_trials::run_output::run_trials;
 use ring_trials::user_channel::UserChannel;
@@ -39,6 +39,7 @@ fn made<
     sender: &mut S,
     receiver: &mut R,
     lists: &mut L,
+    draw: Draw,
     generator: &G,
     runs: Runs,
     progress: &mut P,
@@ -47,7 +48,7 @@ fn made<
     requires capacity { B ≤ 64 }
     requires some_word { 1 ≤ M }
     requires size { M ≤ 65536 }
-    ensures made { FindsUpToReads (IsRingAnswer (draws B M place (G.Rng.stream generator.now) runs)
+    ensures made { FindsUpToReads (IsRingAnswer (draws B M place draw (G.Rng.stream generator.now) runs)
         (S.remaining sender.old) (R.remaining receiver.old) (L.remaining lists.old)) text_and_value result }
     ensures unread { IsRefused (programs Sender) (S.remaining sender.old) → receiver.new ≡ receiver.old }
     ensures unread_lists { IsRefused (programs Sender) (S.remaining sender.old) ⊎ IsRefused (programs Receiver) (R.remaining receiver.old)
@@ -62,7 +63,7 @@ fn made<
         lists,
         place,
     };
-    match run_trials::<B, M, G, T, P>(rt, alloc, &channel, generator, runs, progress) {
+    match run_trials::<B, M, G, T, P>(rt, alloc, &channel, draw, generator, runs, progress) {
         Ok(answered) => Ok(answered),
         Err(why) => Err(channel_fault(why)),
     }
@@ -71,7 +72,7 @@ fn made<
 /// Reads the assembly of the sender and that of the receiver, and then the senders' lists, each to its end: a line of
 /// words in decimal, parted by spaces, for each sender. It runs the channel over these programs and lists at a place
 /// `runs.number` times from its opening with store buffers of `B` pairs and `M` words of memory that open as 0, each
-/// time by `runs.length` events that the generator draws, after the events of the runs that are passed over.
+/// time by `runs.length` events that the generator draws so, after the events of the runs that are passed over.
 ///
 /// Where all runs are clean it writes how many they are, and a line for each sender: how many of its words a run took
 /// at most, and in how many runs it was reported closed. Else it writes a part of the first unclean run's events that is
@@ -99,6 +100,7 @@ pub fn ring_engine<
     sender: &mut S,
     receiver: &mut R,
     lists: &mut L,
+    draw: Draw,
     generator: &G,
     runs: Runs,
     progress: &mut P,
@@ -108,7 +110,7 @@ pub fn ring_engine<
     requires capacity { B ≤ 64 }
     requires some_word { 1 ≤ M }
     requires size { M ≤ 65536 }
-    ensures ends { Ends (IsRingAnswer (draws B M place (G.Rng.stream generator.now) runs)
+    ensures ends { Ends (IsRingAnswer (draws B M place draw (G.Rng.stream generator.now) runs)
         (S.remaining sender.old) (R.remaining receiver.old) (L.remaining lists.old)) result W.contents writer.old writer.new }
     ensures unread { IsRefused (programs Sender) (S.remaining sender.old) → receiver.new ≡ receiver.old }
     ensures unread_lists { IsRefused (programs Sender) (S.remaining sender.old) ⊎ IsRefused (programs Receiver) (R.remaining receiver.old)
@@ -116,7 +118,7 @@ pub fn ring_engine<
 {
     end_with(
         made::<B, M, S, R, L, G, T, P>(
-            rt, alloc, place, sender, receiver, lists, generator, runs, progress,
+            rt, alloc, place, sender, receiver, lists, draw, generator, runs, progress,
         ),
         writer,
     )

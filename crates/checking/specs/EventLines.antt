@@ -10,12 +10,12 @@ times_after None = 1
 times_after (Some digits) = unwrap_or (number_of digits) 0
 
 -- how many events a line has whose first token is this; none where it is blank
-abbrev pub events_by : Option (List ℕ × List ℕ) → ℕ
-events_by None = 0
-events_by (Some cut) = times_after (after (is_byte 42) cut.0)
+abbrev pub events_of_cut : Option (List ℕ × List ℕ) → ℕ
+events_of_cut None = 0
+events_of_cut (Some cut) = times_after (after (is_byte 42) cut.0)
 
 abbrev pub events_on : (line : List ℕ) → ℕ
-events_on line = events_by (first_cut line)
+events_on line = events_of_cut (first_cut line)
 
 -- which of these lines, counted from 0, has the event of this place among all of their events
 abbrev pub line_holding : (event : ℕ) → List (List ℕ) → ℕ

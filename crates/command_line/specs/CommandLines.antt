@@ -19,6 +19,8 @@ use Rattle.command_line.specs.declared.job.CodeCommand.TheVariants.{Asm, Dis}
 use Rattle.command_line.specs.declared.job.Command.{Command}
 use Rattle.command_line.specs.declared.job.Command.TheVariants.{Code, Machine, Find, Threads, UserChannel, Ring as UserRing}
 use Rattle.jumping.specs.declared.Runs.{Runs}
+use Rattle.jumping.specs.declared.draws.Draw.{Draw}
+use Rattle.jumping.specs.declared.draws.Draw.TheVariants.{Uniform, Bursts}
 use Rattle.poll_close.specs.declared.place.BlockPlace.{BlockPlace}
 use Rattle.chart.specs.declared.scenes.Selection.{Selection}
 use Rattle.chart.specs.declared.scenes.Selection.TheVariants.{EveryRow, MemoryRows}
@@ -65,12 +67,20 @@ runs_in options = do
   jobs ← number_at options (codes "jobs") 1 64
   Some (record { skip = skip; number = runs; length = events; jobs = jobs })
 
+-- how events are drawn
+abbrev pub draw_given : Text → Option Draw
+draw_given text = if bytes_eq text (codes "uniform") then Some Uniform else (if bytes_eq text (codes "bursts") then Some Bursts else None)
+
+abbrev pub draw_in : Found → Option Draw
+draw_in options = options (codes "draw") >>= draw_given
+
 -- the runs of `try`, from its options
 abbrev pub try_in : Found → Option Command
 try_in options = do
   seed ← seed_in options
+  draw ← draw_in options
   runs ← runs_in options
-  Some (Machine (Try seed runs))
+  Some (Machine (Try seed draw runs))
 
 abbrev pub queue_kind_given : Text → Option QueueKind
 queue_kind_given text =
@@ -91,9 +101,10 @@ queue_in options = do
 abbrev pub callers_in : Found → Option Command
 callers_in options = do
   seed ← seed_in options
+  draw ← draw_in options
   runs ← runs_in options
   queue ← queue_in options
-  Some (Machine (Callers seed runs queue))
+  Some (Machine (Callers seed draw runs queue))
 
 abbrev pub ring_given : Text → Option Ring
 ring_given text =
@@ -169,9 +180,10 @@ threads_in options = do
 abbrev pub ring_in : Found → Option Command
 ring_in options = do
   seed ← seed_in options
+  draw ← draw_in options
   runs ← runs_in options
   place ← place_in options
-  Some (UserRing seed runs place)
+  Some (UserRing seed draw runs place)
 
 -- the channel of a user's programs, from its words and its place; it isn't finished by a plan
 abbrev pub own_in : Found → Option Command

@@ -23,6 +23,9 @@ length = required (codes "length")
 abbrev skip : Parameter
 skip = defaulted (codes "skip") (codes "0")
 
+abbrev draw : Parameter
+draw = defaulted (codes "draw") (codes "uniform")
+
 abbrev jobs : Parameter
 jobs = defaulted (codes "jobs") (codes "1")
 
@@ -47,14 +50,14 @@ commands =
     ∷ row (codes "debug") (file ∷ schedule ∷ buffer ∷ [])
     ∷ row (codes "check") (file ∷ buffer ∷ [])
     ∷ row (codes "find") (file ∷ buffer ∷ defaulted (codes "states") (codes "1000000") ∷ [])
-    ∷ row (codes "try") (file ∷ buffer ∷ seed ∷ runs ∷ length ∷ skip ∷ jobs ∷ [])
+    ∷ row (codes "try") (file ∷ buffer ∷ seed ∷ runs ∷ length ∷ skip ∷ draw ∷ jobs ∷ [])
     ∷ row (codes "threads") (file ∷ buffer ∷ defaulted (codes "turns") (codes "100000") ∷ [])
     ∷ row (codes "channel") (positional (codes "kind") ∷ ring ∷ schedule ∷ buffer ∷ base ∷ stride ∷ flag (codes "finish") ∷ optional (codes "sender")
     ∷ optional (codes "receiver") ∷ [])
-    ∷ row (codes "ring") (positional (codes "sender") ∷ positional (codes "receiver") ∷ ring ∷ buffer ∷ seed ∷ runs ∷ length ∷ skip ∷ jobs ∷ base ∷ stride
-    ∷ [])
-    ∷ row (codes "callers") (file ∷ buffer ∷ seed ∷ runs ∷ length ∷ skip ∷ jobs ∷ required (codes "slots") ∷ base ∷ defaulted (codes "sender") (codes "0")
-    ∷ defaulted (codes "receiver") (codes "1") ∷ defaulted (codes "kind") (codes "lamport") ∷ [])
+    ∷ row (codes "ring") (positional (codes "sender") ∷ positional (codes "receiver") ∷ ring ∷ buffer ∷ seed ∷ runs ∷ length ∷ skip ∷ draw ∷ jobs ∷ base
+    ∷ stride ∷ [])
+    ∷ row (codes "callers") (file ∷ buffer ∷ seed ∷ runs ∷ length ∷ skip ∷ draw ∷ jobs ∷ required (codes "slots") ∷ base
+    ∷ defaulted (codes "sender") (codes "0") ∷ defaulted (codes "receiver") (codes "1") ∷ defaulted (codes "kind") (codes "lamport") ∷ [])
     ∷ row (codes "steps") (buffer ∷ [])
     ∷ row (codes "asm") []
     ∷ row (codes "dis") []

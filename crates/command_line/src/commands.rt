@@ -17,6 +17,8 @@ const LENGTH: Parameter = Required("length");
 
 const SKIP: Parameter = Defaulted("skip", "0");
 
+const DRAW: Parameter = Defaulted("draw", "uniform");
+
 const JOBS: Parameter = Defaulted("jobs", "1");
 
 const RING: Parameter = Positional("ring");
@@ -39,7 +41,7 @@ pub const COMMANDS: [Row; 17] = [
     ("debug", &[FILE, SCHEDULE, BUFFER]),
     ("check", &[FILE, BUFFER]),
     ("find", &[FILE, BUFFER, Defaulted("states", "1000000")]),
-    ("try", &[FILE, BUFFER, SEED, RUNS, LENGTH, SKIP, JOBS]),
+    ("try", &[FILE, BUFFER, SEED, RUNS, LENGTH, SKIP, DRAW, JOBS]),
     ("threads", &[FILE, BUFFER, Defaulted("turns", "100000")]),
     (
         "channel",
@@ -66,6 +68,7 @@ pub const COMMANDS: [Row; 17] = [
             RUNS,
             LENGTH,
             SKIP,
+            DRAW,
             JOBS,
             BASE,
             STRIDE,
@@ -80,6 +83,7 @@ pub const COMMANDS: [Row; 17] = [
             RUNS,
             LENGTH,
             SKIP,
+            DRAW,
             JOBS,
             Required("slots"),
             BASE,

@@ -1,7 +1,7 @@
 //! What a command line can ask for.
 
 use chart::charts::{Selection, Style};
-use jumping::Runs;
+use jumping::{Draw, Runs};
 use poll_close::BlockPlace;
 
 /// How many stores a hart's buffer holds.
@@ -79,12 +79,14 @@ pub enum MachineCommand {
     /// To make these runs of a litmus test, by schedules that are drawn from a generator of this seed.
     Try {
         seed: u64,
+        draw: Draw,
         runs: Runs,
     },
     /// To make these runs of a litmus test whose harts call this queue's functions, by schedules that are drawn from a
     /// generator of this seed, and to tell what its callers owe.
     Callers {
         seed: u64,
+        draw: Draw,
         runs: Runs,
         queue: CalledQueue,
     },
@@ -128,6 +130,7 @@ pub enum Command {
     /// of this seed, and to judge each.
     Ring {
         seed: u64,
+        draw: Draw,
         runs: Runs,
         place: BlockPlace,
     },

@@ -3,7 +3,7 @@
 ghost use Rattle.std.specs.Prelude.{◌≡◌, ◌∷◌, ℕ, List, IfOk, map, option_and_then, option_map, Some};
 ghost use Rattle.clap.specs.Words.{FailsBy, fault_of, subcommand_of, subcommand_rows_of};
 ghost use Rattle.command_line.specs.CommandLines.{GivesJob, found_by, job_by, capacity_given, capacity_in, job_at, channel_in, chart_in, find_in, flag_given};
-ghost use Rattle.command_line.specs.CommandLines.{callers_in, queue_in, queue_kind_given};
+ghost use Rattle.command_line.specs.CommandLines.{callers_in, draw_given, queue_in, queue_kind_given};
 ghost use Rattle.command_line.specs.CommandLines.{show_in, style_given, selection_given, job_given, number_if_given};
 ghost use Rattle.command_line.specs.CommandLines.{number_at, own_in, on_file, on_file_and_schedule, on_channel};
 ghost use Rattle.command_line.specs.CommandLines.{on_file_and_standard, on_own_channel, on_programs_and_standard};
@@ -22,7 +22,7 @@ use crate::job::{
 use crate::numbers::{count_of, number_of};
 use chart::charts::{Selection, Style};
 use clap::ArgMatches;
-use jumping::Runs;
+use jumping::{Draw, Runs};
 use poll_close::BlockPlace;
 use recorder::MAX_EVENTS;
 use std::alloc::Global;
@@ -302,8 +302,9 @@ fn try_in(options: &ArgMatches<'_>) -> Option<Command>
     ensures { result ≡ try_in (found_by options.now) }
 {
     let seed = seed_in(options)?;
+    let draw = draw_of(word_in(options, "draw")?)?;
     let runs = runs_in(options)?;
-    Some(Command::Machine(MachineCommand::Try { seed, runs }))
+    Some(Command::Machine(MachineCommand::Try { seed, draw, runs }))
 }
 
 /// The queue whose functions code calls.
@@ -330,9 +331,15 @@ fn callers_in(options: &ArgMatches<'_>) -> Option<Command>
     ensures { result ≡ callers_in (found_by options.now) }
 {
     let seed = seed_in(options)?;
+    let draw = draw_of(word_in(options, "draw")?)?;
     let runs = runs_in(options)?;
     let queue = queue_in(options)?;
-    Some(Command::Machine(MachineCommand::Callers { seed, runs, queue }))
+    Some(Command::Machine(MachineCommand::Callers {
+        seed,
+        draw,
+        runs,
+        queue,
+    }))
 }
 
 /// The runs that `ring` is to make, and of which channel.
@@ -340,9 +347,15 @@ fn ring_in(options: &ArgMatches<'_>) -> Option<Command>
     ensures { result ≡ ring_in (found_by options.now) }
 {
     let seed = seed_in(options)?;
+    let draw = draw_of(word_in(options, "draw")?)?;
     let runs = runs_in(options)?;
     let place = place_in(options)?;
-    Some(Command::Ring { seed, runs, place })
+    Some(Command::Ring {
+        seed,
+        draw,
+        runs,
+        place,
+    })
 }
 
 /// The picture that is to be drawn.
@@ -448,6 +461,16 @@ fn ring_of(text: &str) -> Option<Ring>
         "lamport" => Some(Ring::Lamport),
         "fastforward" => Some(Ring::FastForward),
         "cached" => Some(Ring::LamportCached),
+        _ => None,
+    }
+}
+
+fn draw_of(text: &str) -> Option<Draw>
+    ensures { result ≡ draw_given text.now }
+{
+    match text {
+        "uniform" => Some(Draw::Uniform),
+        "bursts" => Some(Draw::Bursts),
         _ => None,
     }
 }

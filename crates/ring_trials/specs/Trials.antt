@@ -11,7 +11,8 @@ use Rattle.step_machine.specs.Entries.{reported}
 use Rattle.step_machine.specs.Runs.{Run}
 use Rattle.step_machine.specs.Standing.{RepresentsHistory, RepresentsRunFrom}
 use Rattle.step_machine.specs.inner.Config.{Config}
-use Rattle.recorder.specs.Drawing.{schedule_drawn}
+use Rattle.jumping.specs.declared.draws.Draw.{Draw}
+use Rattle.jumping.specs.Draws.{schedule_by}
 use Rattle.poll_close.specs.Layout.{base_of}
 use Rattle.poll_close.specs.Reports.{taken}
 use Rattle.poll_close.specs.Plans.{is_closed}
@@ -53,20 +54,21 @@ pub record IsChannelJudgedAt (B M : ℕ) (channel : UserChannel) (events : List 
   pub stands : RepresentsHistory B M history c
   pub noted : AreNoted channel history.entries found shares
 
--- Where runs come from: buffers of B stores and a memory of M words, the channel, the stream that draws the
--- schedules, and how many events each schedule has.
+-- Where runs come from: buffers of B stores and a memory of M words, the channel, how the schedules are drawn and by which stream,
+-- and how many events each schedule has.
 pub record ChannelSource : Type 0 where
   pub B : ℕ
   pub M : ℕ
   pub channel : UserChannel
+  pub draw : Draw
   pub stream : Stream
   pub size : ℕ
 
-abbrev pub channel_source : (B M : ℕ) → UserChannel → Stream → (size : ℕ) → ChannelSource
-channel_source B M channel stream size = record { B = B; M = M; channel = channel; stream = stream; size = size }
+abbrev pub channel_source : (B M : ℕ) → UserChannel → Draw → Stream → (size : ℕ) → ChannelSource
+channel_source B M channel draw stream size = record { B = B; M = M; channel = channel; draw = draw; stream = stream; size = size }
 
 abbrev pub schedule_of_run : ChannelSource → (number : ℕ) → List Event
-schedule_of_run s number = schedule_drawn (length (start_of s.channel).harts) s.size s.stream number
+schedule_of_run s number = schedule_by s.draw (length (start_of s.channel).harts) s.size s.stream number
 
 -- the run keeps what a ring must
 abbrev pub KeepsAll : UserChannel → History → Type 0

@@ -27,6 +27,7 @@ fn output_of<const B: usize, const M: usize, G: Jump + Sync + Drop, T: Threads +
     alloc: Global,
     channel: &UserChannel,
     opening: &Opening,
+    draw: Draw,
     generator: &G,
     runs: Runs,
     progress: &mut P,
@@ -35,7 +36,7 @@ fn output_of<const B: usize, const M: usize, G: Jump + Sync + Drop, T: Threads +
     requires memory { M ≤ 65536 }
     requires opens { OpensOver M channel.now opening.now }
     ensures { IfOk result (λ t. IsTrialsOutput
-        (channel_source B M channel.now (left_after (runs.skip * runs.length) (G.Rng.stream generator.now)) runs.length)
+        (channel_source B M channel.now draw (left_after (runs.skip * runs.length) (G.Rng.stream generator.now)) runs.length)
         runs.number (string_bytes t.0, t.1)) }
 {
     let judge = ChannelJudge::<B, M> { channel, opening };
@@ -43,7 +44,7 @@ fn output_of<const B: usize, const M: usize, G: Jump + Sync + Drop, T: Threads +
     let drawn = JudgedRuns {
         judge: &judge,
         generator: &start,
-        draw: Draw::Uniform,
+        draw,
         size: runs.length,
     };
     let found = in_rounds(rt, alloc, &drawn, runs.number, runs.jobs, progress);
@@ -58,7 +59,7 @@ fn output_of<const B: usize, const M: usize, G: Jump + Sync + Drop, T: Threads +
 }
 
 /// Runs a channel over two programs `runs.number` times from its opening, with store buffers of `B` pairs and `M`
-/// words of memory, each time by `runs.length` events that the generator draws, after the events of the runs that
+/// words of memory, each time by `runs.length` events that the generator draws so, after the events of the runs that
 /// are passed over. Gives the text of what is found, and whether all runs are clean.
 ///
 /// If all are clean, that is their number and a line for each sender. Otherwise it is a schedule and the line of the
@@ -76,6 +77,7 @@ pub fn run_trials<
     rt: &T,
     alloc: Global,
     channel: &UserChannel,
+    draw: Draw,
     generator: &G,
     runs: Runs,
     progress: &mut P,
@@ -87,10 +89,12 @@ pub fn run_trials<
     requires short { FitsHart (ring_of channel.now) }
     ensures accepted { OnOk result (AcceptedAt (ring_of channel.now) M (lists_of channel.now) (layout_from channel.now)) }
     ensures output { IfOk result (λ t. IsTrialsOutput
-        (channel_source B M channel.now (left_after (runs.skip * runs.length) (G.Rng.stream generator.now)) runs.length)
+        (channel_source B M channel.now draw (left_after (runs.skip * runs.length) (G.Rng.stream generator.now)) runs.length)
         runs.number (string_bytes t.0, t.1)) }
     ensures refused { IfErr result (λ e. RefusesAt (ring_of channel.now) M (lists_of channel.now) (layout_from channel.now) e) }
 {
     let opening = open_channel(alloc, channel, M)?;
-    Ok(output_of::<B, M, G, T, P>(rt, alloc, channel, &opening, generator, runs, progress)?)
+    Ok(output_of::<B, M, G, T, P>(
+        rt, alloc, channel, &opening, draw, generator, runs, progress,
+    )?)
 }

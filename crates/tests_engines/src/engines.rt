@@ -13,6 +13,7 @@ use debugger::debug::debug_engine;
 use engine_support::fault::Fault;
 use finding::{SearchProgress, find_engine};
 use hart::Stop;
+use jumping::Draw;
 use jumping::progress::Progress;
 use lamport_ring::Lamport;
 use poll_close::BlockPlace;
@@ -149,6 +150,7 @@ pub fn answer(
                 alloc,
                 first,
                 QUEUE,
+                Draw::Uniform,
                 &generator,
                 ONE_RUN,
                 &mut Nobody,
@@ -224,6 +226,7 @@ pub fn answer(
                 first,
                 second,
                 third,
+                Draw::Uniform,
                 &generator,
                 runs,
                 &mut Nobody,

@@ -2,8 +2,8 @@
 
 use callers::{Queue, QueueKind, check_callers};
 use hart::Stop;
-use jumping::Runs;
 use jumping::progress::Progress;
+use jumping::{Draw, Runs};
 use litmus::Test;
 use rand_core::SeedableRng;
 use rand_pcg::Pcg32;
@@ -133,7 +133,16 @@ fn answer<T: Threads + Sync>(
         jobs,
     };
     let generator = Pcg32::seed_from_u64(1);
-    check_callers::<4, 1024, _, _, _>(rt, alloc, test, queue, &generator, runs, &mut NoProgress)
+    check_callers::<4, 1024, _, _, _>(
+        rt,
+        alloc,
+        test,
+        queue,
+        Draw::Uniform,
+        &generator,
+        runs,
+        &mut NoProgress,
+    )
 }
 
 #[test]

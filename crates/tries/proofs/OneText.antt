@@ -19,6 +19,7 @@ use Rattle.engine_support.proofs.InputLaws.{alike_after, one_litmus_text, one_ma
 use Rattle.engine_support.proofs.OneInput.{equal_alike}
 use Rattle.engine_support.proofs.OutcomeTables.{one_outcomes}
 use Rattle.tries.specs.Trials.{Trial, IsTrial, are_good, gave}
+use Rattle.jumping.specs.declared.draws.Draw.{Draw}
 use Rattle.tries.specs.Outcomes.{outcome_with_count, unfinished, IsTried, IsTryAnswer}
 
 -- ---- one run of each schedule
@@ -51,9 +52,9 @@ one_list B M q x y are others same = absurd cc
 
 -- ---- one text
 
-one_text : (B M : ℕ) (stream : Stream) (runs size : ℕ) (q : LitmusTest) (a b : List ℕ × Bool)
-    → IsTried B M stream runs size q a → IsTried B M stream runs size q b → a ≡ b
-one_text B M stream runs size q a b is other =
+one_text : (B M : ℕ) (draw : Draw) (stream : Stream) (runs size : ℕ) (q : LitmusTest) (a b : List ℕ × Bool)
+    → IsTried B M draw stream runs size q a → IsTried B M draw stream runs size q b → a ≡ b
+one_text B M draw stream runs size q a b is other =
     let trials : is.trials ≡ other.trials = one_list B M q is.trials other.trials is.are.ran other.are.ran (is.are.schedules ∙ sym other.are.schedules) in
     let outcomes : is.outcomes ≡ other.outcomes = one_outcomes gave is.trials is.outcomes other.outcomes is.shown
     (subst (λ (ts : List Trial). AreOutcomes gave ts other.outcomes) (sym trials) other.shown) in
@@ -64,8 +65,8 @@ one_text B M stream runs size q a b is other =
     let goods : a.1 ≡ b.1 = is.good ∙ ap (are_good q.quantifier) trials ∙ sym other.good in
     λ i. (texts i, goods i)
 
-pub one_try : (B M : ℕ) (stream : Stream) (runs size : ℕ) (file : List ℕ) (a b : Result (List ℕ × Bool) Refusal)
-    → IsTryAnswer B M stream runs size (Some file) a → IsTryAnswer B M stream runs size (Some file) b → AreOneAnswer a b
-one_try B M stream runs size file =
+pub one_try : (B M : ℕ) (draw : Draw) (stream : Stream) (runs size : ℕ) (file : List ℕ) (a b : Result (List ℕ × Bool) Refusal)
+    → IsTryAnswer B M draw stream runs size (Some file) a → IsTryAnswer B M draw stream runs size (Some file) b → AreOneAnswer a b
+one_try B M draw stream runs size file =
     alike_after tests (λ r s. r.number ≡ s.number) one_litmus_text AreOneAnswer (λ r s e. e) file _
-    (λ q a b is other. equal_alike a b (one_made (IsTried B M stream runs size q) (one_text B M stream runs size q) a b is other))
+    (λ q a b is other. equal_alike a b (one_made (IsTried B M draw stream runs size q) (one_text B M draw stream runs size q) a b is other))

@@ -8,6 +8,7 @@ use Rattle.engine_support.specs.Outcomes.{unfinished_line}
 use Rattle.engine_support.specs.Counting.{AreCountedLines, counted}
 use Rattle.engine_support.proofs.OutcomeTables.{are_outcomes, table_is}
 use Rattle.tries.specs.declared.trials.tally.Tally.{Tally}
+use Rattle.jumping.specs.declared.draws.Draw.{Draw}
 use Rattle.tries.specs.Trials.{Trial, AreTrials, is_holds, is_fails, gave, are_good}
 use Rattle.tries.specs.Outcomes.{first_schedule, IsTried}
 use Rattle.tries.specs.inner.Tallies.{IsTallyOf, good_by}
@@ -17,11 +18,12 @@ good_is : (quantifier : Quantifier) (trials : List Trial)
     (list_any (λ (t : Trial). is_fails t.verdict) trials) ≡ are_good quantifier trials
 good_is quantifier trials = grind arith
 
-pub tried : (B M : ℕ) (stream : Stream) (runs size : ℕ) (test : LitmusTest) (trials : List Trial) (tally : Tally) (lines text : List ℕ) (good : Bool)
-    → AreTrials B M test stream runs size trials → IsTallyOf trials tally
+pub tried : (B M : ℕ) (draw : Draw) (stream : Stream) (runs size : ℕ) (test : LitmusTest) (trials : List Trial)
+    (tally : Tally) (lines text : List ℕ) (good : Bool)
+    → AreTrials B M test draw stream runs size trials → IsTallyOf trials tally
     → AreCountedLines test (counted tally.outcomes) lines → text ≡ lines ++ unfinished_line tally.unfinished
-    → good ≡ good_by test.quantifier tally.some_hold tally.some_fail → IsTried B M stream runs size test (text, good)
-tried B M stream runs size test trials tally lines text good are is made written judged = record {
+    → good ≡ good_by test.quantifier tally.some_hold tally.some_fail → IsTried B M draw stream runs size test (text, good)
+tried B M draw stream runs size test trials tally lines text good are is made written judged = record {
   trials = trials;
   are = are;
   outcomes = made.outcomes;

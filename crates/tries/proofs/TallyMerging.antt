@@ -10,7 +10,9 @@ use Rattle.std.proofs.lemmas.List.Elements.{All-append}
 use Rattle.std.proofs.lemmas.List.FromFn.{map-range_with_len_more, length-map-range_with_len}
 use Rattle.rand_core.specs.Stream.{Stream}
 use Rattle.step_machine.specs.declared.events.Event.{Event}
-use Rattle.recorder.specs.Drawing.{left_after, schedule_drawn}
+use Rattle.recorder.specs.Drawing.{left_after}
+use Rattle.jumping.specs.declared.draws.Draw.{Draw}
+use Rattle.jumping.specs.Draws.{schedule_by}
 use Rattle.recorder.proofs.Drawn.{left_after-sum}
 use Rattle.tries.specs.declared.trials.tally.Tally.{Tally}
 use Rattle.engine_support.specs.Counting.{Counted, counted, counted_both, seen_of}
@@ -65,10 +67,10 @@ numbered_both {X} f later before (suc number) same = grind (
 )
 
 -- the schedules from a number on are those that the generator draws there
-drawn_later : (harts size : ℕ) (stream : Stream) (before number : ℕ)
-    → schedule_drawn harts size (left_after (before * size) stream) number
-    ≡ schedule_drawn harts size stream (before + number)
-drawn_later harts size stream before number = grind (arith, left_after-sum)
+drawn_later : (draw : Draw) (harts size : ℕ) (stream : Stream) (before number : ℕ)
+    → schedule_by draw harts size (left_after (before * size) stream) number
+    ≡ schedule_by draw harts size stream (before + number)
+drawn_later draw harts size stream before number = grind (arith, left_after-sum)
 
 at_start : (size : ℕ) (stream : Stream) → left_after (0 * size) stream ≡ stream
 unfolding left_after
@@ -77,7 +79,7 @@ at_start size stream = let none : 0 * size ≡ 0 = omega arith in ap (λ (n : �
 module _ (source : TestSource) where
   -- all runs, from the first on
   abbrev AreRuns : (runs : ℕ) → List Trial → Type 0
-  AreRuns runs trials = AreTrials source.B source.M source.test source.stream runs source.size trials
+  AreRuns runs trials = AreTrials source.B source.M source.test source.draw source.stream runs source.size trials
 
   abbrev IsRun : Trial → Type 0
   IsRun trial = IsTrial source.B source.M source.test trial
@@ -86,14 +88,14 @@ module _ (source : TestSource) where
   runs_both : (before number : ℕ) (front back : List Trial) → AreRuns before front
       → AreRunsFrom source before number back → AreRuns (before + number) (front ++ back)
   runs_both before number front back first second =
-      let drawing = schedule_drawn (length source.test.opening.harts) source.size source.stream in
-      let later = schedule_drawn (length source.test.opening.harts) source.size (left_after (before * source.size) source.stream) in
+      let drawing = schedule_by source.draw (length source.test.opening.harts) source.size source.stream in
+      let later = schedule_by source.draw (length source.test.opening.harts) source.size (left_after (before * source.size) source.stream) in
       record {
         schedules =
             map-append (λ (t : Trial). t.events) front back
             ∙ ap (λ (xs : List (List Event)). xs ++ map (λ (t : Trial). t.events) back) first.schedules
             ∙ ap (λ (xs : List (List Event)). map drawing (range_with_len 0 before) ++ xs) second.schedules
-            ∙ sym (numbered_both drawing later before number (drawn_later (length source.test.opening.harts) source.size source.stream before));
+            ∙ sym (numbered_both drawing later before number (drawn_later source.draw (length source.test.opening.harts) source.size source.stream before));
         ran = All-append IsRun front back first.ran second.ran;
       }
 
@@ -102,13 +104,15 @@ module _ (source : TestSource) where
   first_are runs tally is =
       let all : runs - 0 ≡ runs = omega arith in
       subst (λ (n : ℕ). AreRuns n is.trials) all
-      (subst (λ (s : Stream). AreTrials source.B source.M source.test s (runs - 0) source.size is.trials) (at_start source.size source.stream) is.are)
+      (subst
+      (λ (s : Stream). AreTrials source.B source.M source.test source.draw s (runs - 0) source.size is.trials)
+      (at_start source.size source.stream) is.are)
 
   are_first : (runs : ℕ) (trials : List Trial) → AreRuns runs trials → AreRunsFrom source 0 (runs - 0) trials
   are_first runs trials are =
       let all : runs ≡ runs - 0 = omega arith in
       subst (λ (n : ℕ). AreRunsFrom source 0 n trials) all
-      (subst (λ (s : Stream). AreTrials source.B source.M source.test s runs source.size trials) (sym (at_start source.size source.stream)) are)
+      (subst (λ (s : Stream). AreTrials source.B source.M source.test source.draw s runs source.size trials) (sym (at_start source.size source.stream)) are)
 
   pub from_all : (runs : ℕ) (tally : Tally) → IsTallyFrom source 0 runs tally → (trials : List Trial) × AreRuns runs trials × IsTallyOf trials tally
   from_all runs tally is = (is.trials, first_are runs tally is, is.tallied)
@@ -117,7 +121,7 @@ module _ (source : TestSource) where
   pub from_none : (tally : Tally) → IsTallyOf [] tally → IsTallyFrom source 0 0 tally
   from_none tally none = record {
     trials = [];
-    are = are_first 0 [] (no_trials source.B source.M source.test source.stream source.size);
+    are = are_first 0 [] (no_trials source.B source.M source.test source.draw source.stream source.size);
     tallied = none;
   }
 
@@ -142,7 +146,7 @@ module _ (source : TestSource) where
     both_long : length both ≡ end
     both_long =
         sym (length-map both (λ (t : Trial). t.events)) ∙ ap (λ (xs : List (List Event)). length xs) both_are.schedules
-        ∙ length-map-range_with_len (schedule_drawn (length source.test.opening.harts) source.size source.stream) 0 end
+        ∙ length-map-range_with_len (schedule_by source.draw (length source.test.opening.harts) source.size source.stream) 0 end
 
     -- no count is above the number of all runs
     pub both_few : (most : ℕ) → end < most → (outcome : List ℕ)

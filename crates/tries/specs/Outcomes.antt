@@ -5,6 +5,7 @@ use Rattle.std.specs.Prelude.{IsOkAnd, Option, Some, None, Result, codes}
 use Rattle.rand_core.specs.Stream.{Stream}
 use Rattle.step_machine.specs.declared.events.Event.{Event}
 use Rattle.litmus.specs.LitmusTests.{LitmusTest}
+use Rattle.jumping.specs.declared.draws.Draw.{Draw}
 use Rattle.recorder.specs.Writing.{schedule_tokens}
 use Rattle.engine_support.specs.declared.fault.Refusal.{Refusal}
 use Rattle.engine_support.specs.Outcomes.{AreOutcomes, line_of, unfinished_line}
@@ -35,14 +36,14 @@ unfinished trials = count_by (λ t. not (is_finished t.verdict)) trials
 
 -- the text of this number of runs of a test, over store buffers of B pairs and a memory of M words, and
 -- whether they show what the test asks
-pub record IsTried (B M : ℕ) (stream : Stream) (runs size : ℕ) (test : LitmusTest) (answer : List ℕ × Bool) : Type 0 where
+pub record IsTried (B M : ℕ) (draw : Draw) (stream : Stream) (runs size : ℕ) (test : LitmusTest) (answer : List ℕ × Bool) : Type 0 where
   pub trials : List Trial
-  pub are : AreTrials B M test stream runs size trials
+  pub are : AreTrials B M test draw stream runs size trials
   pub outcomes : List (List ℕ)
   pub shown : AreOutcomes gave trials outcomes
   pub text : answer.0 ≡ flat_map (outcome_with_count test trials) outcomes ++ unfinished_line (unfinished trials)
   pub good : answer.1 ≡ are_good test.quantifier trials
 
--- What answers a litmus text, where the generator gives this stream.
-abbrev pub IsTryAnswer : (B M : ℕ) → Stream → (runs size : ℕ) → (file : Option (List ℕ)) → Result (List ℕ × Bool) Refusal → Type 0
-IsTryAnswer B M stream runs size file = After tests file (λ test given. IsOkAnd given (IsTried B M stream runs size test))
+-- What answers a litmus text, where schedules are drawn so, by this stream.
+abbrev pub IsTryAnswer : (B M : ℕ) → Draw → Stream → (runs size : ℕ) → (file : Option (List ℕ)) → Result (List ℕ × Bool) Refusal → Type 0
+IsTryAnswer B M draw stream runs size file = After tests file (λ test given. IsOkAnd given (IsTried B M draw stream runs size test))

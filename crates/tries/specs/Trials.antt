@@ -12,7 +12,8 @@ use Rattle.litmus.specs.declared.verdict.Quantifier.{Quantifier}
 use Rattle.litmus.specs.declared.verdict.Quantifier.TheVariants.{Exists, NotExists, ForAll}
 use Rattle.litmus.specs.declared.verdict.Verdict.{Verdict}
 use Rattle.litmus.specs.declared.verdict.Verdict.TheVariants.{Holds, Fails, Unfinished}
-use Rattle.recorder.specs.Drawing.{schedule_drawn}
+use Rattle.jumping.specs.declared.draws.Draw.{Draw}
+use Rattle.jumping.specs.Draws.{schedule_by}
 
 -- one run: its schedule, the verdict on it, and the last values of the condition's left sides
 pub record Trial : Type 0 where
@@ -27,9 +28,9 @@ pub record IsTrial (B M : ℕ) (test : LitmusTest) (trial : Trial) : Type 0 wher
   pub judged : IsVerdict M test history trial.verdict
   pub read : trial.values ≡ map (final_value M history) (left_sides test.condition)
 
--- this number of runs, from the schedules that the generator's stream draws one after the other
-pub record AreTrials (B M : ℕ) (test : LitmusTest) (stream : Stream) (runs size : ℕ) (trials : List Trial) : Type 0 where
-  pub schedules : map (λ t. t.events) trials ≡ map (schedule_drawn (length test.opening.harts) size stream) (range_with_len 0 runs)
+-- this number of runs, from the schedules that the generator's stream draws so, one after the other
+pub record AreTrials (B M : ℕ) (test : LitmusTest) (draw : Draw) (stream : Stream) (runs size : ℕ) (trials : List Trial) : Type 0 where
+  pub schedules : map (λ t. t.events) trials ≡ map (schedule_by draw (length test.opening.harts) size stream) (range_with_len 0 runs)
   pub ran : All (IsTrial B M test) trials
 
 -- a run is finished where there is a verdict on its outcome

@@ -4,11 +4,12 @@ ghost use Rattle.std.specs.Prelude.{ℕ, Bool, List, Result, Some};
 ghost use Rattle.rand_core.specs.Stream.{Stream};
 ghost use Rattle.engine_support.specs.declared.fault.Refusal.{Refusal};
 ghost use Rattle.engine_support.specs.Engines.{AreOneAnswer};
+ghost use Rattle.jumping.specs.declared.draws.Draw.{Draw};
 ghost use Rattle.tries.specs.Outcomes.{IsTryAnswer};
 
-/// Two answers of `try` to one litmus text, for one stream of words, are one text with one value, or refusals of one number.
+/// Two answers of `try` to one litmus text, for schedules drawn alike by one stream of words, are one text with one value, or refusals of one number.
 /// Of a refused litmus text it isn't said on which line its first fault stands. It does nothing.
 pub fn one_try()
-    ensures { (B M : ℕ) (stream : Stream) (runs size : ℕ) (file : List ℕ) (a b : Result (List ℕ × Bool) Refusal)
-        → IsTryAnswer B M stream runs size (Some file) a → IsTryAnswer B M stream runs size (Some file) b → AreOneAnswer a b }
+    ensures { (B M : ℕ) (draw : Draw) (stream : Stream) (runs size : ℕ) (file : List ℕ) (a b : Result (List ℕ × Bool) Refusal)
+        → IsTryAnswer B M draw stream runs size (Some file) a → IsTryAnswer B M draw stream runs size (Some file) b → AreOneAnswer a b }
 {}

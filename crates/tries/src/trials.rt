@@ -13,9 +13,9 @@ use crate::trials::parallel::tally_in_rounds;
 use crate::trials::tally::Tally;
 use engine_support::fault::Fault;
 use engine_support::litmus_text::read_test;
-use jumping::Jump;
 pub use jumping::Runs;
 use jumping::progress::Progress;
+use jumping::{Draw, Jump};
 use litmus::Test;
 use std::alloc::{AllocError, Global};
 use std::io::{Read, Write};
@@ -33,6 +33,7 @@ fn drawn<const B: usize, const M: usize, G: Jump + Sync + Drop, T: Threads + Syn
     rt: &T,
     alloc: Global,
     test: &Test,
+    draw: Draw,
     generator: &G,
     runs: Runs,
     progress: &mut P,
@@ -42,7 +43,7 @@ fn drawn<const B: usize, const M: usize, G: Jump + Sync + Drop, T: Threads + Syn
     requires words { MAX_LOCATIONS ≤ M }
     requires size { M ≤ 65536 }
     ensures { IfOk result
-        (λ tally. IsTried B M (left_after (runs.skip * runs.length) (G.Rng.stream generator.now)) runs.number
+        (λ tally. IsTried B M draw (left_after (runs.skip * runs.length) (G.Rng.stream generator.now)) runs.number
         runs.length test.now (text_and_good (test.now, tally))) }
 {
     let start = generator.ahead(runs.skip, runs.length)?;
@@ -53,7 +54,7 @@ fn drawn<const B: usize, const M: usize, G: Jump + Sync + Drop, T: Threads + Syn
         ..
     } = runs;
     let tally = tally_in_rounds::<B, M, G, T, P>(
-        rt, alloc, test, &start, number, length, jobs, progress,
+        rt, alloc, test, draw, &start, number, length, jobs, progress,
     )?;
     tally.outcomes.has_lines(test);
     Ok(tally)
@@ -71,6 +72,7 @@ fn made<
     rt: &T,
     alloc: Global,
     file: &mut R,
+    draw: Draw,
     generator: &G,
     runs: Runs,
     progress: &mut P,
@@ -79,17 +81,17 @@ fn made<
     requires capacity { B ≤ 64 }
     requires words { MAX_LOCATIONS ≤ M }
     requires size { M ≤ 65536 }
-    ensures { FindsUpToReads (IsTryAnswer B M (left_after (runs.skip * runs.length) (G.Rng.stream generator.now)) runs.number runs.length
+    ensures { FindsUpToReads (IsTryAnswer B M draw (left_after (runs.skip * runs.length) (G.Rng.stream generator.now)) runs.number runs.length
         (R.remaining file.old)) text_and_good result }
 {
     let test = read_test(alloc, file)?;
-    let tally = drawn::<B, M, G, T, P>(rt, alloc, &test, generator, runs, progress)?;
+    let tally = drawn::<B, M, G, T, P>(rt, alloc, &test, draw, generator, runs, progress)?;
     Ok((test, tally))
 }
 
 /// Reads a litmus text to its end, and runs the test `runs.number` times from its opening with store
 /// buffers of `B` pairs and `M` words of memory, each time by `runs.length` events that the generator
-/// draws, after the events of the runs that are passed over.
+/// draws so, after the events of the runs that are passed over.
 ///
 /// It writes a line for each outcome of the finished runs, ascending by the values: how many runs gave
 /// it, the values of the condition's left sides, and the schedule of the first of these runs; and then
@@ -110,6 +112,7 @@ pub fn try_engine<
     rt: &T,
     alloc: Global,
     file: &mut R,
+    draw: Draw,
     generator: &G,
     runs: Runs,
     progress: &mut P,
@@ -119,11 +122,11 @@ pub fn try_engine<
     requires capacity { B ≤ 64 }
     requires words { MAX_LOCATIONS ≤ M }
     requires size { M ≤ 65536 }
-    ensures { Ends (IsTryAnswer B M (left_after (runs.skip * runs.length) (G.Rng.stream generator.now)) runs.number runs.length
+    ensures { Ends (IsTryAnswer B M draw (left_after (runs.skip * runs.length) (G.Rng.stream generator.now)) runs.number runs.length
         (R.remaining file.old)) result W.contents writer.old writer.new }
 {
     end_with_tally(
-        made::<B, M, R, G, T, P>(rt, alloc, file, generator, runs, progress),
+        made::<B, M, R, G, T, P>(rt, alloc, file, draw, generator, runs, progress),
         writer,
     )
 }

@@ -35,6 +35,7 @@ use Rattle.engine_support.specs.Schedules.{schedules}
 use Rattle.poll_close.specs.Places.{layout_of}
 use Rattle.poll_close.specs.declared.place.BlockPlace.{BlockPlace}
 use Rattle.jumping.specs.declared.Runs.{Runs}
+use Rattle.jumping.specs.declared.draws.Draw.{Draw}
 use Rattle.channel_engines.specs.Channels.{IsChannelAnswer}
 use Rattle.threading.specs.Threads.{IsThreadsAnswer}
 use Rattle.channel_engines.specs.UserChannels.{IsUserAnswer}
@@ -73,8 +74,8 @@ abbrev pub drawn_from : (seed : ℕ) → Stream
 drawn_from seed = stream_of (steps_u32 pcg32) (pcg32_of_seed (pcg32_seed 16 seed))
 
 -- the runs of a channel at this place that the generator of this seed draws, with buffers of B stores
-abbrev pub drawn_runs : (B seed : ℕ) → Runs → BlockPlace → Draws
-drawn_runs B seed runs place = draws B WORDS place (drawn_from seed) runs
+abbrev pub drawn_runs : (B seed : ℕ) → Draw → Runs → BlockPlace → Draws
+drawn_runs B seed draw runs place = draws B WORDS place draw (drawn_from seed) runs
 
 -- the tables and the least size of the rings of a kind
 abbrev pub tables_of : RingKind → RingTables
@@ -145,18 +146,18 @@ Does B (Machine Check) result given = DoneAlong good_exit (IsCheckAnswer B WORDS
 Does B (Machine Debug) result given = DoneAlong done_exit (IsDebugAnswer B WORDS given.commands given.first given.second)
     (λ out. IsDebugFront B WORDS given.commands given.first given.second (Ok (out, tt)))
     (λ out. IsDebugSome B WORDS given.commands given.first given.second (Ok (out, tt))) result
-Does B (Machine (Try seed runs)) result given = Done good_exit
-    (IsTryAnswer B WORDS (left_after (runs.skip * runs.length) (drawn_from seed)) runs.number runs.length given.first) result
-Does B (Machine (Callers seed runs queue)) result given = Done good_exit
-    (IsCallersAnswer B WORDS (queue_of queue) (left_after (runs.skip * runs.length) (drawn_from seed)) runs.number runs.length given.first) result
+Does B (Machine (Try seed draw runs)) result given = Done good_exit
+    (IsTryAnswer B WORDS draw (left_after (runs.skip * runs.length) (drawn_from seed)) runs.number runs.length given.first) result
+Does B (Machine (Callers seed draw runs queue)) result given = Done good_exit
+    (IsCallersAnswer B WORDS (queue_of queue) draw (left_after (runs.skip * runs.length) (drawn_from seed)) runs.number runs.length given.first) result
 Does B (Machine (Channel ring place finish)) result given =
     Done done_exit (IsChannelAnswer (tables_of ring) B WORDS (layout_of place []) finish given.first given.second) result
 Does B (Find states) result given = Done found_exit (IsFindAnswer B WORDS (max states 1) given.first) result
 Does B (Threads turns) result given = Done verdict_exit (IsThreadsAnswer B WORDS turns given.first) result
 Does B (UserChannel place) result given =
     Done done_exit (IsUserAnswer B WORDS (layout_of place []) given.first given.second given.third given.fourth) result
-Does B (Ring seed runs place) result given =
-    Done good_exit (IsRingAnswer (drawn_runs B seed runs place) given.first given.second given.third) result
+Does B (Ring seed draw runs place) result given =
+    Done good_exit (IsRingAnswer (drawn_runs B seed draw runs place) given.first given.second given.third) result
 
 -- a command that judges records, one after the other
 abbrev pub judges_records : Command → Bool
@@ -177,15 +178,15 @@ abbrev pub refusals : Command → Result ℕ Failure → List (Option (List ℕ)
 refusals (Code command) result = []
 refusals (Machine Steps) result = []
 refusals (Machine (Show steps)) result = []
-refusals (Machine (Try seed runs)) result = []
-refusals (Machine (Callers seed runs queue)) result = []
+refusals (Machine (Try seed draw runs)) result = []
+refusals (Machine (Callers seed draw runs queue)) result = []
 refusals (Machine (Channel ring place finish)) result = IsRefused schedules ∷ []
 refusals (Machine Check) result = (λ first. IsRefusal result × IsRefused tests first) ∷ []
 refusals (Machine command) result = IsRefused tests ∷ []
 refusals (Find states) result = []
 refusals (Threads turns) result = []
 refusals (UserChannel place) result = IsRefused (programs Sender) ∷ IsRefused (programs Receiver) ∷ IsRefused schedules ∷ []
-refusals (Ring seed runs place) result = IsRefused (programs Sender) ∷ IsRefused (programs Receiver) ∷ []
+refusals (Ring seed draw runs place) result = IsRefused (programs Sender) ∷ IsRefused (programs Receiver) ∷ []
 
 -- The input after these is left unread: the command has none there, or one of these is refused.
 abbrev pub LeavesUnread : List (Option (List ℕ) → Type 0) → (before : List (Option (List ℕ))) → Type 0

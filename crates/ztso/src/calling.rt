@@ -12,8 +12,8 @@ use callers::{Queue, QueueKind, callers_engine};
 use command_line::job;
 use command_line::job::CalledQueue;
 use engine_support::fault::Fault;
-use jumping::Runs;
 use jumping::progress::Progress;
+use jumping::{Draw, Runs};
 use rand_core::SeedableRng;
 use rand_pcg::Lcg64Xsh32;
 use std::alloc::Global;
@@ -50,6 +50,7 @@ pub fn call_drawn<const B: usize, F: Read, W: Write, T: Threads + Sync, P: Progr
     rt: &T,
     alloc: Global,
     seed: u64,
+    draw: Draw,
     runs: Runs,
     called: CalledQueue,
     file: &mut F,
@@ -58,7 +59,7 @@ pub fn call_drawn<const B: usize, F: Read, W: Write, T: Threads + Sync, P: Progr
 ) -> Result<bool, Fault>
     requires some_capacity { 1 ≤ B }
     requires capacity { B ≤ 64 }
-    ensures { Ends (IsCallersAnswer B WORDS (queue_of called) (left_after (runs.skip * runs.length) (drawn_from seed)) runs.number runs.length
+    ensures { Ends (IsCallersAnswer B WORDS (queue_of called) draw (left_after (runs.skip * runs.length) (drawn_from seed)) runs.number runs.length
         (F.remaining file.old)) result W.contents writer.old writer.new }
 {
     let generator = Lcg64Xsh32::seed_from_u64(seed);
@@ -67,6 +68,7 @@ pub fn call_drawn<const B: usize, F: Read, W: Write, T: Threads + Sync, P: Progr
         alloc,
         file,
         queue_of(called),
+        draw,
         &generator,
         runs,
         progress,

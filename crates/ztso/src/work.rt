@@ -34,8 +34,8 @@ use debugger::debug::debug_engine;
 use engine_support::fault::Fault;
 use fastforward::FastForward;
 use finding::{Found, SearchProgress, find_engine};
-use jumping::Runs;
 use jumping::progress::Progress;
+use jumping::{Draw, Runs};
 use lamport_cached::LamportCached;
 use lamport_ring::Lamport;
 use poll_close::BlockPlace;
@@ -126,6 +126,7 @@ fn try_drawn<const B: usize, F: Read, W: Write, T: Threads + Sync, P: Progress>(
     rt: &T,
     alloc: Global,
     seed: u64,
+    draw: Draw,
     runs: Runs,
     file: &mut F,
     progress: &mut P,
@@ -133,11 +134,11 @@ fn try_drawn<const B: usize, F: Read, W: Write, T: Threads + Sync, P: Progress>(
 ) -> Result<bool, Fault>
     requires some_capacity { 1 ≤ B }
     requires capacity { B ≤ 64 }
-    ensures { Ends (IsTryAnswer B WORDS (left_after (runs.skip * runs.length) (drawn_from seed)) runs.number runs.length
+    ensures { Ends (IsTryAnswer B WORDS draw (left_after (runs.skip * runs.length) (drawn_from seed)) runs.number runs.length
         (F.remaining file.old)) result W.contents writer.old writer.new }
 {
     let generator = Lcg64Xsh32::seed_from_u64(seed);
-    try_engine::<B, WORDS, _, _, _, _, _>(rt, alloc, file, &generator, runs, progress, writer)
+    try_engine::<B, WORDS, _, _, _, _, _>(rt, alloc, file, draw, &generator, runs, progress, writer)
 }
 
 /// Runs a channel over lists of words by a schedule, through rings of this kind at this place, and then by a
@@ -206,6 +207,7 @@ fn run_user_ring<
     rt: &T,
     alloc: Global,
     seed: u64,
+    draw: Draw,
     runs: Runs,
     place: BlockPlace,
     sender: &mut S,
@@ -216,7 +218,7 @@ fn run_user_ring<
 ) -> Result<bool, Fault>
     requires some_capacity { 1 ≤ B }
     requires capacity { B ≤ 64 }
-    ensures ends { Ends (IsRingAnswer (drawn_runs B seed runs place) (S.remaining sender.old) (R.remaining receiver.old) (L.remaining lists.old))
+    ensures ends { Ends (IsRingAnswer (drawn_runs B seed draw runs place) (S.remaining sender.old) (R.remaining receiver.old) (L.remaining lists.old))
         result W.contents writer.old writer.new }
     ensures unread { IsRefused (programs Sender) (S.remaining sender.old) → receiver.new ≡ receiver.old }
     ensures unread_lists { IsRefused (programs Sender) (S.remaining sender.old) ⊎ IsRefused (programs Receiver) (R.remaining receiver.old)
@@ -224,7 +226,7 @@ fn run_user_ring<
 {
     let generator = Lcg64Xsh32::seed_from_u64(seed);
     ring_engine::<B, WORDS, _, _, _, _, _, _, _>(
-        rt, alloc, place, sender, receiver, lists, &generator, runs, progress, writer,
+        rt, alloc, place, sender, receiver, lists, draw, &generator, runs, progress, writer,
     )
 }
 
@@ -306,11 +308,16 @@ fn do_machine<const B: usize, T: Threads + Sync, I: Read, C: Read, W: Write, P: 
         MachineCommand::Debug => {
             after(debug::<B, _, _, _, _>(alloc, first, second, commands, writer))
         }
-        MachineCommand::Try { seed, runs } => {
-            after_runs(try_drawn::<B, _, _, _, _>(rt, alloc, seed, runs, first, progress, writer))
-        }
-        MachineCommand::Callers { seed, runs, queue } => after_runs(call_drawn::<B, _, _, _, _>(
-            rt, alloc, seed, runs, queue, first, progress, writer,
+        MachineCommand::Try { seed, draw, runs } => after_runs(try_drawn::<B, _, _, _, _>(
+            rt, alloc, seed, draw, runs, first, progress, writer,
+        )),
+        MachineCommand::Callers {
+            seed,
+            draw,
+            runs,
+            queue,
+        } => after_runs(call_drawn::<B, _, _, _, _>(
+            rt, alloc, seed, draw, runs, queue, first, progress, writer,
         )),
         MachineCommand::Channel {
             kind,
@@ -377,10 +384,16 @@ where
             &mut streams.fourth,
             &mut streams.writer,
         )),
-        Command::Ring { seed, runs, place } => after_runs(run_user_ring::<B, _, _, _, _, _, _>(
+        Command::Ring {
+            seed,
+            draw,
+            runs,
+            place,
+        } => after_runs(run_user_ring::<B, _, _, _, _, _, _>(
             rt,
             alloc,
             seed,
+            draw,
             runs,
             place,
             &mut streams.first,

@@ -3,6 +3,7 @@ use Rattle.std.specs.Prelude.{ℕ, ◌≡◌, ◌+◌, ◌*◌, ◌-◌, ◌||�
 use Rattle.rand_core.specs.Stream.{Stream}
 use Rattle.litmus.specs.LitmusTests.{LitmusTest}
 use Rattle.recorder.specs.Drawing.{left_after}
+use Rattle.jumping.specs.declared.draws.Draw.{Draw}
 use Rattle.tries.specs.declared.trials.tally.Tally.{Tally}
 use Rattle.tries.specs.Trials.{Trial, AreTrials}
 use Rattle.engine_support.specs.Counting.{counted, counted_both}
@@ -15,19 +16,20 @@ pub record Merges (old later new : Tally) : Type 0 where
   pub holds : new.some_hold ≡ (old.some_hold || later.some_hold)
   pub fails : new.some_fail ≡ (old.some_fail || later.some_fail)
 
--- Where runs come from: buffers of B stores and a memory of M words, the test, the stream that draws the
--- schedules, and how many events each schedule has.
+-- Where runs come from: buffers of B stores and a memory of M words, the test, how the schedules are drawn and by which stream, and
+-- how many events each schedule has.
 pub record TestSource : Type 0 where
   pub B : ℕ
   pub M : ℕ
   pub test : LitmusTest
+  pub draw : Draw
   pub stream : Stream
   pub size : ℕ
 
 -- the runs from the one of this number on
 abbrev pub AreRunsFrom : TestSource → (first number : ℕ) → List Trial → Type 0
 AreRunsFrom source first number trials =
-    AreTrials source.B source.M source.test (left_after (first * source.size) source.stream) number source.size trials
+    AreTrials source.B source.M source.test source.draw (left_after (first * source.size) source.stream) number source.size trials
 
 -- the tally of the runs from one number up to another
 pub record IsTallyFrom (source : TestSource) (first end : ℕ) (tally : Tally) : Type 0 where

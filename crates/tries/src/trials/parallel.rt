@@ -8,9 +8,9 @@ ghost use Rattle.litmus.specs.declared.litmus_test.TheConstants.{MAX_LOCATIONS};
 
 use crate::trials::drawing::tally_of;
 use crate::trials::tally::Tally;
-use jumping::Jump;
 use jumping::parallel::{Trials, in_rounds};
 use jumping::progress::Progress;
+use jumping::{Draw, Jump};
 use litmus::Test;
 use std::alloc::{AllocError, Global};
 use std::thread::Threads;
@@ -19,6 +19,7 @@ use std::thread::Threads;
 #[derive(Drop)]
 struct TestRuns<'a, const B: usize, const M: usize, G> {
     test: &'a Test,
+    draw: Draw,
     generator: &'a G,
     size: u32,
     ghost can: { (1 ≤ B) × (B ≤ 64) × (MAX_LOCATIONS ≤ M) × (M ≤ 65536) },
@@ -31,7 +32,7 @@ impl<'a, const B: usize, const M: usize, G: Jump + Sync + Drop> Trials for TestR
     type Part = Tally;
 
     ghost knows = { λ it first end tally.
-        IsTallyFrom (record { B = B; M = M; test = it.test.now; stream = G.Rng.stream it.generator.now; size = it.size }) first end tally };
+        IsTallyFrom (record { B = B; M = M; test = it.test.now; draw = it.draw; stream = G.Rng.stream it.generator.now; size = it.size }) first end tally };
 
     fn none(&self, alloc: Global) -> Result<Tally, AllocError> {
         Ok(Tally::new(alloc))
@@ -39,7 +40,14 @@ impl<'a, const B: usize, const M: usize, G: Jump + Sync + Drop> Trials for TestR
 
     fn make(&self, alloc: Global, first: u32, end: u32) -> Result<Tally, AllocError> {
         let mut there = self.generator.ahead(u64::from(first), self.size)?;
-        tally_of::<B, M, G>(alloc, self.test, &mut there, end - first, self.size)
+        tally_of::<B, M, G>(
+            alloc,
+            self.test,
+            self.draw,
+            &mut there,
+            end - first,
+            self.size,
+        )
     }
 
     fn join(&self, whole: &mut Tally, later: Tally) -> Result<(), AllocError> {
@@ -57,7 +65,7 @@ impl<'a, const B: usize, const M: usize, G: Jump + Sync + Drop> Trials for TestR
     }
 }
 
-/// The tally of `runs` runs, each by `length` events that the generator draws, spread over rounds and over `jobs`
+/// The tally of `runs` runs, each by `length` events that the generator draws so, spread over rounds and over `jobs`
 /// threads; no job is one. It depends on neither. The progress learns how far the runs are, which harts are stopped at
 /// their ends, and that they ended.
 pub fn tally_in_rounds<
@@ -70,6 +78,7 @@ pub fn tally_in_rounds<
     rt: &T,
     alloc: Global,
     test: &Test,
+    draw: Draw,
     generator: &G,
     runs: u32,
     length: u32,
@@ -80,10 +89,12 @@ pub fn tally_in_rounds<
     requires capacity { B ≤ 64 }
     requires words { MAX_LOCATIONS ≤ M }
     requires size { M ≤ 65536 }
-    ensures { IfOk result (λ tally. (trials : List Trial) × AreTrials B M test.now (G.Rng.stream generator.now) runs length trials × IsTallyOf trials tally) }
+    ensures { IfOk result (λ tally. (trials : List Trial)
+        × AreTrials B M test.now draw (G.Rng.stream generator.now) runs length trials × IsTallyOf trials tally) }
 {
     let trials = TestRuns::<B, M, G> {
         test,
+        draw,
         generator,
         size: length,
     };

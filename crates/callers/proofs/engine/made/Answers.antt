@@ -10,7 +10,8 @@ use Rattle.callers.proofs.engine.made.Goals as goal
 pub returns : goal.returns
 returns g c =
     read_after tests _ _ text_and_value c.answer.result c.in_ok-test.test c.in_ok-test.ensures.test
-    (made_after (IsCallersGiven g.row.B g.row.M c.args.queue (left_after (c.args.runs.skip * c.args.runs.length) (g.G.Rng.stream c.args.generator.now))
+    (made_after (IsCallersGiven g.row.B g.row.M c.args.queue c.args.draw
+    (left_after (c.args.runs.skip * c.args.runs.length) (g.G.Rng.stream c.args.generator.now))
     c.args.runs.number c.args.runs.length c.in_ok-test.test) text_and_value c.answer.result c.answer.ensures)
 
 pub returns-in_err-test : goal.returns-in_err-test

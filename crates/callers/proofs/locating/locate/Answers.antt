@@ -7,18 +7,32 @@ use Rattle.callers.proofs.locating.locate.Goals as goal
 
 pub returns-in_default-clause-has_debt : goal.returns-in_default-clause-has_debt
 returns-in_default-clause-has_debt g c = (
-  refl,
-  refl,
-  subst (λ (o : OpeningValue). HasNoCopy o c.args.queue.sender (sends_by c.args.queue.kind)) c.opening-opening.ensures.value
-      (c.function_of.ensures.none (sends_by c.args.queue.kind) (sym c.send_words.ensures) c.in_default.is),
+  (
+    refl,
+    refl,
+    subst (λ (o : OpeningValue). HasNoCopy o c.args.queue.sender (sends_by c.args.queue.kind)) c.opening-opening.ensures.value
+        (c.function_of.ensures.none (sends_by c.args.queue.kind) (sym c.send_words.ensures) c.in_default.is),
+  ),
+  (search rules, search rules),
 )
 
 pub returns-in_default-function_of-clause-has_debt : goal.returns-in_default-function_of-clause-has_debt
 returns-in_default-function_of-clause-has_debt g c = (
-  refl,
-  refl,
-  subst (λ (o : OpeningValue). HasNoCopy o c.args.queue.receiver (receives_by c.args.queue.kind)) c.opening-opening.ensures.value
-      (c.function_of-2.ensures.none (receives_by c.args.queue.kind) (sym c.receive_words.ensures) (c.in_default-function_of).is),
+  (
+    refl,
+    refl,
+    subst (λ (o : OpeningValue). HasNoCopy o c.args.queue.receiver (receives_by c.args.queue.kind)) c.opening-opening.ensures.value
+        (c.function_of-2.ensures.none (receives_by c.args.queue.kind) (sym c.receive_words.ensures) (c.in_default-function_of).is),
+  ),
+  (
+    search rules,
+    search rules,
+    (
+      c.in-Some.send_line,
+      (subst (λ (o : OpeningValue). HasFirstCopy o c.args.queue.sender c.in-Some.send_line (sends_by c.args.queue.kind))
+          c.opening-opening.ensures.value (c.in-Some.ensures.first (sends_by c.args.queue.kind) (sym c.send_words.ensures))).here,
+    ),
+  ),
 )
 
 pub returns-clause-located : goal.returns-clause-located

@@ -21,10 +21,13 @@ returns-in-Good g c =
     let Good = HasNoDebt g.row.B g.row.M o l in
     let Counts = AreCountsOf g.row.B g.row.M o l in
     let told = subst (IsTold Good (HasDebt g.row.B g.row.M o l) (λ (found other : Debt). found ≡ other) Counts
-    (call_schedule (call_source g.row.B g.row.M o l (g.G.Rng.stream c.in_ok-start.start) size)) c.args.runs.number) c.in-Good.is c.in_ok-counts.ensures in
-    let kept = subst (λ (at : Stream). AreAllGood Good Counts (call_schedule (call_source g.row.B g.row.M o l at size)) 0 c.args.runs.number c.in-Good.counts)
+    (call_schedule (call_source g.row.B g.row.M o l c.args.draw (g.G.Rng.stream c.in_ok-start.start) size))
+    c.args.runs.number) c.in-Good.is c.in_ok-counts.ensures in
+    let kept = subst
+    (λ (at : Stream). AreAllGood Good Counts (call_schedule (call_source g.row.B g.row.M o l c.args.draw at size)) 0
+    c.args.runs.number c.in-Good.counts)
     c.in_ok-start.ensures told in
-    let s : CallSource = call_source g.row.B g.row.M o l (left_after (c.args.runs.skip * size) (g.G.Rng.stream c.args.generator.now)) size in
+    let s : CallSource = call_source g.row.B g.row.M o l c.args.draw (left_after (c.args.runs.skip * size) (g.G.Rng.stream c.args.generator.now)) size in
     kept_output s c.args.runs.number _ c.in-Good.counts (all_kept s c.requires.usable c.args.runs.number c.in-Good.counts kept) c.in_ok-text-in-Good.ensures _
     (ap not c.are_none.ensures)
 
@@ -36,14 +39,15 @@ returns g c =
     let Good = HasNoDebt g.row.B g.row.M o l in
     let Has = HasDebt g.row.B g.row.M o l in
     let told = subst (IsTold Good Has (λ (found other : Debt). found ≡ other) (AreCountsOf g.row.B g.row.M o l)
-    (call_schedule (call_source g.row.B g.row.M o l (g.G.Rng.stream c.in_ok-start.start) size)) c.args.runs.number) c.in-Flawed.is c.in_ok-counts.ensures in
-    let s : CallSource = call_source g.row.B g.row.M o l (left_after (c.args.runs.skip * size) (g.G.Rng.stream c.args.generator.now)) size in
+    (call_schedule (call_source g.row.B g.row.M o l c.args.draw (g.G.Rng.stream c.in_ok-start.start) size))
+    c.args.runs.number) c.in-Flawed.is c.in_ok-counts.ensures in
+    let s : CallSource = call_source g.row.B g.row.M o l c.args.draw (left_after (c.args.runs.skip * size) (g.G.Rng.stream c.args.generator.now)) size in
     inr (record {
       part = c.in-Flawed.part.items;
       debt = c.in-Flawed.flaw;
       is_told = told_kept s c.requires.usable c.args.runs.number c.in-Flawed.part.items c.in-Flawed.flaw
           (subst (λ (at : Stream). IsFlawTold Good Has (λ (found other : Debt). found ≡ other)
-          (call_schedule (call_source g.row.B g.row.M o l at size)) c.args.runs.number c.in-Flawed.part.items c.in-Flawed.flaw)
+          (call_schedule (call_source g.row.B g.row.M o l c.args.draw at size)) c.args.runs.number c.in-Flawed.part.items c.in-Flawed.flaw)
           c.in_ok-start.ensures told);
       text_is = c.in_ok-owing_text-in-Flawed.ensures ∙ ap (λ (es : List Event). canon es ++ debt_line c.in-Flawed.flaw) c.deref.ensures.value;
     })

@@ -50,5 +50,5 @@ returns-clause-made g c =
     read_after (programs Sender) _ _ text_and_value failed c.in_ok-sender.sender.items c.in_ok-sender.ensures.program
     (read_after (programs Receiver) _ _ text_and_value failed c.in_ok-receiver.receiver.items c.in_ok-receiver.ensures.program
     (read_after list_texts _ _ text_and_value failed _ c.in_ok-lists.ensures
-    (not_drawn (draws g.row.B g.row.M c.args.place (g.G.Rng.stream c.args.generator.now) c.args.runs) _ _ _ text_and_value c.in-Err.why
+    (not_drawn (draws g.row.B g.row.M c.args.place c.args.draw (g.G.Rng.stream c.args.generator.now) c.args.runs) _ _ _ text_and_value c.in-Err.why
     c.channel_fault.result c.channel_fault.ensures c.in-Err.ensures.refused)))

@@ -20,8 +20,10 @@ returns-in-Good g c =
     let size = c.args.runs.length in
     let Counts : List (List Event) → Vec Total → Type 0 = λ all totals. AreTotalsOf B M channel all totals.items in
     let told = subst (IsTold (IsClean B M channel) (HasBreach B M channel) (λ found other. Unit {0}) Counts
-    (schedule_of_run (channel_source B M channel (g.G.Rng.stream c.in_ok-start.start) size)) c.args.runs.number) c.in-Good.is c.in_ok-totals.ensures in
-    let clean = subst (λ (at : Stream). AreAllGood (IsClean B M channel) Counts (schedule_of_run (channel_source B M channel at size)) 0 c.args.runs.number
+    (schedule_of_run (channel_source B M channel c.args.draw (g.G.Rng.stream c.in_ok-start.start) size))
+    c.args.runs.number) c.in-Good.is c.in_ok-totals.ensures in
+    let clean = subst (λ (at : Stream).
+    AreAllGood (IsClean B M channel) Counts (schedule_of_run (channel_source B M channel c.args.draw at size)) 0 c.args.runs.number
     c.in-Good.totals) c.in_ok-start.ensures told in
     record {
       totals = c.in-Good.totals.items;
@@ -39,12 +41,13 @@ returns g c =
     let size = c.args.runs.length in
     let Counts : List (List Event) → Vec Total → Type 0 = λ all totals. AreTotalsOf B M channel all totals.items in
     let told = subst (IsTold (IsClean B M channel) (HasBreach B M channel) (λ found other. Unit {0}) Counts
-    (schedule_of_run (channel_source B M channel (g.G.Rng.stream c.in_ok-start.start) size)) c.args.runs.number) c.in-Flawed.is c.in_ok-totals.ensures in
+    (schedule_of_run (channel_source B M channel c.args.draw (g.G.Rng.stream c.in_ok-start.start) size))
+    c.args.runs.number) c.in-Flawed.is c.in_ok-totals.ensures in
     record {
       part = c.in-Flawed.part.items;
       breach = c.in-Flawed.flaw;
       is_told = subst (λ (at : Stream). IsFlawTold (IsClean B M channel) (HasBreach B M channel) (λ (found other : Breach). Unit {0})
-          (schedule_of_run (channel_source B M channel at size)) c.args.runs.number c.in-Flawed.part.items c.in-Flawed.flaw)
+          (schedule_of_run (channel_source B M channel c.args.draw at size)) c.args.runs.number c.in-Flawed.part.items c.in-Flawed.flaw)
           c.in_ok-start.ensures told;
       text_is = c.in_ok-unclean_text-in-Flawed.ensures ∙ ap (λ (es : List Event). canon es ++ breach_line c.in-Flawed.flaw) c.deref-in-Flawed.ensures.value;
     }

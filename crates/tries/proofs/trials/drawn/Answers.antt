@@ -13,7 +13,7 @@ returns g c =
     let test = c.args.test.now in
     let tally = c.in_ok-tally.tally in
     let tallied = c.in_ok-tally.ensures in
-    let are = subst (λ (s : Stream). AreTrials g.row.B g.row.M test s runs.number runs.length tallied.0) c.in_ok-start.ensures tallied.1 in
-    tried g.row.B g.row.M (left_after (runs.skip * runs.length) (g.G.Rng.stream c.args.generator.now)) runs.number
+    let are = subst (λ (s : Stream). AreTrials g.row.B g.row.M test c.args.draw s runs.number runs.length tallied.0) c.in_ok-start.ensures tallied.1 in
+    tried g.row.B g.row.M c.args.draw (left_after (runs.skip * runs.length) (g.G.Rng.stream c.args.generator.now)) runs.number
     runs.length test tallied.0 tally (lines_in test tally.outcomes) (tally_text test tally) (text_and_good (test, tally)).1
     are tallied.2 c.has_lines.ensures refl refl
