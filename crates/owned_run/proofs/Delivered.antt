@@ -20,6 +20,8 @@ pub delivered : (B : ℕ) (q : Queue) (n : ℕ) (o : OpeningValue) (es : List En
 delivered B q n o es f x owns = record {
   position = k;
   byte = owns.byte;
+  owned = owns.from;
+  known = owns.before;
   before = at.done;
   publishes = at.entry;
   since = at.rest;

@@ -26,11 +26,11 @@ use Rattle.store_buffers.proofs.Effects.{read-below}
 use Rattle.slot_queue.specs.Queues.{Queue, IsByteOf}
 use Rattle.queue_parties.specs.Positions.{IsInBytes}
 use Rattle.queue_parties.specs.Parties.{Party, the_sender, the_receiver, all_at, IsWindow}
-use Rattle.slot_queue.specs.Ownership.{party_of, hart, after_access, counts_next, counts_after, KeepsAccess}
+use Rattle.slot_queue.specs.Ownership.{party_of, hart, after_access, counts_next, counts_after, KeepsAccess, OwnsByte}
 use Rattle.slot_queue.specs.Laws.{FollowsOwnership}
 use Rattle.queue_parties.proofs.Parties.{counts-append}
 use Rattle.owned_run.specs.Certified.{View, AllCounts, ReadsFrom, view_then, IsSameFor, Acts, counts_then, IsCertified, OpenQueues}
-use Rattle.owned_run.specs.Certified.{LoadsOwned, ReadsOwned, LoadsAreOwned}
+use Rattle.owned_run.specs.Certified.{LoadsOwned, LoadsByte, ReadsOwned, LoadsAreOwned}
 use Rattle.owned_run.specs.Delivered.{IsDelivered}
 use Rattle.store_buffers.proofs.LateStores.{at-end}
 use Rattle.owned_run.proofs.Delivered.{delivered, handed-at}
@@ -359,13 +359,20 @@ module _ (B M : ℕ) (o : OpeningValue) (N : ℕ) (queues : ℕ → Queue) (star
 
   -- so that what the receiver loads there was delivered
   pub loads_delivered : (i : ℕ) → i < N → LoadsAreOwned M o N queues Told Sent P i the_receiver → (es : List Entry) (e : Entry)
-      → WellFormed B M (history_of o (es ++ e ∷ [])) → hart_of e ≡ (queues i).receiver → (a width v : ℕ) → access_of e ≡ load a width v → (x : ℕ)
-      → IsInBytes a width x → IsInBytes (queues i).slots ((queues i).size * (queues i).width) x → IsDelivered (queues i) (starts i) o es x
-  loads_delivered i less looks es e run mine a width v does x within slots =
+      → WellFormed B M (history_of o (es ++ e ∷ [])) → hart_of e ≡ (queues i).receiver → (x : ℕ) → LoadsByte (access_of e) x
+      → IsInBytes (queues i).slots ((queues i).size * (queues i).width) x → IsDelivered (queues i) (starts i) o es x
+  loads_delivered i less looks es e run mine x loads slots =
       let w : Holds es = from [] es (kept-front B M o es (e ∷ []) run) first in
-      delivered B (queues i) (starts i) o es (w.follows i less) x
-      (subst (LoadsOwned (queues i) the_receiver (counts_after (queues i) (all_at (starts i)) es)) does
-      (loads_next es e run w i the_receiver looks mine) x within slots)
+      delivered B (queues i) (starts i) o es (w.follows i less) x (by (access_of e) (loads_next es e run w i the_receiver looks mine) loads)
+    where
+      by : (y : Access) → LoadsOwned (queues i) the_receiver (counts_after (queues i) (all_at (starts i)) es) y → LoadsByte y x
+          → OwnsByte (queues i) the_receiver (counts_after (queues i) (all_at (starts i)) es) x
+      by (load a width v) owned within = owned x within slots
+      by (exchange a old new) owned within = owned x within slots
+      by nothing owned within = elim within [ ]
+      by (store w) owned within = elim within [ ]
+      by (fence full) owned within = elim within [ ]
+      by land owned within = elim within [ ]
 
   -- and in every run each hart is in its set
   pub every_state : (es : List Entry) → WellFormed B M (history_of o es) → (h : ℕ) (s : HartState) → state_of M (history_of o es) h ≡ Some s

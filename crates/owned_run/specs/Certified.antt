@@ -126,6 +126,12 @@ LoadsOwned q p c (load a width v) = OwnsSlotsOf q p c a width
 LoadsOwned q p c (exchange a old new) = OwnsSlotsOf q p c a 4
 LoadsOwned q p c other = Unit {0}
 
+-- an access loads the byte at x
+abbrev pub LoadsByte : Access → (x : ℕ) → Type 0
+LoadsByte (load a width v) x = IsInBytes a width x
+LoadsByte (exchange a old new) x = IsInBytes a 4 x
+LoadsByte other x = ⊥
+
 -- the party's hart loads no byte of a slot that it doesn't own
 abbrev pub ReadsOwned : Queue → Party → QueueCounts → List Entry → Type 0
 ReadsOwned q p c [] = Unit {0}

@@ -21,7 +21,7 @@ pub record Arrow : Type 0 where
   pub to : ℕ
   pub forms : List Form
 
--- a state by cases: variable j is at most v, or it is v + 1 more than a variable. What can only be 0 then is left out. A leaf takes
+-- a state by cases: variable j is at most v, or it is v + 1 more than a variable. A variable whose range is then 0 is dropped. A leaf takes
 -- the instruction: how many positions it hands over, if it stores to an own index, and where each state that may follow is found
 pub data Cases : Type 0 where
   leaf : (handed : Form) (arrows : List Arrow) → Cases
@@ -31,7 +31,7 @@ pub record ListedState : Type 0 where
   pub known : KnownState
   pub cases : Cases
 
--- a hart's part: the addresses of words that it alone writes, the state in which it opens with the numbers of its variables, and all
+-- a hart's part: the addresses of words that no other hart writes, the state in which it opens with the numbers of its variables, and all
 -- its states
 pub record HartPart : Type 0 where
   pub own : List ℕ

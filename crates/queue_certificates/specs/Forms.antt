@@ -47,21 +47,21 @@ combined (m ∷ ms) (g ∷ gs) = plus (times m g) (combined ms gs)
 abbrev pub substituted : Form → List Form → Form
 substituted f gs = plus (number f.constant) (combined f.factors gs)
 
--- what has to be added to g so that it is f, where there is such a form
 abbrev pub differences : List ℕ → List ℕ → List ℕ
 differences [] ns = []
 differences (m ∷ ms) [] = m ∷ ms
 differences (m ∷ ms) (n ∷ ns) = (m - n) ∷ differences ms ns
 
+-- what has to be added to g so that it is f, where there is such a form
 abbrev pub minus : Form → Form → Form
 minus f g = record { constant = f.constant - g.constant; factors = differences f.factors g.factors }
 
--- with `by` more for variable j
 abbrev pub factor_at : List ℕ → (j : ℕ) → ℕ
 factor_at [] j = 0
 factor_at (m ∷ ms) zero = m
 factor_at (m ∷ ms) (suc j) = factor_at ms j
 
+-- where variable j is `by` more
 abbrev pub raised : (j by : ℕ) → Form → Form
 raised j by f = record { constant = f.constant + factor_at f.factors j * by; factors = f.factors }
 

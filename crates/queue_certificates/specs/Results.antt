@@ -116,7 +116,6 @@ module _ (ranges : List (Option ℕ)) where
   abbrev pub agrees : (n : ℕ) → Form → Form → Option Bool
   agrees n f g = is_nothing (bounds_of n ranges (plus f (times (n - 1) g)))
 
-  -- of a value and an immediate
   -- the low bits
   abbrev pub low_bits : Option Form → (mask : ℕ) → Result
   low_bits None mask = any_up_to mask
@@ -131,6 +130,7 @@ module _ (ranges : List (Option ℕ)) where
   masked_by v None other = other
   masked_by v (Some mask) other = masked v mask
 
+  -- of a value and an immediate
   abbrev pub immediate_part : ImmediateOp → KnownValue → ℤ → Result
   immediate_part immediate.Add v n = just (sum_of v (linear (number (word n))))
   immediate_part immediate.And v n = masked v (word n)

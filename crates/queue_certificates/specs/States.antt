@@ -15,7 +15,7 @@ pub data KnownValue : Type 0 where
   linear : (f : Form) → KnownValue
   index_for : (i : ℕ) (f : Form) → KnownValue
 
--- of a queue of which the hart is a party: its own count, and how many positions it owns
+-- of a queue of which the hart is a party: its own count, and how many positions it owns, exactly so many
 pub record Share : Type 0 where
   pub own : Form
   pub owned : Form
@@ -70,7 +70,7 @@ module _ (queues : ℕ → Queue) (ranges : List (Option ℕ)) where
   plain (linear f) = linear f
   plain (index_for i f) = of_remainder ranges (queues i) i f (remainder ranges (plus f (number (queues i).offset)) (queues i).modulus)
 
-  -- what has the one value has the other
+  -- a number of which the first is known, of that the second holds too
   abbrev pub is_within_plain : KnownValue → KnownValue → Bool
   is_within_plain v any = true
   is_within_plain any w = false

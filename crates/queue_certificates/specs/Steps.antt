@@ -98,7 +98,7 @@ abbrev pub back_of : Queue → Option Party → ℕ
 back_of q None = 0
 back_of q (Some p) = behind q p
 
--- what is owned after a look: at least as much as before, at most all
+-- what is owned after a look: at least the constant of what was owned before, at most all. All else is forgotten
 abbrev pub owned_then : Share → Form
 owned_then s = plus (number s.owned.constant) first_variable
 

@@ -10,7 +10,7 @@
 ghost use Rattle.std.specs.Prelude.{ℕ, ◌≡◌, ◌*◌, ◌<◌, List, [], ◌∷◌, ◌++◌, length, Some, true};
 ghost use Rattle.step_machine.specs.declared.events.Entry.{Entry};
 ghost use Rattle.step_machine.specs.History.{OpeningValue, history_of};
-ghost use Rattle.step_machine.specs.Access.{load, access_of};
+ghost use Rattle.step_machine.specs.Access.{access_of};
 ghost use Rattle.step_machine.specs.Entries.{hart_of, read_byte};
 ghost use Rattle.step_machine.specs.Paths.{state_of};
 ghost use Rattle.hart.specs.State.{HartState};
@@ -20,7 +20,7 @@ ghost use Rattle.queue_parties.specs.Parties.{Party, the_receiver, all_at};
 ghost use Rattle.slot_queue.specs.Ownership.{hart};
 ghost use Rattle.slot_queue.specs.Laws.{FollowsOwnership};
 ghost use Rattle.slot_queue.specs.Ownership.{counts_after};
-ghost use Rattle.owned_run.specs.Certified.{ReadsOwned};
+ghost use Rattle.owned_run.specs.Certified.{LoadsByte, ReadsOwned};
 ghost use Rattle.owned_run.specs.Delivered.{IsDelivered};
 ghost use Rattle.queue_certificates.specs.Certificates.{QueueCertificate, queue_at, start_at, IsInState, accepts, accepts_loads};
 
@@ -30,8 +30,8 @@ ghost use Rattle.queue_certificates.specs.Certificates.{QueueCertificate, queue_
 /// - `every_run`: the run keeps the protocol of ownership of each queue, so that all that `slot_queue::laws_of_ownership` promises
 ///   holds of it.
 /// - `reads_owned`: where a party's loads are accepted too, it loads no byte of a slot that it doesn't own.
-/// - `delivered`: where the receiver's are, each byte of a slot that it loads is as the sender's hart read it where it moved its head
-///   past the slot's position, unless the receiver has stored there since.
+/// - `delivered`: where the receiver's are, each byte of a slot that it loads, by a load or an AMO, is of a position that it owns, and
+///   as the sender's hart read it where it moved its head past that position, unless the receiver has stored there since.
 /// - `in_states`: a hart that runs is in one of the certificate's states.
 #[tactic(auto, using(crate::proofs::EveryRun::accepted_runs, crate::proofs::EveryRun::accepted_loads, crate::proofs::EveryRun::accepted_deliveries, crate::proofs::EveryRun::accepted_states))]
 pub fn laws_of_queue_certificates()
@@ -42,7 +42,7 @@ pub fn laws_of_queue_certificates()
         → ReadsOwned (queue_at c i) p (all_at (start_at c i)) es }
     ensures delivered { (B M : ℕ) (o : OpeningValue) (c : QueueCertificate) → accepts o c ≡ true → (i : ℕ) → i < length c.queues
         → accepts_loads o c i (queue_at c i).receiver ≡ true → (es : List Entry) (e : Entry) → WellFormed B M (history_of o (es ++ e ∷ []))
-        → hart_of e ≡ (queue_at c i).receiver → (a width v : ℕ) → access_of e ≡ load a width v → (x : ℕ) → IsInBytes a width x
+        → hart_of e ≡ (queue_at c i).receiver → (x : ℕ) → LoadsByte (access_of e) x
         → IsInBytes (queue_at c i).slots ((queue_at c i).size * (queue_at c i).width) x → IsDelivered (queue_at c i) (start_at c i) o es x }
     ensures in_states { (B M : ℕ) (o : OpeningValue) (c : QueueCertificate) → accepts o c ≡ true → (es : List Entry)
         → WellFormed B M (history_of o es) → (h : ℕ) (s : HartState) → state_of M (history_of o es) h ≡ Some s
