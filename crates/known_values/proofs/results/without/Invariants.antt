@@ -1,0 +1,5 @@
+use Rattle.std.proofs.Common.{◌≡◌, ◌/◌, map, take}
+use Rattle.known_values.proofs.results.without.Given as goal
+
+abbrev pub invariant-loop-m : goal.invariant-loop-m
+invariant-loop-m l = l.factors.items ≡ map (λ m. m / l.n) (take l.m-index l.form.factors)
