@@ -9,7 +9,7 @@ use std::marker::Model;
 
 /// A queue: the harts that send and receive, where its indices and slots lie, and how an index stands for a count. Addresses and
 /// widths are in bytes; whether they are those of a queue (`IsQueue`) the type leaves open.
-#[derive(Clone, Copy)]
+#[derive(Clone, Copy, PartialEq, Eq)]
 pub struct Queue {
     pub sender: u32,
     pub receiver: u32,
@@ -37,34 +37,34 @@ impl Model for Queue {
     ghost Value = { SlotQueue };
 
     ghost view = { λ q. record {
-        sender = q.sender;
-        receiver = q.receiver;
-        head = q.head;
-        tail = q.tail;
-        index_width = q.index_width;
-        slots = q.slots;
-        size = q.size;
-        width = q.width;
-        capacity = q.capacity;
-        base = q.base;
-        scale = q.scale;
-        offset = q.offset;
-        modulus = q.modulus;
+      sender = q.sender;
+      receiver = q.receiver;
+      head = q.head;
+      tail = q.tail;
+      index_width = q.index_width;
+      slots = q.slots;
+      size = q.size;
+      width = q.width;
+      capacity = q.capacity;
+      base = q.base;
+      scale = q.scale;
+      offset = q.offset;
+      modulus = q.modulus;
     } };
 
     ghost inverse = { λ q. record {
-        sender = q.sender;
-        receiver = q.receiver;
-        head = q.head;
-        tail = q.tail;
-        index_width = q.index_width;
-        slots = q.slots;
-        size = q.size;
-        width = q.width;
-        capacity = q.capacity;
-        base = q.base;
-        scale = q.scale;
-        offset = q.offset;
-        modulus = q.modulus;
+      sender = q.sender;
+      receiver = q.receiver;
+      head = q.head;
+      tail = q.tail;
+      index_width = q.index_width;
+      slots = q.slots;
+      size = q.size;
+      width = q.width;
+      capacity = q.capacity;
+      base = q.base;
+      scale = q.scale;
+      offset = q.offset;
+      modulus = q.modulus;
     } };
 }
