@@ -1,3 +1,4 @@
 pub mod Slots
 pub mod Decisions
 pub mod First
+pub mod Noting

@@ -9,6 +9,7 @@
 pub mod breaches;
 pub mod counts;
 pub mod deciding;
+mod judging;
 pub mod laws;
 mod moves;
 mod parties;
