@@ -1,12 +1,12 @@
 -- What is noted of a run, one entry more.
-use Rattle.std.proofs.Common.{ℕ, ◌+◌, ◌≡◌, Bool, true, false, inl, inr, List, [], ◌∷◌, ◌++◌, length, Option, Some, None, Result, Ok, Err, refl, sym, ap, ◌∙◌, subst, arith, length-append}
+use Rattle.std.proofs.Common.{ℕ, ◌+◌, ◌≡◌, Bool, true, false, List, [], ◌∷◌, ◌++◌, length, Some, None, Ok, Err, sym, ap, ◌∙◌, subst, arith, length-append}
 use Rattle.std.specs.Prelude.{if◌then◌else◌}
 use Rattle.step_machine.specs.declared.events.Entry.{Entry}
 use Rattle.step_machine.specs.declared.events.Event.{Event}
 use Rattle.step_machine.specs.declared.events.Outcome.{Outcome}
 use Rattle.step_machine.specs.declared.events.Outcome.TheVariants as outcome
-use Rattle.step_machine.specs.History.{History, with_entry}
-use Rattle.step_machine.specs.Runs.{Happens, Adds, Idles}
+use Rattle.step_machine.specs.History.{History}
+use Rattle.step_machine.specs.Runs.{Happens}
 use Rattle.queue_parties.specs.Parties.{QueueCounts}
 use Rattle.queue_parties.proofs.Parties.{counts-append}
 use Rattle.slot_queue.specs.Queues.{Queue}

@@ -1,13 +1,18 @@
 //! Laws of what is decided.
 
-ghost use Rattle.std.specs.Prelude.{◌≡◌, ◌≤◌, List, None, Some, true};
+ghost use Rattle.std.specs.Prelude.{◌≡◌, ◌≤◌, ℕ, List, [], None, Some, true};
 ghost use Rattle.step_machine.specs.declared.events.Entry.{Entry};
+ghost use Rattle.step_machine.specs.declared.events.Event.{Event};
+ghost use Rattle.step_machine.specs.History.{OpeningValue, History};
+ghost use Rattle.step_machine.specs.Runs.{Run};
 ghost use Rattle.queue_parties.specs.Parties.{QueueCounts};
-ghost use Rattle.slot_queue.specs.Queues.{Queue};
+ghost use Rattle.slot_queue.specs.Queues.{Queue, IsQueue, IsAtRest};
 ghost use Rattle.slot_queue.specs.Ownership.{KeepsEntry, KeepsOwnership};
+ghost use Rattle.slot_queue.specs.Laws.{FollowsOwnership};
 ghost use Rattle.ownership_runs.specs.declared.breaches.Breach.{Breach};
 ghost use Rattle.ownership_runs.specs.Keeping.{keeps_entry};
 ghost use Rattle.ownership_runs.specs.Breaches.{IsFirstBreach, first_breach};
+ghost use Rattle.ownership_runs.specs.Runs.{KeepsProtocol, BreaksProtocol};
 
 /// Of a queue with a slot. It does nothing.
 ///
@@ -21,4 +26,16 @@ pub fn laws_of_breaches()
     ensures kept { (q : Queue) (c : QueueCounts) (es : List Entry) → 1 ≤ q.size → first_breach q c es ≡ None → KeepsOwnership q c es }
     ensures none { (q : Queue) (c : QueueCounts) (es : List Entry) → 1 ≤ q.size → KeepsOwnership q c es → first_breach q c es ≡ None }
     ensures first { (q : Queue) (c : QueueCounts) (es : List Entry) (b : Breach) → 1 ≤ q.size → first_breach q c es ≡ Some b → IsFirstBreach q c es b }
+{}
+
+/// Of runs of lists of events. It does nothing.
+///
+/// - `follows`: one that keeps a queue's protocol from where the queue is at rest is one of which `slot_queue::laws_of_ownership`
+///   speaks.
+/// - `apart`: none both keeps it and breaks it.
+pub fn laws_of_judged_runs()
+    ensures follows { (B M : ℕ) (o : OpeningValue) (q : Queue) (start : QueueCounts) (events : List Event) (t : History) → IsQueue q
+        → IsAtRest q o [] start → KeepsProtocol B M o q start events → Run B M o events t → FollowsOwnership B q start o [] t.entries }
+    ensures apart { (B M : ℕ) (o : OpeningValue) (q : Queue) (start : QueueCounts) (events : List Event) (b : Breach) → 1 ≤ q.size
+        → KeepsProtocol B M o q start events → BreaksProtocol B M o q start events b → ⊥ }
 {}

@@ -7,15 +7,19 @@
 #![tactic(auto)]
 
 pub mod breaches;
+pub mod checking;
 pub mod counts;
 pub mod deciding;
 mod judging;
 pub mod laws;
 mod moves;
 mod parties;
+pub mod runs;
 mod stores;
 
 pub use breaches::{Breach, Owned};
+pub use checking::check_runs;
 pub use counts::Counts;
 pub use deciding::first_breach;
-pub use laws::laws_of_breaches;
+pub use laws::{laws_of_breaches, laws_of_judged_runs};
+pub use runs::Moved;
