@@ -1,5 +1,6 @@
 -- What is decided of a store and of an entry is what the protocol of ownership asks.
-use Rattle.std.proofs.Common.{ℕ, ◌+◌, ◌-◌, ◌*◌, ◌/◌, ◌<◌, ◌≤◌, ◌≡◌, ◌==◌, ◌&&◌, ◌||◌, ◌⊎◌, inl, inr, not, true, false, Option, Some, None, refl, subst, add-one, arith}
+use Rattle.std.proofs.Common.{ℕ, ◌+◌, ◌-◌, ◌*◌, ◌/◌, ◌<◌, ◌≤◌, ◌≡◌, ◌==◌, ◌&&◌, ◌||◌, ◌⊎◌, inl, inr, not, true, false}
+use Rattle.std.proofs.Common.{Option, Some, None, refl, subst, add-one, arith}
 use Rattle.std.specs.Prelude.{nat_le, nat_lt}
 use Rattle.std.specs.Bool.{Decides}
 use Rattle.std.proofs.lemmas.Bool.{and_parts, and_from, false_from_ne_true, leb-true, le-leb}
@@ -15,7 +16,8 @@ use Rattle.queue_parties.proofs.Positions.{slot-within}
 use Rattle.slot_queue.specs.Queues.{Queue, IsOutside, KeepsOff, index_word, least}
 use Rattle.slot_queue.specs.Ownership.{party_of, index, end, OwnsByte, MovesOn, FillsOwned, MayStore, KeepsAccess, KeepsEntry, after_load, is_index_store}
 use Rattle.ownership_runs.specs.declared.breaches.Owned.{Owned}
-use Rattle.ownership_runs.specs.Keeping.{is_in_bytes, is_outside, position_from, is_of_owned, may_fill, owned_by, fills, moves_on, keeps_store, keeps_access, keeps_entry}
+use Rattle.ownership_runs.specs.Keeping.{is_in_bytes, is_outside, position_from, is_of_owned, may_fill, owned_by, fills}
+use Rattle.ownership_runs.specs.Keeping.{moves_on, keeps_store, keeps_access, keeps_entry}
 use Rattle.ownership_runs.proofs.Slots.{position-there, position-least}
 
 decides-le : (a b : ℕ) → Decides (nat_le a b) (a ≤ b)

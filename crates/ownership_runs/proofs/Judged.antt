@@ -15,32 +15,32 @@ use Rattle.judged_runs.specs.declared.telling.Told.TheVariants as told
 use Rattle.judged_runs.proofs.Histories.{runs_both, total_both}
 use Rattle.ownership_runs.specs.declared.breaches.Breach.{Breach}
 use Rattle.ownership_runs.specs.declared.runs.Moved.{Moved}
-use Rattle.ownership_runs.specs.Breaches.{first_breach}
-use Rattle.ownership_runs.specs.Runs.{MOST, KeepsProtocol, BreaksNothing, BreaksProtocol, published_in, taken_in, HasMoved, AreMovesOf}
+use Rattle.ownership_runs.specs.Breaches.{first_ownership_breach}
+use Rattle.ownership_runs.specs.Runs.{MOST_MOVED, HasKeptRun, BreaksNothing, HasBrokenRun, published_in, taken_in, HasMoved, AreMovesOf}
 use Rattle.ownership_runs.proofs.First.{kept-all, none-first}
 
 module _ (B M : ℕ) (o : OpeningValue) (q : Queue) (start : QueueCounts) where
   module _ (events : List Event) where
     -- a run has one first breach, or none
-    pub one-breach : (b d : Breach) → BreaksProtocol B M o q start events b → BreaksProtocol B M o q start events d → b ≡ d
+    pub one-breach : (b d : Breach) → HasBrokenRun B M o q start events b → HasBrokenRun B M o q start events d → b ≡ d
     one-breach b d has also =
         let same : has.history ≡ also.history = run-one B M (at_opening o) events has.history also.history has.run also.run in
-        let both : Some b ≡ Some d = sym has.first ∙ ap (λ (t : History). first_breach q start t.entries) same ∙ also.first in cc
+        let both : Some b ≡ Some d = sym has.first ∙ ap (λ (t : History). first_ownership_breach q start t.entries) same ∙ also.first in cc
 
-    pub none-or-one : (b : Breach) → BreaksNothing B M o q start events → BreaksProtocol B M o q start events b → ⊥
+    pub none-or-one : (b : Breach) → BreaksNothing B M o q start events → HasBrokenRun B M o q start events b → ⊥
     none-or-one b free has =
         let same : free.history ≡ has.history = run-one B M (at_opening o) events free.history has.history free.run has.run in
         let none = free.none in
-        let some = ap (λ (t : History). first_breach q start t.entries) same ∙ has.first in
+        let some = ap (λ (t : History). first_ownership_breach q start t.entries) same ∙ has.first in
         absurd (cc)
 
     -- one that keeps the protocol has none
-    pub keeps-or-breaks : (b : Breach) → 1 ≤ q.size → KeepsProtocol B M o q start events → BreaksProtocol B M o q start events b → ⊥
+    pub keeps-or-breaks : (b : Breach) → 1 ≤ q.size → HasKeptRun B M o q start events → HasBrokenRun B M o q start events b → ⊥
     keeps-or-breaks b some keeps has =
         none-or-one b (record { history = keeps.history; run = keeps.run; none = none-first q some start keeps.history.entries keeps.keeps }) has
 
     -- it is a run of which the laws of the protocol speak
-    pub follows-run : (t : History) → IsQueue q → IsAtRest q o [] start → KeepsProtocol B M o q start events → Run B M o events t
+    pub follows-run : (t : History) → IsQueue q → IsAtRest q o [] start → HasKeptRun B M o q start events → Run B M o events t
         → FollowsOwnership B q start o [] t.entries
     follows-run t queue rest keeps run =
         let same : keeps.history ≡ t = run-one B M (at_opening o) events keeps.history t keeps.run run in
@@ -53,7 +53,7 @@ module _ (B M : ℕ) (o : OpeningValue) (q : Queue) (start : QueueCounts) where
         }
 
     -- one without a breach keeps the protocol
-    pub kept-run : 1 ≤ q.size → BreaksNothing B M o q start events → KeepsProtocol B M o q start events
+    pub kept-run : 1 ≤ q.size → BreaksNothing B M o q start events → HasKeptRun B M o q start events
     kept-run some free = record { history = free.history; run = free.run; keeps = kept-all q some start free.history.entries free.none }
 
   -- ---- by how much the parties moved on
@@ -65,25 +65,26 @@ module _ (B M : ℕ) (o : OpeningValue) (q : Queue) (start : QueueCounts) where
   one-moved events t moved has = record {
     histories = t ∷ [];
     runs = (has.run, tt);
-    published = has.published ∙ ap (λ m. min m MOST) (alone (published_in q start t));
-    taken = has.taken ∙ ap (λ m. min m MOST) (alone (taken_in q start t));
+    published = has.published ∙ ap (λ m. min m MOST_MOVED) (alone (published_in q start t));
+    taken = has.taken ∙ ap (λ m. min m MOST_MOVED) (alone (taken_in q start t));
   }
     where
       alone : (n : ℕ) → n ≡ n + 0
       alone n = omega arith
 
   pub both-moved : (all more : List (List Event)) (old later new : Moved) → AreMovesOf B M o q start all old → AreMovesOf B M o q start more later
-      → new.published ≡ min (old.published + later.published) MOST → new.taken ≡ min (old.taken + later.taken) MOST → AreMovesOf B M o q start (all ++ more) new
+      → new.published ≡ min (old.published + later.published) MOST_MOVED
+      → new.taken ≡ min (old.taken + later.taken) MOST_MOVED → AreMovesOf B M o q start (all ++ more) new
   both-moved all more old later new are others published taken = record {
     histories = are.histories ++ others.histories;
     runs = runs_both B M o all more are.histories others.histories are.runs others.runs;
     published = published ∙ capped old.published later.published _ _ are.published others.published
-        ∙ ap (λ m. min m MOST) (sym (total_both (published_in q start) are.histories others.histories));
+        ∙ ap (λ m. min m MOST_MOVED) (sym (total_both (published_in q start) are.histories others.histories));
     taken = taken ∙ capped old.taken later.taken _ _ are.taken others.taken
-        ∙ ap (λ m. min m MOST) (sym (total_both (taken_in q start) are.histories others.histories));
+        ∙ ap (λ m. min m MOST_MOVED) (sym (total_both (taken_in q start) are.histories others.histories));
   }
     where
-      capped : (a b x y : ℕ) → a ≡ min x MOST → b ≡ min y MOST → min (a + b) MOST ≡ min (x + y) MOST
+      capped : (a b x y : ℕ) → a ≡ min x MOST_MOVED → b ≡ min y MOST_MOVED → min (a + b) MOST_MOVED ≡ min (x + y) MOST_MOVED
       capped a b x y one other = omega (arith, one, other)
 
 -- what is told of runs, of which the good ones are also good in another way

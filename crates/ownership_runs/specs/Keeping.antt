@@ -3,11 +3,11 @@ use Rattle.std.specs.Prelude.{ℕ, zero, suc, ◌+◌, ◌-◌, ◌*◌, ◌/◌
 use Rattle.memory.specs.declared.writes.Write.{Write}
 use Rattle.memory.specs.Writes.{write}
 use Rattle.step_machine.specs.declared.events.Entry.{Entry}
-use Rattle.step_machine.specs.Access.{Access, store, exchange, access_of}
+use Rattle.step_machine.specs.Access.{Access, load, store, exchange, access_of}
 use Rattle.step_machine.specs.Entries.{hart_of}
 use Rattle.queue_parties.specs.Parties.{Party, QueueCounts, count}
 use Rattle.slot_queue.specs.Queues.{Queue, index_word, least}
-use Rattle.slot_queue.specs.Ownership.{party_of, end, after_load, after_store, is_index_store}
+use Rattle.slot_queue.specs.Ownership.{party_of, end, after_access, is_index_store}
 use Rattle.ownership_runs.specs.declared.breaches.Owned.{Owned}
 
 -- ---- bytes
@@ -55,19 +55,10 @@ keeps_store q p c w = moves_on q p c w || fills q (owned_by q p c) w.addr w.widt
 
 -- ---- entries
 
--- the counts after a load and after a store of a hart
-abbrev pub after_load_by : Queue → Option Party → (a width v : ℕ) → QueueCounts → QueueCounts
-after_load_by q None a width v c = c
-after_load_by q (Some p) a width v c = after_load q p a width v c
-
-abbrev pub after_store_by : Queue → Option Party → Write → QueueCounts → QueueCounts
-after_store_by q None w c = c
-after_store_by q (Some p) w c = after_store q p w c
-
 -- loads are free, and so is an AMO that writes the word that it read
 abbrev pub keeps_access : Queue → Option Party → QueueCounts → Access → Bool
 keeps_access q p c (store w) = keeps_store q p c w
-keeps_access q p c (exchange a old new) = (new == old) || keeps_store q p (after_load_by q p a 4 old c) (write a 4 new)
+keeps_access q p c (exchange a old new) = (new == old) || keeps_store q p (after_access q p (load a 4 old) c) (write a 4 new)
 keeps_access q p c x = true
 
 abbrev pub keeps_entry : Queue → QueueCounts → Entry → Bool

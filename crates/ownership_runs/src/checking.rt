@@ -5,7 +5,7 @@ ghost use Rattle.step_machine.specs.History.{FitsIn};
 ghost use Rattle.recorder.specs.Drawing.{left_after};
 ghost use Rattle.jumping.specs.Draws.{schedule_by};
 ghost use Rattle.judged_runs.specs.Telling.{IsTold};
-ghost use Rattle.ownership_runs.specs.Runs.{KeepsProtocol, BreaksProtocol, AreMovesOf, IsOfOneHart};
+ghost use Rattle.ownership_runs.specs.Runs.{HasKeptRun, HasBrokenRun, AreMovesOf, IsOfOneHart};
 
 use crate::breaches::Breach;
 use crate::counts::Counts;
@@ -50,7 +50,7 @@ pub fn check_runs<
     requires size { M ≤ 65536 }
     requires fits { FitsIn M opening.now }
     requires some_slot { 1 ≤ queue.now.size }
-    ensures { IfOk result (λ told. IsTold (KeepsProtocol B M opening.now queue.now start) (BreaksProtocol B M opening.now queue.now start) IsOfOneHart
+    ensures { IfOk result (λ told. IsTold (HasKeptRun B M opening.now queue.now start) (HasBrokenRun B M opening.now queue.now start) IsOfOneHart
         (AreMovesOf B M opening.now queue.now start)
         (schedule_by draw (length opening.now.harts) runs.length (left_after (runs.skip * runs.length) (G.Rng.stream generator.now))) runs.number told) }
 {

@@ -1,7 +1,7 @@
 //! How far the two parties of a queue have come.
 
 ghost use Rattle.std.specs.Prelude.{◌≡◌, ◌^◌, ◌-◌};
-ghost use Rattle.ownership_runs.specs.inner.Bounds.{AreWithin};
+ghost use Rattle.ownership_runs.specs.inner.Bounds.{AreCountsWithin};
 
 use std::marker::Model;
 
@@ -67,7 +67,7 @@ impl Model for RunCounts {
 /// The counts with which a run begins.
 pub(crate) fn at_start(start: Counts) -> RunCounts
     ensures same { result ≡ start }
-    ensures within { AreWithin (2 ^ 64 - 1) (2 ^ 64 - 1) result }
+    ensures within { AreCountsWithin (2 ^ 64 - 1) (2 ^ 64 - 1) result }
 {
     RunCounts {
         published: u128::from(start.published),

@@ -1,10 +1,8 @@
 //! Whether the entries of a run keep a queue's protocol of ownership.
 
 ghost use Rattle.std.specs.Prelude.{◌≡◌, ◌≤◌, ◌+◌, ℕ, option_map, Ok, IfOk};
-ghost use Rattle.memory.specs.Writes.{write};
-ghost use Rattle.ownership_runs.specs.Keeping.{after_store_by};
-ghost use Rattle.ownership_runs.specs.Breaches.{stored, exchanged, noted, first_breach};
-ghost use Rattle.ownership_runs.specs.inner.Bounds.{STEP, ROOM, AreWithin};
+ghost use Rattle.ownership_runs.specs.Breaches.{judged_store, judged_exchange, judged_entry, first_ownership_breach};
+ghost use Rattle.ownership_runs.specs.inner.Bounds.{STEP, ROOM, AreCountsWithin};
 ghost use Rattle.ownership_runs.specs.inner.Sides.{the_party};
 
 use crate::breaches::Breach;
@@ -25,9 +23,9 @@ fn note_store(
     counts: RunCounts,
     write: Write,
 ) -> Result<RunCounts, Breach>
-    requires { AreWithin ROOM (ROOM + STEP) counts }
-    ensures value { result ≡ stored queue.now place hart (option_map the_party party) counts write }
-    ensures within { (n m : ℕ) → AreWithin n m counts → IfOk result (AreWithin (n + STEP) m) }
+    requires { AreCountsWithin ROOM (ROOM + STEP) counts }
+    ensures value { result ≡ judged_store queue.now place hart (option_map the_party party) counts write }
+    ensures within { (n m : ℕ) → AreCountsWithin n m counts → IfOk result (AreCountsWithin (n + STEP) m) }
 {
     if keeps_store(queue, party, counts, write) {
         Ok(after_store(queue, party, write, counts))
@@ -53,9 +51,9 @@ fn note_exchange(
     old: u32,
     write: Write,
 ) -> Result<RunCounts, Breach>
-    requires { AreWithin ROOM (ROOM + STEP) counts }
-    ensures value { result ≡ exchanged queue.now place hart (option_map the_party party) counts old write }
-    ensures within { (n m : ℕ) → AreWithin n m counts → IfOk result (AreWithin (n + STEP) m) }
+    requires { AreCountsWithin ROOM (ROOM + STEP) counts }
+    ensures value { result ≡ judged_exchange queue.now place hart (option_map the_party party) counts old write }
+    ensures within { (n m : ℕ) → AreCountsWithin n m counts → IfOk result (AreCountsWithin (n + STEP) m) }
 {
     if write.value == old {
         Ok(after_store(queue, party, write, counts))
@@ -71,9 +69,9 @@ pub(crate) fn note_entry(
     counts: RunCounts,
     entry: Entry,
 ) -> Result<RunCounts, Breach>
-    requires { AreWithin ROOM ROOM counts }
-    ensures value { result ≡ noted queue.now place counts entry }
-    ensures within { (n : ℕ) → AreWithin n n counts → IfOk result (AreWithin (n + STEP) (n + STEP)) }
+    requires { AreCountsWithin ROOM ROOM counts }
+    ensures value { result ≡ judged_entry queue.now place counts entry }
+    ensures within { (n : ℕ) → AreCountsWithin n n counts → IfOk result (AreCountsWithin (n + STEP) (n + STEP)) }
 {
     let hart = entry.hart();
     let party = party_of(queue, hart);
@@ -109,7 +107,7 @@ pub(crate) fn note_entry(
 /// The first entry of a run that breaks a queue's protocol of ownership, if there is one. The run begins where the parties have come
 /// as far as `start`. Loads are free.
 pub fn first_breach(queue: &Queue, start: Counts, entries: &[Entry]) -> Option<Breach>
-    ensures { result ≡ first_breach queue.now start entries.now }
+    ensures { result ≡ first_ownership_breach queue.now start entries.now }
 {
     let mut counts = at_start(start);
     for (place, entry) in entries.iter().enumerate() {

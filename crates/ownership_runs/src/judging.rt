@@ -4,8 +4,8 @@ ghost use Rattle.std.specs.Prelude.{◌≡◌, ◌≤◌, ◌<◌, ◌+◌, ◌-
 ghost use Rattle.step_machine.specs.declared.events.Entry.{Entry};
 ghost use Rattle.step_machine.specs.Runs.{Run};
 ghost use Rattle.queue_parties.specs.Parties.{QueueCounts};
-ghost use Rattle.ownership_runs.specs.inner.Bounds.{ROOM, AreWithin};
-ghost use Rattle.ownership_runs.specs.inner.Noting.{AreRunNotes, AreNotesWithin, IsEventNoted};
+ghost use Rattle.ownership_runs.specs.inner.Bounds.{ROOM, AreCountsWithin};
+ghost use Rattle.ownership_runs.specs.inner.Noting.{AreRunNotes, AreNotesWithin, IsEventJudged};
 
 use crate::breaches::Breach;
 use crate::counts::{Counts, RunCounts, at_start};
@@ -24,7 +24,7 @@ pub(crate) struct RunNotes {
 
 /// Takes in an entry.
 fn note_more(queue: &Queue, notes: RunNotes, entry: Entry) -> RunNotes
-    requires counts { AreWithin ROOM ROOM notes.counts }
+    requires counts { AreCountsWithin ROOM ROOM notes.counts }
     requires place { notes.place < 2 ^ 64 - 1 }
     ensures noted { (start : QueueCounts) (es : List Entry) → AreRunNotes queue.now start es notes → AreRunNotes queue.now start (es ++ entry ∷ []) result }
     ensures within { (i : ℕ) → AreNotesWithin i notes → AreNotesWithin (i + 1) result }
@@ -52,9 +52,9 @@ fn note_event<const B: usize, const M: usize>(
     notes: RunNotes,
     event: Event,
 ) -> Result<RunNotes, AllocError>
-    requires counts { AreWithin ROOM ROOM notes.counts }
+    requires counts { AreCountsWithin ROOM ROOM notes.counts }
     requires place { notes.place < 2 ^ 64 - 1 }
-    ensures noted { IfOk result (λ new. IsEventNoted B M queue.now event machine.old.history notes machine.new.history new) }
+    ensures noted { IfOk result (λ new. IsEventJudged B M queue.now event machine.old.history notes machine.new.history new) }
     ensures opening { machine.new.history.opening ≡ machine.old.history.opening }
     ensures within { IfOk result (λ new. (i : ℕ) → AreNotesWithin i notes → AreNotesWithin (i + 1) new) }
 {

@@ -2,9 +2,9 @@
 
 ghost use Rattle.std.specs.Prelude.{◌≡◌, ◌≤◌, ◌<◌, ◌+◌, ◌/◌, ◌%◌, ◌^◌, ◌==◌, ℕ, option_map};
 ghost use Rattle.slot_queue.specs.Queues.{index_word, least};
-ghost use Rattle.slot_queue.specs.Ownership.{is_index_store, moved};
-ghost use Rattle.ownership_runs.specs.Keeping.{after_load_by, after_store_by};
-ghost use Rattle.ownership_runs.specs.inner.Bounds.{STEP, ROOM, AreWithin};
+ghost use Rattle.step_machine.specs.Access.{load, store};
+ghost use Rattle.slot_queue.specs.Ownership.{after_access, is_index_store};
+ghost use Rattle.ownership_runs.specs.inner.Bounds.{STEP, ROOM, AreCountsWithin};
 ghost use Rattle.ownership_runs.specs.inner.Sides.{the_party};
 
 use crate::counts::RunCounts;
@@ -62,9 +62,9 @@ pub(crate) fn after_load(
     value: u32,
     counts: RunCounts,
 ) -> RunCounts
-    requires { AreWithin ROOM ROOM counts }
-    ensures value { result ≡ after_load_by queue.now (option_map the_party party) address width value counts }
-    ensures within { (n m : ℕ) → AreWithin n m counts → AreWithin n (m + STEP) result }
+    requires { AreCountsWithin ROOM ROOM counts }
+    ensures value { result ≡ after_access queue.now (option_map the_party party) (load address width value) counts }
+    ensures within { (n m : ℕ) → AreCountsWithin n m counts → AreCountsWithin n (m + STEP) result }
 {
     match party {
         None => counts,
@@ -93,9 +93,9 @@ pub(crate) fn after_store(
     write: Write,
     counts: RunCounts,
 ) -> RunCounts
-    requires { AreWithin ROOM (ROOM + STEP) counts }
-    ensures value { result ≡ after_store_by queue.now (option_map the_party party) write counts }
-    ensures within { (n m : ℕ) → AreWithin n m counts → AreWithin (n + STEP) m result }
+    requires { AreCountsWithin ROOM (ROOM + STEP) counts }
+    ensures value { result ≡ after_access queue.now (option_map the_party party) (store write) counts }
+    ensures within { (n m : ℕ) → AreCountsWithin n m counts → AreCountsWithin (n + STEP) m result }
 {
     match party {
         None => counts,

@@ -2,7 +2,7 @@
 
 ghost use Rattle.std.specs.Prelude.{◌≡◌, ◌≤◌, ◌+◌, ◌-◌, min};
 ghost use Rattle.step_machine.specs.History.{FitsIn};
-ghost use Rattle.ownership_runs.specs.Runs.{MOST, IsOfOneHart, BreaksNothing, BreaksProtocol, HasMoved, AreMovesOf};
+ghost use Rattle.ownership_runs.specs.Runs.{MOST_MOVED, IsOfOneHart, BreaksNothing, HasBrokenRun, HasMoved, AreMovesOf};
 
 use crate::breaches::Breach;
 use crate::counts::{Counts, RunCounts};
@@ -28,15 +28,15 @@ const NOTHING_MOVED: Moved = Moved {
 };
 
 fn capped(n: u128) -> u64
-    ensures { result ≡ min n MOST }
+    ensures { result ≡ min n MOST_MOVED }
 {
     n.min(u128::from(u64::MAX)) as u64
 }
 
 /// By how much the parties of one run moved on, from these counts to those.
 fn moved_by(start: Counts, counts: RunCounts) -> Moved
-    ensures published { result.published ≡ min (counts.published - start.published) MOST }
-    ensures taken { result.taken ≡ min (counts.taken - start.taken) MOST }
+    ensures published { result.published ≡ min (counts.published - start.published) MOST_MOVED }
+    ensures taken { result.taken ≡ min (counts.taken - start.taken) MOST_MOVED }
 {
     let published = counts.published.saturating_sub(u128::from(start.published));
     let taken = counts.taken.saturating_sub(u128::from(start.taken));
@@ -48,8 +48,8 @@ fn moved_by(start: Counts, counts: RunCounts) -> Moved
 
 /// By how much those of some runs and of further ones did.
 fn both(moved: Moved, more: Moved) -> Moved
-    ensures published { result.published ≡ min (moved.published + more.published) MOST }
-    ensures taken { result.taken ≡ min (moved.taken + more.taken) MOST }
+    ensures published { result.published ≡ min (moved.published + more.published) MOST_MOVED }
+    ensures taken { result.taken ≡ min (moved.taken + more.taken) MOST_MOVED }
 {
     Moved {
         published: moved.published.saturating_add(more.published),
@@ -91,7 +91,7 @@ impl<'a, const B: usize, const M: usize> Judge for OwnershipJudge<'a, B, M> {
 
     ghost is_good = { λ it events. BreaksNothing B M it.opening.now it.queue.now it.start events };
 
-    ghost has = { λ it events breach. BreaksProtocol B M it.opening.now it.queue.now it.start events breach };
+    ghost has = { λ it events breach. HasBrokenRun B M it.opening.now it.queue.now it.start events breach };
 
     ghost alike = { λ it breach other. IsOfOneHart breach other };
 

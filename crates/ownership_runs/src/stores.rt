@@ -2,7 +2,7 @@
 
 ghost use Rattle.std.specs.Prelude.{◌≡◌, ◌≤◌, ◌<◌, ◌+◌, ◌*◌, ◌^◌, option_map, Some};
 ghost use Rattle.ownership_runs.specs.Keeping.{is_in_bytes, is_outside, position_from, is_of_owned, may_fill, fills, moves_on, owned_by, keeps_store};
-ghost use Rattle.ownership_runs.specs.inner.Bounds.{STEP, ROOM, AreWithin};
+ghost use Rattle.ownership_runs.specs.inner.Bounds.{STEP, ROOM, AreCountsWithin};
 ghost use Rattle.ownership_runs.specs.inner.Sides.{the_party};
 
 use crate::breaches::Owned;
@@ -88,7 +88,7 @@ fn fills(queue: &Queue, owned: Option<Owned>, address: u32, width: u32) -> bool
 
 /// Whether a write moves the party's own index on by no more than it owns.
 fn moves_on(queue: &Queue, party: Option<Party>, counts: RunCounts, write: Write) -> bool
-    requires { AreWithin ROOM (ROOM + STEP) counts }
+    requires { AreCountsWithin ROOM (ROOM + STEP) counts }
     ensures { result ≡ moves_on queue.now (option_map the_party party) counts write }
 {
     match party {
@@ -105,7 +105,7 @@ fn moves_on(queue: &Queue, party: Option<Party>, counts: RunCounts, write: Write
 
 /// What a hart owns.
 pub(crate) fn owned_by(queue: &Queue, party: Option<Party>, counts: RunCounts) -> Option<Owned>
-    requires { AreWithin ROOM (ROOM + STEP) counts }
+    requires { AreCountsWithin ROOM (ROOM + STEP) counts }
     ensures value { result ≡ owned_by queue.now (option_map the_party party) counts }
     ensures within { (o : _) → result ≡ Some o → o.from ≤ ROOM }
 {
@@ -125,7 +125,7 @@ pub(crate) fn keeps_store(
     counts: RunCounts,
     write: Write,
 ) -> bool
-    requires { AreWithin ROOM (ROOM + STEP) counts }
+    requires { AreCountsWithin ROOM (ROOM + STEP) counts }
     ensures { result ≡ keeps_store queue.now (option_map the_party party) counts write }
 {
     moves_on(queue, party, counts, write)

@@ -11,7 +11,7 @@ abbrev pub ROOM : ℕ
 ROOM = 2 ^ 128 - 2 ^ 65
 
 -- the parties' own counts are at most n, and what they know of the other's at most m
-pub record AreWithin (n m : ℕ) (c : QueueCounts) : Type 0 where
+pub record AreCountsWithin (n m : ℕ) (c : QueueCounts) : Type 0 where
   pub published : c.published ≤ n
   pub taken : c.taken ≤ n
   pub known_taken : c.known_taken ≤ m

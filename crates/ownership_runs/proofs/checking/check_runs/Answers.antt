@@ -4,7 +4,7 @@ use Rattle.rand_core.specs.Stream.{Stream}
 use Rattle.recorder.specs.Drawing.{left_after}
 use Rattle.jumping.specs.Draws.{schedule_by}
 use Rattle.judged_runs.specs.Telling.{IsTold}
-use Rattle.ownership_runs.specs.Runs.{KeepsProtocol, BreaksNothing, BreaksProtocol, IsOfOneHart, AreMovesOf}
+use Rattle.ownership_runs.specs.Runs.{HasKeptRun, BreaksNothing, HasBrokenRun, IsOfOneHart, AreMovesOf}
 use Rattle.ownership_runs.proofs.Judged.{kept-run, told-better}
 use Rattle.ownership_runs.proofs.checking.check_runs.Goals as goal
 
@@ -16,8 +16,8 @@ returns g c =
     let size = c.args.runs.length in
     let number = c.args.runs.number in
     let Good = BreaksNothing g.row.B g.row.M o q start in
-    let Keeps = KeepsProtocol g.row.B g.row.M o q start in
-    let Has = BreaksProtocol g.row.B g.row.M o q start in
+    let Keeps = HasKeptRun g.row.B g.row.M o q start in
+    let Has = HasBrokenRun g.row.B g.row.M o q start in
     let Counts = AreMovesOf g.row.B g.row.M o q start in
     let schedule = λ (s : Stream). schedule_by c.args.draw (length o.harts) size s in
     let left = left_after (c.args.runs.skip * size) (g.G.Rng.stream c.args.generator.now) in

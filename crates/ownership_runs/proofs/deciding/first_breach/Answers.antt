@@ -1,5 +1,5 @@
 use Rattle.std.proofs.Common.{ℕ, ◌≡◌, ◌+◌, ◌*◌, ◌-◌, ◌^◌, sym, ◌∙◌, subst, arith}
-use Rattle.ownership_runs.specs.inner.Bounds.{STEP, AreWithin}
+use Rattle.ownership_runs.specs.inner.Bounds.{STEP, AreCountsWithin}
 use Rattle.ownership_runs.proofs.First.{next-kept, next-broken}
 use Rattle.ownership_runs.proofs.deciding.first_breach.Goals as goal
 
@@ -8,7 +8,7 @@ loop-place-preserved c =
     let bound : ℕ = 2 ^ 64 - 1 + STEP * c.loop-place.place in
     let further : bound + STEP ≡ 2 ^ 64 - 1 + STEP * (c.loop-place.place + 1) = omega arith in
     record {
-      within = subst (λ (n : ℕ). AreWithin n n c.in-Ok.after) further (c.in-Ok.ensures.within bound c.loop-place.invariant.within);
+      within = subst (λ (n : ℕ). AreCountsWithin n n c.in-Ok.after) further (c.in-Ok.ensures.within bound c.loop-place.invariant.within);
       kept = c.loop-place.invariant.kept
           ∙ next-kept c.args.queue.now c.loop-place.place c.loop-place.counts c.args.entries.now _ c.loop-place-test.true c.in-Ok.after
           (sym c.note_entry.ensures.value ∙ c.in-Ok.is);

@@ -1,5 +1,5 @@
 use Rattle.std.proofs.Common.{ℕ, ◌≡◌, ◌+◌, ◌*◌, ◌-◌, ◌^◌, refl, sym, ◌∙◌, subst, arith}
-use Rattle.ownership_runs.specs.inner.Bounds.{STEP, AreWithin}
+use Rattle.ownership_runs.specs.inner.Bounds.{STEP, AreCountsWithin}
 use Rattle.ownership_runs.proofs.Noting.{more-noted, broken-noted, still-broken}
 use Rattle.ownership_runs.proofs.judging.note_more.Goals as goal
 
@@ -15,7 +15,7 @@ returns-in-Ok-clause-within c i within =
     let bound : ℕ = 2 ^ 64 - 1 + STEP * i in
     let further : bound + STEP ≡ 2 ^ 64 - 1 + STEP * (i + 1) = omega arith in
     record {
-      counts = subst (λ (n : ℕ). AreWithin n n c.in-Ok.after) further (c.in-Ok.ensures.within bound within.counts);
+      counts = subst (λ (n : ℕ). AreCountsWithin n n c.in-Ok.after) further (c.in-Ok.ensures.within bound within.counts);
       place = omega (arith, within.place);
     }
 
