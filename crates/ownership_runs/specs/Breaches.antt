@@ -16,7 +16,7 @@ use Rattle.ownership_runs.specs.Keeping.{owned_by, keeps_store, keeps_entry}
 abbrev pub breach_by : (place hart : ℕ) → Option Owned → Write → Breach
 breach_by place h o w = record { place = place; hart = h; addr = w.addr; width = w.width; value = w.value; owned = o }
 
--- what an access stores, and what a hart that makes it owns then, an AMO's after it has read
+-- what an access stores, if it stores, and what a hart that makes it owns then, an AMO's after it has read
 abbrev pub stored_of : Access → Write
 stored_of (store w) = w
 stored_of (exchange a old new) = write a 4 new
@@ -30,7 +30,8 @@ owned_at q p c x = owned_by q p c
 abbrev pub breach_at : Queue → (place : ℕ) → QueueCounts → Entry → Breach
 breach_at q place c e = breach_by place (hart_of e) (owned_at q (party_of q (hart_of e)) c (access_of e)) (stored_of (access_of e))
 
--- the counts after a hart's store that it may make, and after an AMO of which what it loaded is known already; else what it breaks
+-- the counts after a store of a hart, or the breach that it is; and after the store of an AMO that read this word, which the counts
+-- have taken in
 abbrev pub judged_store : Queue → (place hart : ℕ) → Option Party → QueueCounts → Write → Result QueueCounts Breach
 judged_store q place h p c w = if keeps_store q p c w then Ok (after_access q p (store w) c) else Err (breach_by place h (owned_by q p c) w)
 

@@ -1,8 +1,11 @@
 //! Runs and a queue's protocol of ownership: whether the entries of a run keep it, and drawn runs that are asked.
 //!
-//! The contract: [`first_breach`] is the definition of that name (`specs/Breaches.antt`), in one pass. [`laws_of_breaches`] states
-//! that it is none exactly where the entries keep the protocol of `slot_queue`, and otherwise that of the first entry that doesn't.
-//! This crate knows no certificate, and a queue that isn't `slot_queue`'s, as one whose slots tell, it doesn't judge.
+//! The contract: [`first_breach`] returns `first_ownership_breach` of `specs/Breaches.antt`, in one pass over the entries.
+//! [`laws_of_breaches`] states that there is none exactly where the entries keep the protocol of `slot_queue`, and that otherwise it is
+//! the first entry up to which they don't. [`check_runs`] states what it answers of the runs that the generator's words draw.
+//!
+//! This crate knows no certificate. It judges queues of two indices alone: one whose slots tell whose they are breaks this protocol, and
+//! may keep that of `slots_that_tell`.
 
 #![tactic(auto)]
 
