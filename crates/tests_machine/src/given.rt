@@ -1,5 +1,7 @@
 //! Openings, events and entries, and what compares.
 
+use hart::Stop;
+use jumping::progress::Progress;
 use std::alloc::{AllocError, Global};
 use step_machine::{Entry, Event, HartOpening, Opening};
 
@@ -110,4 +112,20 @@ pub fn full_fence(hart: u32) -> Entry {
 
 pub fn land(hart: u32) -> Entry {
     Entry::Land { hart }
+}
+
+/// Wants no report.
+#[derive(Drop)]
+pub struct NoProgress;
+
+impl Progress for NoProgress {
+    fn next_round(&mut self, left: u32) -> u32 {
+        left
+    }
+
+    fn report(&mut self, _done: u32, _runs: u32, _outcomes: Option<usize>) {}
+
+    fn stopped(&mut self, _hart: u32, _why: Stop, _runs: u32) {}
+
+    fn end(&mut self) {}
 }

@@ -22,6 +22,8 @@ mod of_jumping;
 #[cfg(test)]
 mod of_litmus;
 #[cfg(test)]
+mod of_ownership_runs;
+#[cfg(test)]
 mod of_recorder;
 #[cfg(test)]
 mod of_records;

@@ -1,8 +1,7 @@
 //! The crate `callers`.
 
+use crate::given::NoProgress;
 use callers::{Queue, QueueKind, check_callers};
-use hart::Stop;
-use jumping::progress::Progress;
 use jumping::{Draw, Runs};
 use litmus::Test;
 use rand_core::SeedableRng;
@@ -102,22 +101,6 @@ const CACHED_MAILBOX: &str = "1:x12=8;
  end:                 |                      ;
 exists (1:x10=1)
 ";
-
-/// Wants no report.
-#[derive(Drop)]
-struct NoProgress;
-
-impl Progress for NoProgress {
-    fn next_round(&mut self, left: u32) -> u32 {
-        left
-    }
-
-    fn report(&mut self, _done: u32, _runs: u32, _outcomes: Option<usize>) {}
-
-    fn stopped(&mut self, _hart: u32, _why: Stop, _runs: u32) {}
-
-    fn end(&mut self) {}
-}
 
 fn answer<T: Threads + Sync>(
     rt: &T,

@@ -1,0 +1,108 @@
+-- What the judgement of runs says of them.
+use Rattle.std.proofs.Common.{ℕ, ◌≡◌, ◌+◌, ◌≤◌, min, List, [], ◌∷◌, ◌++◌, Some, refl, sym, ap, subst, ◌∙◌, arith}
+use Rattle.step_machine.specs.declared.events.Event.{Event}
+use Rattle.step_machine.specs.History.{OpeningValue, History, history_of, at_opening}
+use Rattle.step_machine.specs.Legal.{Legal, WellFormed}
+use Rattle.step_machine.specs.Runs.{Run}
+use Rattle.step_machine.proofs.Running.{kept-at_opening, kept-run as well_formed, opening_kept, run-one}
+use Rattle.queue_parties.specs.Parties.{QueueCounts}
+use Rattle.slot_queue.specs.Queues.{Queue, IsQueue, IsAtRest}
+use Rattle.slot_queue.specs.Ownership.{KeepsOwnership}
+use Rattle.slot_queue.specs.Laws.{FollowsOwnership}
+use Rattle.judged_runs.specs.Telling.{IsTold}
+use Rattle.judged_runs.specs.declared.telling.Told.{Told}
+use Rattle.judged_runs.specs.declared.telling.Told.TheVariants as told
+use Rattle.judged_runs.proofs.Histories.{runs_both, total_both}
+use Rattle.ownership_runs.specs.declared.breaches.Breach.{Breach}
+use Rattle.ownership_runs.specs.declared.runs.Moved.{Moved}
+use Rattle.ownership_runs.specs.Breaches.{first_ownership_breach}
+use Rattle.ownership_runs.specs.Runs.{MOST_MOVED, HasKeptRun, BreaksNothing, HasBrokenRun, published_in, taken_in, HasMoved, AreMovesOf}
+use Rattle.ownership_runs.proofs.First.{kept-all, none-first}
+
+module _ (B M : ℕ) (o : OpeningValue) (q : Queue) (start : QueueCounts) where
+  module _ (events : List Event) where
+    -- a run has one first breach, or none
+    pub one-breach : (b d : Breach) → HasBrokenRun B M o q start events b → HasBrokenRun B M o q start events d → b ≡ d
+    one-breach b d has also =
+        let same : has.history ≡ also.history = run-one B M (at_opening o) events has.history also.history has.run also.run in
+        let both : Some b ≡ Some d = sym has.first ∙ ap (λ (t : History). first_ownership_breach q start t.entries) same ∙ also.first in cc
+
+    pub none-or-one : (b : Breach) → BreaksNothing B M o q start events → HasBrokenRun B M o q start events b → ⊥
+    none-or-one b free has =
+        let same : free.history ≡ has.history = run-one B M (at_opening o) events free.history has.history free.run has.run in
+        let none = free.none in
+        let some = ap (λ (t : History). first_ownership_breach q start t.entries) same ∙ has.first in
+        absurd (cc)
+
+    -- one that keeps the protocol has none
+    pub keeps-or-breaks : (b : Breach) → 1 ≤ q.size → HasKeptRun B M o q start events → HasBrokenRun B M o q start events b → ⊥
+    keeps-or-breaks b some keeps has =
+        none-or-one b (record { history = keeps.history; run = keeps.run; none = none-first q some start keeps.history.entries keeps.keeps }) has
+
+    -- it is a run of which the laws of the protocol speak
+    pub follows-run : (t : History) → IsQueue q → IsAtRest q o [] start → HasKeptRun B M o q start events → Run B M o events t
+        → FollowsOwnership B q start o [] t.entries
+    follows-run t queue rest keeps run =
+        let same : keeps.history ≡ t = run-one B M (at_opening o) events keeps.history t keeps.run run in
+        let formed : WellFormed B M t = well_formed B M (at_opening o) events t (kept-at_opening B M o) run in
+        record {
+          queue = queue;
+          legal = subst (λ (x : OpeningValue). Legal B (history_of x t.entries)) (opening_kept B M o events t run) formed.legal;
+          rest = rest;
+          keeps = subst (λ (u : History). KeepsOwnership q start u.entries) same keeps.keeps;
+        }
+
+    -- one without a breach keeps the protocol
+    pub kept-run : 1 ≤ q.size → BreaksNothing B M o q start events → HasKeptRun B M o q start events
+    kept-run some free = record { history = free.history; run = free.run; keeps = kept-all q some start free.history.entries free.none }
+
+  -- ---- by how much the parties moved on
+
+  pub none-moved : AreMovesOf B M o q start [] (record { published = 0; taken = 0 })
+  none-moved = record { histories = []; runs = tt; published = refl; taken = refl }
+
+  pub one-moved : (events : List Event) (t : History) (moved : Moved) → HasMoved B M o q start events t moved → AreMovesOf B M o q start (events ∷ []) moved
+  one-moved events t moved has = record {
+    histories = t ∷ [];
+    runs = (has.run, tt);
+    published = has.published ∙ ap (λ m. min m MOST_MOVED) (alone (published_in q start t));
+    taken = has.taken ∙ ap (λ m. min m MOST_MOVED) (alone (taken_in q start t));
+  }
+    where
+      alone : (n : ℕ) → n ≡ n + 0
+      alone n = omega arith
+
+  pub both-moved : (all more : List (List Event)) (old later new : Moved) → AreMovesOf B M o q start all old → AreMovesOf B M o q start more later
+      → new.published ≡ min (old.published + later.published) MOST_MOVED
+      → new.taken ≡ min (old.taken + later.taken) MOST_MOVED → AreMovesOf B M o q start (all ++ more) new
+  both-moved all more old later new are others published taken = record {
+    histories = are.histories ++ others.histories;
+    runs = runs_both B M o all more are.histories others.histories are.runs others.runs;
+    published = published ∙ capped old.published later.published _ _ are.published others.published
+        ∙ ap (λ m. min m MOST_MOVED) (sym (total_both (published_in q start) are.histories others.histories));
+    taken = taken ∙ capped old.taken later.taken _ _ are.taken others.taken
+        ∙ ap (λ m. min m MOST_MOVED) (sym (total_both (taken_in q start) are.histories others.histories));
+  }
+    where
+      capped : (a b x y : ℕ) → a ≡ min x MOST_MOVED → b ≡ min y MOST_MOVED → min (a + b) MOST_MOVED ≡ min (x + y) MOST_MOVED
+      capped a b x y one other = omega (arith, one, other)
+
+-- what is told of runs, of which the good ones are also good in another way
+pub told-better : {T F : Type 0} (Good Better : List Event → Type 0) (Has : List Event → F → Type 0) (Alike : F → F → Type 0)
+    (Counts : List (List Event) → T → Type 0) (schedule : ℕ → List Event) (runs : ℕ) (told : Told T F) → ((events : List Event) → Good events → Better events)
+    → IsTold Good Has Alike Counts schedule runs told → IsTold Better Has Alike Counts schedule runs told
+told-better Good Better Has Alike Counts schedule runs (told.Good tally) better is = record {
+  order = is.order;
+  good = λ i above below. better (schedule i) (is.good i above below);
+  counted = is.counted;
+}
+told-better Good Better Has Alike Counts schedule runs (told.Flawed part flaw) better is = record {
+  number = is.number;
+  flaw = is.flaw;
+  is_first = record {
+    within = is.is_first.within;
+    before = λ i above below. better (schedule i) (is.is_first.before i above below);
+    has = is.is_first.has;
+  };
+  shown = is.shown;
+}

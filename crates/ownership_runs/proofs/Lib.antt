@@ -1,0 +1,5 @@
+pub mod Slots
+pub mod Decisions
+pub mod First
+pub mod Judged
+pub mod Noting

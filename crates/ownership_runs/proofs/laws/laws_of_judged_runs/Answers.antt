@@ -1,0 +1,8 @@
+use Rattle.ownership_runs.proofs.Judged.{keeps-or-breaks, follows-run}
+use Rattle.ownership_runs.proofs.laws.laws_of_judged_runs.Goals as goal
+
+pub returns-clause-follows : goal.returns-clause-follows
+returns-clause-follows c = λ B M o q start events t queue rest keeps run. follows-run B M o q start events t queue rest keeps run
+
+pub returns-clause-apart : goal.returns-clause-apart
+returns-clause-apart c = λ B M o q start events b some keeps breaks. keeps-or-breaks B M o q start events b some keeps breaks

@@ -1,0 +1,4 @@
+pub mod Keeping
+pub mod Breaches
+pub mod Runs
+pub mod inner

@@ -1,0 +1,72 @@
+//! The answer of many runs: that all keep a queue's protocol of ownership, or a short schedule of one that breaks it.
+
+ghost use Rattle.std.specs.Prelude.{◌≡◌, ◌≤◌, ◌*◌, IfOk, length};
+ghost use Rattle.step_machine.specs.History.{FitsIn};
+ghost use Rattle.recorder.specs.Drawing.{left_after};
+ghost use Rattle.jumping.specs.Draws.{schedule_by};
+ghost use Rattle.judged_runs.specs.Telling.{IsTold};
+ghost use Rattle.ownership_runs.specs.Runs.{HasKeptRun, HasBrokenRun, AreMovesOf, IsOfOneHart};
+
+use crate::breaches::Breach;
+use crate::counts::Counts;
+use crate::runs::{Moved, OwnershipJudge};
+use judged_runs::{JudgedRuns, Told, told_of_runs};
+use jumping::parallel::in_rounds;
+use jumping::progress::Progress;
+use jumping::{Draw, Jump, Runs};
+use queue_layouts::Queue;
+use std::alloc::{AllocError, Global};
+use std::thread::Threads;
+use step_machine::Opening;
+
+/// Runs an opening `runs.number` times, with store buffers of `B` pairs and `M` words of memory, each time by `runs.length` events
+/// that the generator draws, after the events of the runs that are passed over, and judges each by the protocol of ownership of this
+/// queue, whose parties have come as far as `start` there.
+///
+/// If all keep it, that is by how much the parties moved on in all of them. Otherwise it is a part of the events of the first run
+/// that doesn't, from which events were left out until none could go without its first breach being another hart's or none, and the
+/// breach of the part's run. The answer depends neither on the jobs nor on the progress, which learns how far the runs are, and that
+/// they ended.
+pub fn check_runs<
+    const B: usize,
+    const M: usize,
+    G: Jump + Sync + Drop,
+    T: Threads + Sync,
+    P: Progress,
+>(
+    rt: &T,
+    alloc: Global,
+    opening: &Opening,
+    queue: &Queue,
+    start: Counts,
+    draw: Draw,
+    generator: &G,
+    runs: Runs,
+    progress: &mut P,
+) -> Result<Told<Moved, Breach>, AllocError>
+    requires some_capacity { 1 ≤ B }
+    requires capacity { B ≤ 64 }
+    requires some_word { 1 ≤ M }
+    requires size { M ≤ 65536 }
+    requires fits { FitsIn M opening.now }
+    requires some_slot { 1 ≤ queue.now.size }
+    ensures { IfOk result (λ told. IsTold (HasKeptRun B M opening.now queue.now start) (HasBrokenRun B M opening.now queue.now start) IsOfOneHart
+        (AreMovesOf B M opening.now queue.now start)
+        (schedule_by draw (length opening.now.harts) runs.length (left_after (runs.skip * runs.length) (G.Rng.stream generator.now))) runs.number told) }
+{
+    let judge = OwnershipJudge::<B, M> {
+        opening,
+        queue,
+        start,
+    };
+    let from = generator.ahead(runs.skip, runs.length)?;
+    let drawn = JudgedRuns {
+        judge: &judge,
+        generator: &from,
+        draw,
+        size: runs.length,
+    };
+    let found = in_rounds(rt, alloc, &drawn, runs.number, runs.jobs, progress);
+    progress.end();
+    told_of_runs(alloc, &drawn, runs.number, found?)
+}

@@ -1,0 +1,120 @@
+//! Whether the entries of a run keep a queue's protocol of ownership.
+
+ghost use Rattle.std.specs.Prelude.{◌≡◌, ◌≤◌, ◌+◌, ℕ, option_map, Ok, IfOk};
+ghost use Rattle.ownership_runs.specs.Breaches.{judged_store, judged_exchange, judged_entry, first_ownership_breach};
+ghost use Rattle.ownership_runs.specs.inner.Bounds.{STEP, ROOM, AreCountsWithin};
+ghost use Rattle.ownership_runs.specs.inner.Sides.{the_party};
+
+use crate::breaches::Breach;
+use crate::counts::{Counts, RunCounts, at_start};
+use crate::moves::{after_load, after_store};
+use crate::parties::{Party, party_of};
+use crate::stores::{keeps_store, owned_by};
+use memory::writes::Write;
+use queue_layouts::Queue;
+use step_machine::Entry;
+
+/// The counts after a store of a hart, or that it may not make it.
+fn note_store(
+    queue: &Queue,
+    place: usize,
+    hart: u32,
+    party: Option<Party>,
+    counts: RunCounts,
+    write: Write,
+) -> Result<RunCounts, Breach>
+    requires { AreCountsWithin ROOM (ROOM + STEP) counts }
+    ensures value { result ≡ judged_store queue.now place hart (option_map the_party party) counts write }
+    ensures within { (n m : ℕ) → AreCountsWithin n m counts → IfOk result (AreCountsWithin (n + STEP) m) }
+{
+    if keeps_store(queue, party, counts, write) {
+        Ok(after_store(queue, party, write, counts))
+    } else {
+        Err(Breach {
+            place,
+            hart,
+            addr: write.addr,
+            width: write.width,
+            value: write.value,
+            owned: owned_by(queue, party, counts),
+        })
+    }
+}
+
+/// The counts after an AMO of a hart, or that it may not make it. One that writes the word that it read is free.
+fn note_exchange(
+    queue: &Queue,
+    place: usize,
+    hart: u32,
+    party: Option<Party>,
+    counts: RunCounts,
+    old: u32,
+    write: Write,
+) -> Result<RunCounts, Breach>
+    requires { AreCountsWithin ROOM (ROOM + STEP) counts }
+    ensures value { result ≡ judged_exchange queue.now place hart (option_map the_party party) counts old write }
+    ensures within { (n m : ℕ) → AreCountsWithin n m counts → IfOk result (AreCountsWithin (n + STEP) m) }
+{
+    if write.value == old {
+        Ok(after_store(queue, party, write, counts))
+    } else {
+        note_store(queue, place, hart, party, counts, write)
+    }
+}
+
+/// The counts after the entry of a run before which `place` others come, or that it breaks the protocol.
+pub(crate) fn note_entry(
+    queue: &Queue,
+    place: usize,
+    counts: RunCounts,
+    entry: Entry,
+) -> Result<RunCounts, Breach>
+    requires { AreCountsWithin ROOM ROOM counts }
+    ensures value { result ≡ judged_entry queue.now place counts entry }
+    ensures within { (n : ℕ) → AreCountsWithin n n counts → IfOk result (AreCountsWithin (n + STEP) (n + STEP)) }
+{
+    let hart = entry.hart();
+    let party = party_of(queue, hart);
+    match entry {
+        Entry::Load {
+            addr,
+            width,
+            value,
+            ..
+        } => Ok(after_load(queue, party, addr, width, value, counts)),
+        Entry::Store {
+            addr,
+            width,
+            value,
+            ..
+        } => {
+            let write = Write { addr, width, value };
+            note_store(queue, place, hart, party, counts, write)
+        }
+        Entry::Amo { addr, old, new, .. } => {
+            let write = Write {
+                addr,
+                width: 4,
+                value: new,
+            };
+            let loaded = after_load(queue, party, addr, 4, old, counts);
+            note_exchange(queue, place, hart, party, loaded, old, write)
+        }
+        _ => Ok(counts),
+    }
+}
+
+/// The first entry of a run that breaks a queue's protocol of ownership, if there is one. The run begins where the parties have come
+/// as far as `start`. Loads are free.
+pub fn first_breach(queue: &Queue, start: Counts, entries: &[Entry]) -> Option<Breach>
+    ensures { result ≡ first_ownership_breach queue.now start entries.now }
+{
+    let mut counts = at_start(start);
+    for (place, entry) in entries.iter().enumerate() {
+        match note_entry(queue, place, counts, *entry) {
+            Ok(after) => counts = after,
+            Err(breach) => return Some(breach),
+        }
+    }
+    None
+}

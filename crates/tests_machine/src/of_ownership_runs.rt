@@ -1,0 +1,202 @@
+//! The crate `ownership_runs`.
+
+use crate::given::{NoProgress, amo, load, store};
+use judged_runs::Told;
+use jumping::{Draw, Runs};
+use litmus::Test;
+use ownership_runs::{Breach, Counts, Moved, Owned, check_runs, first_breach};
+use queue_layouts::Queue;
+use rand_core::SeedableRng;
+use rand_pcg::Pcg32;
+use std::alloc::{AllocError, Global};
+use std::thread::Threads;
+use step_machine::Entry;
+
+/// Three of four slots may be in use at once, since an index is the number of a slot.
+const RECORDS: Queue = Queue {
+    sender: 0,
+    receiver: 1,
+    head: 0,
+    tail: 64,
+    index_width: 4,
+    slots: 128,
+    size: 4,
+    width: 8,
+    capacity: 3,
+    base: 0,
+    scale: 1,
+    offset: 0,
+    modulus: 4,
+};
+
+fn counts(published: u64, taken: u64) -> Counts {
+    Counts {
+        published,
+        taken,
+        known_taken: taken,
+        known_published: published,
+    }
+}
+
+fn stored(hart: u32, addr: u32, width: u32, value: u32) -> Entry {
+    Entry::Store {
+        hart,
+        addr,
+        width,
+        value,
+    }
+}
+
+fn breach(place: usize, hart: u32, addr: u32, value: u32, owned: Option<(u128, u128)>) -> Breach {
+    Breach {
+        place,
+        hart,
+        addr,
+        width: 4,
+        value,
+        owned: owned.map(|(from, end)| Owned { from, end }),
+    }
+}
+
+#[test]
+fn runs_that_keep_ownership_have_no_breach(rt: HostRuntime) {
+    let sent_and_taken = [
+        store(0, 128, 7),
+        stored(0, 132, 2, 8),
+        store(0, 0, 1),
+        load(1, 0, 1),
+        load(1, 128, 7),
+        stored(1, 135, 1, 9),
+        store(1, 64, 1),
+        store(2, 200, 1),
+    ];
+    // one position further, the fourth slot is owned and the first one isn't any more
+    let round = [store(0, 152, 7), store(0, 0, 0)];
+    let same_word = [amo(1, 0, 2, 2), store(1, 64, 2)];
+    for (start, entries) in [
+        (counts(0, 0), &sent_and_taken as &[Entry]),
+        (counts(1, 1), &round as &[Entry]),
+        (counts(0, 0), &same_word as &[Entry]),
+    ] {
+        assert_same!(rt; first_breach(&RECORDS, start, entries) == None, true);
+    }
+}
+
+#[test]
+fn the_first_breach_says_what_was_owned(rt: HostRuntime) {
+    let rows = [
+        (
+            [store(0, 128, 7), store(1, 64, 1)],
+            breach(1, 1, 64, 1, Some((0, 0))),
+        ),
+        (
+            [store(0, 152, 7), store(0, 152, 8)],
+            breach(0, 0, 152, 7, Some((0, 3))),
+        ),
+        (
+            [store(0, 0, 1), store(0, 128, 7)],
+            breach(1, 0, 128, 7, Some((1, 3))),
+        ),
+        (
+            [amo(1, 0, 2, 1), store(1, 64, 2)],
+            breach(0, 1, 0, 1, Some((0, 2))),
+        ),
+        (
+            [store(2, 200, 1), store(2, 156, 1)],
+            breach(1, 2, 156, 1, None),
+        ),
+    ];
+    for (entries, wanted) in rows {
+        assert_same!(rt; first_breach(&RECORDS, counts(0, 0), &entries) == Some(wanted), true);
+    }
+}
+
+/// Hart 0 fills the slot at 12 by its third instruction, or publishes it by its second one; hart 1 takes it once it is published.
+const FILLED_FIRST: &str = "RISCV filled first
+{
+int none; int head; int tail; int slot;
+}
+ P0            | P1               ;
+ addi x5,x0,1  | L0: lw x6,4(x0)  ;
+ sw x5,12(x0)  | beq x6,x0,L0     ;
+ sw x5,4(x0)   | sw x6,8(x0)      ;
+exists (1:x6=1)
+";
+
+const PUBLISHED_FIRST: &str = "RISCV published first
+{
+int none; int head; int tail; int slot;
+}
+ P0            | P1               ;
+ addi x5,x0,1  | L0: lw x6,4(x0)  ;
+ sw x5,4(x0)   | beq x6,x0,L0     ;
+ sw x5,12(x0)  | sw x6,8(x0)      ;
+exists (1:x6=1)
+";
+
+const WORDS: Queue = Queue {
+    head: 4,
+    tail: 8,
+    slots: 12,
+    size: 1,
+    width: 4,
+    capacity: 1,
+    modulus: 4_294_967_296,
+    ..RECORDS
+};
+
+fn told<T: Threads + Sync>(
+    rt: &T,
+    alloc: Global,
+    test: &Test,
+    draw: Draw,
+) -> Result<Told<Moved, Breach>, AllocError> {
+    let runs = Runs {
+        skip: 3,
+        number: 20,
+        length: 400,
+        jobs: 2,
+    };
+    let generator = Pcg32::seed_from_u64(1);
+    let opening = test.opening(alloc)?;
+    check_runs::<4, 1024, _, _, _>(
+        rt,
+        alloc,
+        &opening,
+        &WORDS,
+        counts(0, 0),
+        draw,
+        &generator,
+        runs,
+        &mut NoProgress,
+    )
+}
+
+#[test]
+fn drawn_runs_that_keep_ownership_are_counted(rt: HostRuntime) {
+    let test = litmus_reader::read(rt.alloc(), FILLED_FIRST).expect(&rt, "a test");
+    // drawn by itself, each event lets each hart act often enough; in bursts a run may not come to the second hart
+    for (draw, least) in [(Draw::Uniform, 20), (Draw::Bursts, 1)] {
+        match told(&rt, rt.alloc(), &test, draw).expect(&rt, "an answer") {
+            Told::Good(moved) => {
+                assert_same!(rt; least <= moved.taken, true);
+                assert_same!(rt; moved.taken <= moved.published && moved.published <= 20, true);
+            }
+            Told::Flawed { .. } => assert_same!(rt; true, false),
+        }
+    }
+}
+
+#[test]
+fn a_breach_is_shown_by_the_events_that_it_needs(rt: HostRuntime) {
+    let test = litmus_reader::read(rt.alloc(), PUBLISHED_FIRST).expect(&rt, "a test");
+    for draw in [Draw::Uniform, Draw::Bursts] {
+        match told(&rt, rt.alloc(), &test, draw).expect(&rt, "an answer") {
+            Told::Good(_) => assert_same!(rt; true, false),
+            Told::Flawed { part, flaw } => {
+                assert_same!(rt; part.len(), 3);
+                assert_same!(rt; flaw == breach(2, 0, 12, 1, Some((1, 1))), true);
+            }
+        }
+    }
+}
