@@ -100,6 +100,8 @@ class Program(Values):
             return None
         distance = signed(found[0])
         first, last = distance // queue.width, (distance + width - 1) // queue.width
+        if first != last:
+            return None
         low, high = share.first - queue.size * turn, share.last - queue.size * turn
         for edge in {first, last}:
             # the place is a turn behind where the position is small
@@ -132,12 +134,12 @@ class Program(Values):
                         self.refuse_looks(state, low, high, width)
                 return None, None
             if (low, high, width) == (queue.own(party), queue.own(party), queue.index_width):
-                return self.extended(self.own_index(which, state), width, is_signed, state), None
+                return (None if is_signed and width < 4 else self.own_index(which, state)), None
             if (low, high, width) == (queue.other(party), queue.other(party), queue.index_width):
                 return (None if is_signed and width < 4 else self.other_index(which)), which
             self.refuse_looks(state, low, high, width)
             return None, None
-        return (self.own_word(state, low, width, is_signed) if low == high else None), None
+        return (self.own_word(state, low, width) if low == high else None), None
 
     def refuse_looks(self, state, low, high, width):
         """A load that may be of the other's index, whole, would move what is known."""
@@ -145,24 +147,8 @@ class Program(Values):
             if party is not None and width == queue.index_width and low <= queue.other(party) <= high:
                 raise Refused(state.pc, "a load that may be of the other's index")
 
-    def own_word(self, state, place, width, is_signed):
-        which = self.at.get(place & ~3)
-        if which is None:
-            return None
-        value = state.words[which]
-        if width == 4:
-            return value if place % 4 == 0 else None
-        found = self.known(value, state)
-        if found is None or place % 4 + width > 4:
-            return None
-        part = found >> 8 * (place % 4) & (256 ** width - 1)
-        return number(signed(part, 8 * width) if is_signed else part)
-
-    def extended(self, value, width, is_signed, state):
-        if width == 4 or not is_signed:
-            return value
-        found = self.known(value, state)
-        return None if found is None else number(signed(found, 8 * width))
+    def own_word(self, state, place, width):
+        return state.words[self.at[place]] if width == 4 and place in self.at else None
 
     def store(self, state, value_of_place, width, value):
         """The words after a store, and by how much it moves the own count of which queue, or None."""
@@ -195,26 +181,13 @@ class Program(Values):
     def written(self, state, place, width, value):
         words = list(state.words)
         for at in range(place & ~3, place + width, 4):
-            which = self.at.get(at)
-            if which is None:
-                continue
-            if (at, width) == (place, 4):
-                words[which] = value
-                continue
-            old, new = self.known(words[which], state), self.known(value, state)
-            if old is None or new is None or place + width > at + 4:
-                words[which] = None
-                continue
-            shift, mask = 8 * (place % 4), 256 ** width - 1
-            words[which] = number(old & ~(mask << shift) | (new & mask) << shift)
+            if at in self.at:
+                words[self.at[at]] = value if (at, width) == (place, 4) else None
         return tuple(words)
 
     def moved(self, which, value, state):
         """By how much a store of this value to the own index moves the own count."""
         queue, share, step = self.queues[which], state.shares[which], None
-        found = self.known(value, state)
-        if found is not None and queue.index_width < 4:
-            value = number(found % 256 ** queue.index_width)
         if isinstance(value, Word):
             step = self.step_of(value.count.minus(variable_of("n", which)), queue.modulus, state) if value.queue == which else None
         elif value is not None and (queue.is_linear() or self.is_index(value, queue, state)):
@@ -269,7 +242,7 @@ class Program(Values):
         if kind in (IMMEDIATE, REGISTER):
             y = y if kind == REGISTER else number(word >> 20 & 31 if third in (1, 5) else given)
             name = "sub" if kind == REGISTER and third == 0 and word >> 30 & 1 else "sra" if third == 5 and word >> 30 & 1 else NAMES[third]
-            value, fresh = self.computed(name, x, y, state)
+            value, fresh = self.computed(name, x, y, state, kind == IMMEDIATE)
             return [self.put(state, to, value, fresh=fresh)]
         if kind == FENCE:
             return [self.put(state, 0, None)]
@@ -306,16 +279,7 @@ class Program(Values):
     def branched(self, state, word, third, x, y):
         offset = signed((word >> 31) << 12 | (word >> 7 & 1) << 11 | (word >> 25 & 63) << 5 | (word >> 8 & 15) << 1, 13)
         answer = self.compared(third, x, y, state)
-        found = []
-        for taken in (True, False):
-            if answer in (None, taken):
-                after = state
-                # where two registers are equal and nothing is known of one, it is what the other is
-                if third < 2 and taken == (third == 0) and (x is None) != (y is None):
-                    which, value = (word >> 15 & 31, y) if x is None else (word >> 20 & 31, x)
-                    after = state._replace(registers=state.registers[:which] + (value,) + state.registers[which + 1:])
-                found.append(self.put(after, 0, None, state.pc + (offset if taken else 4)))
-        return found
+        return [self.put(state, 0, None, state.pc + (offset if taken else 4)) for taken in (True, False) if answer in (None, taken)]
 
     def exchanged(self, state, operation, to, x, y):
         place = self.place(x, state)
@@ -329,15 +293,8 @@ class Program(Values):
         return self.put(state._replace(words=words), to, old, move=move)
 
     def called(self, state):
-        """An environment call: by its number in a7."""
-        call = self.known(state.registers[17], state)
-        if call == 93:
-            return []
-        if call == 1:
-            state = state._replace(registers=state.registers[:10] + (None, None) + state.registers[12:])
-        elif call not in (2, 3):
-            raise Refused(state.pc, "an environment call that is not known")
-        return [self.put(state, 0, None)]
+        """An environment call: whatever its number is, it may go on, with any numbers in a0 and a1."""
+        return [self.put(state._replace(registers=state.registers[:10] + (None, None) + state.registers[12:]), 0, None)]
 
     def put(self, state, to, value, pc=None, fresh=None, looked=None, move=None):
         """The state after an instruction that leaves this value in a register: with a new variable for it, after a look at the other's index,

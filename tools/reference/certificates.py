@@ -171,22 +171,22 @@ def remainder(ranges, f, n):
     return reduced(n, f) if n >= 1 and fits_in(most(ranges, reduced(n, f)), n - 1) else None
 
 
-def risings(ms):
-    return tuple(0 if m % M32 >= 1 << 31 else m % M32 for m in ms)
+def risings(n, ms):
+    return tuple(0 if monus(n, mod(m, n)) <= mod(m, n) else mod(m, n) for m in ms)
 
 
-def fallings(ms):
-    return tuple(M32 - m % M32 if m % M32 >= 1 << 31 else 0 for m in ms)
+def fallings(n, ms):
+    return tuple(monus(n, mod(m, n)) if monus(n, mod(m, n)) <= mod(m, n) else 0 for m in ms)
 
 
-def bounds_between(c, up, down):
-    if up is None or down is None or down > c or c + up + 1 > M32:
+def bounds_between(n, c, up, down):
+    if up is None or down is None or down > c or c + up + 1 > n:
         return None
     return Bounds(c - down, c + up)
 
 
-def bounds_of(ranges, f):
-    return bounds_between(f.constant % M32, most_of_sum(ranges, risings(f.factors)), most_of_sum(ranges, fallings(f.factors)))
+def bounds_of(n, ranges, f):
+    return bounds_between(n, mod(f.constant, n), most_of_sum(ranges, risings(n, f.factors)), most_of_sum(ranges, fallings(n, f.factors)))
 
 
 # ---- States
@@ -388,13 +388,11 @@ def difference_of(v, w):
 
 
 def bounds(ranges, v):
-    return bounds_of(ranges, v.form) if isinstance(v, Linear) else None
+    return bounds_of(M32, ranges, v.form) if isinstance(v, Linear) else None
 
 
-def is_equal(ranges, v, w):
-    if not isinstance(v, Linear) or not isinstance(w, Linear):
-        return None
-    return is_nothing(bounds_of(ranges, plus(v.form, times(M32 - 1, w.form))))
+def agrees(ranges, n, f, g):
+    return is_nothing(bounds_of(n, ranges, plus(f, times(monus(n, 1), g))))
 
 
 def low_bits(f, mask):
@@ -473,11 +471,43 @@ def of_registers(ranges, op, v, w):
     return or_else(None if a is None or b is None else COMPUTED[op](a, b), register_part(ranges, op, v, w))
 
 
-def branch_part(ranges, op, v, w):
+def unscaled(q, f):
+    return Form(div(monus(f.constant % M32, q.base), q.scale), tuple(div(m % M32, q.scale) for m in f.factors))
+
+
+def is_scaled(ranges, q, f, k):
+    return is_same(M32, f, scaled(q, k)) and fits_in(most(ranges, scaled(q, k)), M32 - 1) and fits_in(most(ranges, k), monus(q.modulus, 1))
+
+
+def standing(queues, ranges, i, v):
+    q = queue_at(queues, i)
+    if isinstance(v, Linear):
+        return unscaled(q, v.form) if is_scaled(ranges, q, v.form, unscaled(q, v.form)) else None
+    return plus(v.form, number(q.offset)) if v is not ANY and v.queue == i else None
+
+
+def both_agree(ranges, n, j, k):
+    return None if j is None or k is None else agrees(ranges, n, j, k)
+
+
+def is_equal_word(queues, ranges, i, v, w):
+    q = queue_at(queues, i)
+    return both_agree(ranges, q.modulus, standing(queues, ranges, i, v), standing(queues, ranges, i, w)) if q.scale >= 1 else None
+
+
+def is_equal(queues, ranges, v, w):
+    if isinstance(v, IndexFor):
+        return is_equal_word(queues, ranges, v.queue, v, w)
+    if not isinstance(v, Linear) or w is ANY:
+        return None
+    return is_equal_word(queues, ranges, w.queue, v, w) if isinstance(w, IndexFor) else agrees(ranges, M32, v.form, w.form)
+
+
+def branch_part(queues, ranges, op, v, w):
     if op == "beq":
-        return is_equal(ranges, v, w)
+        return is_equal(queues, ranges, v, w)
     if op == "bne":
-        return negated(is_equal(ranges, v, w))
+        return negated(is_equal(queues, ranges, v, w))
     if op == "blt":
         return is_below_signed(bounds(ranges, v), bounds(ranges, w))
     if op == "bge":
@@ -487,9 +517,9 @@ def branch_part(ranges, op, v, w):
     return negated(is_below(bounds(ranges, v), bounds(ranges, w)))
 
 
-def is_branch_taken(ranges, op, v, w):
+def is_branch_taken(queues, ranges, op, v, w):
     a, b = as_number(v), as_number(w)
-    return branch_part(ranges, op, v, w) if a is None or b is None else TAKEN[op](a, b)
+    return branch_part(queues, ranges, op, v, w) if a is None or b is None else TAKEN[op](a, b)
 
 
 # ---- Steps
@@ -773,7 +803,7 @@ class Steps:
             return jumping(k, rd, offset, as_number(self.operand(k, rs1)))
         if op in TAKEN:
             rs1, rs2, offset = parts
-            return goes_by(k, address(k.pc, offset), is_branch_taken(k.ranges, op, self.operand(k, rs1), self.operand(k, rs2)))
+            return goes_by(k, address(k.pc, offset), is_branch_taken(self.queues, k.ranges, op, self.operand(k, rs1), self.operand(k, rs2)))
         if op in LOADS:
             rd, rs1, offset = parts
             return self.loading(k, op, rd, self.addresses(k, rs1, offset))
