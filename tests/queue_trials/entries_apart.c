@@ -1,6 +1,7 @@
-/* Head, tail and mask in one struct, entries of two words in an array of their own, several at once.
+/* Head, tail and mask in one struct, entries of two words in an array of their own, several at once. The mask stands first
+   in its `and`, which the check takes for nothing yet.
    queue: head=ring_tail,tail=ring_head,slots=entries_0_data,size=4,width=8
-   answer: covered */
+   answer: hart 1 */
 #include <stdatomic.h>
 struct entry { unsigned data, result; };
 struct { atomic_uint head, tail; unsigned mask; } ring = { .mask = 3 };
