@@ -1,7 +1,7 @@
 /* Head, tail and mask in one struct, entries of two words in an array of their own, several at once. The mask stands first
-   in its `and`, which the check takes for nothing yet.
+   in its `and`.
    queue: head=ring_tail,tail=ring_head,slots=entries_0_data,size=4,width=8
-   answer: hart 1 */
+   answer: covered */
 #include <stdatomic.h>
 struct entry { unsigned data, result; };
 struct { atomic_uint head, tail; unsigned mask; } ring = { .mask = 3 };

@@ -1,7 +1,7 @@
 /* The ring of a UART driver: bytes, indices of one byte, 256 slots. An index goes on to 256 in a
-   register, and a check doesn't take that for 0 yet.
+   register, of which 0 is stored.
    queue: head=r_head,tail=r_head+1,slots=r_data,size=256,width=1,bytes=1,index=wrapping
-   answer: hart 1 */
+   answer: covered */
 #include <stdatomic.h>
 #include <stdint.h>
 struct ring { _Atomic uint8_t head, tail; uint8_t pad[2]; uint8_t data[256]; } r;

@@ -6,9 +6,11 @@ from .live import live_registers
 from .search import Mode, Search
 from .steps import Program, Refused
 
-# how a hart's states are searched, one way after the other until one succeeds: what is told apart, whether what an earlier
-# search saw of copies of the other's index is taken up, by what values are spelled first, and for how many seconds
-WAYS = ((Mode.TOGETHER, "npA", 6), (Mode.TOGETHER, "npA", 6), (Mode.TOGETHER, "pnA", 6), (Mode.BY_POSITION, "npA", 25), (Mode.BY_OWNED, "npA", 25))
+# how a hart's states are searched, one way after the other until one succeeds: what is told apart, whether bytes and halves that are loaded
+# count as numbers of a range, by what values are spelled first, and for how many seconds of the processor. What an earlier search saw of
+# copies of the other's index is taken up
+WAYS = ((Mode.TOGETHER, False, "npA", 4), (Mode.TOGETHER, False, "npA", 4), (Mode.TOGETHER, False, "pnA", 4), (Mode.TOGETHER, True, "npA", 4),
+        (Mode.BY_POSITION, False, "npA", 15), (Mode.BY_OWNED, False, "npA", 15))
 MOST_ROUNDS = 60
 
 
@@ -44,8 +46,8 @@ class Harts:
         kept = sorted(set(self.test.words) - self.shared - others)
         copies, refused, reads = frozenset(), None, None
         for at in range(self.ways[hart], len(WAYS)):
-            mode, order, seconds = WAYS[at]
-            program = Program(self.test, self.queues, hart, kept, self.live[hart])
+            mode, with_bytes, order, seconds = WAYS[at]
+            program = Program(self.test, self.queues, hart, kept, self.live[hart], with_bytes)
             search = Search(program, mode, copies, order, seconds)
             try:
                 search.run()

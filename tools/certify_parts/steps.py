@@ -36,10 +36,10 @@ class Next(NamedTuple):
 class Program(Values):
     """One hart's code with what holds of all its states."""
 
-    def __init__(self, test, queues, hart, kept, live):
+    def __init__(self, test, queues, hart, kept, live, with_bytes=False):
         self.hart, self.code = hart, test.harts[hart].code
         super().__init__(queues, hart)
-        self.kept = kept
+        self.kept, self.with_bytes = kept, with_bytes
         self.at = {place: which for which, place in enumerate(kept)}
         self.stored = set()    # words that it may store to, apart from queues
         self.live, self.edges = live, {}
@@ -134,12 +134,17 @@ class Program(Values):
                         self.refuse_looks(state, low, high, width)
                 return None, None
             if (low, high, width) == (queue.own(party), queue.own(party), queue.index_width):
-                return (None if is_signed and width < 4 else self.own_index(which, state)), None
+                return (None if self.is_negative(queue, width, is_signed) else self.own_index(which, state)), None
             if (low, high, width) == (queue.other(party), queue.other(party), queue.index_width):
-                return (None if is_signed and width < 4 else self.other_index(which)), which
+                return (None if self.is_negative(queue, width, is_signed) else self.other_index(which)), which
             self.refuse_looks(state, low, high, width)
             return None, None
         return (self.own_word(state, low, width) if low == high else None), None
+
+    @staticmethod
+    def is_negative(queue, width, is_signed):
+        """Whether an index that is loaded signed may come out as another number."""
+        return is_signed and width < 4 and queue.base + queue.scale * (queue.modulus - 1) >= 256 ** width // 2
 
     def refuse_looks(self, state, low, high, width):
         """A load that may be of the other's index, whole, would move what is known."""
@@ -190,8 +195,11 @@ class Program(Values):
         queue, share, step = self.queues[which], state.shares[which], None
         if isinstance(value, Word):
             step = self.step_of(value.count.minus(variable_of("n", which)), queue.modulus, state) if value.queue == which else None
-        elif value is not None and (queue.is_linear() or self.is_index(value, queue, state)):
+        elif value is not None and (queue.is_linear() or self.is_cut(queue) or self.is_index(value, queue, state)):
             scaled = value.minus(self.own_index(which, state))
+            if self.is_cut(queue):
+                # the bytes that are stored are all that counts
+                scaled = form(scaled.constant % 256 ** queue.index_width, {variable: m % 256 ** queue.index_width for variable, m in scaled.terms})
             if all(signed(m) % queue.scale == 0 for m in (scaled.constant, *(m for _, m in scaled.terms))):
                 step = self.step_of(form(signed(scaled.constant) // queue.scale, {variable: signed(m) // queue.scale for variable, m in scaled.terms}),
                                     queue.modulus, state)
@@ -202,6 +210,11 @@ class Program(Values):
         if value is not None and share.first < share.last <= share.first + MOST_TRIED and step is None:
             raise Split(("p", which), share.first)
         raise Refused(state.pc, f"the own index isn't known to move on by at most {share.low}, which are owned there")
+
+    @staticmethod
+    def is_cut(queue):
+        """Whether all numbers of an index's bytes are words of it."""
+        return queue.index_width < 4 and queue.scale * queue.modulus == 256 ** queue.index_width and queue.base < queue.scale
 
     def is_index(self, value, queue, state):
         """Whether a value is below the end of the words of an index; asks for a split where it is for some numbers."""
@@ -259,7 +272,8 @@ class Program(Values):
         if kind == LOAD:
             width = 1 << (third & 3)
             value, looked = self.loaded(state, self.offset(x, given, state), width, third < 2)
-            return [self.put(state, to, value, looked=looked)]
+            is_range = self.with_bytes and value is None and looked is None and third > 3
+            return [self.put(state, to, value, fresh=(0, 256 ** width - 1) if is_range else None, looked=looked)]
         if kind == STORE:
             place = self.offset(x, signed(word >> 25 << 5 | to, 12), state)
             words, move = self.store(state, place, 1 << third, y)
@@ -278,8 +292,16 @@ class Program(Values):
 
     def branched(self, state, word, third, x, y):
         offset = signed((word >> 31) << 12 | (word >> 7 & 1) << 11 | (word >> 25 & 63) << 5 | (word >> 8 & 15) << 1, 13)
-        answer = self.compared(third, x, y, state)
-        return [self.put(state, 0, None, state.pc + (offset if taken else 4)) for taken in (True, False) if answer in (None, taken)]
+        answer, found = self.compared(third, x, y, state), []
+        for taken in (True, False):
+            if answer in (None, taken):
+                after = state
+                # where two registers are equal and nothing is known of one, it is what the other is
+                if third < 2 and taken == (third == 0) and (x is None) != (y is None):
+                    which, value = (word >> 15 & 31, y) if x is None else (word >> 20 & 31, x)
+                    after = state._replace(registers=state.registers[:which] + (value,) + state.registers[which + 1:])
+                found.append(self.put(after, 0, None, state.pc + (offset if taken else 4)))
+        return found
 
     def exchanged(self, state, operation, to, x, y):
         place = self.place(x, state)

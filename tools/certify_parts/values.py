@@ -200,7 +200,9 @@ class Values:
             return number(OPERATIONS[name](a, b)), None
         x, y = (number(found) if isinstance(value, Word) and found is not None else value for value, found in ((x, a), (y, b)))
         if name == "and":
-            return self.masked(x, b, state)
+            return self.masked(x, b, state) if b is not None else self.masked(y, a, state)
+        if name == "add" and is_immediate and b == 0:
+            return x, None
         if isinstance(x, Word) or isinstance(y, Word):
             self.split_to_know(x if isinstance(x, Word) else y, state)
             return None, None
@@ -213,10 +215,19 @@ class Values:
             return x.plus(y) if name == "add" else x.minus(y), None
         if name == "sll" and is_immediate:
             return x.times(1 << (b & 31)), None
+        rest = self.shifted_back(x, b & 31, state) if name == "srl" and is_immediate else None
+        if rest is not None:
+            return rest, None
         self.split_to_know(x, state, 64)
         self.split_to_know(y, state, 64)
         limits = numbers_of(x, self.ranges(state))
         return None, (0, limits[1] >> (b & 31)) if name == "srl" and is_immediate and limits else None
+
+    def shifted_back(self, value, amount, state):
+        """What is a multiple of a power of two, as after a shift to the left, shifted right: a remainder of what it is a multiple of; or None."""
+        if any(m % (1 << amount) for m in (value.constant, *(m for _, m in value.terms))):
+            return None
+        return self.remainder(form(value.constant >> amount, {variable: m >> amount for variable, m in value.terms}), 1 << 32 - amount, state)
 
     def masked(self, value, mask, state):
         if mask is None:
@@ -238,14 +249,15 @@ class Values:
                     return None
                 variable = "p", which
             rest = rest.plus(variable_of(*variable, m))
-        # by factors from 0 on, as a check takes them
-        rest = form(signed(rest.constant), {variable: m % modulus for variable, m in rest.terms})
-        limits = bounds(rest, self.ranges(state))
-        if limits is None:
-            return None
-        if limits[0] // modulus == limits[1] // modulus:
-            return rest.plus(number(-(limits[0] // modulus) * modulus))
-        self.split_where(lambda found: found // modulus, rest, state)
+        # by factors from 0 on, or each by the nearer of it and what it lacks of the modulus
+        for rest in (form(rest.constant, {variable: m % modulus for variable, m in rest.terms}),
+                     form(rest.constant, {variable: m % modulus - modulus * (2 * (m % modulus) >= modulus) for variable, m in rest.terms})):
+            rest = form(signed(rest.constant), dict(rest.terms))
+            limits = bounds(rest, self.ranges(state))
+            if limits and limits[0] // modulus == limits[1] // modulus:
+                return rest.plus(number(-(limits[0] // modulus) * modulus))
+        if limits:
+            self.split_where(lambda found: found // modulus, rest, state)
         return None
 
     def split_where(self, part, value, state):

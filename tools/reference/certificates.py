@@ -189,6 +189,19 @@ def bounds_of(n, ranges, f):
     return bounds_between(n, mod(f.constant, n), most_of_sum(ranges, risings(n, f.factors)), most_of_sum(ranges, fallings(n, f.factors)))
 
 
+def balanced(n, ms):
+    return tuple(M32 - monus(n, mod(m, n)) if monus(n, mod(m, n)) <= mod(m, n) else mod(m, n) for m in ms)
+
+
+def where_bounded(b, f):
+    return None if b is None else f
+
+
+def remainder_word(ranges, f, n):
+    rest = remainder(ranges, f, n)
+    return where_bounded(bounds_of(n, ranges, f), Form(mod(f.constant, n), balanced(n, f.factors))) if rest is None else rest
+
+
 # ---- States
 
 class Linear(NamedTuple):
@@ -333,6 +346,10 @@ def any_up_to(n):
     return Result(n, Linear(FIRST_VARIABLE)) if n < M32 else just(ANY)
 
 
+def or_up_to(n, v):
+    return any_up_to(n) if v is ANY else just(v)
+
+
 def as_number(v):
     return v.form.constant % M32 if isinstance(v, Linear) and vanishes(M32, v.form.factors) else None
 
@@ -401,12 +418,12 @@ def low_bits(f, mask):
 
 def masked(ranges, v, mask):
     if isinstance(v, Linear) and mask + 1 == 1 << mask.bit_count() and M32 % (mask + 1) == 0:
-        return low_bits(remainder(ranges, v.form, mask + 1), mask)
+        return low_bits(remainder_word(ranges, v.form, mask + 1), mask)
     return any_up_to(mask)
 
 
-def masked_by(ranges, v, mask):
-    return just(ANY) if mask is None else masked(ranges, v, mask)
+def masked_by(ranges, v, mask, otherwise):
+    return otherwise if mask is None else masked(ranges, v, mask)
 
 
 def signed(n):
@@ -439,11 +456,28 @@ def of_immediate(ranges, op, v, n):
     return or_else(None if a is None else COMPUTED["sltu" if op == "sltiu" else op[:-1]](a, n % M32), immediate_part(ranges, op, v, n))
 
 
+def without(n, f):
+    return Form(div(f.constant, n), tuple(div(m, n) for m in f.factors))
+
+
+def high_bits(f, b, amount):
+    return shifted_right(b, amount) if f is None else just(Linear(f))
+
+
+def shifted_back(ranges, v, amount):
+    if not isinstance(v, Linear):
+        return just(ANY)
+    f, b = v.form, bounds_of(M32, ranges, v.form)
+    if amount <= 32 and is_same(0, f, times(1 << amount, without(1 << amount, f))):
+        return high_bits(remainder_word(ranges, without(1 << amount, f), 1 << 32 - amount), b, amount)
+    return shifted_right(b, amount)
+
+
 def shift_part(ranges, op, v, amount):
     if op == "slli":
         return shifted_left(v, amount)
     if op == "srli":
-        return shifted_right(bounds(ranges, v), amount)
+        return shifted_back(ranges, v, amount)
     return just(ANY)
 
 
@@ -462,7 +496,7 @@ def register_part(ranges, op, v, w):
     if op == "sltu":
         return flag_of(is_below(bounds(ranges, v), bounds(ranges, w)))
     if op == "and":
-        return masked_by(ranges, v, as_number(w))
+        return masked_by(ranges, v, as_number(w), masked_by(ranges, w, as_number(v), just(ANY)))
     return just(ANY)
 
 
@@ -573,6 +607,11 @@ def behind(q, party):
     return monus(q.modulus, mod(q.capacity, q.modulus)) if party == SENDER else 0
 
 
+def is_cut(q, v, f):
+    return isinstance(v, Linear) and q.scale * q.modulus == 256 ** q.index_width and q.base < q.scale \
+        and is_same(256 ** q.index_width, v.form, scaled(q, plus(f, number(q.offset))))
+
+
 def anywhere(b):
     return Bounds(0, M32 - 1) if b is None else b
 
@@ -626,10 +665,28 @@ def address(base, offset):
     return (base + offset) % M32
 
 
-def goes_by(k, target, taken):
-    if taken is None:
-        return [going_to(k, target), going_to(k, next_pc(k.pc))]
-    return [going_to(k, target if taken else next_pc(k.pc))]
+def goes_by(taken, passed, target, following, answer):
+    if answer is None:
+        return [going_to(taken, target), going_to(passed, following)]
+    return [going_to(taken, target) if answer else going_to(passed, following)]
+
+
+def shared(k, rs1, rs2, v, w):
+    if v is ANY:
+        return k._replace(registers=with_register(k.registers, rs1, w))
+    return k._replace(registers=with_register(k.registers, rs2, v)) if w is ANY else k
+
+
+def with_equal(k, rs1, rs2):
+    return shared(k, rs1, rs2, register_at(k, rs1), register_at(k, rs2))
+
+
+def when_taken(k, op, rs1, rs2):
+    return with_equal(k, rs1, rs2) if op == "beq" else k
+
+
+def when_passed(k, op, rs1, rs2):
+    return with_equal(k, rs1, rs2) if op == "bne" else k
 
 
 def jumping(k, rd, offset, a):
@@ -656,6 +713,10 @@ def instruction_at(code, pc):
     return meaning(code[pc // 4]) if pc < 4 * len(code) else None
 
 
+def is_copy(op, n):
+    return op == "addi" and n == 0
+
+
 class Steps:
     """Of hart h, where the harts have own words at these addresses."""
 
@@ -671,6 +732,12 @@ class Steps:
 
     def addresses(self, k, n, offset):
         return anywhere(bounds(k.ranges, self.address_value(k, n, offset)))
+
+    def storable(self, v):
+        return ANY if isinstance(v, IndexFor) and v.queue >= len(self.queues) else v
+
+    def immediate_result(self, k, op, v, n):
+        return just(self.storable(v)) if is_copy(op, n) else of_immediate(k.ranges, op, v, n)
 
     # loads
 
@@ -698,9 +765,21 @@ class Steps:
         own = last_below(len(self.queues), lambda i: self.is_own_index(b, width, i))
         return self.index_loaded(k, own, self.word_loaded(k, last_below(len(self.own), lambda j: self.is_own_word(b, width, j))))
 
-    @staticmethod
-    def zero_extended(op, v):
-        return ANY if op in ("lb", "lh") else v
+    def is_index_below(self, limit, v):
+        if not isinstance(v, IndexFor):
+            return False
+        q = queue_at(self.queues, v.queue)
+        return q.modulus >= 1 and q.base + q.scale * (q.modulus - 1) < limit
+
+    def zero_extended(self, op, v):
+        if op in ("lb", "lh"):
+            return v if self.is_index_below(1 << 7 if op == "lb" else 1 << 15, v) else ANY
+        return v
+
+    def loaded(self, op, v):
+        if op in ("lbu", "lhu"):
+            return or_up_to(255 if op == "lbu" else 65535, v)
+        return just(self.zero_extended(op, v))
 
     def looked_word(self, i, s):
         return IndexFor(i, plus(plus(lifted(s.own), owned_then(s)), number(back_of(self.queues[i], self.parties[i]))))
@@ -711,7 +790,7 @@ class Steps:
 
     def after_load(self, k, op, rd, b, look):
         if look is None:
-            return with_result(k, rd, next_pc(k.pc), just(self.zero_extended(op, self.value_loaded(k, b, LOADS[op]))))
+            return with_result(k, rd, next_pc(k.pc), self.loaded(op, self.value_loaded(k, b, LOADS[op])))
         return self.after_look(k, op, rd, look, self.share_at(k, look))
 
     def may_load(self, k, b, width, look):
@@ -724,7 +803,8 @@ class Steps:
     # stores
 
     def may_move(self, k, d, v, i, s):
-        return is_within(self.queues, k.ranges, v, IndexFor(i, plus(s.own, d))) and is_same(0, plus(d, minus(s.owned, d)), s.owned) \
+        return (is_within(self.queues, k.ranges, v, IndexFor(i, plus(s.own, d))) or is_cut(self.queues[i], v, plus(s.own, d))) \
+            and is_same(0, plus(d, minus(s.owned, d)), s.owned) \
             and fits_in(most(k.ranges, d), monus(self.queues[i].modulus, 1)) and i < len(k.shares)
 
     def may_fill(self, k, party, place, width, i):
@@ -737,9 +817,6 @@ class Steps:
 
     def leaves_words(self, b, width, g):
         return g == self.h or all(is_apart(b, width, a, 4) for a in self.own_of[g])
-
-    def storable(self, v):
-        return ANY if isinstance(v, IndexFor) and v.queue >= len(self.queues) else v
 
     def word_then(self, b, width, v, a, w):
         return w if is_apart(b, width, a, 4) else self.storable(v) if is_one(b) and b.low == a and width == 4 else ANY
@@ -803,7 +880,8 @@ class Steps:
             return jumping(k, rd, offset, as_number(self.operand(k, rs1)))
         if op in TAKEN:
             rs1, rs2, offset = parts
-            return goes_by(k, address(k.pc, offset), is_branch_taken(self.queues, k.ranges, op, self.operand(k, rs1), self.operand(k, rs2)))
+            return goes_by(when_taken(k, op, rs1, rs2), when_passed(k, op, rs1, rs2), address(k.pc, offset), next_pc(k.pc),
+                           is_branch_taken(self.queues, k.ranges, op, self.operand(k, rs1), self.operand(k, rs2)))
         if op in LOADS:
             rd, rs1, offset = parts
             return self.loading(k, op, rd, self.addresses(k, rs1, offset))
@@ -812,7 +890,7 @@ class Steps:
             return self.storing(k, d, STORES[op], register_at(k, rs2), self.address_value(k, rs1, offset), self.addresses(k, rs1, offset))
         if op in IMMEDIATES:
             rd, rs1, n = parts
-            return [with_result(k, rd, next_pc(k.pc), of_immediate(k.ranges, op, self.operand(k, rs1), n))]
+            return [with_result(k, rd, next_pc(k.pc), self.immediate_result(k, op, self.operand(k, rs1), n))]
         if op in SHIFTS:
             rd, rs1, amount = parts
             return [with_result(k, rd, next_pc(k.pc), of_shift(k.ranges, op, self.operand(k, rs1), amount))]
