@@ -166,8 +166,8 @@ class Program(Values):
             if low == high and (low, width) == (queue.own(party), queue.index_width):
                 return state.words, (which, self.moved(which, value, state))
             if low < queue.slots or high + width > queue.slots + queue.size * queue.width:
-                raise Refused(state.pc, "a store " + (
-                    "to an address that is not known" if low < high else "to an index of the queue that isn't the own one, whole, or across an end of the slots"))
+                where = "to an address that is not known" if low < high else "to an index that isn't the own one, whole, or across an end of the slots"
+                raise Refused(state.pc, f"a store {where}")
             share = state.shares[which]
             if not self.owns(which, value_of_place, width, state):
                 raise Refused(state.pc, f"a store to a slot that isn't known to be owned, where the own position is "
