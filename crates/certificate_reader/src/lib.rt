@@ -3,8 +3,8 @@
 //! The contract: [`read_certificate`] returns the certificate that a text stands for, or its first fault with the line
 //! (`specs/Reading.antt`). The definition takes a text line by line: `stage_after` of `specs/Stages.antt` has which line may come,
 //! `by_keyword` of `specs/Drafts.antt` what it adds, and `cases_of` of `specs/CaseTexts.antt` how lines stand for a tree, as which
-//! the lines of any tree are read again ([`cases_are_read_again`]). Forms and values are those of `specs/FormTexts.antt`. What a
-//! text takes is within a multiple of its length, by [`limits`].
+//! the lines of any tree are read again ([`cases_are_read_again`]). Forms and values are those of `specs/FormTexts.antt`. What
+//! is read of a text is in proportion to its length, by [`limits`].
 //! This crate opens no file and judges no certificate: what it returns may name states and pcs that aren't there.
 
 #![tactic(auto)]

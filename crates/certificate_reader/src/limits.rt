@@ -1,4 +1,4 @@
-//! The limits of a certificate. They keep what a text takes within a small multiple of its length.
+//! The limits of a certificate. They keep what is read of a text in proportion to its length.
 
 /// The most queues.
 pub const MAX_QUEUES: usize = 16;
