@@ -13,19 +13,16 @@ use Rattle.owned_run.specs.Certified.{ReadsOwned}
 use Rattle.queue_certificates.specs.Certificates.{QueueCertificate, queue_at, start_at, accepts, accepts_loads}
 use Rattle.queue_checker.specs.declared.flaws.Flaw.{Flaw}
 use Rattle.queue_checker.specs.Flaws.{first_below, first_flaw, first_of, first_unowned}
-use Rattle.certificate_reader.specs.Reading.{certificate_at}
 use Rattle.engine_support.specs.declared.fault.Refusal.{Refusal}
-use Rattle.engine_support.specs.Inputs.{After}
-use Rattle.engine_support.specs.Inputs.After.{read, refused}
+use Rattle.engine_support.specs.Inputs.After.{read}
 use Rattle.engine_support.specs.Tests.{tests}
 use Rattle.engine_support.proofs.InputLaws.{IsOne, alike_after, is_one, one_litmus_text}
 use Rattle.certifying.specs.Answers.{IsCertificateAnswer, IsQueueAnswer, judged, judged_flaw, judged_reads, judged_use}
 use Rattle.certifying.specs.Inputs.{SaysCertificate, certificate_of, certificates}
 use Rattle.certifying.specs.Kept.{AreJudged, AreQueueAnswers, IsPromised, KeepsProtocol, LoadsOwnedSlots}
-use Rattle.certifying.specs.Unread.{first_unread, unread_between, unread_by, unread_of}
+use Rattle.certifying.specs.Unread.{first_unread, unread_by, unread_of}
 use Rattle.certifying.specs.Unused.{first_unused}
 use Rattle.certifying.specs.declared.judgement.Judgement.{Judgement}
-use Rattle.certifying.specs.declared.judgement.Judgement.TheVariants.{Kept, ReadsNotShown, NotShown}
 use Rattle.certifying.specs.declared.unread.Unread.{Unread}
 use Rattle.certifying.specs.declared.unused.Unused.{Unused}
 

@@ -96,7 +96,7 @@ fn do_job<R, P: Progress, Q: SearchProgress>(
 where
     R: Files + Input + Clock + Print + Eprint + AllocGlobal + Threads + Wait + Sync,
     R::Reader: IsTerminal,
-    ensures { IfOk result (λ status. status ≤ greatest_status job.command) }
+    ensures { IfOk result (λ status. status ≤ greatest_status job.entry.command) }
 {
     let shown = shows_reading && is_check(job.command);
     let line = shown.then_some(ReadingLine::new(rt));

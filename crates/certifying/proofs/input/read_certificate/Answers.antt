@@ -1,4 +1,3 @@
-use Rattle.std.proofs.Common.{◌≡◌}
 use Rattle.std.specs.String.{string_bytes}
 use Rattle.queue_certificates.specs.Certificates.{QueueCertificate}
 use Rattle.engine_support.proofs.TextInputs.{judged_read}
