@@ -69,6 +69,8 @@ class Reading:
             self.drop("tactic", end)
             if found[1] and self.is_root:
                 self.written.append("#![no_std]" + (" #![no_main]" if self.is_program else ""))
+        elif name == "cycle":
+            self.drop("cycle", end)
         elif name == "derive":
             self.take_derive(end)
         elif name in KEPT_ATTRIBUTES:

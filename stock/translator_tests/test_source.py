@@ -35,6 +35,7 @@ class Dropped(unittest.TestCase):
 
     def test_attributes_of_the_prover(self):
         self.drops("#[tactic(auto, using(crate::proofs::a))]\nfn f() {}\n", "", "fn f() {}", "")
+        self.drops("#[cycle(tree)]\nenum A {}\n", "", "enum A {}", "")
 
     def test_drop_among_derives(self):
         self.drops("#[derive(Clone, Drop, Error)]\nstruct A;\n#[derive(Drop)]\nstruct B;\n",

@@ -1,0 +1,3 @@
+pub mod FlawLaws
+pub mod Ranges
+pub mod Splits

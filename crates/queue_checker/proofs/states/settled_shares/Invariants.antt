@@ -1,0 +1,8 @@
+use Rattle.std.proofs.Common.{◌≡◌, take}
+use Rattle.std.specs.Prelude.{map}
+use Rattle.queue_certificates.specs.Forms.{settled}
+use Rattle.queue_certificates.specs.States.{share_by}
+use Rattle.queue_checker.proofs.states.settled_shares.Given as goal
+
+abbrev pub invariant-loop-share : goal.invariant-loop-share
+invariant-loop-share l = l.out.items ≡ map (share_by (settled l.ranges)) (take l.share-index l.shares)

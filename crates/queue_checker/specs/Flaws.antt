@@ -1,0 +1,53 @@
+-- The first part of a certificate that isn't accepted: of the queues first, and then of each hart its opening and its states.
+use Rattle.std.specs.Prelude.{ℕ, zero, suc, ◌+◌, ◌&&◌, nat_le, nat_lt, if◌then◌else◌, Bool, true, false, Option, None, Some, length, get_or}
+use Rattle.step_machine.specs.History.{HartOpeningValue, OpeningValue}
+use Rattle.queue_certificates.specs.Certificates.{QueueCertificate, queue_at, start_at, part_of, state_at, is_closed, owns_loads, opens_in}
+use Rattle.queue_certificates.specs.Certificates.{is_queue, opens_empty, no_hart}
+use Rattle.queue_checker.specs.declared.flaws.Flaw.{Flaw}
+use Rattle.queue_checker.specs.declared.flaws.Flaw.TheVariants.{Queue, Opening, State}
+
+-- ---- the parts of `accepts` and of `accepts_loads`
+
+abbrev pub queue_holds : OpeningValue → QueueCertificate → (i : ℕ) → Bool
+queue_holds o c i = is_queue (queue_at c i) && opens_empty o (queue_at c i) (start_at c i)
+
+abbrev pub hart_at : OpeningValue → (h : ℕ) → HartOpeningValue
+hart_at o h = get_or o.harts h no_hart
+
+abbrev pub opening_holds : OpeningValue → QueueCertificate → (h : ℕ) → Bool
+opening_holds o c h = nat_le 32 (length (hart_at o h).registers) && nat_lt (part_of c h).first (length (part_of c h).states)
+    && opens_in o c h (hart_at o h) (state_at c h (part_of c h).first).known (part_of c h).numbers
+
+abbrev pub state_holds : OpeningValue → QueueCertificate → (h n : ℕ) → Bool
+state_holds o c h n = is_closed c h (hart_at o h).code (state_at c h n).known (state_at c h n).cases
+
+abbrev pub loads_hold : OpeningValue → QueueCertificate → (i h n : ℕ) → Bool
+loads_hold o c i h n = owns_loads c h (hart_at o h).code i (state_at c h n).known (state_at c h n).cases
+
+-- ---- the first that doesn't hold
+
+-- what a finds, and else what b does
+abbrev pub first_of : {A : Type 0} → Option A → Option A → Option A
+first_of None b = b
+first_of (Some a) b = Some a
+
+-- what is found at the least number below n at which something is
+abbrev pub first_below : {A : Type 0} → ℕ → (ℕ → Option A) → Option A
+first_below zero f = None
+first_below (suc n) f = first_of (first_below n f) (f n)
+
+abbrev pub unless : {A : Type 0} → Bool → A → Option A
+unless true a = None
+unless false a = Some a
+
+abbrev pub hart_flaw : OpeningValue → QueueCertificate → (h : ℕ) → Option Flaw
+hart_flaw o c h = first_of (unless (opening_holds o c h) (Opening h))
+    (first_below (length (part_of c h).states) (λ n. unless (state_holds o c h n) (State h n)))
+
+abbrev pub first_flaw : OpeningValue → QueueCertificate → Option Flaw
+first_flaw o c = first_of (first_below (length c.queues) (λ i. unless (queue_holds o c i) (Queue i)))
+    (first_below (length o.harts) (hart_flaw o c))
+
+-- the first state of hart h with a load of queue i's slots that isn't shown to be of an owned one
+abbrev pub first_unowned : OpeningValue → QueueCertificate → (i h : ℕ) → Option ℕ
+first_unowned o c i h = first_below (length (part_of c h).states) (λ n. unless (loads_hold o c i h n) n)

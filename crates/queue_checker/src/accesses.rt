@@ -1,0 +1,266 @@
+//! Which instructions may access a queue's slots.
+
+ghost use Rattle.std.specs.Prelude.{◌≡◌, ◌<◌, ◌*◌, ◌++◌, ◌&&◌, ◌==◌, IfOk, length};
+ghost use Rattle.queue_certificates.specs.Certificates.{part_of};
+ghost use Rattle.queue_checker.specs.Flaws.{hart_at};
+ghost use Rattle.queue_checker.specs.Accesses.{reaches, stores_to, loads_from, touches, spares_in, any_below, touches_at, access_at};
+ghost use Rattle.queue_checker.specs.Accesses.{kept_access, accesses_of, accesses_below, slot_accesses};
+
+use crate::certificate::{CaseNode, Cases, KnownState, QueueCertificate};
+use crate::closing::{goes_beyond, with_high, with_low};
+use crate::loads::load_width;
+use crate::owning::code_of;
+use crate::places::{anywhere, is_apart, slot_bytes};
+use crate::sites::{listed_states, small};
+use crate::steps::{address_value, instruction_at, operand};
+use crate::stores::store_width;
+use known_values::lack::product;
+use known_values::queues::queue_in;
+use known_values::results::bounds;
+use known_values::{Bounds, Lack, Queue};
+use rv_decode::Instr;
+use std::alloc::Global;
+use step_machine::Opening;
+
+/// An instruction that in some state may access a byte of a queue's slots.
+#[derive(Clone, Copy, PartialEq, Eq, Debug)]
+pub struct SlotAccess {
+    pub hart: u32,
+    pub pc: u32,
+    pub stores: bool,
+    pub loads: bool,
+}
+
+fn reaches(queue: Queue, bounds: Bounds, width: u64) -> Result<bool, Lack>
+    ensures { IfOk result (λ may. may ≡ reaches queue bounds width) }
+{
+    let apart = is_apart(bounds, width, u64::from(queue.slots), slot_bytes(queue)?)?;
+    Ok(!apart)
+}
+
+fn stores_to(
+    alloc: Global,
+    certificate: &QueueCertificate,
+    i: u32,
+    state: &KnownState,
+    instruction: Option<Instr>,
+) -> Result<bool, Lack>
+    ensures { IfOk result (λ stores. stores ≡ stores_to certificate.now i state.now instruction) }
+{
+    match instruction {
+        Some(
+            Instr::Store {
+                op,
+                rs1,
+                offset,
+                ..
+            },
+        ) => {
+            let place = address_value(alloc, certificate, state, rs1, offset)?;
+            let bounds = anywhere(bounds(alloc, &state.ranges, &place)?);
+            reaches(queue_in(&certificate.queues, i), bounds, store_width(op))
+        }
+        Some(Instr::Amo { rs1, .. }) => {
+            let place = operand(alloc, certificate, state, rs1)?;
+            let bounds = anywhere(bounds(alloc, &state.ranges, &place)?);
+            reaches(queue_in(&certificate.queues, i), bounds, 4)
+        }
+        _ => Ok(false),
+    }
+}
+
+fn loads_from(
+    alloc: Global,
+    certificate: &QueueCertificate,
+    i: u32,
+    state: &KnownState,
+    instruction: Option<Instr>,
+) -> Result<bool, Lack>
+    ensures { IfOk result (λ loads. loads ≡ loads_from certificate.now i state.now instruction) }
+{
+    match instruction {
+        Some(
+            Instr::Load {
+                op,
+                rs1,
+                offset,
+                ..
+            },
+        ) => {
+            let place = address_value(alloc, certificate, state, rs1, offset)?;
+            let bounds = anywhere(bounds(alloc, &state.ranges, &place)?);
+            reaches(queue_in(&certificate.queues, i), bounds, load_width(op))
+        }
+        Some(Instr::Amo { rs1, .. }) => {
+            let place = operand(alloc, certificate, state, rs1)?;
+            let bounds = anywhere(bounds(alloc, &state.ranges, &place)?);
+            reaches(queue_in(&certificate.queues, i), bounds, 4)
+        }
+        _ => Ok(false),
+    }
+}
+
+/// Whether an instruction may store to the slots, or else whether it may load from them.
+fn touches(
+    alloc: Global,
+    certificate: &QueueCertificate,
+    i: u32,
+    stores: bool,
+    state: &KnownState,
+    instruction: Option<Instr>,
+) -> Result<bool, Lack>
+    ensures { IfOk result (λ may. may ≡ touches certificate.now i stores state.now instruction) }
+{
+    if stores {
+        stores_to(alloc, certificate, i, state, instruction)
+    } else {
+        loads_from(alloc, certificate, i, state, instruction)
+    }
+}
+
+/// Whether it may in no case of a state.
+fn spares_in(
+    alloc: Global,
+    certificate: &QueueCertificate,
+    i: u32,
+    stores: bool,
+    code: &[u32],
+    state: &KnownState,
+    cases: &Cases,
+) -> Result<bool, Lack>
+    ensures { IfOk result (λ spares. spares ≡ spares_in certificate.now i stores code.now state.now cases.now) }
+{
+    match &cases.node {
+        CaseNode::Leaf(_, _) => {
+            let instruction = instruction_at(code, state.pc);
+            let may = touches(alloc, certificate, i, stores, state, instruction)?;
+            Ok(!may)
+        }
+        CaseNode::Split(variable, most, low, high) => {
+            let below = with_low(alloc, state, *variable, *most)?;
+            let holds = spares_in(alloc, certificate, i, stores, code, &below, low)?;
+            if holds {
+                if goes_beyond(state, *variable, *most) {
+                    let above = with_high(alloc, state, *variable, *most)?;
+                    spares_in(alloc, certificate, i, stores, code, &above, high)
+                } else {
+                    Ok(true)
+                }
+            } else {
+                Ok(false)
+            }
+        }
+    }
+}
+
+fn touches_at(
+    alloc: Global,
+    opening: &Opening,
+    certificate: &QueueCertificate,
+    i: u32,
+    stores: bool,
+    hart: u32,
+    pc: u32,
+    n: u32,
+) -> Result<bool, Lack>
+    requires { n < length (part_of certificate.now hart).states }
+    ensures { IfOk result (λ may. may ≡ touches_at opening.now certificate.now i stores hart pc n) }
+{
+    let listed = &listed_states(certificate, hart)[n as usize];
+    if listed.known.pc == pc {
+        let code = code_of(opening, hart);
+        let its = &listed.known;
+        let spares = spares_in(alloc, certificate, i, stores, code, its, &listed.cases)?;
+        Ok(!spares)
+    } else {
+        Ok(false)
+    }
+}
+
+/// Whether the hart's instruction at a pc may in some state.
+fn any_touches(
+    alloc: Global,
+    opening: &Opening,
+    certificate: &QueueCertificate,
+    i: u32,
+    stores: bool,
+    hart: u32,
+    pc: u32,
+) -> Result<bool, Lack>
+    ensures { IfOk result (λ may. may ≡ any_below (length (part_of certificate.now hart).states) (touches_at opening.now certificate.now i stores
+        hart pc)) }
+{
+    let mut any = false;
+    for n in 0..small(listed_states(certificate, hart).len())? {
+        any = touches_at(alloc, opening, certificate, i, stores, hart, pc, n)? || any;
+    }
+    Ok(any)
+}
+
+fn access_at(
+    alloc: Global,
+    opening: &Opening,
+    certificate: &QueueCertificate,
+    i: u32,
+    hart: u32,
+    pc: u32,
+) -> Result<SlotAccess, Lack>
+    ensures { IfOk result (λ access. access ≡ access_at opening.now certificate.now i hart pc) }
+{
+    let stores = any_touches(alloc, opening, certificate, i, true, hart, pc)?;
+    let loads = any_touches(alloc, opening, certificate, i, false, hart, pc)?;
+    Ok(SlotAccess {
+        hart,
+        pc,
+        stores,
+        loads,
+    })
+}
+
+fn push_kept(out: &mut Vec<SlotAccess>, access: SlotAccess) -> Result<(), Lack>
+    ensures { IfOk result (λ _. out.new.items ≡ out.old.items ++ kept_access access) }
+{
+    if access.stores || access.loads {
+        out.push(access)?;
+    }
+    Ok(())
+}
+
+fn push_accesses(
+    alloc: Global,
+    out: &mut Vec<SlotAccess>,
+    opening: &Opening,
+    certificate: &QueueCertificate,
+    i: u32,
+    hart: u32,
+) -> Result<(), Lack>
+    ensures { IfOk result (λ _. out.new.items ≡ out.old.items ++ accesses_of opening.now certificate.now i hart (length (hart_at opening.now hart).code)) }
+{
+    for n in 0..small(code_of(opening, hart).len())? {
+        let pc = small_pc(n)?;
+        push_kept(out, access_at(alloc, opening, certificate, i, hart, pc)?)?;
+    }
+    Ok(())
+}
+
+fn small_pc(n: u32) -> Result<u32, Lack>
+    ensures { IfOk result (λ pc. pc ≡ 4 * n) }
+{
+    n.checked_mul(4).ok_or(Lack::TooLarge)
+}
+
+/// The instructions that in some state may access a byte of the queue's slots, each once, by hart and pc.
+pub fn slot_accesses(
+    alloc: Global,
+    opening: &Opening,
+    certificate: &QueueCertificate,
+    queue: u32,
+) -> Result<Vec<SlotAccess>, Lack>
+    ensures { IfOk result (λ accesses. accesses.items ≡ slot_accesses opening.now certificate.now queue) }
+{
+    let mut out = Vec::new(alloc);
+    for hart in 0..small(opening.harts.len())? {
+        push_accesses(alloc, &mut out, opening, certificate, queue, hart)?;
+    }
+    Ok(out)
+}

@@ -1,0 +1,274 @@
+//! Whether a certificate is accepted.
+
+ghost use Rattle.std.specs.Prelude.{◌≡◌, ◌<◌, IfOk, length, get_or};
+ghost use Rattle.queue_certificates.specs.Certificates.{part_of};
+ghost use Rattle.queue_checker.specs.Flaws.{hart_at, queue_holds, state_holds, first_of, first_below, unless, hart_flaw, first_flaw};
+ghost use Rattle.queue_checker.specs.Flaws.{opening_holds};
+ghost use Rattle.queue_checker.specs.declared.flaws.Flaw.TheVariants.{Queue, Opening as Opens, State};
+
+use crate::certificate::QueueCertificate;
+use crate::closing::is_closed;
+use crate::flaws::Flaw;
+use crate::opening::opening_holds;
+use crate::queues::queue_holds;
+use crate::sites::{listed_states, queue_count, small};
+use known_values::Lack;
+use std::alloc::Global;
+use step_machine::{HartOpening, Opening};
+
+fn queue_flaw(
+    opening: &Opening,
+    certificate: &QueueCertificate,
+    first: Option<Flaw>,
+    i: u32,
+) -> Result<Option<Flaw>, Lack>
+    ensures { IfOk result (λ flaw. flaw ≡ first_of first (unless (queue_holds opening.now certificate.now i) (Queue i))) }
+{
+    match first {
+        Some(flaw) => Ok(Some(flaw)),
+        None => {
+            if queue_holds(opening, certificate, i)? {
+                Ok(None)
+            } else {
+                Ok(Some(Flaw::Queue(i)))
+            }
+        }
+    }
+}
+
+fn first_queue_flaw(opening: &Opening, certificate: &QueueCertificate) -> Result<Option<Flaw>, Lack>
+    ensures { IfOk result (λ flaw. flaw ≡ first_below (length certificate.now.queues) (λ i. unless (queue_holds opening.now certificate.now i) (Queue i))) }
+{
+    let mut first = None;
+    for i in 0..queue_count(certificate)? {
+        first = queue_flaw(opening, certificate, first, i)?;
+    }
+    Ok(first)
+}
+
+fn state_flaw(
+    alloc: Global,
+    opening: &Opening,
+    certificate: &QueueCertificate,
+    hart: u32,
+    its: &HartOpening,
+    first: Option<Flaw>,
+    n: u32,
+) -> Result<Option<Flaw>, Lack>
+    requires its { its.now ≡ hart_at opening.now hart }
+    requires listed { n < length (part_of certificate.now hart).states }
+    ensures { IfOk result (λ flaw. flaw ≡ first_of first (unless (state_holds opening.now certificate.now hart n) (State hart n))) }
+{
+    match first {
+        Some(flaw) => Ok(Some(flaw)),
+        None => {
+            let listed = &listed_states(certificate, hart)[n as usize];
+            if is_closed(
+                alloc,
+                certificate,
+                hart,
+                &its.code,
+                &listed.known,
+                &listed.cases,
+            )? {
+                Ok(None)
+            } else {
+                Ok(Some(Flaw::State { hart, state: n }))
+            }
+        }
+    }
+}
+
+fn first_state_flaw(
+    alloc: Global,
+    opening: &Opening,
+    certificate: &QueueCertificate,
+    hart: u32,
+    its: &HartOpening,
+) -> Result<Option<Flaw>, Lack>
+    requires { its.now ≡ hart_at opening.now hart }
+    ensures { IfOk result (λ flaw. flaw ≡ first_below (length (part_of certificate.now hart).states) (λ n. unless (state_holds opening.now
+        certificate.now hart n) (State hart n))) }
+{
+    let mut first = None;
+    for n in 0..small(listed_states(certificate, hart).len())? {
+        first = state_flaw(alloc, opening, certificate, hart, its, first, n)?;
+    }
+    Ok(first)
+}
+
+fn hart_flaw(
+    alloc: Global,
+    opening: &Opening,
+    certificate: &QueueCertificate,
+    hart: u32,
+) -> Result<Option<Flaw>, Lack>
+    ensures { IfOk result (λ flaw. flaw ≡ hart_flaw opening.now certificate.now hart) }
+{
+    match opening.harts.get(hart as usize) {
+        None => Ok(Some(Flaw::Opening(hart))),
+        Some(its) => {
+            if opening_holds(alloc, opening, certificate, hart, its)? {
+                first_state_flaw(alloc, opening, certificate, hart, its)
+            } else {
+                Ok(Some(Flaw::Opening(hart)))
+            }
+        }
+    }
+}
+
+fn hart_flaw_after(
+    alloc: Global,
+    opening: &Opening,
+    certificate: &QueueCertificate,
+    first: Option<Flaw>,
+    hart: u32,
+) -> Result<Option<Flaw>, Lack>
+    ensures { IfOk result (λ flaw. flaw ≡ first_of first (hart_flaw opening.now certificate.now hart)) }
+{
+    match first {
+        Some(flaw) => Ok(Some(flaw)),
+        None => hart_flaw(alloc, opening, certificate, hart),
+    }
+}
+
+fn first_hart_flaw(
+    alloc: Global,
+    opening: &Opening,
+    certificate: &QueueCertificate,
+) -> Result<Option<Flaw>, Lack>
+    ensures { IfOk result (λ flaw. flaw ≡ first_below (length opening.now.harts) (hart_flaw opening.now certificate.now)) }
+{
+    let mut first = None;
+    for hart in 0..small(opening.harts.len())? {
+        first = hart_flaw_after(alloc, opening, certificate, first, hart)?;
+    }
+    Ok(first)
+}
+
+/// The first flaw of a certificate, of its queues first, and then of each hart how it opens and its states; none exactly where it is
+/// accepted.
+pub fn first_flaw(
+    alloc: Global,
+    opening: &Opening,
+    certificate: &QueueCertificate,
+) -> Result<Option<Flaw>, Lack>
+    ensures { IfOk result (λ flaw. flaw ≡ first_flaw opening.now certificate.now) }
+{
+    match first_queue_flaw(opening, certificate)? {
+        Some(flaw) => Ok(Some(flaw)),
+        None => first_hart_flaw(alloc, opening, certificate),
+    }
+}
+
+#[cfg(test)]
+mod tests {
+    use super::*;
+    use crate::certificate::{Arrow, CaseNode, Cases, HartPart, KnownState, ListedState};
+    use known_values::forms::number;
+    use known_values::{OpenedQueue, Queue};
+    use std::alloc::AllocError;
+    use std::test::Fail;
+
+    const JUMP_TO_ITSELF: u32 = 0x6f;
+
+    /// One hart, whose one instruction jumps to itself.
+    fn opening(alloc: Global) -> Result<Opening, AllocError> {
+        let its = HartOpening {
+            code: vec![in alloc; JUMP_TO_ITSELF]?,
+            registers: [0; 32],
+            inbox: Vec::new(alloc),
+        };
+        Ok(Opening {
+            harts: vec![in alloc; its]?,
+            words: Vec::new(alloc),
+        })
+    }
+
+    /// Its one state, from which an arrow leads to itself, if there is one.
+    fn listed(alloc: Global, leads: bool) -> Result<ListedState, AllocError> {
+        let mut arrows = Vec::new(alloc);
+        if leads {
+            arrows.push(Arrow {
+                to: 0,
+                forms: Vec::new(alloc),
+            })?;
+        }
+        Ok(ListedState {
+            known: KnownState {
+                pc: 0,
+                ranges: Vec::new(alloc),
+                registers: Vec::new(alloc),
+                words: Vec::new(alloc),
+                shares: Vec::new(alloc),
+            },
+            cases: Cases {
+                node: CaseNode::Leaf(number(alloc, 0), arrows),
+            },
+        })
+    }
+
+    fn certificate(alloc: Global, first: u32, leads: bool) -> Result<QueueCertificate, AllocError> {
+        let part = HartPart {
+            own: Vec::new(alloc),
+            first,
+            numbers: Vec::new(alloc),
+            states: vec![in alloc; listed(alloc, leads)?]?,
+        };
+        Ok(QueueCertificate {
+            queues: Vec::new(alloc),
+            harts: vec![in alloc; part]?,
+        })
+    }
+
+    #[test]
+    fn states_that_lead_to_listed_ones_have_no_flaw(rt: HostRuntime) -> Result<(), Fail> {
+        let opening = opening(rt.alloc())?;
+        let certificate = certificate(rt.alloc(), 0, true)?;
+        assert!(rt; first_flaw(rt.alloc(), &opening, &certificate) == Ok(None));
+        Ok(())
+    }
+
+    #[test]
+    fn a_state_without_an_arrow_is_the_flaw(rt: HostRuntime) -> Result<(), Fail> {
+        let opening = opening(rt.alloc())?;
+        let certificate = certificate(rt.alloc(), 0, false)?;
+        let flaw = Flaw::State { hart: 0, state: 0 };
+        assert!(rt; first_flaw(rt.alloc(), &opening, &certificate) == Ok(Some(flaw)));
+        Ok(())
+    }
+
+    #[test]
+    fn a_first_state_that_isnt_listed_is_the_flaw(rt: HostRuntime) -> Result<(), Fail> {
+        let opening = opening(rt.alloc())?;
+        let certificate = certificate(rt.alloc(), 1, true)?;
+        assert!(rt; first_flaw(rt.alloc(), &opening, &certificate) == Ok(Some(Flaw::Opening(0))));
+        Ok(())
+    }
+
+    #[test]
+    fn a_queue_between_a_hart_and_itself_is_the_flaw(rt: HostRuntime) -> Result<(), Fail> {
+        let opening = opening(rt.alloc())?;
+        let mut certificate = certificate(rt.alloc(), 0, true)?;
+        certificate.queues.push(OpenedQueue {
+            queue: Queue {
+                sender: 0,
+                receiver: 0,
+                head: 0,
+                tail: 4,
+                index_width: 4,
+                slots: 8,
+                size: 4,
+                width: 4,
+                capacity: 4,
+                base: 0,
+                scale: 1,
+                offset: 0,
+                modulus: 1 << 32,
+            },
+            start: 0,
+        })?;
+        assert!(rt; first_flaw(rt.alloc(), &opening, &certificate) == Ok(Some(Flaw::Queue(0))));
+        Ok(())
+    }
+}

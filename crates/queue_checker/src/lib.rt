@@ -1,0 +1,33 @@
+//! Checks certificates of queues: whether `queue_certificates` accepts one, for an opening.
+//!
+//! The contract: [`first_flaw`] returns the first part of a certificate that isn't accepted, and none exactly where `accepts` holds
+//! ([`laws_of_flaws`]); [`first_unowned`] does the same for the loads of one hart. A [`Lack`](known_values::Lack) decides nothing. This
+//! crate finds no certificate, reads no text and runs no machine.
+
+#![tactic(auto)]
+
+pub mod accesses;
+mod arrows;
+pub mod certificate;
+mod checking;
+mod closing;
+pub mod flaws;
+mod loads;
+mod opening;
+mod owning;
+mod places;
+mod queues;
+mod sites;
+mod slots;
+mod states;
+mod steps;
+mod stores;
+mod successors;
+
+pub use accesses::{SlotAccess, slot_accesses};
+pub use certificate::{
+    Arrow, CaseNode, Cases, HartPart, KnownState, ListedState, QueueCertificate, Share,
+};
+pub use checking::first_flaw;
+pub use flaws::{Flaw, laws_of_flaws};
+pub use owning::first_unowned;

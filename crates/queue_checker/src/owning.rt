@@ -1,0 +1,173 @@
+//! Whether a hart's loads of a queue's slots are of owned ones.
+
+ghost use Rattle.std.specs.Prelude.{◌≡◌, ◌<◌, ◌*◌, ◌||◌, ℕ, IfOk, length, get_or};
+ghost use Rattle.queue_certificates.specs.Steps.{is_apart, is_owned, loads_owned};
+ghost use Rattle.queue_certificates.specs.States.{no_share};
+ghost use Rattle.queue_certificates.specs.Certificates.{queue_at, own_of, part_of, owns_loads};
+ghost use Rattle.queue_checker.specs.Flaws.{hart_at, loads_hold, first_of, first_below, unless, first_unowned};
+
+use crate::certificate::{CaseNode, Cases, KnownState, QueueCertificate};
+use crate::closing::{goes_beyond, with_high, with_low};
+use crate::loads::load_width;
+use crate::places::{anywhere, is_apart, slot_bytes};
+use crate::sites::{listed_states, small};
+use crate::slots::is_owned;
+use crate::states::share_in;
+use crate::steps::{address_value, instruction_at, operand};
+use known_values::queues::queue_in;
+use known_values::results::bounds;
+use known_values::{Bounds, KnownValue, Lack};
+use rv_decode::Instr;
+use std::alloc::Global;
+use step_machine::Opening;
+
+/// Whether each byte that a load reads of queue `i`'s slots is of an owned one.
+fn reads_owned(
+    alloc: Global,
+    certificate: &QueueCertificate,
+    state: &KnownState,
+    i: u32,
+    place: &KnownValue,
+    bounds: Bounds,
+    width: u64,
+) -> Result<bool, Lack>
+    ensures { IfOk result (λ owned. owned ≡ (is_apart bounds width (queue_at certificate.now i).slots ((queue_at certificate.now i).size * (queue_at
+        certificate.now i).width) || is_owned state.now.ranges (queue_at certificate.now i) (get_or state.now.shares i no_share) place.now width)) }
+{
+    let queue = queue_in(&certificate.queues, i);
+    if is_apart(bounds, width, u64::from(queue.slots), slot_bytes(queue)?)? {
+        Ok(true)
+    } else {
+        let share = share_in(alloc, &state.shares, i as usize)?;
+        is_owned(alloc, &state.ranges, queue, &share, place, width)
+    }
+}
+
+/// Whether each byte that an instruction loads of queue `i`'s slots is of an owned one.
+fn loads_owned(
+    alloc: Global,
+    certificate: &QueueCertificate,
+    hart: u32,
+    state: &KnownState,
+    i: u32,
+    instruction: Option<Instr>,
+) -> Result<bool, Lack>
+    ensures { IfOk result (λ owned. owned ≡ loads_owned (queue_at certificate.now) (length certificate.now.queues) (own_of certificate.now) (length
+        certificate.now.harts) hart state.now i instruction) }
+{
+    match instruction {
+        Some(
+            Instr::Load {
+                op,
+                rs1,
+                offset,
+                ..
+            },
+        ) => {
+            let place = address_value(alloc, certificate, state, rs1, offset)?;
+            let bounds = anywhere(bounds(alloc, &state.ranges, &place)?);
+            reads_owned(alloc, certificate, state, i, &place, bounds, load_width(op))
+        }
+        Some(Instr::Amo { rs1, .. }) => {
+            let place = operand(alloc, certificate, state, rs1)?;
+            let bounds = anywhere(bounds(alloc, &state.ranges, &place)?);
+            reads_owned(alloc, certificate, state, i, &place, bounds, 4)
+        }
+        _ => Ok(true),
+    }
+}
+
+/// Whether that holds of a state, by these cases.
+fn owns_loads(
+    alloc: Global,
+    certificate: &QueueCertificate,
+    hart: u32,
+    code: &[u32],
+    i: u32,
+    state: &KnownState,
+    cases: &Cases,
+) -> Result<bool, Lack>
+    ensures { IfOk result (λ owns. owns ≡ owns_loads certificate.now hart code.now i state.now cases.now) }
+{
+    match &cases.node {
+        CaseNode::Leaf(_, _) => {
+            let instruction = instruction_at(code, state.pc);
+            loads_owned(alloc, certificate, hart, state, i, instruction)
+        }
+        CaseNode::Split(variable, most, low, high) => {
+            let below = with_low(alloc, state, *variable, *most)?;
+            let holds = owns_loads(alloc, certificate, hart, code, i, &below, low)?;
+            if holds {
+                if goes_beyond(state, *variable, *most) {
+                    let above = with_high(alloc, state, *variable, *most)?;
+                    owns_loads(alloc, certificate, hart, code, i, &above, high)
+                } else {
+                    Ok(true)
+                }
+            } else {
+                Ok(false)
+            }
+        }
+    }
+}
+
+fn unowned_state(
+    alloc: Global,
+    opening: &Opening,
+    certificate: &QueueCertificate,
+    queue: u32,
+    hart: u32,
+    first: Option<u32>,
+    n: u32,
+) -> Result<Option<u32>, Lack>
+    requires { n < length (part_of certificate.now hart).states }
+    ensures { IfOk result (λ state. state ≡ first_of first (unless (loads_hold opening.now certificate.now queue hart n) n)) }
+{
+    match first {
+        Some(state) => Ok(Some(state)),
+        None => {
+            let listed = &listed_states(certificate, hart)[n as usize];
+            let code = code_of(opening, hart);
+            if owns_loads(
+                alloc,
+                certificate,
+                hart,
+                code,
+                queue,
+                &listed.known,
+                &listed.cases,
+            )? {
+                Ok(None)
+            } else {
+                Ok(Some(n))
+            }
+        }
+    }
+}
+
+/// The hart's code; none, if there are fewer harts.
+pub(crate) fn code_of(opening: &Opening, hart: u32) -> &[u32]
+    ensures { result.now ≡ (hart_at opening.now hart).code }
+{
+    match opening.harts.get(hart as usize) {
+        Some(its) => &its.code,
+        None => &[],
+    }
+}
+
+/// The first state of the hart with a load of the queue's slots that isn't shown to be of an owned one.
+pub fn first_unowned(
+    alloc: Global,
+    opening: &Opening,
+    certificate: &QueueCertificate,
+    queue: u32,
+    hart: u32,
+) -> Result<Option<u32>, Lack>
+    ensures { IfOk result (λ state. state ≡ first_unowned opening.now certificate.now queue hart) }
+{
+    let mut first = None;
+    for n in 0..small(listed_states(certificate, hart).len())? {
+        first = unowned_state(alloc, opening, certificate, queue, hart, first, n)?;
+    }
+    Ok(first)
+}

@@ -1,0 +1,41 @@
+//! What a certificate says of a hart, by numbers.
+
+ghost use Rattle.std.specs.Prelude.{◌≡◌, IfOk, length};
+ghost use Rattle.queue_certificates.specs.Certificates.{own_of, part_of};
+
+use crate::certificate::{ListedState, QueueCertificate};
+use known_values::Lack;
+
+/// A count as a number; that there are more is a lack.
+pub(crate) fn small(count: usize) -> Result<u32, Lack>
+    ensures { IfOk result (λ n. n ≡ count) }
+{
+    u32::try_from(count).map_err(|_| Lack::TooLarge)
+}
+
+/// How many queues there are.
+pub(crate) fn queue_count(certificate: &QueueCertificate) -> Result<u32, Lack>
+    ensures { IfOk result (λ n. n ≡ length certificate.now.queues) }
+{
+    small(certificate.queues.len())
+}
+
+/// The addresses of the hart's own words; none, if there are fewer harts.
+pub(crate) fn own_words(certificate: &QueueCertificate, hart: u32) -> &[u32]
+    ensures { result.now ≡ own_of certificate.now hart }
+{
+    match certificate.harts.get(hart as usize) {
+        Some(part) => &part.own,
+        None => &[],
+    }
+}
+
+/// The hart's states; none, if there are fewer harts.
+pub(crate) fn listed_states(certificate: &QueueCertificate, hart: u32) -> &[ListedState]
+    ensures { result.now ≡ (part_of certificate.now hart).states }
+{
+    match certificate.harts.get(hart as usize) {
+        Some(part) => &part.states,
+        None => &[],
+    }
+}

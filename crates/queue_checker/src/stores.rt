@@ -1,0 +1,652 @@
+//! Stores and AMOs: which a party may make, and the state after one.
+
+ghost use Rattle.std.specs.Prelude.{◌≡◌, ◌+◌, ◌-◌, ◌++◌, ◌^◌, ◌||◌, ◌&&◌, ℕ, List, Some, None, IfOk, length, map, set, get_or, slice_index};
+ghost use Rattle.hart.specs.Effects.{next_pc, store_width};
+ghost use Rattle.slot_queue.specs.Ownership.{party_of};
+ghost use Rattle.slot_queue.specs.Queues.{Queue};
+ghost use Rattle.queue_certificates.specs.States.{no_share, linear, index_for, is_within};
+ghost use Rattle.queue_certificates.specs.Certificates.{queue_at, own_of};
+ghost use Rattle.queue_certificates.specs.Steps.{all_below, is_cut, moved_share, may_move, may_fill, may_store, is_apart, leaves_words, storable};
+ghost use Rattle.queue_certificates.specs.Steps.{word_then, words_then, shares_moved, after_store, storing, updated_value, after_exchange, exchanging, misses};
+
+use crate::certificate::{KnownState, QueueCertificate, Share};
+use crate::loads::{last_own_index, value_loaded};
+use crate::places::{is_apart, is_off, is_one, misses};
+use crate::sites::{own_words, queue_count, small};
+use crate::slots::is_owned;
+use crate::states::{
+    copied_shares, copied_values, going_to, next_pc, push_copies, put_share, share_in, with_result,
+};
+use crate::successors::{Successors, not_shown, one};
+use known_values::forms::{is_same, minus, number, plus};
+use known_values::lack::product;
+use known_values::queues::queue_in;
+use known_values::ranges::{fits_in, most};
+use known_values::results::{just, sum_of};
+use known_values::values::{any, index_for, is_within, plain, scaled};
+use known_values::{Bounds, Form, Known, KnownValue, Lack, Queue};
+use rv_decode::instruction::{AmoOp, StoreOp};
+use std::alloc::Global;
+
+/// How many bytes a store writes.
+pub(crate) fn store_width(op: StoreOp) -> u64
+    ensures { result ≡ store_width op }
+{
+    match op {
+        StoreOp::Byte => 1,
+        StoreOp::Half => 2,
+        StoreOp::Word => 4,
+    }
+}
+
+fn moved_share(alloc: Global, share: &Share, handed: &Form) -> Result<Share, Lack>
+    ensures { IfOk result (λ s. s ≡ moved_share share.now handed.now) }
+{
+    Ok(Share {
+        own: plus(alloc, &share.own, handed)?,
+        owned: minus(alloc, &share.owned, handed)?,
+    })
+}
+
+/// Whether the index that a store of this value writes, in as many bytes as it has, is the word that stands for a count.
+fn is_cut(alloc: Global, queue: Queue, value: &KnownValue, count: &Form) -> Result<bool, Lack>
+    ensures { IfOk result (λ cut. cut ≡ is_cut queue value.now count.now) }
+{
+    match &value.known {
+        Known::Linear(form) => is_cut_form(alloc, queue, form, count),
+        Known::Any => Ok(false),
+        Known::IndexFor(_, _) => Ok(false),
+    }
+}
+
+/// How many numbers as many bytes have.
+fn words_of(bytes: u32) -> Result<u64, Lack>
+    ensures { IfOk result (λ n. n ≡ 256 ^ bytes) }
+{
+    let mut count = 1;
+    for i in 0..bytes {
+        let _turn = i;
+        count = product(count, 256)?;
+    }
+    Ok(count)
+}
+
+fn is_cut_form(alloc: Global, queue: Queue, form: &Form, count: &Form) -> Result<bool, Lack>
+    ensures { IfOk result (λ cut. cut ≡ is_cut queue (linear form.now) count.now) }
+{
+    let words = words_of(queue.index_width)?;
+    let turn = product(queue.scale, queue.modulus)?;
+    let moved = plus(alloc, count, &number(alloc, queue.offset))?;
+    let same = is_same(words, form, &scaled(alloc, queue, &moved)?);
+    let below = u64::from(queue.base) < queue.scale;
+    Ok(turn == words && below && same)
+}
+
+/// Whether a store of this value to queue `i`'s index leaves the word there that stands for a count.
+fn stands_for(
+    alloc: Global,
+    certificate: &QueueCertificate,
+    state: &KnownState,
+    value: &KnownValue,
+    i: u32,
+    count: Form,
+) -> Result<bool, Lack>
+    ensures { IfOk result (λ stands. stands ≡ (is_within (queue_at certificate.now) state.now.ranges value.now (index_for i count)
+        || is_cut (queue_at certificate.now i) value.now count)) }
+{
+    let cut = is_cut(alloc, queue_in(&certificate.queues, i), value, &count)?;
+    let within = is_within(
+        alloc,
+        &certificate.queues,
+        &state.ranges,
+        value,
+        &index_for(i, count),
+    )?;
+    Ok(within || cut)
+}
+
+/// Whether a store of this value to queue `i`'s own index hands over as many positions as `handed`, all owned.
+fn may_move(
+    alloc: Global,
+    certificate: &QueueCertificate,
+    hart: u32,
+    state: &KnownState,
+    handed: &Form,
+    value: &KnownValue,
+    i: u32,
+    share: &Share,
+) -> Result<bool, Lack>
+    ensures { IfOk result (λ may. may ≡ may_move (queue_at certificate.now) (length certificate.now.queues) (own_of certificate.now) (length
+        certificate.now.harts) hart state.now handed.now value.now i share.now) }
+{
+    let count = plus(alloc, &share.own, handed)?;
+    let stands = stands_for(alloc, certificate, state, value, i, count)?;
+    let left = minus(alloc, &share.owned, handed)?;
+    let owned = is_same(0, &plus(alloc, handed, &left)?, &share.owned);
+    let most = most(&state.ranges, handed)?;
+    let fits = fits_in(
+        most,
+        Some(queue_in(&certificate.queues, i).modulus.saturating_sub(1)),
+    );
+    let listed = (i as usize) < state.shares.len();
+    Ok(stands && owned && fits && listed)
+}
+
+/// Whether the bytes are of a slot of queue `i` that the hart, one of its parties, owns.
+fn may_fill(
+    alloc: Global,
+    certificate: &QueueCertificate,
+    hart: u32,
+    state: &KnownState,
+    place: &KnownValue,
+    width: u64,
+    i: u32,
+) -> Result<bool, Lack>
+    ensures { IfOk result (λ may. may ≡ may_fill (queue_at certificate.now) (length certificate.now.queues) (own_of certificate.now) (length
+        certificate.now.harts) hart state.now (party_of (queue_at certificate.now i) hart) place.now width i) }
+{
+    let queue = queue_in(&certificate.queues, i);
+    if hart == queue.sender || hart == queue.receiver {
+        let share = share_in(alloc, &state.shares, i as usize)?;
+        is_owned(alloc, &state.ranges, queue, &share, place, width)
+    } else {
+        Ok(false)
+    }
+}
+
+/// Whether a store may be made, for queue `i`.
+fn may_store(
+    alloc: Global,
+    certificate: &QueueCertificate,
+    hart: u32,
+    state: &KnownState,
+    handed: &Form,
+    value: &KnownValue,
+    place: &KnownValue,
+    bounds: Bounds,
+    width: u64,
+    moves: Option<u32>,
+    i: u32,
+) -> Result<bool, Lack>
+    ensures { IfOk result (λ may. may ≡ may_store (queue_at certificate.now) (length certificate.now.queues) (own_of certificate.now) (length
+        certificate.now.harts) hart state.now handed.now value.now place.now bounds width moves i) }
+{
+    if moves == Some(i) {
+        let share = share_in(alloc, &state.shares, i as usize)?;
+        may_move(alloc, certificate, hart, state, handed, value, i, &share)
+    } else if is_off(queue_in(&certificate.queues, i), bounds, width)? {
+        Ok(true)
+    } else {
+        may_fill(alloc, certificate, hart, state, place, width, i)
+    }
+}
+
+fn both(left: bool, right: bool) -> bool
+    ensures { result ≡ (left && right) }
+{
+    left && right
+}
+
+/// Whether a store may be made, for each queue.
+fn may_store_all(
+    alloc: Global,
+    certificate: &QueueCertificate,
+    hart: u32,
+    state: &KnownState,
+    handed: &Form,
+    value: &KnownValue,
+    place: &KnownValue,
+    bounds: Bounds,
+    width: u64,
+    moves: Option<u32>,
+) -> Result<bool, Lack>
+    ensures { IfOk result (λ may. may ≡ all_below (length certificate.now.queues) (may_store (queue_at certificate.now) (length
+        certificate.now.queues) (own_of certificate.now) (length certificate.now.harts) hart state.now handed.now value.now place.now bounds width moves)) }
+{
+    let mut all = true;
+    for i in 0..queue_count(certificate)? {
+        let may = may_store(
+            alloc,
+            certificate,
+            hart,
+            state,
+            handed,
+            value,
+            place,
+            bounds,
+            width,
+            moves,
+            i,
+        )?;
+        all = both(may, all);
+    }
+    Ok(all)
+}
+
+/// Whether the bytes are none of the words at these addresses.
+fn are_apart(own: &[u32], bounds: Bounds, width: u64) -> Result<bool, Lack>
+    ensures { IfOk result (λ apart. apart ≡ all_below (length own.now) (λ j. is_apart bounds width (slice_index own.now j) 4)) }
+{
+    let mut all = true;
+    for j in 0..own.len() {
+        all = is_apart(bounds, width, u64::from(own[j]), 4)? && all;
+    }
+    Ok(all)
+}
+
+/// Whether the bytes are none of this hart's own words, if it is another.
+fn leaves_words_of(
+    certificate: &QueueCertificate,
+    hart: u32,
+    bounds: Bounds,
+    width: u64,
+    other: u32,
+) -> Result<bool, Lack>
+    ensures { IfOk result (λ leaves. leaves ≡ leaves_words (queue_at certificate.now) (length certificate.now.queues) (own_of certificate.now)
+        (length certificate.now.harts) hart bounds width other) }
+{
+    if other == hart {
+        Ok(true)
+    } else {
+        are_apart(own_words(certificate, other), bounds, width)
+    }
+}
+
+/// Whether the bytes are none of another hart's own words.
+fn leaves_words(
+    certificate: &QueueCertificate,
+    hart: u32,
+    bounds: Bounds,
+    width: u64,
+) -> Result<bool, Lack>
+    ensures { IfOk result (λ leaves. leaves ≡ all_below (length certificate.now.harts) (leaves_words (queue_at certificate.now) (length
+        certificate.now.queues) (own_of certificate.now) (length certificate.now.harts) hart bounds width)) }
+{
+    let mut all = true;
+    for other in 0..small(certificate.harts.len())? {
+        all = leaves_words_of(certificate, hart, bounds, width, other)? && all;
+    }
+    Ok(all)
+}
+
+/// What a word is known as that holds a number of which this is known.
+pub(crate) fn storable(
+    alloc: Global,
+    certificate: &QueueCertificate,
+    _hart: u32,
+    value: &KnownValue,
+) -> Result<KnownValue, Lack>
+    ensures { IfOk result (λ v. v ≡ storable (queue_at certificate.now) (length certificate.now.queues) (own_of certificate.now) (length
+        certificate.now.harts) _hart value.now) }
+{
+    match &value.known {
+        Known::IndexFor(i, _) if *i as usize >= certificate.queues.len() => Ok(any()),
+        _ => value.copy(alloc),
+    }
+}
+
+/// What is known of the own word at `address` after a store of a value.
+fn word_then(
+    alloc: Global,
+    certificate: &QueueCertificate,
+    hart: u32,
+    bounds: Bounds,
+    width: u64,
+    value: &KnownValue,
+    address: u32,
+    word: &KnownValue,
+) -> Result<KnownValue, Lack>
+    ensures { IfOk result (λ v. v ≡ word_then (queue_at certificate.now) (length certificate.now.queues) (own_of certificate.now) (length
+        certificate.now.harts) hart bounds width value.now address word.now) }
+{
+    if is_apart(bounds, width, u64::from(address), 4)? {
+        word.copy(alloc)
+    } else if is_one(bounds) && bounds.low == u64::from(address) && width == 4 {
+        storable(alloc, certificate, hart, value)
+    } else {
+        Ok(any())
+    }
+}
+
+/// What is known of the own words after a store of a value.
+fn words_then(
+    alloc: Global,
+    certificate: &QueueCertificate,
+    hart: u32,
+    bounds: Bounds,
+    width: u64,
+    value: &KnownValue,
+    mut own: &[u32],
+    mut words: &[KnownValue],
+) -> Result<Vec<KnownValue>, Lack>
+    ensures { IfOk result (λ ws. ws.items ≡ words_then (queue_at certificate.now) (length certificate.now.queues) (own_of certificate.now) (length
+        certificate.now.harts) hart bounds width value.now own.now words.now) }
+{
+    let mut out = Vec::new(alloc);
+    'words: loop {
+        match (own, words) {
+            ([], rest) => {
+                push_copies(alloc, &mut out, rest)?;
+                return Ok(out);
+            }
+            ([_first, _others @ ..], []) => return Ok(out),
+            ([address, addresses @ ..], [word, more @ ..]) => {
+                out.push(word_then(
+                    alloc,
+                    certificate,
+                    hart,
+                    bounds,
+                    width,
+                    value,
+                    *address,
+                    word,
+                )?)?;
+                own = addresses;
+                words = more;
+            }
+        }
+    }
+}
+
+/// The shares after as many positions as `handed` of queue `moves` are handed over.
+fn shares_moved(
+    alloc: Global,
+    _certificate: &QueueCertificate,
+    _hart: u32,
+    shares: &[Share],
+    handed: &Form,
+    moves: Option<u32>,
+) -> Result<Vec<Share>, Lack>
+    ensures { IfOk result (λ ss. ss.items ≡ shares_moved (queue_at _certificate.now) (length _certificate.now.queues) (own_of _certificate.now)
+        (length _certificate.now.harts) _hart shares.now handed.now moves) }
+{
+    let mut out = copied_shares(alloc, shares)?;
+    match moves {
+        None => Ok(out),
+        Some(i) => {
+            let share = share_in(alloc, shares, i as usize)?;
+            put_share(&mut out, i as usize, moved_share(alloc, &share, handed)?);
+            Ok(out)
+        }
+    }
+}
+
+/// A state with what an access that stores a value leaves in the own words and hands over.
+fn stored_state(
+    alloc: Global,
+    certificate: &QueueCertificate,
+    hart: u32,
+    state: &KnownState,
+    handed: &Form,
+    width: u64,
+    value: &KnownValue,
+    bounds: Bounds,
+    moves: Option<u32>,
+) -> Result<KnownState, Lack>
+    ensures { IfOk result (λ s. s ≡ record state.now {
+      words = words_then (queue_at certificate.now) (length certificate.now.queues) (own_of certificate.now)
+          (length certificate.now.harts) hart bounds width value.now (own_of certificate.now hart) state.now.words;
+      shares = shares_moved (queue_at certificate.now) (length certificate.now.queues) (own_of certificate.now)
+          (length certificate.now.harts) hart state.now.shares handed.now moves;
+    }) }
+{
+    let own = own_words(certificate, hart);
+    let words = words_then(
+        alloc,
+        certificate,
+        hart,
+        bounds,
+        width,
+        value,
+        own,
+        &state.words,
+    )?;
+    let shares = shares_moved(alloc, certificate, hart, &state.shares, handed, moves)?;
+    let ranges = Vec::from_slice(alloc, &state.ranges)?;
+    let registers = copied_values(alloc, &state.registers)?;
+    Ok(KnownState {
+        pc: state.pc,
+        ranges,
+        registers,
+        words,
+        shares,
+    })
+}
+
+/// The state after a store of a value.
+fn after_store(
+    alloc: Global,
+    certificate: &QueueCertificate,
+    hart: u32,
+    state: &KnownState,
+    handed: &Form,
+    width: u64,
+    value: &KnownValue,
+    bounds: Bounds,
+    moves: Option<u32>,
+) -> Result<KnownState, Lack>
+    ensures { IfOk result (λ s. s ≡ after_store (queue_at certificate.now) (length certificate.now.queues) (own_of certificate.now)
+        (length certificate.now.harts) hart state.now handed.now width value.now bounds moves) }
+{
+    let stored = stored_state(
+        alloc,
+        certificate,
+        hart,
+        state,
+        handed,
+        width,
+        value,
+        bounds,
+        moves,
+    )?;
+    going_to(alloc, &stored, next_pc(state.pc))
+}
+
+/// The states that may follow a store of a value.
+pub(crate) fn storing(
+    alloc: Global,
+    certificate: &QueueCertificate,
+    hart: u32,
+    state: &KnownState,
+    handed: &Form,
+    width: u64,
+    value: &KnownValue,
+    place: &KnownValue,
+    bounds: Bounds,
+) -> Result<Successors, Lack>
+    ensures { IfOk result (λ next. next ≡ storing (queue_at certificate.now) (length certificate.now.queues) (own_of certificate.now) (length
+        certificate.now.harts) hart state.now handed.now width value.now place.now bounds) }
+{
+    let moves = last_own_index(certificate, hart, bounds, width)?;
+    let may = may_store_all(
+        alloc,
+        certificate,
+        hart,
+        state,
+        handed,
+        value,
+        place,
+        bounds,
+        width,
+        moves,
+    )?;
+    let leaves = leaves_words(certificate, hart, bounds, width)?;
+    if may && leaves {
+        one(
+            alloc,
+            after_store(
+                alloc,
+                certificate,
+                hart,
+                state,
+                handed,
+                width,
+                value,
+                bounds,
+                moves,
+            )?,
+        )
+    } else {
+        Ok(not_shown(alloc))
+    }
+}
+
+/// The value that an AMO stores, of what it loads and what its register holds.
+fn updated_value(
+    alloc: Global,
+    certificate: &QueueCertificate,
+    hart: u32,
+    ranges: &[Option<u64>],
+    op: AmoOp,
+    old: &KnownValue,
+    with: &KnownValue,
+) -> Result<KnownValue, Lack>
+    ensures { IfOk result (λ v. v ≡ updated_value (queue_at certificate.now) (length certificate.now.queues) (own_of certificate.now) (length
+        certificate.now.harts) hart ranges.now op old.now with.now) }
+{
+    match op {
+        AmoOp::Swap => with.copy(alloc),
+        AmoOp::Add => {
+            let old = plain(alloc, &certificate.queues, ranges, old)?;
+            let with = plain(alloc, &certificate.queues, ranges, with)?;
+            sum_of(alloc, &old, &with)
+        }
+        _ => Ok(any()),
+    }
+}
+
+/// The state after an AMO that stores a value.
+fn after_exchange(
+    alloc: Global,
+    certificate: &QueueCertificate,
+    hart: u32,
+    state: &KnownState,
+    handed: &Form,
+    rd: u8,
+    value: &KnownValue,
+    bounds: Bounds,
+    moves: Option<u32>,
+) -> Result<KnownState, Lack>
+    ensures { IfOk result (λ s. s ≡ after_exchange (queue_at certificate.now) (length certificate.now.queues) (own_of certificate.now) (length
+        certificate.now.harts) hart state.now handed.now rd value.now bounds moves) }
+{
+    let stored = stored_state(
+        alloc,
+        certificate,
+        hart,
+        state,
+        handed,
+        4,
+        value,
+        bounds,
+        moves,
+    )?;
+    let read = value_loaded(alloc, certificate, hart, state, bounds, 4)?;
+    let outcome = just(alloc, &read)?;
+    with_result(alloc, &stored, rd, next_pc(state.pc), outcome)
+}
+
+/// Whether bytes are of no queue's index of the other's, whole.
+fn misses_all(
+    certificate: &QueueCertificate,
+    hart: u32,
+    bounds: Bounds,
+    width: u64,
+) -> Result<bool, Lack>
+    ensures { IfOk result (λ all. all ≡ all_below (length certificate.now.queues) (λ i. misses (queue_at certificate.now i) (party_of (queue_at
+        certificate.now i) hart) bounds width)) }
+{
+    let mut all = true;
+    for i in 0..queue_count(certificate)? {
+        all = misses(queue_in(&certificate.queues, i), hart, bounds, width) && all;
+    }
+    Ok(all)
+}
+
+/// The states that may follow an AMO on the word at these addresses.
+fn exchange_at(
+    alloc: Global,
+    certificate: &QueueCertificate,
+    hart: u32,
+    state: &KnownState,
+    handed: &Form,
+    op: AmoOp,
+    rd: u8,
+    with: &KnownValue,
+    place: &KnownValue,
+    bounds: Bounds,
+) -> Result<Successors, Lack>
+    ensures { IfOk result (λ next. next ≡ exchanging (queue_at certificate.now) (length certificate.now.queues) (own_of certificate.now) (length
+        certificate.now.harts) hart state.now handed.now op rd with.now place.now (Some bounds)) }
+{
+    let old = value_loaded(alloc, certificate, hart, state, bounds, 4)?;
+    let value = updated_value(alloc, certificate, hart, &state.ranges, op, &old, with)?;
+    let moves = last_own_index(certificate, hart, bounds, 4)?;
+    let may = may_store_all(
+        alloc,
+        certificate,
+        hart,
+        state,
+        handed,
+        &value,
+        place,
+        bounds,
+        4,
+        moves,
+    )?;
+    let leaves = leaves_words(certificate, hart, bounds, 4)?;
+    let misses = misses_all(certificate, hart, bounds, 4)?;
+    if may && leaves && misses {
+        one(
+            alloc,
+            after_exchange(
+                alloc,
+                certificate,
+                hart,
+                state,
+                handed,
+                rd,
+                &value,
+                bounds,
+                moves,
+            )?,
+        )
+    } else {
+        Ok(not_shown(alloc))
+    }
+}
+
+/// The states that may follow an AMO.
+pub(crate) fn exchanging(
+    alloc: Global,
+    certificate: &QueueCertificate,
+    hart: u32,
+    state: &KnownState,
+    handed: &Form,
+    op: AmoOp,
+    rd: u8,
+    with: &KnownValue,
+    place: &KnownValue,
+    bounds: Option<Bounds>,
+) -> Result<Successors, Lack>
+    ensures { IfOk result (λ next. next ≡ exchanging (queue_at certificate.now) (length certificate.now.queues) (own_of certificate.now) (length
+        certificate.now.harts) hart state.now handed.now op rd with.now place.now bounds) }
+{
+    match bounds {
+        None => Ok(not_shown(alloc)),
+        Some(bounds) => {
+            exchange_at(
+                alloc,
+                certificate,
+                hart,
+                state,
+                handed,
+                op,
+                rd,
+                with,
+                place,
+                bounds,
+            )
+        }
+    }
+}
