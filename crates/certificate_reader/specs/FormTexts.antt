@@ -1,0 +1,72 @@
+-- The forms and values of a certificate, in terms of n variables.
+use Rattle.std.specs.Prelude.{ℕ, ◌-◌, nat_le, nat_lt, ◌==◌, ◌&&◌, if◌then◌else◌, List, [], ◌∷◌, ◌++◌, length, replicate, Option, Some, None}
+use Rattle.std.specs.Prelude.{Result, Ok, Err}
+use Rattle.std.specs.Option.{option_and_then, option_zip}
+use Rattle.texts.specs.Numbers.{word_of}
+use Rattle.texts.specs.Results.{◌>>=◌}
+use Rattle.texts.specs.Cutting.{before, after, is_byte}
+use Rattle.texts.specs.Pieces.{pieces}
+use Rattle.texts.specs.declared.pieces.Separators.TheVariants.{Byte}
+use Rattle.queue_certificates.specs.Forms.{Form}
+use Rattle.queue_certificates.specs.States.{KnownValue, linear, index_for}
+use Rattle.certificate_reader.specs.declared.faults.CertificateFault.{CertificateFault}
+use Rattle.certificate_reader.specs.declared.faults.CertificateFault.TheVariants.{BadLine}
+use Rattle.certificate_reader.specs.Faults.{or_bad_line}
+use Rattle.certificate_reader.specs.Numbers.{count_of}
+
+-- ---- forms: 12+4*0+1*2 is 12, four times variable 0 and variable 2
+
+-- `m*j` (the `*` is 42)
+unfoldable pub multiple_of : List ℕ → Option (ℕ × ℕ)
+multiple_of piece = option_and_then (λ variable. option_zip (count_of (before (is_byte 42) piece)) (word_of variable)) (after (is_byte 42) piece)
+
+-- one factor more, of a variable that is there and comes after those that have one; variables in between aren't taken
+abbrev pub onto_factors : (n : ℕ) → List ℕ → ℕ × ℕ → Result (List ℕ) CertificateFault
+onto_factors n factors multiple = if nat_le (length factors) multiple.1 && nat_lt multiple.1 n
+    then Ok (factors ++ replicate (multiple.1 - length factors) 0 ++ multiple.0 ∷ []) else Err BadLine
+
+unfoldable pub with_factor : (n : ℕ) → List ℕ → List ℕ → Result (List ℕ) CertificateFault
+with_factor n factors piece = do
+  multiple ← or_bad_line (multiple_of piece)
+  onto_factors n factors multiple
+
+unfoldable pub factors_after : (n : ℕ) → List ℕ → List (List ℕ) → Result (List ℕ) CertificateFault
+factors_after n factors [] = Ok factors
+factors_after n factors (piece ∷ pieces) = do
+  more ← with_factor n factors piece
+  factors_after n more pieces
+
+-- pieces between `+` (43), of which the first may be a number alone
+abbrev pub form_by : (n : ℕ) → Option ℕ → (first : List ℕ) (others : List (List ℕ)) → Result Form CertificateFault
+form_by n (Some constant) first others = do
+  factors ← factors_after n [] others
+  Ok (record { constant = constant; factors = factors })
+form_by n None first others = do
+  factors ← factors_after n [] (first ∷ others)
+  Ok (record { constant = 0; factors = factors })
+
+abbrev pub form_from : (n : ℕ) → List (List ℕ) → Result Form CertificateFault
+form_from n [] = Err BadLine
+form_from n (first ∷ others) = form_by n (count_of first) first others
+
+unfoldable pub form_of : (n : ℕ) → List ℕ → Result Form CertificateFault
+form_of n text = form_from n (pieces (Byte 43) text)
+
+-- ---- values: a form, or `@` (64), a queue of the N and `:` (58) before one
+
+abbrev pub index_by : (N n : ℕ) → Option ℕ → Option (List ℕ) → Result KnownValue CertificateFault
+index_by N n None text = Err BadLine
+index_by N n (Some i) None = Err BadLine
+index_by N n (Some i) (Some text) = if nat_lt i N then form_of n text >>= (λ form. Ok (index_for i form)) else Err BadLine
+
+unfoldable pub index_of : (N n : ℕ) → List ℕ → Result KnownValue CertificateFault
+index_of N n text = index_by N n (word_of (before (is_byte 58) text)) (after (is_byte 58) text)
+
+unfoldable pub linear_of : (n : ℕ) → List ℕ → Result KnownValue CertificateFault
+linear_of n text = do
+  form ← form_of n text
+  Ok (linear form)
+
+unfoldable pub known_value_in : (N n : ℕ) → List ℕ → Result KnownValue CertificateFault
+known_value_in N n [] = Err BadLine
+known_value_in N n (byte ∷ text) = if byte == 64 then index_of N n text else linear_of n (byte ∷ text)

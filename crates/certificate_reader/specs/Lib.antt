@@ -1,0 +1,10 @@
+pub mod Faults
+pub mod Numbers
+pub mod FormTexts
+pub mod Lists
+pub mod CaseTexts
+pub mod Growths
+pub mod Stages
+pub mod Drafts
+pub mod DraftValues
+pub mod Reading

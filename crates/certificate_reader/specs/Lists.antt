@@ -1,0 +1,31 @@
+-- Lists that the words of a line say, one element each.
+use Rattle.std.specs.Prelude.{ℕ, List, Option, Some, None, Result, if◌then◌else◌, codes}
+use Rattle.std.specs.Option.{option_map}
+use Rattle.std.specs.Str.{bytes_eq}
+use Rattle.texts.specs.Numbers.{word_of}
+use Rattle.texts.specs.Formats.{each}
+use Rattle.queue_certificates.specs.Forms.{Form}
+use Rattle.certificate_reader.specs.declared.faults.CertificateFault.{CertificateFault}
+use Rattle.certificate_reader.specs.Faults.{or_bad_line}
+use Rattle.certificate_reader.specs.Numbers.{count_of}
+use Rattle.certificate_reader.specs.FormTexts.{form_of}
+
+unfoldable pub words_in : List (List ℕ) → Result (List ℕ) CertificateFault
+words_in words = each (λ word. or_bad_line (word_of word)) words
+
+unfoldable pub counts_in : List (List ℕ) → Result (List ℕ) CertificateFault
+counts_in words = each (λ word. or_bad_line (count_of word)) words
+
+abbrev pub some : ℕ → Option ℕ
+some n = Some n
+
+-- the most that a variable may be, or `-` where it has no bound
+abbrev pub range_of : List ℕ → Option (Option ℕ)
+range_of word = if bytes_eq word (codes "-") then Some None else option_map some (count_of word)
+
+unfoldable pub ranges_in : List (List ℕ) → Result (List (Option ℕ)) CertificateFault
+ranges_in words = each (λ word. or_bad_line (range_of word)) words
+
+-- forms of n variables
+unfoldable pub forms_in : (n : ℕ) → List (List ℕ) → Result (List Form) CertificateFault
+forms_in n words = each (form_of n) words

@@ -1,0 +1,26 @@
+//! The texts of certificates.
+//!
+//! The contract: [`read_certificate`] returns the certificate that a text stands for, or its first fault with the line
+//! (`specs/Reading.antt`). The definition takes a text line by line: `stage_after` of `specs/Stages.antt` has which line may come,
+//! `by_keyword` of `specs/Drafts.antt` what it adds, and `cases_of` of `specs/CaseTexts.antt` how lines stand for a tree, as which
+//! the lines of any tree are read again ([`cases_are_read_again`]). Forms and values are those of `specs/FormTexts.antt`. What
+//! is read of a text is in proportion to its length, by [`limits`].
+//! This crate opens no file and judges no certificate: what it returns may name states and pcs that aren't there.
+
+#![tactic(auto)]
+
+mod cases;
+mod draft;
+pub mod faults;
+mod forms;
+pub mod laws;
+pub mod limits;
+mod lists;
+mod numbers;
+mod parts;
+pub mod reading;
+mod stages;
+
+pub use faults::{CertificateError, CertificateFault};
+pub use laws::cases_are_read_again;
+pub use reading::read_certificate;

@@ -1,0 +1,16 @@
+//! The limits of a certificate. They keep what is read of a text in proportion to its length.
+
+/// The most queues.
+pub const MAX_QUEUES: usize = 16;
+
+/// The most harts.
+pub const MAX_HARTS: usize = 64;
+
+/// The most words of a hart's own.
+pub const MAX_WORDS: usize = 64;
+
+/// The most variables of a state.
+pub const MAX_VARIABLES: usize = 64;
+
+/// The most states of all harts.
+pub const MAX_STATES: usize = 16_384;

@@ -1,0 +1,240 @@
+//! What a line says of a queue, a hart, a state or a case, after its first word.
+
+ghost use Rattle.std.specs.Prelude.{◌≡◌, ◌<◌, ◌^◌, IfOk, replicate};
+ghost use Rattle.texts.specs.Results.{GivesUpToMemory, refusal_of};
+ghost use Rattle.texts.specs.Cutting.{tokens};
+ghost use Rattle.queue_certificates.specs.Forms.{number};
+ghost use Rattle.queue_certificates.specs.States.{any, no_share};
+ghost use Rattle.certificate_reader.specs.Drafts.{queue_of, with_queue, hart_opening, only_value, with_value, form_at, share_of, with_share};
+ghost use Rattle.certificate_reader.specs.Drafts.{split_of, leaf_of, arrow_of, own_of, ranges_of};
+
+use crate::cases::Node;
+use crate::faults::{BAD, LineError, TOO_MANY};
+use crate::forms::{form, value};
+use crate::limits::{MAX_QUEUES, MAX_VARIABLES, MAX_WORDS};
+use crate::lists::{counts, forms, ranges, words};
+use crate::numbers::{end, first_count, first_five, first_word, four_counts};
+use known_values::{Form, KnownValue, OpenedQueue, Queue};
+use queue_checker::{Arrow, Share};
+use std::alloc::{AllocError, Global};
+use texts::first_token;
+
+/// The queue that the words say, and the count at which it opens.
+#[tactic(auto, unfolding(crate::specs::Drafts::queue_of))]
+fn queue(text: &[u8]) -> Result<OpenedQueue, LineError>
+    ensures { GivesUpToMemory refusal_of (λ queue. queue) result (queue_of (tokens text.now)) }
+{
+    let ((sender, receiver, head, tail, index_width), rest) = first_five(text)?;
+    let ((slots, size, width, capacity, base), rest) = first_five(rest)?;
+    let (scale, offset, modulus, start) = four_counts(rest)?;
+    Ok(OpenedQueue {
+        queue: Queue {
+            sender,
+            receiver,
+            head,
+            tail,
+            index_width,
+            slots,
+            size,
+            width,
+            capacity,
+            base,
+            scale,
+            offset,
+            modulus,
+        },
+        start,
+    })
+}
+
+/// Adds the queue that the words say.
+#[tactic(auto, unfolding(crate::specs::Drafts::with_queue))]
+pub fn add_queue(queues: &mut Vec<OpenedQueue>, text: &[u8]) -> Result<(), LineError>
+    ensures { GivesUpToMemory refusal_of (λ x. queues.new.items) result (with_queue queues.old.items (tokens text.now)) }
+{
+    let queue = queue(text)?;
+    if queues.len() >= MAX_QUEUES {
+        return Err(TOO_MANY);
+    }
+    queues.push(queue)?;
+    Ok(())
+}
+
+/// The addresses of a hart's own words.
+#[tactic(auto, unfolding(crate::specs::Drafts::own_of))]
+pub fn own_words(alloc: Global, text: &[u8]) -> Result<Vec<u32>, LineError>
+    ensures { GivesUpToMemory refusal_of (λ own. own.items) result (own_of (tokens text.now)) }
+{
+    let own = words(alloc, text)?;
+    if own.len() > MAX_WORDS {
+        return Err(TOO_MANY);
+    }
+    Ok(own)
+}
+
+/// The state in which a hart opens, and the numbers of its variables.
+#[tactic(auto, unfolding(crate::specs::Drafts::hart_opening))]
+pub fn opening(alloc: Global, text: &[u8]) -> Result<(u32, Vec<u64>), LineError>
+    ensures { GivesUpToMemory refusal_of (λ opening. (opening.0, opening.1.items)) result (hart_opening (tokens text.now)) }
+{
+    let (first, rest) = first_word(text)?;
+    let numbers = counts(alloc, rest)?;
+    if numbers.len() > MAX_VARIABLES {
+        return Err(TOO_MANY);
+    }
+    Ok((first, numbers))
+}
+
+/// The ranges of a state's variables.
+#[tactic(auto, unfolding(crate::specs::Drafts::ranges_of))]
+pub fn variables(alloc: Global, text: &[u8]) -> Result<Vec<Option<u64>>, LineError>
+    ensures { GivesUpToMemory refusal_of (λ ranges. ranges.items) result (ranges_of (tokens text.now)) }
+{
+    let ranges = ranges(alloc, text)?;
+    if ranges.len() > MAX_VARIABLES {
+        return Err(TOO_MANY);
+    }
+    Ok(ranges)
+}
+
+fn only_value(
+    alloc: Global,
+    queues: usize,
+    variables: usize,
+    text: &[u8],
+) -> Result<KnownValue, LineError>
+    ensures { GivesUpToMemory refusal_of (λ value. value) result (only_value queues variables (tokens text.now)) }
+{
+    let (word, rest) = first_token(text).ok_or(BAD)?;
+    end(rest)?;
+    value(alloc, queues, variables, word)
+}
+
+/// Takes what the words say is known at one of the places from `least` on.
+#[tactic(auto, unfolding(crate::specs::Drafts::with_value))]
+pub fn set_value(
+    alloc: Global,
+    least: usize,
+    queues: usize,
+    variables: usize,
+    values: &mut Vec<KnownValue>,
+    text: &[u8],
+) -> Result<(), LineError>
+    ensures { GivesUpToMemory refusal_of (λ x. values.new.items) result (with_value least queues variables values.old.items (tokens text.now)) }
+{
+    let (place, rest) = first_word(text)?;
+    let value = only_value(alloc, queues, variables, rest)?;
+    let place = place as usize;
+    if place < least || place >= values.len() {
+        return Err(BAD);
+    }
+    values[place] = value;
+    Ok(())
+}
+
+fn first_form(alloc: Global, variables: usize, text: &[u8]) -> Result<(Form, &[u8]), LineError>
+    ensures { GivesUpToMemory refusal_of (λ cut. (cut.0, tokens cut.1.now)) result (form_at variables (tokens text.now)) }
+{
+    let (word, rest) = first_token(text).ok_or(BAD)?;
+    let form = form(alloc, variables, word)?;
+    Ok((form, rest))
+}
+
+#[tactic(auto, unfolding(crate::specs::Drafts::share_of))]
+fn share(alloc: Global, variables: usize, text: &[u8]) -> Result<Share, LineError>
+    ensures { GivesUpToMemory refusal_of (λ share. share) result (share_of variables (tokens text.now)) }
+{
+    let (own, rest) = first_form(alloc, variables, text)?;
+    let (owned, rest) = first_form(alloc, variables, rest)?;
+    end(rest)?;
+    Ok(Share { own, owned })
+}
+
+/// Takes what the words say of the hart's share of a queue.
+#[tactic(auto, unfolding(crate::specs::Drafts::with_share))]
+pub fn set_share(
+    alloc: Global,
+    variables: usize,
+    shares: &mut Vec<Share>,
+    text: &[u8],
+) -> Result<(), LineError>
+    ensures { GivesUpToMemory refusal_of (λ x. shares.new.items) result (with_share variables shares.old.items (tokens text.now)) }
+{
+    let (place, rest) = first_word(text)?;
+    let share = share(alloc, variables, rest)?;
+    let place = place as usize;
+    if place >= shares.len() {
+        return Err(BAD);
+    }
+    shares[place] = share;
+    Ok(())
+}
+
+#[tactic(auto, unfolding(crate::specs::Drafts::split_of))]
+pub fn split(variables: usize, text: &[u8]) -> Result<Node, LineError>
+    ensures { GivesUpToMemory refusal_of (λ node. node) result (split_of variables (tokens text.now)) }
+{
+    let (variable, rest) = first_word(text)?;
+    let (most, rest) = first_count(rest)?;
+    end(rest)?;
+    if variable as usize >= variables {
+        return Err(BAD);
+    }
+    Ok(Node::Split(variable, most))
+}
+
+#[tactic(auto, unfolding(crate::specs::Drafts::leaf_of))]
+pub fn leaf(alloc: Global, variables: usize, text: &[u8]) -> Result<Node, LineError>
+    ensures { GivesUpToMemory refusal_of (λ node. node) result (leaf_of variables (tokens text.now)) }
+{
+    let (handed, rest) = first_form(alloc, variables, text)?;
+    end(rest)?;
+    Ok(Node::Leaf(handed))
+}
+
+#[tactic(auto, unfolding(crate::specs::Drafts::arrow_of))]
+pub fn arrow(alloc: Global, variables: usize, text: &[u8]) -> Result<Node, LineError>
+    requires { variables < 2 ^ 63 }
+    ensures { GivesUpToMemory refusal_of (λ node. node) result (arrow_of variables (tokens text.now)) }
+{
+    let (to, rest) = first_word(text)?;
+    let forms = forms(alloc, variables + 1, rest)?;
+    if forms.len() > MAX_VARIABLES {
+        return Err(TOO_MANY);
+    }
+    Ok(Node::To(Arrow { to, forms }))
+}
+
+/// Of so many registers or words nothing is known.
+pub fn unknown(alloc: Global, count: usize) -> Result<Vec<KnownValue>, AllocError>
+    ensures { IfOk result (λ values. values.items ≡ replicate count any) }
+{
+    let mut values = Vec::new(alloc);
+    for _ in 0..count {
+        values.push(known_values::values::any())?;
+    }
+    Ok(values)
+}
+
+fn nothing(alloc: Global) -> Form
+    ensures { result ≡ number 0 }
+{
+    Form {
+        constant: 0,
+        factors: Vec::new(alloc),
+    }
+}
+
+/// Of so many queues the hart has no share.
+pub fn no_shares(alloc: Global, count: usize) -> Result<Vec<Share>, AllocError>
+    ensures { IfOk result (λ shares. shares.items ≡ replicate count no_share) }
+{
+    let mut shares = Vec::new(alloc);
+    for _ in 0..count {
+        shares.push(Share {
+            own: nothing(alloc),
+            owned: nothing(alloc),
+        })?;
+    }
+    Ok(shares)
+}

@@ -1,0 +1,160 @@
+"""Certificates of queues as docs/formats.md has their texts: what a text says, or its first fault with its line."""
+
+import re
+import sys
+
+import words
+from digits import of_digits
+from faults import at_line
+
+HEAD, LINE, PLACE, LIMIT, UNFINISHED = 45, 46, 47, 48, 49
+QUEUES, HARTS, OWN, STATES, VARIABLES, SPLITS = 16, 64, 64, 16_384, 64, 1024
+NAMES = ("queue", "hart", "own", "open", "state", "most", "reg", "word", "share", "split", "leaf", "to")
+KNOWN = ("reg", "word", "share")
+ROUND = 2**32
+
+sys.setrecursionlimit(10_000)
+
+
+class Bad(Exception):
+    """The words of a line aren't those that it needs."""
+
+
+def need(holds):
+    if not holds:
+        raise Bad
+
+
+def number(word):
+    need(re.fullmatch("[0-9]+", word) and of_digits(word) < ROUND)
+    return of_digits(word)
+
+
+def count(word):
+    return ROUND if word == str(ROUND) else number(word)
+
+
+def form(word, variables):
+    """The constant of a form, and its factors up to the last one that it names."""
+    first, *others = word.split("+")
+    constant = 0
+    if "*" in first:
+        others = [first, *others]
+    else:
+        constant = count(first)
+    factors = []
+    for piece in others:
+        need("*" in piece)
+        factor, variable = piece.split("*", 1)
+        factor, variable = count(factor), number(variable)
+        need(len(factors) <= variable < variables)
+        factors += [0] * (variable - len(factors)) + [factor]
+    return constant, factors
+
+
+class Reader:
+    """Goes down a text: each function takes the lines of what it is named after."""
+
+    def __init__(self, text):
+        split = words.lines(text)
+        self.lines = [(at, found) for at, line in enumerate(split, 1) if (found := re.findall(r"[^ \t]+", line))]
+        self.end, self.at, self.listed, self.queues = len(split) + 1, 0, 0, []
+
+    def fault(self, kind):
+        return at_line(kind, self.lines[self.at][0] if self.at < len(self.lines) else self.end)
+
+    def name(self):
+        """What the next line begins with, or nothing at the end."""
+        if self.at == len(self.lines):
+            return None
+        name = self.lines[self.at][1][0]
+        if name not in NAMES:
+            raise self.fault(LINE)
+        return name
+
+    def take(self, names, made, few=lambda found: True):
+        """What `made` makes of the words of the next line, which must begin with one of these names and keep its limit."""
+        name = self.name()
+        if name not in names:
+            raise self.fault(PLACE if name else UNFINISHED)
+        try:
+            found = made(*self.lines[self.at][1][1:])
+        except (Bad, TypeError):
+            raise self.fault(LINE) from None
+        if not few(found):
+            raise self.fault(LIMIT)
+        self.at += 1
+        return found
+
+    def certificate(self):
+        if self.at == len(self.lines) or self.lines[self.at][1] != ["ztso-queues", "1"]:
+            raise self.fault(HEAD)
+        self.at, harts = 1, []
+        while self.name() == "queue":
+            self.queues.append(self.take(("queue",), self.queue, lambda found: len(self.queues) < QUEUES))
+        while not harts or self.name():
+            harts.append(self.hart(len(harts)))
+        return self.queues, harts
+
+    def queue(self, *given):
+        need(len(given) == 14)
+        return [*map(number, given[:10]), *map(count, given[10:])]
+
+    def hart(self, before):
+        expected = ("hart",) if before or self.name() == "hart" or not self.name() else ("queue", "hart")
+        self.take(expected, lambda: None, lambda found: before < HARTS)
+        self.own, states = [], []
+        if self.name() == "own":
+            self.own = self.take(("own",), lambda *given: [*map(number, given)], lambda found: len(found) <= OWN)
+        opening = self.take(("open",), lambda first, *given: (number(first), [*map(count, given)]), lambda found: len(found[1]) <= VARIABLES)
+        while self.name() not in (None, "hart"):
+            states.append(self.state())
+        return self.own, opening, states
+
+    def state(self):
+        pc = self.take(("state",), number, lambda found: self.listed < STATES)
+        self.listed += 1
+        self.most, known, self.splits = [], {}, 0
+        if self.name() == "most":
+            self.most = self.take(("most",), lambda *given: [None if word == "-" else count(word) for word in given],
+                                  lambda found: len(found) <= VARIABLES)
+        while self.name() in KNOWN:
+            name = self.name()
+            place, what = self.take(KNOWN, self.share if name == "share" else self.value_of(name))
+            known[name, place] = what
+        return pc, self.most, known, self.case((*KNOWN, "split", "leaf"))
+
+    def value_of(self, name):
+        def made(place, word):
+            least, most = (1, 32) if name == "reg" else (0, len(self.own))
+            need(least <= number(place) < most)
+            if not word.startswith("@"):
+                return number(place), form(word, len(self.most))
+            queue, colon, rest = word[1:].partition(":")
+            need(colon and number(queue) < len(self.queues))
+            return number(place), (number(queue), *form(rest, len(self.most)))
+        return made
+
+    def share(self, queue, own, owned):
+        need(number(queue) < len(self.queues))
+        return number(queue), (form(own, len(self.most)), form(owned, len(self.most)))
+
+    def split(self, variable, most):
+        need(number(variable) < len(self.most))
+        return number(variable), count(most)
+
+    def case(self, names=("split", "leaf")):
+        if self.name() == "split":
+            at = self.take(names, self.split, lambda found: self.splits < SPLITS)
+            self.splits += 1
+            return at, self.case(), self.case()
+        handed, arrows = self.take([name for name in names if name == "leaf"], lambda word: form(word, len(self.most))), []
+        while self.name() == "to":
+            arrows.append(self.take(("to",), lambda to, *forms: (number(to), [form(word, len(self.most) + 1) for word in forms]),
+                                    lambda found: len(found[1]) <= VARIABLES))
+        return handed, arrows
+
+
+def read(text):
+    """What a text says: the numbers of each queue, and of each hart its own words, how it opens, and its states."""
+    return Reader(text).certificate()
