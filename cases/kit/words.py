@@ -1,5 +1,6 @@
 """The words of specs: one that another crate's specs or sources cite stands for one thing, so no second crate defines it.
-The invariants of the rings use the same words for the same things, each of its own counters."""
+The invariants of the rings use the same words for the same things, each of its own counters; and the crates that compute what
+another one defines speak its language, and no other."""
 
 import re
 import sys
@@ -15,6 +16,11 @@ DEFINED = re.compile(r"^(?:(?:abbrev|unfoldable|opaque) )?pub (?:record |data )?
 CITED = re.compile(r"^\s*(?:pub )?(?:ghost )?use Rattle\.(?P<crate>\w+)\.specs\.[\w.]+\.\{(?P<names>[^}]*)\}", re.M)
 
 
+# which crates compute what a crate defines
+COMPUTE = {"queue_certificates": {"known_values", "queue_checker", "certificate_reader", "certifying"},
+           "known_values": {"queue_checker", "certificate_reader", "certifying"}}
+
+
 def definitions():
     """Of each public word of specs, the crates that define it."""
     crates = defaultdict(set)
@@ -28,8 +34,9 @@ def citations():
     """The words that other crates' specs and sources cite, each with the crate that defines it."""
     cited = set()
     for path in (*ROOT.glob("crates/*/specs/**/*.antt"), *ROOT.glob("crates/*/src/**/*.rt")):
+        by = path.relative_to(ROOT).parts[1]
         for found in CITED.finditer(path.read_text()):
-            if found["crate"] != path.relative_to(ROOT).parts[1]:
+            if found["crate"] != by and by not in COMPUTE.get(found["crate"], ()):
                 cited |= {(name.split()[0], found["crate"]) for name in found["names"].split(",")}
     return cited
 

@@ -1,4 +1,5 @@
-/* Head, tail and mask in one struct, entries of two words in an array of their own, several at once.
+/* Head, tail and mask in one struct, entries of two words in an array of their own, several at once. The mask stands first
+   in its `and`.
    queue: head=ring_tail,tail=ring_head,slots=entries_0_data,size=4,width=8
    answer: covered */
 #include <stdatomic.h>

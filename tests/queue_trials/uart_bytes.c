@@ -1,4 +1,5 @@
-/* The ring of a UART driver: bytes, indices of one byte, 256 slots.
+/* The ring of a UART driver: bytes, indices of one byte, 256 slots. An index goes on to 256 in a
+   register, of which 0 is stored.
    queue: head=r_head,tail=r_head+1,slots=r_data,size=256,width=1,bytes=1,index=wrapping
    answer: covered */
 #include <stdatomic.h>

@@ -20,9 +20,6 @@ class Form(NamedTuple):
     constant: int
     terms: tuple = ()
 
-    def is_number(self):
-        return not self.terms
-
     def variables(self):
         return [variable for variable, _ in self.terms]
 

@@ -6,9 +6,14 @@ from .live import live_registers
 from .search import Mode, Search
 from .steps import Program, Refused
 
-# how a hart's states are searched, one way after the other until one succeeds: what is told apart, whether what an earlier
-# search saw of copies of the other's index is taken up, by what values are spelled first, and for how many seconds
-WAYS = ((Mode.TOGETHER, "npA", 6), (Mode.TOGETHER, "npA", 6), (Mode.TOGETHER, "pnA", 6), (Mode.BY_POSITION, "npA", 25), (Mode.BY_OWNED, "npA", 25))
+# how a hart's states are searched, one way after the other until one succeeds: what is told apart, whether bytes and halves that are loaded
+# count as numbers of a range, and by what values are spelled first. What an earlier search saw of copies of the other's index is taken up,
+# so the first way is gone twice
+WAYS = ((Mode.TOGETHER, False, "npA"), (Mode.TOGETHER, False, "npA"), (Mode.TOGETHER, False, "pnA"), (Mode.TOGETHER, True, "npA"),
+        (Mode.BY_POSITION, False, "npA"), (Mode.BY_OWNED, False, "npA"))
+# for how many seconds of the processor each way is gone, first and, if none succeeds, again
+SECONDS = ((0.5, 0.5, 0.5, 0.5, 1, 1), (5, 5, 5, 5, 15, 15))
+TURNS = [(turn, at) for turn in range(len(SECONDS)) for at in range(len(WAYS))]
 MOST_ROUNDS = 60
 
 
@@ -25,7 +30,7 @@ class Harts:
     def __init__(self, test, queues):
         self.test, self.queues = test, queues
         self.live = [live_registers(hart.code) for hart in test.harts]
-        self.ways = [0] * len(test.harts)
+        self.turns, self.copies = [0] * len(test.harts), [frozenset()] * len(test.harts)
         self.shared = {place for place in test.words if any(queue.meets(place, 4) for queue in queues)}
 
     def found(self):
@@ -42,21 +47,28 @@ class Harts:
     def hart(self, hart, others):
         """The search over one hart, whose own words are those that no other one stores to."""
         kept = sorted(set(self.test.words) - self.shared - others)
-        copies, refused, reads = frozenset(), None, None
-        for at in range(self.ways[hart], len(WAYS)):
-            mode, order, seconds = WAYS[at]
-            program = Program(self.test, self.queues, hart, kept, self.live[hart])
-            search = Search(program, mode, copies, order, seconds)
+        ended, refused, reads = set(), None, None
+        for turn, at in TURNS[self.turns[hart]:]:
+            mode, with_bytes, order = WAYS[at]
+            asked = *WAYS[at], self.copies[hart]
+            if asked in ended:
+                continue
+            program = Program(self.test, self.queues, hart, kept, self.live[hart], with_bytes)
+            search = Search(program, mode, self.copies[hart], order, SECONDS[turn][at])
             try:
                 search.run()
             except Refused as why:
-                refused = refused or (program, search, why)
-                copies |= search.seen
-                continue
-            if not program.unowned:
-                # a further round begins here
-                self.ways[hart] = at
-                return FoundHart(hart, program, search, None)
-            reads = reads or FoundHart(hart, program, search, None)
-            copies |= search.seen
+                # one that names an instruction is told first
+                if not refused or refused[2].pc is None:
+                    refused = program, search, why
+                if why.pc is not None:
+                    ended.add(asked)
+            else:
+                ended.add(asked)
+                if not program.unowned:
+                    # a further round begins here
+                    self.turns[hart] = TURNS.index((turn, at))
+                    return FoundHart(hart, program, search, None)
+                reads = reads or FoundHart(hart, program, search, None)
+            self.copies[hart] |= search.seen
         return reads or FoundHart(hart, *refused)

@@ -17,6 +17,8 @@ KEPT = 12
 # so many are joined by their own positions, before all positions are taken
 EARLY = 4
 MOST_STATES = 150_000
+# the time is looked at once in so many
+LOOKS = 16
 MOST_FACTOR = 1 << 20
 
 
@@ -37,7 +39,7 @@ class Group:
 
 class Search:
     def __init__(self, program, mode, copies=frozenset(), order="npA", seconds=25):
-        self.program, self.mode, self.order, self.ends = program, mode, order, time.monotonic() + seconds
+        self.program, self.mode, self.order, self.ends = program, mode, order, time.process_time() + seconds
         self.groups, self.number = {}, 0
         # at which pcs an earlier search saw what the other's index held in which register or word; and where this one does
         self.copies, self.seen = copies, set()
@@ -156,7 +158,7 @@ class Search:
         self.seen.update((state.pc, where) for where, value in enumerate(state.registers + state.words) if value is not None and any(
             kind == "A" for kind, _ in (value.count if isinstance(value, Word) else value).variables()))
         self.number += 1
-        if self.number > MOST_STATES or time.monotonic() > self.ends:
+        if self.number > MOST_STATES or self.number % LOOKS == 0 and time.process_time() > self.ends:
             raise Refused(None, "no end was found")
         if len(groups) < APART and self.is_early(state):
             groups.append(Group([state], state))

@@ -36,10 +36,10 @@ class Next(NamedTuple):
 class Program(Values):
     """One hart's code with what holds of all its states."""
 
-    def __init__(self, test, queues, hart, kept, live):
+    def __init__(self, test, queues, hart, kept, live, with_bytes=False):
         self.hart, self.code = hart, test.harts[hart].code
         super().__init__(queues, hart)
-        self.kept = kept
+        self.kept, self.with_bytes = kept, with_bytes
         self.at = {place: which for which, place in enumerate(kept)}
         self.stored = set()    # words that it may store to, apart from queues
         self.live, self.edges = live, {}
@@ -100,6 +100,8 @@ class Program(Values):
             return None
         distance = signed(found[0])
         first, last = distance // queue.width, (distance + width - 1) // queue.width
+        if first != last:
+            return None
         low, high = share.first - queue.size * turn, share.last - queue.size * turn
         for edge in {first, last}:
             # the place is a turn behind where the position is small
@@ -132,12 +134,17 @@ class Program(Values):
                         self.refuse_looks(state, low, high, width)
                 return None, None
             if (low, high, width) == (queue.own(party), queue.own(party), queue.index_width):
-                return self.extended(self.own_index(which, state), width, is_signed, state), None
+                return (None if self.is_negative(queue, width, is_signed) else self.own_index(which, state)), None
             if (low, high, width) == (queue.other(party), queue.other(party), queue.index_width):
-                return (None if is_signed and width < 4 else self.other_index(which)), which
+                return (None if self.is_negative(queue, width, is_signed) else self.other_index(which)), which
             self.refuse_looks(state, low, high, width)
             return None, None
-        return (self.own_word(state, low, width, is_signed) if low == high else None), None
+        return (self.own_word(state, low, width) if low == high else None), None
+
+    @staticmethod
+    def is_negative(queue, width, is_signed):
+        """Whether an index that is loaded signed may come out as another number."""
+        return is_signed and width < 4 and queue.base + queue.scale * (queue.modulus - 1) >= 256 ** width // 2
 
     def refuse_looks(self, state, low, high, width):
         """A load that may be of the other's index, whole, would move what is known."""
@@ -145,24 +152,8 @@ class Program(Values):
             if party is not None and width == queue.index_width and low <= queue.other(party) <= high:
                 raise Refused(state.pc, "a load that may be of the other's index")
 
-    def own_word(self, state, place, width, is_signed):
-        which = self.at.get(place & ~3)
-        if which is None:
-            return None
-        value = state.words[which]
-        if width == 4:
-            return value if place % 4 == 0 else None
-        found = self.known(value, state)
-        if found is None or place % 4 + width > 4:
-            return None
-        part = found >> 8 * (place % 4) & (256 ** width - 1)
-        return number(signed(part, 8 * width) if is_signed else part)
-
-    def extended(self, value, width, is_signed, state):
-        if width == 4 or not is_signed:
-            return value
-        found = self.known(value, state)
-        return None if found is None else number(signed(found, 8 * width))
+    def own_word(self, state, place, width):
+        return state.words[self.at[place]] if width == 4 and place in self.at else None
 
     def store(self, state, value_of_place, width, value):
         """The words after a store, and by how much it moves the own count of which queue, or None."""
@@ -175,8 +166,8 @@ class Program(Values):
             if low == high and (low, width) == (queue.own(party), queue.index_width):
                 return state.words, (which, self.moved(which, value, state))
             if low < queue.slots or high + width > queue.slots + queue.size * queue.width:
-                raise Refused(state.pc, "a store " + (
-                    "to an address that is not known" if low < high else "to an index of the queue that isn't the own one, whole, or across an end of the slots"))
+                where = "to an address that is not known" if low < high else "to an index that isn't the own one, whole, or across an end of the slots"
+                raise Refused(state.pc, f"a store {where}")
             share = state.shares[which]
             if not self.owns(which, value_of_place, width, state):
                 raise Refused(state.pc, f"a store to a slot that isn't known to be owned, where the own position is "
@@ -195,30 +186,20 @@ class Program(Values):
     def written(self, state, place, width, value):
         words = list(state.words)
         for at in range(place & ~3, place + width, 4):
-            which = self.at.get(at)
-            if which is None:
-                continue
-            if (at, width) == (place, 4):
-                words[which] = value
-                continue
-            old, new = self.known(words[which], state), self.known(value, state)
-            if old is None or new is None or place + width > at + 4:
-                words[which] = None
-                continue
-            shift, mask = 8 * (place % 4), 256 ** width - 1
-            words[which] = number(old & ~(mask << shift) | (new & mask) << shift)
+            if at in self.at:
+                words[self.at[at]] = value if (at, width) == (place, 4) else None
         return tuple(words)
 
     def moved(self, which, value, state):
         """By how much a store of this value to the own index moves the own count."""
         queue, share, step = self.queues[which], state.shares[which], None
-        found = self.known(value, state)
-        if found is not None and queue.index_width < 4:
-            value = number(found % 256 ** queue.index_width)
         if isinstance(value, Word):
             step = self.step_of(value.count.minus(variable_of("n", which)), queue.modulus, state) if value.queue == which else None
-        elif value is not None and (queue.is_linear() or self.is_index(value, queue, state)):
+        elif value is not None and (queue.is_linear() or self.is_cut(queue) or self.is_index(value, queue, state)):
             scaled = value.minus(self.own_index(which, state))
+            if self.is_cut(queue):
+                # the bytes that are stored are all that counts
+                scaled = form(scaled.constant % 256 ** queue.index_width, {variable: m % 256 ** queue.index_width for variable, m in scaled.terms})
             if all(signed(m) % queue.scale == 0 for m in (scaled.constant, *(m for _, m in scaled.terms))):
                 step = self.step_of(form(signed(scaled.constant) // queue.scale, {variable: signed(m) // queue.scale for variable, m in scaled.terms}),
                                     queue.modulus, state)
@@ -229,6 +210,11 @@ class Program(Values):
         if value is not None and share.first < share.last <= share.first + MOST_TRIED and step is None:
             raise Split(("p", which), share.first)
         raise Refused(state.pc, f"the own index isn't known to move on by at most {share.low}, which are owned there")
+
+    @staticmethod
+    def is_cut(queue):
+        """Whether all numbers of an index's bytes are words of it."""
+        return queue.index_width < 4 and queue.scale * queue.modulus == 256 ** queue.index_width and queue.base < queue.scale
 
     def is_index(self, value, queue, state):
         """Whether a value is below the end of the words of an index; asks for a split where it is for some numbers."""
@@ -269,7 +255,7 @@ class Program(Values):
         if kind in (IMMEDIATE, REGISTER):
             y = y if kind == REGISTER else number(word >> 20 & 31 if third in (1, 5) else given)
             name = "sub" if kind == REGISTER and third == 0 and word >> 30 & 1 else "sra" if third == 5 and word >> 30 & 1 else NAMES[third]
-            value, fresh = self.computed(name, x, y, state)
+            value, fresh = self.computed(name, x, y, state, kind == IMMEDIATE)
             return [self.put(state, to, value, fresh=fresh)]
         if kind == FENCE:
             return [self.put(state, 0, None)]
@@ -286,7 +272,8 @@ class Program(Values):
         if kind == LOAD:
             width = 1 << (third & 3)
             value, looked = self.loaded(state, self.offset(x, given, state), width, third < 2)
-            return [self.put(state, to, value, looked=looked)]
+            is_range = self.with_bytes and value is None and looked is None and third > 3
+            return [self.put(state, to, value, fresh=(0, 256 ** width - 1) if is_range else None, looked=looked)]
         if kind == STORE:
             place = self.offset(x, signed(word >> 25 << 5 | to, 12), state)
             words, move = self.store(state, place, 1 << third, y)
@@ -305,8 +292,7 @@ class Program(Values):
 
     def branched(self, state, word, third, x, y):
         offset = signed((word >> 31) << 12 | (word >> 7 & 1) << 11 | (word >> 25 & 63) << 5 | (word >> 8 & 15) << 1, 13)
-        answer = self.compared(third, x, y, state)
-        found = []
+        answer, found = self.compared(third, x, y, state), []
         for taken in (True, False):
             if answer in (None, taken):
                 after = state
@@ -329,15 +315,8 @@ class Program(Values):
         return self.put(state._replace(words=words), to, old, move=move)
 
     def called(self, state):
-        """An environment call: by its number in a7."""
-        call = self.known(state.registers[17], state)
-        if call == 93:
-            return []
-        if call == 1:
-            state = state._replace(registers=state.registers[:10] + (None, None) + state.registers[12:])
-        elif call not in (2, 3):
-            raise Refused(state.pc, "an environment call that is not known")
-        return [self.put(state, 0, None)]
+        """An environment call: whatever its number is, it may go on, with any numbers in a0 and a1."""
+        return [self.put(state._replace(registers=state.registers[:10] + (None, None) + state.registers[12:]), 0, None)]
 
     def put(self, state, to, value, pc=None, fresh=None, looked=None, move=None):
         """The state after an instruction that leaves this value in a register: with a new variable for it, after a look at the other's index,

@@ -16,7 +16,8 @@ COMPARES = {0: lambda a, b: a == b, 1: lambda a, b: a != b, 4: lambda a, b: sign
             6: lambda a, b: a < b, 7: lambda a, b: a >= b}
 # up to so many numbers of a variable are tried one by one
 MOST_TRIED = 4200
-SMALL_MASK = 16
+# masks up to here leave a number of which the range is known
+MOST_MASK = 1 << 16
 
 
 class Split(Exception):
@@ -79,26 +80,6 @@ class Values:
         """A form in which the position stands for the own count: the same modulo the period."""
         return value.put(("n", which), variable_of("p", which)) if dict(value.terms).get(("n", which)) == 1 else value
 
-    def low_bits(self, value, state):
-        """How many of its low bits are known, and these."""
-        found = self.known(value, state)
-        if found is not None:
-            return 32, found
-        if value is None or isinstance(value, Word):
-            return 0, 0
-        bits, total, ranges = 32, value.constant, self.ranges(state)
-        for variable, m in value.terms:
-            kind, which = variable
-            if variable in ranges and ranges[variable][0] == ranges[variable][1]:
-                total += m * ranges[variable][0]
-            elif kind == "n" and state.shares[which].first == state.shares[which].last:
-                total += m * state.shares[which].first
-                factor = m * self.queues[which].period()
-                bits = min(bits, (factor & -factor).bit_length() - 1)
-            else:
-                bits = min(bits, (m & -m).bit_length() - 1)
-        return bits, total & ((1 << bits) - 1)
-
     def split_to_know(self, value, state, most=MOST_TRIED):
         """Asks for the split that makes a value a number, if a few numbers of its variables are all that is open."""
         terms = value.terms if value is not None and not isinstance(value, Word) else value.count.terms if value else ()
@@ -126,13 +107,10 @@ class Values:
             return kind == 1
         if None not in found:
             corners = {holds(a, b) for a in found[0] for b in found[1]}
-            if len(corners) == 1 and (kind > 1 or not found[0][0] <= 0 <= found[0][1] or found[0][0] == found[0][1]) and \
-                    (kind not in (4, 5) or all(a >> 31 == b >> 31 for a, b in found)):
+            # a check compares by signs only what is below 2^31, unless both are numbers
+            is_plain = kind not in (4, 5) or all(b < SIZE // 2 for _, b in found) or all(a == b for a, b in found)
+            if len(corners) == 1 and (kind > 1 or not found[0][0] <= 0 <= found[0][1] or found[0][0] == found[0][1]) and is_plain:
                 return corners.pop()
-        if kind < 2:
-            bits, low = self.low_bits(x, state)
-            if bits and low:
-                return kind == 1
         self.split_compare(kind, x, y, state)
         return None
 
@@ -215,62 +193,51 @@ class Values:
 
     # ---- operations
 
-    def computed(self, name, x, y, state):
+    def computed(self, name, x, y, state, is_immediate=False):
         """What an operation makes: a value, and the range of a new variable where it stands for ("z", new)."""
-        if isinstance(x, Word) or isinstance(y, Word):
-            x, y = (number(self.known(value, state)) if isinstance(value, Word) and self.known(value, state) is not None else value for value in (x, y))
-            if isinstance(x, Word) or isinstance(y, Word):
-                if name in ("add", "or", "xor", "sub") and y == ZERO:
-                    return x, None
-                if name in ("add", "or", "xor") and x == ZERO:
-                    return y, None
-                self.split_to_know(x if isinstance(x, Word) else y, state)
-                return None, None
-        if name == "and" and ZERO in (x, y):
-            return ZERO, None
-        if x is None or y is None:
-            return self.masked(x, y, state) if name == "and" else (None, None)
-        if name == "add":
-            return x.plus(y), None
-        if name == "sub":
-            return x.minus(y), None
-        b = self.known(y, state)
-        if name == "sll" and b is not None:
-            return x.times(1 << (b & 31)), None
-        if name == "xor" and b == SIZE - 1:
-            return number(-1).minus(x), None
-        if name in ("or", "xor") and ZERO in (x, y):
-            return (y if x == ZERO else x), None
-        if name in ("slt", "sltu"):
-            answer = self.compared(4 if name == "slt" else 6, x, y, state)
-            return (None, None) if answer is None else (number(int(answer)), None)
-        a = self.known(x, state)
+        a, b = self.known(x, state), self.known(y, state)
         if a is not None and b is not None:
             return number(OPERATIONS[name](a, b)), None
+        x, y = (number(found) if isinstance(value, Word) and found is not None else value for value, found in ((x, a), (y, b)))
         if name == "and":
-            return self.masked(x, y, state)
-        if name in ("srl", "sra") and b is not None and b & 31 == 0:
+            return self.masked(x, b, state) if b is not None else self.masked(y, a, state)
+        if name == "add" and is_immediate and b == 0:
             return x, None
+        if isinstance(x, Word) or isinstance(y, Word):
+            self.split_to_know(x if isinstance(x, Word) else y, state)
+            return None, None
+        if name in ("slt", "sltu"):
+            answer = self.compared(4 if name == "slt" else 6, x, y, state)
+            return (None, (0, 1)) if answer is None else (number(int(answer)), None)
+        if x is None or y is None:
+            return None, None
+        if name in ("add", "sub"):
+            return x.plus(y) if name == "add" else x.minus(y), None
+        if name == "sll" and is_immediate:
+            return x.times(1 << (b & 31)), None
+        rest = self.shifted_back(x, b & 31, state) if name == "srl" and is_immediate else None
+        if rest is not None:
+            return rest, None
         self.split_to_know(x, state, 64)
         self.split_to_know(y, state, 64)
-        return None, None
+        limits = numbers_of(x, self.ranges(state))
+        return None, (0, limits[1] >> (b & 31)) if name == "srl" and is_immediate and limits else None
 
-    def masked(self, x, y, state):
-        for value, mask in ((x, y), (y, x)):
-            mask = None if mask is None else self.known(mask, state)
-            if mask is None:
-                continue
-            bits, low = self.low_bits(value, state)
-            if mask < 1 << bits:
-                return number(low & mask), None
-            if value is not None and mask & (mask + 1) == 0 and not isinstance(value, Word):
-                rest = self.remainder(value, mask + 1, state)
-                if rest is not None:
-                    return rest, None
-                self.split_to_know(value, state, 64)
-            if mask < SMALL_MASK and mask & (mask + 1) == 0:
-                return None, (0, mask)
-        return None, None
+    def shifted_back(self, value, amount, state):
+        """What is a multiple of a power of two, as after a shift to the left, shifted right: a remainder of what it is a multiple of; or None."""
+        if any(m % (1 << amount) for m in (value.constant, *(m for _, m in value.terms))):
+            return None
+        return self.remainder(form(value.constant >> amount, {variable: m >> amount for variable, m in value.terms}), 1 << 32 - amount, state)
+
+    def masked(self, value, mask, state):
+        if mask is None:
+            return None, None
+        if value is not None and mask & (mask + 1) == 0 and not isinstance(value, Word):
+            rest = self.remainder(value, mask + 1, state)
+            if rest is not None:
+                return rest, None
+        self.split_to_know(value, state, 64)
+        return None, (0, mask) if mask < MOST_MASK else None
 
     def remainder(self, value, modulus, state):
         """A form modulo a power of two as a form of variables with ranges, or None; asks for the split after which it doesn't wrap."""
@@ -282,13 +249,15 @@ class Values:
                     return None
                 variable = "p", which
             rest = rest.plus(variable_of(*variable, m))
-        rest = form(signed(rest.constant), {variable: m % modulus if m % modulus <= modulus // 2 else m % modulus - modulus for variable, m in rest.terms})
-        limits = bounds(rest, self.ranges(state))
-        if limits is None:
-            return None
-        if limits[0] // modulus == limits[1] // modulus:
-            return rest.plus(number(-(limits[0] // modulus) * modulus))
-        self.split_where(lambda found: found // modulus, rest, state)
+        # by factors from 0 on, or each by the nearer of it and what it lacks of the modulus
+        for rest in (form(rest.constant, {variable: m % modulus for variable, m in rest.terms}),
+                     form(rest.constant, {variable: m % modulus - modulus * (2 * (m % modulus) >= modulus) for variable, m in rest.terms})):
+            rest = form(signed(rest.constant), dict(rest.terms))
+            limits = bounds(rest, self.ranges(state))
+            if limits and limits[0] // modulus == limits[1] // modulus:
+                return rest.plus(number(-(limits[0] // modulus) * modulus))
+        if limits:
+            self.split_where(lambda found: found // modulus, rest, state)
         return None
 
     def split_where(self, part, value, state):

@@ -1,599 +1,1174 @@
-"""Certificates of queues: whether the states that a certificate lists are closed under each instruction of their hart, and each
-instruction keeps the protocol of ownership. Nothing here searches: docs/queues.md has what is asked of each kind of instruction.
+"""Certificates of queues: when one is accepted for a text. Definition by definition, and by the same names, what crates/queue_certificates/specs
+defines, so that the two can be read side by side: Forms, States, Results, Steps and Certificates in this order. Numbers have no limit. Nothing
+here searches; docs/queues.md has what a certificate says, and certificate_texts.py reads its text.
 
-A form is a number and, of each variable, how often it is taken: a pair (constant, factors). Of a value: ("any",), ("linear", form),
-which counts modulo 2^32, or ("index", i, form), the word of queue i that stands for a count. Each variable is at most a number, or any.
+A list is a tuple, `None` is no number, and what the definitions take from a module around them (the queues, the hart) comes first, or as `self`.
 """
 
-from collections import namedtuple
+from functools import cache
+from typing import NamedTuple
+
+import words
 
 M32 = 1 << 32
-Queue = namedtuple("Queue", "sender receiver head tail index_width slots size width capacity base scale offset modulus start")
-State = namedtuple("State", "pc most registers words shares")  # shares: by the queue, a pair of the own count and what is owned
-ANY = ("any",)
 
 
-class Refused(Exception):
-    """What of a certificate isn't shown, and where."""
+def monus(a, b):
+    return a - b if a > b else 0
 
 
-# ---- forms
-
-def trimmed(factors):
-    factors = list(factors)
-    while factors and factors[-1] == 0:
-        factors.pop()
-    return tuple(factors)
+def div(a, n):
+    return a // n if n else 0
 
 
-def form(constant, *factors):
-    return constant, trimmed(factors)
+def mod(a, n):
+    return a % n if n else a
+
+
+def get_or(values, at, other):
+    return values[at] if at < len(values) else other
+
+
+def put_at(values, at, value):
+    return (*values[:at], value, *values[at + 1:]) if at < len(values) else values
+
+
+# ---- Forms
+
+class Form(NamedTuple):
+    """A constant, and of each variable how often it is taken."""
+
+    constant: int
+    factors: tuple
+
+
+class Bounds(NamedTuple):
+    low: int
+    high: int
+
+
+def dot(factors, numbers):
+    return sum(m * x for m, x in zip(factors, numbers))
+
+
+def form_value(f, numbers):
+    return f.constant + dot(f.factors, numbers)
+
+
+def number(n):
+    return Form(n, ())
+
+
+FIRST_VARIABLE = Form(0, (1,))
+
+
+def sums(ms, ns):
+    if len(ns) > len(ms):
+        ms, ns = ns, ms
+    return (*(m + n for m, n in zip(ms, ns)), *ms[len(ns):])
 
 
 def plus(f, g):
-    count = max(len(f[1]), len(g[1]))
-    return f[0] + g[0], trimmed(factor(f, at) + factor(g, at) for at in range(count))
+    return Form(f.constant + g.constant, sums(f.factors, g.factors))
 
 
 def times(n, f):
-    return n * f[0], trimmed(n * m for m in f[1])
-
-
-def minus(f, g):
-    """By whole numbers, for bounds alone."""
-    return plus(f, times(-1, g))
-
-
-def factor(f, at):
-    return f[1][at] if at < len(f[1]) else 0
+    return Form(n * f.constant, tuple(n * m for m in f.factors))
 
 
 def lifted(f):
-    return f[0], trimmed((0, *f[1]))
+    return Form(f.constant, (0, *f.factors))
 
 
-def substituted(f, forms):
-    found = form(f[0])
-    for m, g in zip(f[1], forms):
-        found = plus(found, times(m, g))
+def combined(ms, forms):
+    found = number(0)
+    for m, g in zip(ms, forms):
+        if m:
+            found = plus(found, times(m, g))
     return found
 
 
-def value_by(t, value):
-    return value if value == ANY else (*value[:-1], t(value[-1]))
+def substituted(f, forms):
+    return plus(number(f.constant), combined(f.factors, forms)) if f.factors else f
 
 
-def signed(number, bits=32):
-    number &= (1 << bits) - 1
-    return number - (1 << bits) if number >> (bits - 1) else number
+def differences(ms, ns):
+    return (*(monus(m, n) for m, n in zip(ms, ns)), *ms[len(ns):])
 
 
-def limits(most, f):
-    """The least and the greatest that a sum of whole numbers may be, or None."""
-    low = high = f[0]
-    for at, m in enumerate(f[1]):
-        if m and most[at] is None:
-            return None
-        low, high = low + min(0, m * (most[at] or 0)), high + max(0, m * (most[at] or 0))
-    return low, high
+def minus(f, g):
+    return Form(monus(f.constant, g.constant), differences(f.factors, g.factors))
 
 
-def bounds(most, value):
-    """The least and the greatest number of a linear value that doesn't wrap, or None."""
-    if value[0] != "linear":
+def factor_at(ms, j):
+    return get_or(ms, j, 0)
+
+
+def raised(j, by, f):
+    return Form(f.constant + factor_at(f.factors, j) * by, f.factors)
+
+
+def vanishes(n, ms):
+    return all(mod(m, n) == 0 for m in ms)
+
+
+def agree(n, ms, ks):
+    both = min(len(ms), len(ks))
+    return all(mod(m, n) == mod(k, n) for m, k in zip(ms, ks)) and vanishes(n, ms[both:]) and vanishes(n, ks[both:])
+
+
+def is_same(n, f, g):
+    return mod(f.constant, n) == mod(g.constant, n) and agree(n, f.factors, g.factors)
+
+
+def most_of_multiple(r, m):
+    if r is None:
+        return 0 if m == 0 else None
+    return m * r
+
+
+def added(a, b):
+    return None if a is None or b is None else a + b
+
+
+def most_of_sum(ranges, ms):
+    total = 0
+    for r, m in zip(ranges, ms):
+        total = added(total, most_of_multiple(r, m))
+    return total
+
+
+def most(ranges, f):
+    return added(f.constant, most_of_sum(ranges, f.factors))
+
+
+def fits_in(b, r):
+    return r is None or b is not None and b <= r
+
+
+def are_in(ranges, forms, targets):
+    return len(forms) == len(targets) and all(fits_in(most(ranges, g), t) for g, t in zip(forms, targets))
+
+
+def is_none(r):
+    return r == 0
+
+
+def kept(ranges, ms):
+    """As long as the ranges: a factor of a variable that there isn't stays, as `dot` sees none."""
+    return (*(0 if is_none(r) else m for r, m in zip(ranges, ms)), *ms[len(ranges):])
+
+
+def settled(ranges, f):
+    return Form(f.constant, kept(ranges, f.factors))
+
+
+def reduced(n, f):
+    return Form(mod(f.constant, n), tuple(mod(m, n) for m in f.factors))
+
+
+def remainder(ranges, f, n):
+    return reduced(n, f) if n >= 1 and fits_in(most(ranges, reduced(n, f)), n - 1) else None
+
+
+def risings(n, ms):
+    return tuple(0 if monus(n, mod(m, n)) <= mod(m, n) else mod(m, n) for m in ms)
+
+
+def fallings(n, ms):
+    return tuple(monus(n, mod(m, n)) if monus(n, mod(m, n)) <= mod(m, n) else 0 for m in ms)
+
+
+def bounds_between(n, c, up, down):
+    if up is None or down is None or down > c or c + up + 1 > n:
         return None
-    found = limits(most, (value[1][0] % M32, tuple(signed(m) for m in value[1][1])))
-    return found if found and 0 <= found[0] and found[1] < M32 else None
+    return Bounds(c - down, c + up)
 
 
-def exactly(number):
-    return "linear", form(number % M32)
+def bounds_of(n, ranges, f):
+    return bounds_between(n, mod(f.constant, n), most_of_sum(ranges, risings(n, f.factors)), most_of_sum(ranges, fallings(n, f.factors)))
 
 
-# ---- one hart
+def balanced(n, ms):
+    return tuple(M32 - monus(n, mod(m, n)) if monus(n, mod(m, n)) <= mod(m, n) else mod(m, n) for m in ms)
 
-class Checker:
-    def __init__(self, queues, places, hart, code):
-        self.queues, self.places, self.hart, self.code = queues, places, hart, code
-        self.parties = [0 if hart == q.sender else 1 if hart == q.receiver else None for q in queues]
 
-    def word(self, queue, count):
-        return queue.base + queue.scale * ((count + queue.offset) % queue.modulus)
+def where_bounded(b, f):
+    return None if b is None else f
 
-    # ---- values
 
-    def remainder(self, most, f, modulus):
-        """A form modulo a number as a form, where its variables' ranges tell which turn it is in; or None."""
-        rest = f[0] % modulus, trimmed(m % modulus if most[at] != 0 else 0 for at, m in enumerate(f[1]))
-        found = limits(most, rest)
-        if found is None or found[0] // modulus != found[1] // modulus:
-            rest = rest[0], trimmed(m - modulus if 2 * m > modulus else m for m in rest[1])
-            found = limits(most, rest)
-            if found is None or found[0] // modulus != found[1] // modulus:
-                return None
-        return rest[0] - found[0] // modulus * modulus, rest[1]
+def remainder_word(ranges, f, n):
+    rest = remainder(ranges, f, n)
+    return where_bounded(bounds_of(n, ranges, f), Form(mod(f.constant, n), balanced(n, f.factors))) if rest is None else rest
 
-    def settled(self, most, value):
-        """A value without variables that can only be 0, and an index word as a number or as a linear form where it is one."""
-        if value == ANY:
-            return value
-        at_all = [m if most[at] != 0 else 0 for at, m in enumerate(value[-1][1])]
-        f = value[-1][0], trimmed(at_all)
-        if value[0] == "linear":
-            return "linear", (f[0] % M32, trimmed(m % M32 for m in f[1]))
-        queue = self.queues[value[1]]
-        rest = self.remainder(most, plus(f, form(queue.offset)), queue.modulus)
-        if rest is not None:
-            return self.settled(most, ("linear", plus(times(queue.scale, rest), form(queue.base))))
-        if queue.index_width == 4 and queue.scale * queue.modulus % M32 == 0:
-            return self.settled(most, ("linear", plus(times(queue.scale, f), form(queue.base + queue.scale * queue.offset))))
-        return "index", value[1], (f[0] % queue.modulus, trimmed(m % queue.modulus for m in f[1]))
 
-    def known(self, most, value):
-        value = self.settled(most, value)
-        return value[1][0] if value[0] == "linear" and not value[1][1] else None
+# ---- States
 
-    def is_within(self, most, value, wanted):
-        return wanted == ANY or self.settled(most, value) == self.settled(most, wanted)
+class Linear(NamedTuple):
+    """The remainder of a form by 2^32."""
 
-    def compared(self, state, kind, x, y):
-        """Whether a branch of this kind is taken, or None where that isn't known."""
-        holds = {0: lambda a, b: a == b, 1: lambda a, b: a != b, 4: lambda a, b: signed(a) < signed(b), 5: lambda a, b: signed(a) >= signed(b),
-                 6: lambda a, b: a < b, 7: lambda a, b: a >= b}[kind]
-        numbers = [self.known(state.most, value) for value in (x, y)]
-        if None not in numbers:
-            return holds(*numbers)
-        x, y = (self.settled(state.most, value) for value in (x, y))
-        if kind < 2:
-            same = self.is_equal(state, x, y)
-            return None if same is None else same == (kind == 0)
-        found = [bounds(state.most, value) for value in (x, y)]
-        if None in found or kind < 6 and max(high for _, high in found) >= M32 // 2:
-            return None
-        (low_x, high_x), (low_y, high_y) = found
-        below = True if high_x < low_y else False if high_y <= low_x else None
-        return None if below is None else below == (kind in (4, 6))
+    form: Form
 
-    def is_equal(self, state, x, y):
-        if x[0] == y[0] == "linear":
-            found = bounds(state.most, self.settled(state.most, ("linear", minus(x[1], y[1]))))
-            if found:
-                return True if found == (0, 0) else False if found[0] > 0 else None
-            found = bounds(state.most, self.settled(state.most, ("linear", minus(y[1], x[1]))))
-            return False if found and found[0] > 0 else None
-        if "index" not in (x[0], y[0]) or ANY in (x, y):
-            return None
-        which = x[1] if x[0] == "index" else y[1]
-        queue, counts = self.queues[which], [self.count_of(state, which, value) for value in (x, y)]
-        if None in counts:
-            return None
-        for f, g in (counts, reversed(counts)):
-            difference = minus(f, g)
-            difference = difference[0] % queue.modulus, trimmed((m % queue.modulus if most != 0 else 0) for m, most in zip(difference[1], state.most))
-            found = limits(state.most, difference)
-            if found and found[1] < queue.modulus:
-                return True if found == (0, 0) else False if found[0] > 0 else None
+
+class IndexFor(NamedTuple):
+    """The word of a queue that stands for the count that a form is."""
+
+    queue: int
+    form: Form
+
+
+ANY = None
+
+
+class Share(NamedTuple):
+    own: Form
+    owned: Form
+
+
+NO_SHARE = Share(number(0), number(0))
+
+
+class KnownState(NamedTuple):
+    pc: int
+    ranges: tuple
+    registers: tuple
+    words: tuple
+    shares: tuple
+
+
+class Queue(NamedTuple):
+    sender: int
+    receiver: int
+    head: int
+    tail: int
+    index_width: int
+    slots: int
+    size: int
+    width: int
+    capacity: int
+    base: int
+    scale: int
+    offset: int
+    modulus: int
+
+    def index_word(self, n):
+        return self.base + self.scale * mod(n + self.offset, self.modulus)
+
+
+NO_QUEUE = Queue(*[0] * 13)
+SENDER, RECEIVER = "sender", "receiver"
+
+
+def queue_at(queues, i):
+    return get_or(queues, i, NO_QUEUE)
+
+
+def other(party):
+    return RECEIVER if party == SENDER else SENDER
+
+
+def itself(party):
+    return party
+
+
+def party_of(q, h):
+    return SENDER if h == q.sender else RECEIVER if h == q.receiver else None
+
+
+def index(q, party):
+    return q.head if party == SENDER else q.tail
+
+
+def value_by(t, v):
+    if v is ANY:
+        return ANY
+    return Linear(t(v.form)) if isinstance(v, Linear) else IndexFor(v.queue, t(v.form))
+
+
+def share_by(t, s):
+    return Share(t(s.own), t(s.owned))
+
+
+def state_by(t, ranges, s):
+    return KnownState(s.pc, ranges, tuple(value_by(t, v) for v in s.registers), tuple(value_by(t, v) for v in s.words),
+                      tuple(share_by(t, share) for share in s.shares))
+
+
+def scaled(q, f):
+    return plus(number(q.base), times(q.scale, f))
+
+
+def of_remainder(ranges, q, i, f, g):
+    if g is None:
+        return Linear(scaled(q, plus(f, number(q.offset)))) if q.scale * q.modulus == M32 and q.base < q.scale else IndexFor(i, f)
+    return Linear(scaled(q, g)) if fits_in(most(ranges, scaled(q, g)), M32 - 1) else IndexFor(i, f)
+
+
+def plain(queues, ranges, v):
+    if not isinstance(v, IndexFor):
+        return v
+    q = queue_at(queues, v.queue)
+    return of_remainder(ranges, q, v.queue, v.form, remainder(ranges, plus(v.form, number(q.offset)), q.modulus))
+
+
+def is_within_plain(queues, v, w):
+    if w is ANY:
+        return True
+    if isinstance(v, Linear) and isinstance(w, Linear):
+        return is_same(M32, v.form, w.form)
+    if isinstance(v, IndexFor) and isinstance(w, IndexFor):
+        return v.queue == w.queue and is_same(queue_at(queues, v.queue).modulus, v.form, w.form)
+    return False
+
+
+def is_within(queues, ranges, v, w):
+    return is_within_plain(queues, plain(queues, ranges, v), plain(queues, ranges, w))
+
+
+# ---- Results
+
+class Result(NamedTuple):
+    """A value over one variable more, the first, which is at most so much."""
+
+    most: int
+    value: object
+
+
+def just(v):
+    return Result(0, value_by(lifted, v))
+
+
+def exactly(n):
+    return just(Linear(number(n)) if n < M32 else ANY)
+
+
+def any_up_to(n):
+    return Result(n, Linear(FIRST_VARIABLE)) if n < M32 else just(ANY)
+
+
+def or_up_to(n, v):
+    return any_up_to(n) if v is ANY else just(v)
+
+
+def as_number(v):
+    return v.form.constant % M32 if isinstance(v, Linear) and vanishes(M32, v.form.factors) else None
+
+
+def or_else(n, result):
+    return result if n is None else exactly(n)
+
+
+def is_below(a, b):
+    if a is None or b is None:
         return None
+    return True if a.high < b.low else False if b.high <= a.low else None
 
-    def count_of(self, state, which, value):
-        queue = self.queues[which]
-        if value[0] == "index":
-            return value[2] if value[1] == which else None
-        index = value[1][0] - queue.base, tuple(signed(m) for m in value[1][1])
-        if any(m % queue.scale for m in (index[0], *index[1])):
-            return None
-        return index[0] // queue.scale - queue.offset, tuple(m // queue.scale for m in index[1])
 
-    # ---- results: the greatest number of the new variable, and a value over it
+def is_below_signed(a, b):
+    if a is None or b is None or a.high >= 1 << 31 or b.high >= 1 << 31:
+        return None
+    return is_below(a, b)
 
-    def just(self, value):
-        return 0, value_by(lifted, value)
 
-    def up_to(self, number):
-        return number, ("linear", form(0, 1))
+def is_nothing(b):
+    if b is None:
+        return None
+    return False if b.low > 0 else True if b.high == 0 else None
 
-    def operated(self, state, name, x, y):
-        x, y = (self.settled(state.most, value) for value in (x, y))
-        a, b = (self.known(state.most, value) for value in (x, y))
-        if a is not None and b is not None:
-            return self.just(exactly(OPERATIONS[name](a, b)))
-        if name in ("add", "or", "xor", "sub") and b == 0:
-            return self.just(x)
-        if name in ("add", "or", "xor") and a == 0:
-            return self.just(y)
-        if x[0] == y[0] == "linear":
-            if name in ("add", "sub"):
-                return self.just(("linear", plus(x[1], times(1 if name == "add" else M32 - 1, y[1]))))
-            if name == "xor" and b == M32 - 1:
-                return self.just(("linear", plus(form(M32 - 1), times(M32 - 1, x[1]))))
-        if name == "sll" and x[0] == "linear" and b is not None:
-            return self.just(("linear", times(1 << (b & 31), x[1])))
-        if name in ("slt", "sltu"):
-            answer = self.compared(state, 4 if name == "slt" else 6, x, y)
-            return self.just(exactly(int(answer))) if answer is not None else self.up_to(1)
-        if name == "and":
-            return self.masked(state.most, x, b) if b is not None else self.masked(state.most, y, a) if a is not None else self.just(ANY)
-        if name in ("srl", "sra") and b is not None:
-            if b & 31 == 0:
-                return self.just(x)
-            found = bounds(state.most, x)
-            if found and (name == "srl" or found[1] < M32 // 2):
-                return self.up_to(found[1] >> (b & 31))
-        return self.just(ANY)
 
-    def masked(self, most, value, mask):
-        if mask & (mask + 1) == 0 and value[0] == "linear":
-            rest = self.remainder(most, value[1], mask + 1)
-            if rest is not None:
-                return self.just(("linear", rest))
-        return self.up_to(mask)
+def negated(answer):
+    return None if answer is None else not answer
 
-    # ---- memory
 
-    def address(self, state, value, offset):
-        """Bounds of an address, and the address as a form, if it is one."""
-        _, value = self.operated(state, "add", value, exactly(offset))
-        value = self.settled(state.most, value_by(lambda f: (f[0], trimmed(f[1][1:])), value))
-        return bounds(state.most, value) or (0, M32 - 1), value[1] if value[0] == "linear" else None
+def flag_of(answer):
+    return any_up_to(1) if answer is None else exactly(int(answer))
+
+
+def set_less(b, n):
+    return flag_of(is_below_signed(b, Bounds(n, n))) if 0 <= n < 1 << 31 else any_up_to(1)
+
+
+def shifted_left(v, amount):
+    return just(Linear(times(1 << amount, v.form))) if isinstance(v, Linear) else just(ANY)
+
+
+def shifted_right(b, amount):
+    return just(ANY) if b is None else any_up_to(b.high >> amount)
+
+
+def sum_of(v, w):
+    return Linear(plus(v.form, w.form)) if isinstance(v, Linear) and isinstance(w, Linear) else ANY
+
+
+def difference_of(v, w):
+    return Linear(plus(v.form, times(M32 - 1, w.form))) if isinstance(v, Linear) and isinstance(w, Linear) else ANY
+
+
+def bounds(ranges, v):
+    return bounds_of(M32, ranges, v.form) if isinstance(v, Linear) else None
+
+
+def agrees(ranges, n, f, g):
+    return is_nothing(bounds_of(n, ranges, plus(f, times(monus(n, 1), g))))
+
+
+def low_bits(f, mask):
+    return any_up_to(mask) if f is None else just(Linear(f))
+
+
+def masked(ranges, v, mask):
+    if isinstance(v, Linear) and mask + 1 == 1 << mask.bit_count() and M32 % (mask + 1) == 0:
+        return low_bits(remainder_word(ranges, v.form, mask + 1), mask)
+    return any_up_to(mask)
+
+
+def masked_by(ranges, v, mask, otherwise):
+    return otherwise if mask is None else masked(ranges, v, mask)
+
+
+def signed(n):
+    return n - M32 if n >= 1 << 31 else n
+
+
+# what `with_immediate`, `shifted` and `computed` make of two numbers below 2^32
+COMPUTED = {
+    "add": lambda a, b: (a + b) % M32, "sub": lambda a, b: (a - b) % M32, "sll": lambda a, b: (a << b % 32) % M32,
+    "slt": lambda a, b: int(signed(a) < signed(b)), "sltu": lambda a, b: int(a < b), "xor": lambda a, b: a ^ b,
+    "srl": lambda a, b: a >> b % 32, "sra": lambda a, b: (signed(a) >> b % 32) % M32, "or": lambda a, b: a | b, "and": lambda a, b: a & b}
+TAKEN = {"beq": lambda a, b: a == b, "bne": lambda a, b: a != b, "blt": lambda a, b: signed(a) < signed(b),
+         "bge": lambda a, b: signed(a) >= signed(b), "bltu": lambda a, b: a < b, "bgeu": lambda a, b: a >= b}
+
+
+def immediate_part(ranges, op, v, n):
+    if op == "addi":
+        return just(sum_of(v, Linear(number(n % M32))))
+    if op == "andi":
+        return masked(ranges, v, n % M32)
+    if op == "slti":
+        return set_less(bounds(ranges, v), n)
+    if op == "sltiu":
+        return flag_of(is_below(bounds(ranges, v), bounds(ranges, Linear(number(n % M32)))))
+    return just(ANY)
+
+
+def of_immediate(ranges, op, v, n):
+    a = as_number(v)
+    return or_else(None if a is None else COMPUTED["sltu" if op == "sltiu" else op[:-1]](a, n % M32), immediate_part(ranges, op, v, n))
+
+
+def without(n, f):
+    return Form(div(f.constant, n), tuple(div(m, n) for m in f.factors))
+
+
+def high_bits(f, b, amount):
+    return shifted_right(b, amount) if f is None else just(Linear(f))
+
+
+def shifted_back(ranges, v, amount):
+    if not isinstance(v, Linear):
+        return just(ANY)
+    f, b = v.form, bounds_of(M32, ranges, v.form)
+    if amount <= 32 and is_same(0, f, times(1 << amount, without(1 << amount, f))):
+        return high_bits(remainder_word(ranges, without(1 << amount, f), 1 << 32 - amount), b, amount)
+    return shifted_right(b, amount)
+
+
+def shift_part(ranges, op, v, amount):
+    if op == "slli":
+        return shifted_left(v, amount)
+    if op == "srli":
+        return shifted_back(ranges, v, amount)
+    return just(ANY)
+
+
+def of_shift(ranges, op, v, amount):
+    a = as_number(v)
+    return or_else(None if a is None else COMPUTED[op[:-1]](a, amount), shift_part(ranges, op, v, amount))
+
+
+def register_part(ranges, op, v, w):
+    if op == "add":
+        return just(sum_of(v, w))
+    if op == "sub":
+        return just(difference_of(v, w))
+    if op == "slt":
+        return flag_of(is_below_signed(bounds(ranges, v), bounds(ranges, w)))
+    if op == "sltu":
+        return flag_of(is_below(bounds(ranges, v), bounds(ranges, w)))
+    if op == "and":
+        return masked_by(ranges, v, as_number(w), masked_by(ranges, w, as_number(v), just(ANY)))
+    return just(ANY)
+
+
+def of_registers(ranges, op, v, w):
+    a, b = as_number(v), as_number(w)
+    return or_else(None if a is None or b is None else COMPUTED[op](a, b), register_part(ranges, op, v, w))
+
+
+def unscaled(q, f):
+    return Form(div(monus(f.constant % M32, q.base), q.scale), tuple(div(m % M32, q.scale) for m in f.factors))
+
+
+def is_scaled(ranges, q, f, k):
+    return is_same(M32, f, scaled(q, k)) and fits_in(most(ranges, scaled(q, k)), M32 - 1) and fits_in(most(ranges, k), monus(q.modulus, 1))
+
+
+def standing(queues, ranges, i, v):
+    q = queue_at(queues, i)
+    if isinstance(v, Linear):
+        return unscaled(q, v.form) if is_scaled(ranges, q, v.form, unscaled(q, v.form)) else None
+    return plus(v.form, number(q.offset)) if v is not ANY and v.queue == i else None
+
+
+def both_agree(ranges, n, j, k):
+    return None if j is None or k is None else agrees(ranges, n, j, k)
+
+
+def is_equal_word(queues, ranges, i, v, w):
+    q = queue_at(queues, i)
+    return both_agree(ranges, q.modulus, standing(queues, ranges, i, v), standing(queues, ranges, i, w)) if q.scale >= 1 else None
+
+
+def is_equal(queues, ranges, v, w):
+    if isinstance(v, IndexFor):
+        return is_equal_word(queues, ranges, v.queue, v, w)
+    if not isinstance(v, Linear) or w is ANY:
+        return None
+    return is_equal_word(queues, ranges, w.queue, v, w) if isinstance(w, IndexFor) else agrees(ranges, M32, v.form, w.form)
+
+
+def branch_part(queues, ranges, op, v, w):
+    if op == "beq":
+        return is_equal(queues, ranges, v, w)
+    if op == "bne":
+        return negated(is_equal(queues, ranges, v, w))
+    if op == "blt":
+        return is_below_signed(bounds(ranges, v), bounds(ranges, w))
+    if op == "bge":
+        return negated(is_below_signed(bounds(ranges, v), bounds(ranges, w)))
+    if op == "bltu":
+        return is_below(bounds(ranges, v), bounds(ranges, w))
+    return negated(is_below(bounds(ranges, v), bounds(ranges, w)))
+
+
+def is_branch_taken(queues, ranges, op, v, w):
+    a, b = as_number(v), as_number(w)
+    return branch_part(queues, ranges, op, v, w) if a is None or b is None else TAKEN[op](a, b)
+
+
+# ---- Steps
+
+LOADS = {"lb": 1, "lh": 2, "lw": 4, "lbu": 1, "lhu": 2}
+STORES = {"sb": 1, "sh": 2, "sw": 4}
+IMMEDIATES = ("addi", "slti", "sltiu", "xori", "ori", "andi")
+SHIFTS = ("slli", "srli", "srai")
+
+
+def all_below(n, f):
+    return all(f(at) for at in range(n))
+
+
+def last_below(n, f):
+    return next((at for at in reversed(range(n)) if f(at)), None)
+
+
+def is_apart(b, width, a, count):
+    return b.high + width <= a or a + count <= b.low
+
+
+def is_off(q, b, width):
+    return is_apart(b, width, q.head, q.index_width) and is_apart(b, width, q.tail, q.index_width) and is_apart(b, width, q.slots, q.size * q.width)
+
+
+def position_at(q, own, a):
+    return mod(div(monus(a % M32, q.slots), q.width) + monus(q.size, mod(own, q.size)), q.size)
+
+
+def offset_at(q, a):
+    return mod(monus(a % M32, q.slots), q.width)
+
+
+def is_slot(ranges, q, f, offset, g):
+    if g is None:
+        return False
+    place = plus(times(q.width, g), number(q.slots + offset))
+    return is_same(M32, f, place) and fits_in(most(ranges, place), M32 - 1)
+
+
+def is_owned(ranges, q, s, v, width):
+    if not isinstance(v, Linear):
+        return False
+    position, offset = position_at(q, s.own.constant, v.form.constant), offset_at(q, v.form.constant)
+    return position < s.owned.constant and offset + width <= q.width \
+        and is_slot(ranges, q, v.form, offset, remainder(ranges, plus(s.own, number(position)), q.size))
+
+
+def behind(q, party):
+    return monus(q.modulus, mod(q.capacity, q.modulus)) if party == SENDER else 0
+
+
+def is_cut(q, v, f):
+    return isinstance(v, Linear) and q.scale * q.modulus == 256 ** q.index_width and q.base < q.scale \
+        and is_same(256 ** q.index_width, v.form, scaled(q, plus(f, number(q.offset))))
+
+
+def anywhere(b):
+    return Bounds(0, M32 - 1) if b is None else b
+
+
+def is_one(b):
+    return b.low == b.high
+
+
+def is_whole(q, party, t, a, width):
+    return party is not None and a == index(q, t(party)) and width == q.index_width
+
+
+def misses(q, party, b, width):
+    return party is None or b.high < index(q, other(party)) or index(q, other(party)) < b.low or width != q.index_width
+
+
+def back_of(q, party):
+    return 0 if party is None else behind(q, party)
+
+
+def owned_then(s):
+    return plus(number(s.owned.constant), FIRST_VARIABLE)
+
+
+def looked_share(s):
+    return Share(lifted(s.own), owned_then(s))
+
+
+def moved_share(s, d):
+    return Share(plus(s.own, d), minus(s.owned, d))
+
+
+def with_register(values, n, v):
+    return values if n == 0 else put_at(values, n, v)
+
+
+def with_result(k, rd, pc, result):
+    after = state_by(lifted, (result.most, *k.ranges), k)
+    return after._replace(pc=pc, registers=with_register(after.registers, rd, result.value))
+
+
+def going_to(k, pc):
+    return state_by(lifted, (0, *k.ranges), k)._replace(pc=pc)
+
+
+def next_pc(pc):
+    return (pc + 4) % M32
+
+
+def address(base, offset):
+    return (base + offset) % M32
+
+
+def goes_by(taken, passed, target, following, answer):
+    if answer is None:
+        return [going_to(taken, target), going_to(passed, following)]
+    return [going_to(taken, target) if answer else going_to(passed, following)]
+
+
+def shared(k, rs1, rs2, v, w):
+    if v is ANY:
+        return k._replace(registers=with_register(k.registers, rs1, w))
+    return k._replace(registers=with_register(k.registers, rs2, v)) if w is ANY else k
+
+
+def with_equal(k, rs1, rs2):
+    return shared(k, rs1, rs2, register_at(k, rs1), register_at(k, rs2))
+
+
+def when_taken(k, op, rs1, rs2):
+    return with_equal(k, rs1, rs2) if op == "beq" else k
+
+
+def when_passed(k, op, rs1, rs2):
+    return with_equal(k, rs1, rs2) if op == "bne" else k
+
+
+def jumping(k, rd, offset, a):
+    return None if a is None else [with_result(k, rd, address(a, offset) // 2 * 2, exactly(next_pc(k.pc)))]
+
+
+def called(k):
+    after = going_to(k, next_pc(k.pc))
+    return after._replace(registers=with_register(with_register(after.registers, 10, ANY), 11, ANY))
+
+
+def register_at(k, n):
+    return Linear(number(0)) if n == 0 else get_or(k.registers, n, ANY)
+
+
+@cache
+def meaning(word):
+    """The instruction of a word as reference/words.py reads it, or None."""
+    found = words.decoded(word)
+    return found and found[0]
+
+
+def instruction_at(code, pc):
+    return meaning(code[pc // 4]) if pc < 4 * len(code) else None
+
+
+def is_copy(op, n):
+    return op == "addi" and n == 0
+
+
+class Steps:
+    """Of hart h, where the harts have own words at these addresses."""
+
+    def __init__(self, queues, own_of, h):
+        self.queues, self.own_of, self.h, self.own = queues, own_of, h, get_or(own_of, h, ())
+        self.parties = [party_of(q, h) for q in queues]
+
+    def operand(self, k, n):
+        return plain(self.queues, k.ranges, register_at(k, n))
+
+    def address_value(self, k, n, offset):
+        return sum_of(self.operand(k, n), Linear(number(offset % M32)))
+
+    def addresses(self, k, n, offset):
+        return anywhere(bounds(k.ranges, self.address_value(k, n, offset)))
+
+    def storable(self, v):
+        return ANY if isinstance(v, IndexFor) and v.queue >= len(self.queues) else v
+
+    def immediate_result(self, k, op, v, n):
+        return just(self.storable(v)) if is_copy(op, n) else of_immediate(k.ranges, op, v, n)
+
+    # loads
+
+    def is_look(self, b, width, i):
+        return is_one(b) and is_whole(self.queues[i], self.parties[i], other, b.low, width)
+
+    def is_own_index(self, b, width, i):
+        return is_one(b) and is_whole(self.queues[i], self.parties[i], itself, b.low, width)
+
+    def is_own_word(self, b, width, j):
+        return is_one(b) and b.low == self.own[j] and width == 4
 
     @staticmethod
-    def apart(found, width, place, count):
-        return found[1] + width <= place or place + count <= found[0]
-
-    def is_off(self, queue, found, width):
-        return all(self.apart(found, width, place, count) for place, count in
-                   ((queue.head, queue.index_width), (queue.tail, queue.index_width), (queue.slots, queue.size * queue.width)))
-
-    def owns(self, state, which, f, width):
-        """Whether the bytes from an address on, a form, are of slots of positions that the party owns."""
-        queue, (count, owned) = self.queues[which], state.shares[which]
-        position = None if f is None else self.remainder(state.most, count, queue.size)
-        if position is None:
-            return False
-        distance = self.settled(state.most, ("linear", minus(f, plus(times(queue.width, position), form(queue.slots)))))
-        if distance[1][1]:
-            return False
-        first, last = signed(distance[1][0]) // queue.width, (signed(distance[1][0]) + width - 1) // queue.width
-        low, high = limits(state.most, position)
-        return (low + first) // queue.size == (high + last) // queue.size and last % queue.size < owned[0]
-
-    def load(self, state, found, width, is_signed):
-        """The greatest number of the new variable, what is loaded over it, and the queue at whose other index it looks."""
-        place = found[0] if found[0] == found[1] else None
-        for which, (queue, party) in enumerate(zip(self.queues, self.parties)):
-            if party is None:
-                continue
-            own, other = (queue.tail, queue.head) if party else (queue.head, queue.tail)
-            if place == other and width == queue.index_width:
-                count, owned = state.shares[which]
-                owned = owned[0], (1,)
-                seen = plus(plus(lifted(count), owned), form(0 if party else queue.modulus - queue.capacity % queue.modulus))
-                value = ANY if is_signed and width < 4 else ("index", which, seen)
-                return queue.capacity - owned[0], value, which
-            if found[0] <= other <= found[1] and width == queue.index_width:
-                raise Refused("a load that may be of the other's index")
-            if place == own and width == queue.index_width:
-                return *self.just(ANY if is_signed and width < 4 else ("index", which, state.shares[which][0])), None
-        if place is not None and place % 4 + width <= 4 and place & ~3 in self.places[self.hart]:
-            value = state.words[self.places[self.hart].index(place & ~3)]
-            if width == 4:
-                return *self.just(value), None
-            number = self.known(state.most, value)
-            if number is not None:
-                part = number >> 8 * (place % 4) & (256 ** width - 1)
-                return *self.just(exactly(signed(part, 8 * width) if is_signed else part)), None
-        return *(self.just(ANY) if is_signed or width == 4 else self.up_to(256 ** width - 1)), None
-
-    def loads_owned(self, state, found, f, width):
-        """Why a load isn't shown to be of owned slots, if it isn't, by the queue."""
-        for which, (queue, party) in enumerate(zip(self.queues, self.parties)):
-            if party is not None and not self.apart(found, width, queue.slots, queue.size * queue.width) and not (
-                    self.is_inside(queue, found, width) and self.owns(state, which, f, width)):
-                yield which
+    def share_at(k, i):
+        return get_or(k.shares, i, NO_SHARE)
 
     @staticmethod
-    def is_inside(queue, found, width):
-        return queue.slots <= found[0] and found[1] + width <= queue.slots + queue.size * queue.width
+    def word_loaded(k, j):
+        return ANY if j is None else get_or(k.words, j, ANY)
 
-    def store(self, state, moved, found, f, width, value):
-        """The words and the shares after a store, or Refused."""
-        place, shares = found[0] if found[0] == found[1] else None, dict(state.shares)
-        for which, (queue, party) in enumerate(zip(self.queues, self.parties)):
-            if party is not None and place == (queue.tail if party else queue.head) and width == queue.index_width:
-                count, owned = state.shares[which]
-                if not self.is_within(state.most, value, ("index", which, plus(count, form(moved)))):
-                    if width == 4 or self.known(state.most, value) is None or self.known(state.most, value) % 256 ** width != self.word(queue, count[0] + moved):
-                        raise Refused("a store to the own index of another word than the certificate says")
-                if owned[0] < moved or moved >= queue.modulus:
-                    raise Refused("a store to the own index that passes what is owned")
-                shares[which] = plus(count, form(moved)), (owned[0] - moved, owned[1])
-            elif not self.is_off(queue, found, width) and not (
-                    party is not None and self.is_inside(queue, found, width) and self.owns(state, which, f, width)):
-                raise Refused("a store that may be to the queue, and isn't to a slot that the hart owns")
-        for hart, places in enumerate(self.places):
-            if hart != self.hart and not all(self.apart(found, width, each, 4) for each in places):
-                raise Refused(f"a store that may be to a word of hart {hart}'s own")
-        words = tuple(word if self.apart(found, width, each, 4) else value if place == each and width == 4 else self.part(state, word, value, each, place, width)
-                      for each, word in zip(self.places[self.hart], state.words))
-        return words, shares
+    def index_loaded(self, k, i, v):
+        return v if i is None else IndexFor(i, self.share_at(k, i).own)
 
-    def part(self, state, word, value, each, place, width):
-        old, new = self.known(state.most, word), self.known(state.most, value)
-        if place is None or old is None or new is None or not each <= place <= place + width <= each + 4:
-            return ANY
-        shift, mask = 8 * (place - each), 256 ** width - 1
-        return exactly(old & ~(mask << shift) | (new & mask) << shift)
+    def value_loaded(self, k, b, width):
+        own = last_below(len(self.queues), lambda i: self.is_own_index(b, width, i))
+        return self.index_loaded(k, own, self.word_loaded(k, last_below(len(self.own), lambda j: self.is_own_word(b, width, j))))
 
-    # ---- instructions
+    def is_index_below(self, limit, v):
+        if not isinstance(v, IndexFor):
+            return False
+        q = queue_at(self.queues, v.queue)
+        return q.modulus >= 1 and q.base + q.scale * (q.modulus - 1) < limit
 
-    def after(self, state, to=0, result=(0, ANY), pc=None, **changes):
-        """The state after a step, over its new variable."""
-        most, value = result
-        state = state._replace(**changes)
-        registers = [value_by(lifted, each) for each in state.registers]
-        if to:
-            registers[to] = value
-        shares = {which: tuple(map(lifted, share)) for which, share in state.shares.items()}
-        return State((state.pc + 4 if pc is None else pc) % M32, (most, *state.most), tuple(registers),
-                     tuple(value_by(lifted, each) for each in state.words), shares)
+    def zero_extended(self, op, v):
+        if op in ("lb", "lh"):
+            return v if self.is_index_below(1 << 7 if op == "lb" else 1 << 15, v) else ANY
+        return v
 
-    def follow(self, state, moved, loads):
-        """The states that may follow, or Refused; `loads` gets the queues of which a load isn't shown to be owned."""
-        if state.pc == 4 * len(self.code):
+    def loaded(self, op, v):
+        if op in ("lbu", "lhu"):
+            return or_up_to(255 if op == "lbu" else 65535, v)
+        return just(self.zero_extended(op, v))
+
+    def looked_word(self, i, s):
+        return IndexFor(i, plus(plus(lifted(s.own), owned_then(s)), number(back_of(self.queues[i], self.parties[i]))))
+
+    def after_look(self, k, op, rd, i, s):
+        after = with_result(k, rd, next_pc(k.pc), Result(monus(self.queues[i].capacity, s.owned.constant), self.zero_extended(op, self.looked_word(i, s))))
+        return after._replace(shares=put_at(after.shares, i, looked_share(s)))
+
+    def after_load(self, k, op, rd, b, look):
+        if look is None:
+            return with_result(k, rd, next_pc(k.pc), self.loaded(op, self.value_loaded(k, b, LOADS[op])))
+        return self.after_look(k, op, rd, look, self.share_at(k, look))
+
+    def may_load(self, k, b, width, look):
+        return all_below(len(self.queues), lambda i: look == i and i < len(k.shares) or misses(self.queues[i], self.parties[i], b, width))
+
+    def loading(self, k, op, rd, b):
+        look = last_below(len(self.queues), lambda i: self.is_look(b, LOADS[op], i))
+        return [self.after_load(k, op, rd, b, look)] if self.may_load(k, b, LOADS[op], look) else None
+
+    # stores
+
+    def may_move(self, k, d, v, i, s):
+        return (is_within(self.queues, k.ranges, v, IndexFor(i, plus(s.own, d))) or is_cut(self.queues[i], v, plus(s.own, d))) \
+            and is_same(0, plus(d, minus(s.owned, d)), s.owned) \
+            and fits_in(most(k.ranges, d), monus(self.queues[i].modulus, 1)) and i < len(k.shares)
+
+    def may_fill(self, k, party, place, width, i):
+        return party is not None and is_owned(k.ranges, self.queues[i], self.share_at(k, i), place, width)
+
+    def may_store(self, k, d, v, place, b, width, move, i):
+        if move == i:
+            return self.may_move(k, d, v, i, self.share_at(k, i))
+        return is_off(self.queues[i], b, width) or self.may_fill(k, self.parties[i], place, width, i)
+
+    def leaves_words(self, b, width, g):
+        return g == self.h or all(is_apart(b, width, a, 4) for a in self.own_of[g])
+
+    def word_then(self, b, width, v, a, w):
+        return w if is_apart(b, width, a, 4) else self.storable(v) if is_one(b) and b.low == a and width == 4 else ANY
+
+    def words_then(self, b, width, v, own, known):
+        return (*(self.word_then(b, width, v, a, w) for a, w in zip(own, known)), *(known[len(own):]))
+
+    @staticmethod
+    def shares_moved(shares, d, move):
+        return shares if move is None else put_at(shares, move, moved_share(get_or(shares, move, NO_SHARE), d))
+
+    def stored(self, k, d, width, v, b, move):
+        return k._replace(words=self.words_then(b, width, v, self.own, k.words), shares=self.shares_moved(k.shares, d, move))
+
+    def after_store(self, k, d, width, v, b, move):
+        return going_to(self.stored(k, d, width, v, b, move), next_pc(k.pc))
+
+    def may_be_stored(self, k, d, width, v, place, b, move):
+        return all_below(len(self.queues), lambda i: self.may_store(k, d, v, place, b, width, move, i)) \
+            and all_below(len(self.own_of), lambda g: self.leaves_words(b, width, g))
+
+    def storing(self, k, d, width, v, place, b):
+        move = last_below(len(self.queues), lambda i: self.is_own_index(b, width, i))
+        return [self.after_store(k, d, width, v, b, move)] if self.may_be_stored(k, d, width, v, place, b, move) else None
+
+    # AMOs
+
+    def updated_value(self, ranges, op, old, new):
+        if op == "amoswap":
+            return new
+        return sum_of(plain(self.queues, ranges, old), plain(self.queues, ranges, new)) if op == "amoadd" else ANY
+
+    def after_exchange(self, k, d, rd, v, b, move):
+        return with_result(self.stored(k, d, 4, v, b, move), rd, next_pc(k.pc), just(self.value_loaded(k, b, 4)))
+
+    def exchange_by(self, k, d, rd, v, place, b, move):
+        may = self.may_be_stored(k, d, 4, v, place, b, move) and all_below(len(self.queues), lambda i: misses(self.queues[i], self.parties[i], b, 4))
+        return [self.after_exchange(k, d, rd, v, b, move)] if may else None
+
+    def exchanging(self, k, d, op, rd, v, place, b):
+        if b is None:
+            return None
+        return self.exchange_by(k, d, rd, self.updated_value(k.ranges, op, self.value_loaded(k, b, 4), v), place, b,
+                                last_below(len(self.queues), lambda i: self.is_own_index(b, 4, i)))
+
+    # instructions
+
+    def follow(self, k, d, instruction):
+        """The states that may follow, or None where it isn't shown that the instruction may be executed."""
+        if instruction is None:
             return []
-        if state.pc % 4 or state.pc > 4 * len(self.code):
-            raise Refused("a pc outside of the code")
-        word = self.code[state.pc // 4]
-        kind, to, third = word & 127, word >> 7 & 31, word >> 12 & 7
-        x, y = state.registers[word >> 15 & 31], state.registers[word >> 20 & 31]
-        if kind == 0x37:
-            return [self.after(state, to, self.just(exactly(word & 0xFFFFF000)))]
-        if kind == 0x17:
-            return [self.after(state, to, self.just(exactly(state.pc + (word & 0xFFFFF000))))]
-        if kind in (0x13, 0x33):
-            name = ("add", "sll", "slt", "sltu", "xor", "srl", "or", "and")[third]
-            name = "sub" if kind == 0x33 and third == 0 and word >> 30 & 1 else "sra" if third == 5 and word >> 30 & 1 else name
-            y = y if kind == 0x33 else exactly(word >> 20 & 31 if third in (1, 5) else signed(word >> 20, 12))
-            return [self.after(state, to, self.operated(state, name, x, y))]
-        if kind == 0x0F:
-            return [self.after(state)]
-        if kind == 0x6F:
-            offset = signed((word >> 31) << 20 | (word >> 12 & 255) << 12 | (word >> 20 & 1) << 11 | (word >> 21 & 1023) << 1, 21)
-            return [self.after(state, to, self.just(exactly(state.pc + 4)), state.pc + offset)]
-        if kind == 0x67:
-            goal = self.known(state.most, x)
-            if goal is None:
-                raise Refused("a jump to a place that isn't known")
-            return [self.after(state, to, self.just(exactly(state.pc + 4)), (goal + signed(word >> 20, 12)) % M32 & ~1)]
-        if kind == 0x63:
-            return self.branch(state, word, third, x, y)
-        if kind == 0x03:
-            width, (found, f) = 1 << (third & 3), self.address(state, x, signed(word >> 20, 12))
-            loads.update(self.loads_owned(state, found, f, width))
-            most, value, which = self.load(state, found, width, third < 2)
-            after = self.after(state, to, (most, value))
-            return [after if which is None else self.looked(state, after, which)]
-        if kind == 0x23:
-            words, shares = self.store(state, moved, *self.address(state, x, signed(word >> 25 << 5 | to, 12)), 1 << third, y)
-            return [self.after(state, words=words, shares=shares)]
-        if kind == 0x2F:
-            return self.exchange(state, moved, loads, word >> 27, to, x, y)
-        if word == 0x73:
-            return self.call(state)
-        raise Refused(f"the word {word:08x}")
-
-    def looked(self, state, after, which):
-        owned = state.shares[which][1]
-        return after._replace(shares={**after.shares, which: (after.shares[which][0], (owned[0], (1,)))})
-
-    def branch(self, state, word, third, x, y):
-        offset = signed((word >> 31) << 12 | (word >> 7 & 1) << 11 | (word >> 25 & 63) << 5 | (word >> 8 & 15) << 1, 13)
-        answer, found = self.compared(state, third, x, y), []
-        for taken in (True, False):
-            if answer in (None, taken):
-                after = state
-                if third < 2 and taken == (third == 0) and (x == ANY) != (y == ANY):
-                    which, value = (word >> 15 & 31, y) if x == ANY else (word >> 20 & 31, x)
-                    after = state._replace(registers=(*state.registers[:which], value, *state.registers[which + 1:]))
-                found.append(self.after(after, pc=state.pc + (offset if taken else 4)))
-        return found
-
-    def exchange(self, state, moved, loads, operation, to, x, y):
-        found, f = self.address(state, x, 0)
-        loads.update(self.loads_owned(state, found, f, 4))
-        most, old, which = self.load(state, found, 4, False)
-        if which is not None or most:
-            raise Refused("an AMO on the other's index")
-        old = value_by(lambda f: (f[0], trimmed(f[1][1:])), old)
-        new = y if operation == 1 else self.sum(state, old, y) if operation == 0 else ANY
-        words, shares = self.store(state, moved, found, f, 4, new)
-        return [self.after(state, to, self.just(old), words=words, shares=shares)]
-
-    def sum(self, state, x, y):
-        most, value = self.operated(state, "add", x, y)
-        return value_by(lambda f: (f[0], trimmed(f[1][1:])), value) if most == 0 else ANY
-
-    def call(self, state):
-        number = self.known(state.most, state.registers[17])
-        if number == 93:
+        op, *parts = instruction
+        if op in ("lui", "auipc"):
+            rd, upper = parts
+            return [with_result(k, rd, next_pc(k.pc), exactly(upper << 12 if op == "lui" else (k.pc + (upper << 12)) % M32))]
+        if op == "jal":
+            rd, offset = parts
+            return [with_result(k, rd, address(k.pc, offset), exactly(next_pc(k.pc)))]
+        if op == "jalr":
+            rd, rs1, offset = parts
+            return jumping(k, rd, offset, as_number(self.operand(k, rs1)))
+        if op in TAKEN:
+            rs1, rs2, offset = parts
+            return goes_by(when_taken(k, op, rs1, rs2), when_passed(k, op, rs1, rs2), address(k.pc, offset), next_pc(k.pc),
+                           is_branch_taken(self.queues, k.ranges, op, self.operand(k, rs1), self.operand(k, rs2)))
+        if op in LOADS:
+            rd, rs1, offset = parts
+            return self.loading(k, op, rd, self.addresses(k, rs1, offset))
+        if op in STORES:
+            rs2, rs1, offset = parts
+            return self.storing(k, d, STORES[op], register_at(k, rs2), self.address_value(k, rs1, offset), self.addresses(k, rs1, offset))
+        if op in IMMEDIATES:
+            rd, rs1, n = parts
+            return [with_result(k, rd, next_pc(k.pc), self.immediate_result(k, op, self.operand(k, rs1), n))]
+        if op in SHIFTS:
+            rd, rs1, amount = parts
+            return [with_result(k, rd, next_pc(k.pc), of_shift(k.ranges, op, self.operand(k, rs1), amount))]
+        if op in COMPUTED:
+            rd, rs1, rs2 = parts
+            return [with_result(k, rd, next_pc(k.pc), of_registers(k.ranges, op, self.operand(k, rs1), self.operand(k, rs2)))]
+        if op == "fence":
+            return [going_to(k, next_pc(k.pc))]
+        if op == "ecall":
+            return [called(k)]
+        if op == "ebreak":
             return []
-        if number not in (1, 2, 3):
-            raise Refused("an environment call that isn't known")
-        registers = state.registers if number != 1 else (*state.registers[:10], ANY, ANY, *state.registers[12:])
-        return [self.after(state, registers=registers)]
+        rd, rs2, rs1 = parts
+        return self.exchanging(k, d, op, rd, register_at(k, rs2), self.operand(k, rs1), bounds(k.ranges, self.operand(k, rs1)))
+
+    def reads_owned(self, k, i, place, b, width):
+        q = self.queues[i]
+        return is_apart(b, width, q.slots, q.size * q.width) or is_owned(k.ranges, q, self.share_at(k, i), place, width)
+
+    def accessed(self, k, instruction):
+        """The address as a value, its bounds and the width of an access, with whether it loads and whether it stores; or None."""
+        op, *parts = instruction or ("",)
+        if op in LOADS or op in STORES:
+            _, rs1, offset = parts
+            return self.address_value(k, rs1, offset), self.addresses(k, rs1, offset), LOADS.get(op) or STORES[op], op in LOADS, op in STORES
+        if op.startswith("amo"):
+            place = self.operand(k, parts[2])
+            return place, anywhere(bounds(k.ranges, place)), 4, True, True
+        return None
+
+    def loads_owned(self, k, i, instruction):
+        access = self.accessed(k, instruction)
+        return not access or not access[3] or self.reads_owned(k, i, *access[:3])
 
 
-OPERATIONS = {
-    "add": lambda a, b: a + b, "sub": lambda a, b: a - b, "sll": lambda a, b: a << (b & 31), "slt": lambda a, b: int(signed(a) < signed(b)),
-    "sltu": lambda a, b: int(a < b), "xor": lambda a, b: a ^ b, "srl": lambda a, b: a >> (b & 31), "sra": lambda a, b: signed(a) >> (b & 31),
-    "or": lambda a, b: a | b, "and": lambda a, b: a & b}
+# ---- Certificates
+
+class Arrow(NamedTuple):
+    to: int
+    forms: tuple
 
 
-# ---- certificates
-
-class Part:
-    """A hart's part of a certificate."""
-
-    def __init__(self):
-        self.own, self.first, self.numbers, self.states, self.trees = [], 0, [], [], []
+class Leaf(NamedTuple):
+    handed: Form
+    arrows: tuple
 
 
-def read_form(text):
-    constant, factors = 0, {}
-    for part in text.split("+"):
-        m, star, at = part.partition("*")
-        if star:
-            factors[int(at)] = int(m)
-        else:
-            constant = int(m)
-    return form(constant, *(factors.get(at, 0) for at in range(max(factors, default=-1) + 1)))
+class Split(NamedTuple):
+    variable: int
+    limit: int
+    low: object
+    high: object
 
 
-def read_value(text):
-    if text.startswith("@"):
-        which, _, count = text[1:].partition(":")
-        return "index", int(which), read_form(count)
-    return "linear", read_form(text)
+class ListedState(NamedTuple):
+    known: KnownState
+    cases: object
 
 
-def read(text):
-    """The queues and the parts of a certificate."""
-    lines = iter(text.splitlines())
-    if next(lines) != "ztso-queues 1":
-        raise Refused("no certificate")
-    queues, parts, rows = [], [], None
-    for line in lines:
-        name, *words = line.split()
-        if name == "queue":
-            queues.append(Queue(*map(int, words)))
-        elif name == "hart":
-            parts.append(Part())
-        elif name == "own":
-            parts[-1].own = list(map(int, words))
-        elif name == "open":
-            parts[-1].first, *parts[-1].numbers = map(int, words)
-        elif name == "state":
-            part, rows = parts[-1], []
-            part.states.append(State(int(words[0]), (), [exactly(0)] + [ANY] * 31, [ANY] * len(part.own), {}))
-            part.trees.append(rows)
-        elif name == "most":
-            part.states[-1] = part.states[-1]._replace(most=tuple(None if word == "-" else int(word) for word in words))
-        elif name in ("reg", "word"):
-            (part.states[-1].registers if name == "reg" else part.states[-1].words)[int(words[0])] = read_value(words[1])
-        elif name == "share":
-            part.states[-1].shares[int(words[0])] = tuple(map(read_form, words[1:]))
-        elif name == "to":
-            rows[-1][2].append((int(words[0]), list(map(read_form, words[1:]))))
-        else:
-            rows.append((name, tuple(map(int, words)), []))
-    for part in parts:
-        part.states = [state._replace(registers=tuple(state.registers), words=tuple(state.words)) for state in part.states]
-    return queues, parts
+class HartPart(NamedTuple):
+    own: tuple
+    first: int
+    numbers: tuple
+    states: tuple
 
 
-def check_queue(queue, test, number):
-    areas = [(queue.head, queue.index_width), (queue.tail, queue.index_width), (queue.slots, queue.size * queue.width)]
-    apart = all(a + m <= b or b + n <= a for at, (a, m) in enumerate(areas) for b, n in areas[at + 1:])
-    if queue.sender == queue.receiver or not apart or not (1 <= queue.size and queue.capacity <= queue.size and queue.capacity < queue.modulus):
-        raise Refused("no queue")
-    if queue.modulus % queue.size or not 1 <= queue.scale or queue.index_width not in (1, 2, 4) or queue.width < 1 or \
-            queue.base + queue.scale * queue.modulus > 256 ** queue.index_width + (queue.base if queue.scale * queue.modulus == 256 ** queue.index_width else 0):
-        raise Refused("no queue")
-    word = (queue.base + queue.scale * ((queue.start + queue.offset) % queue.modulus)) % 256 ** queue.index_width
-    for name, place in (("head", queue.head), ("tail", queue.tail)):
-        if number(place, queue.index_width) != word:
-            raise Refused(f"the {name} opens as {number(place, queue.index_width)}, and {word} stands for the count")
+class OpenedQueue(NamedTuple):
+    queue: Queue
+    start: int
 
 
-def check_opening(checker, part, registers, number):
-    state, numbers = part.states[part.first], part.numbers
-    if len(numbers) != len(state.most) or any(most is not None and n > most for n, most in zip(numbers, state.most)) or state.pc:
-        raise Refused("the opening isn't in its state")
-
-    def value(f):
-        return f[0] + sum(m * n for m, n in zip(f[1], numbers))
-
-    def is_value(v, n):
-        return v == ANY or n == (value(v[1]) % M32 if v[0] == "linear" else checker.word(checker.queues[v[1]], value(v[2])))
-
-    if not all(is_value(v, registers.get(at, 0)) for at, v in enumerate(state.registers)) or not all(
-            is_value(v, number(place, 4)) for place, v in zip(part.own, state.words)):
-        raise Refused("a register or a word opens otherwise")
-    for which, (queue, party) in enumerate(zip(checker.queues, checker.parties)):
-        if party is not None and (value(state.shares[which][0]), value(state.shares[which][1])) != (queue.start, 0 if party else queue.capacity):
-            raise Refused("the counts open otherwise")
+class QueueCertificate(NamedTuple):
+    queues: tuple
+    harts: tuple
 
 
-def leaves(state, rows):
-    """Each leaf of a case tree, in order, with its state and row."""
-    name, numbers, arrows = next(rows)
-    if name == "leaf":
-        yield state, numbers[0], arrows
+class Opening(NamedTuple):
+    """Of each hart its code and its 32 registers, and memory's words, the first at address 0."""
+
+    harts: tuple
+    words: tuple
+
+
+NO_PART = HartPart((), 0, (), ())
+
+
+def number_seen(opening, a, width):
+    return sum((get_or(opening.words, (a + at) // 4, 0) >> 8 * ((a + at) % 4) & 255) << 8 * at for at in range(width))
+
+
+def part_of(c, h):
+    return get_or(c.harts, h, NO_PART)
+
+
+def steps_of(c, h):
+    return Steps([each.queue for each in c.queues], [part.own for part in c.harts], h)
+
+
+# arrows
+
+def all_within(queues, ranges, vs, ws, forms):
+    return all(is_within(queues, ranges, get_or(vs, at, ANY), value_by(lambda f: substituted(f, forms), w)) for at, w in enumerate(ws))
+
+
+def is_share(s, t, forms):
+    return is_same(0, s.own, substituted(t.own, forms)) and is_same(0, s.owned, substituted(t.owned, forms))
+
+
+def leads_to(queues, k, t, forms):
+    return k.pc == t.pc and are_in(k.ranges, forms, t.ranges) and all_within(queues, k.ranges, k.registers, t.registers, forms) \
+        and all_within(queues, k.ranges, k.words, t.words, forms) \
+        and all_below(len(queues), lambda i: is_share(get_or(k.shares, i, NO_SHARE), get_or(t.shares, i, NO_SHARE), forms))
+
+
+def arrow_leads(queues, k, t, forms):
+    def to(f):
+        return settled(k.ranges, f)
+    return leads_to(queues, state_by(to, k.ranges, k), t, tuple(to(g) for g in forms))
+
+
+# cases
+
+def at_most(v, r):
+    return v if r is None else min(r, v)
+
+
+def beyond(v, r):
+    return None if r is None else monus(r, v + 1)
+
+
+def may_exceed(v, r):
+    return r is None or v < r
+
+
+def range_changed(ranges, j, t):
+    return put_at(ranges, j, t(ranges[j])) if j < len(ranges) else ranges
+
+
+def with_low(k, j, v):
+    ranges = range_changed(k.ranges, j, lambda r: at_most(v, r))
+    return state_by(lambda f: settled(ranges, f), ranges, k)
+
+
+def with_high(k, j, v):
+    ranges = range_changed(k.ranges, j, lambda r: beyond(v, r))
+    return state_by(lambda f: settled(ranges, raised(j, v + 1, f)), ranges, k)
+
+
+def leaves(k, cases):
+    """Each leaf of the cases, with its state."""
+    if isinstance(cases, Leaf):
+        yield k, cases
         return
-    at, limit = numbers
-    if at >= len(state.most):
-        raise Refused("a split by a variable that isn't there")
-    most = state.most[at]
-    low = state._replace(most=(*state.most[:at], limit if most is None else min(limit, most), *state.most[at + 1:]))
-    yield from leaves(low, rows)
-    if most is not None and most <= limit:
-        skip(rows)
-        return
-
-    def raised(f):
-        return f[0] + factor(f, at) * (limit + 1), f[1]
-
-    yield from leaves(State(state.pc, (*state.most[:at], None if most is None else most - limit - 1, *state.most[at + 1:]),
-                            tuple(value_by(raised, v) for v in state.registers), tuple(value_by(raised, v) for v in state.words),
-                            {which: tuple(map(raised, share)) for which, share in state.shares.items()}), rows)
+    j, v, low, high = cases
+    yield from leaves(with_low(k, j, v), low)
+    if may_exceed(v, get_or(k.ranges, j, 0)):
+        yield from leaves(with_high(k, j, v), high)
 
 
-def skip(rows):
-    name, _, _ = next(rows)
-    for _ in range(2 * (name == "split")):
-        skip(rows)
+def each_leads(c, h, states, arrows):
+    queues, listed = [each.queue for each in c.queues], part_of(c, h).states
+    return len(arrows) >= len(states) and all(
+        a.to < len(listed) and arrow_leads(queues, k, listed[a.to].known, a.forms) for k, a in zip(states, arrows))
 
 
-def check_arrow(checker, after, wanted, forms):
-    if after.pc != wanted.pc or len(forms) != len(wanted.most):
-        raise Refused("an arrow leads to another place")
-    for f, most in zip(forms, wanted.most):
-        found = limits(after.most, f)
-        if most is not None and (found is None or found[1] > most):
-            raise Refused("a variable isn't in its range where an arrow leads")
-    for values, others in ((after.registers, wanted.registers), (after.words, wanted.words)):
-        for at, (value, other) in enumerate(zip(values, others)):
-            if not checker.is_within(after.most, value, value_by(lambda f: substituted(f, forms), other)):
-                raise Refused(f"register or word {at} is {value}, and {other} where an arrow leads")
-    zero = [most == 0 for most in after.most]
-    for which, share in after.shares.items():
-        for f, g in zip(share, wanted.shares[which]):
-            difference = minus(f, substituted(g, forms))
-            if difference[0] or any(m for m, none in zip(difference[1], zero) if not none):
-                raise Refused("a count is another one where an arrow leads")
+def is_closed(c, h, code, k, cases):
+    steps = steps_of(c, h)
+    for leaf, (handed, arrows) in leaves(k, cases):
+        following = steps.follow(leaf, handed, instruction_at(code, leaf.pc))
+        if following is None or not each_leads(c, h, following, arrows):
+            return False
+    return True
 
 
-def check(harts, number, text):
-    """Refused, or for each hart the queues of which a load isn't shown to be of owned slots. `harts` are pairs of code and the registers
-    that open, `number(place, width)` is what memory opens as."""
-    queues, parts = read(text)
-    if len(parts) != len(harts):
-        raise Refused("another number of harts")
-    for queue in queues:
-        check_queue(queue, harts, number)
-    unowned = []
-    for hart, ((code, registers), part) in enumerate(zip(harts, parts)):
-        checker, loads = Checker(queues, [each.own for each in parts], hart, code), set()
-        check_opening(checker, part, registers, number)
-        for at, (state, rows) in enumerate(zip(part.states, part.trees)):
-            try:
-                for leaf, moved, arrows in leaves(state, iter(rows)):
-                    following = checker.follow(leaf, moved, loads)
-                    if len(following) > len(arrows):
-                        raise Refused("a successor is left out")
-                    for after, (to, forms) in zip(following, arrows):
-                        check_arrow(checker, after, part.states[to], forms)
-            except Refused as why:
-                raise Refused(f"hart {hart}, state {at}, pc {state.pc}: {why}") from why
-        unowned.append(loads)
-    return unowned
+def owns_loads(c, h, code, i, k, cases):
+    steps = steps_of(c, h)
+    return all(steps.loads_owned(leaf, i, instruction_at(code, leaf.pc)) for leaf, _ in leaves(k, cases))
+
+
+# the opening
+
+def is_value(queues, numbers, v, x):
+    if v is ANY:
+        return True
+    return x == (form_value(v.form, numbers) % M32 if isinstance(v, Linear) else queue_at(queues, v.queue).index_word(form_value(v.form, numbers)))
+
+
+def are_in_ranges(ranges, numbers):
+    return len(ranges) == len(numbers) and all(r is None or x <= r for r, x in zip(ranges, numbers))
+
+
+def opens_share(q, party, start, s, numbers):
+    end = start + (q.capacity if party == SENDER else 0)
+    return party is None or start == form_value(s.own, numbers) and end == form_value(s.own, numbers) + form_value(s.owned, numbers)
+
+
+def opens_in(opening, c, h, registers, k, numbers):
+    queues, own = [each.queue for each in c.queues], part_of(c, h).own
+    registers = put_at(registers, 0, 0)
+    return are_in_ranges(k.ranges, numbers) and k.pc == 0 \
+        and all(is_value(queues, numbers, v, get_or(registers, j, 0)) for j, v in enumerate(k.registers)) \
+        and all(is_value(queues, numbers, get_or(k.words, j, ANY), number_seen(opening, a, 4)) for j, a in enumerate(own)) \
+        and all(opens_share(q, party_of(q, h), each.start, get_or(k.shares, i, NO_SHARE), numbers)
+                for i, (q, each) in enumerate(zip(queues, c.queues)))
+
+
+# queues
+
+def are_apart(a, m, b, n):
+    return a + m <= b or b + n <= a
+
+
+def is_queue(q):
+    return q.sender != q.receiver and are_apart(q.head, q.index_width, q.tail, q.index_width) \
+        and are_apart(q.head, q.index_width, q.slots, q.size * q.width) and are_apart(q.tail, q.index_width, q.slots, q.size * q.width) \
+        and q.size >= 1 and q.capacity <= q.size and q.modulus >= 1 and q.scale >= 1 and q.index_width >= 1 \
+        and q.base + q.scale * (q.modulus - 1) < 256 ** q.index_width and q.index_width <= 4 and q.capacity < q.modulus
+
+
+def opens_empty(opening, q, start):
+    return number_seen(opening, q.head, q.index_width) == q.index_word(start) == number_seen(opening, q.tail, q.index_width)
+
+
+# all of it
+
+def opens_hart(opening, c, h):
+    """What `accepts_hart` asks of where a hart opens."""
+    part, registers = part_of(c, h), opening.harts[h][1]
+    return len(registers) >= 32 and part.first < len(part.states) and opens_in(opening, c, h, registers, part.states[part.first].known, part.numbers)
+
+
+class Flaw(NamedTuple):
+    """What of a certificate isn't accepted: ("queue", i), ("opening", hart) or ("state", hart, state)."""
+
+    kind: str
+    at: int
+    state: int = None
+
+
+def flaws(opening, c):
+    """All that isn't accepted, in order: of queues, and then of each hart its opening and its states."""
+    for i, each in enumerate(c.queues):
+        if not (is_queue(each.queue) and opens_empty(opening, each.queue, each.start)):
+            yield Flaw("queue", i)
+    for h, (code, _) in enumerate(opening.harts):
+        if not opens_hart(opening, c, h):
+            yield Flaw("opening", h)
+        for n, (known, cases) in enumerate(part_of(c, h).states):
+            if not is_closed(c, h, code, known, cases):
+                yield Flaw("state", h, n)
+
+
+def first_flaw(opening, c):
+    return next(flaws(opening, c), None)
+
+
+def accepts(opening, c):
+    return first_flaw(opening, c) is None
+
+
+def first_unowned(opening, c, i, h):
+    """The first state of the hart with a load of queue i's slots that isn't shown to be of owned ones."""
+    code = opening.harts[h][0]
+    return next((n for n, (known, cases) in enumerate(part_of(c, h).states) if not owns_loads(c, h, code, i, known, cases)), None)
+
+
+def accepts_loads(opening, c, i, h):
+    return first_unowned(opening, c, i, h) is None
+
+
+def slot_accesses(opening, c, i):
+    """By hart and pc, each once, of which instructions an access in some state may be of a byte of queue i's slots: whether it stores, and loads."""
+    found, q = {}, c.queues[i].queue
+    for h, (code, _) in enumerate(opening.harts):
+        steps = steps_of(c, h)
+        for known, cases in part_of(c, h).states:
+            for leaf, _ in leaves(known, cases):
+                access = steps.accessed(leaf, instruction_at(code, leaf.pc))
+                if access and not is_apart(access[1], access[2], q.slots, q.size * q.width):
+                    found[h, leaf.pc] = access[4], access[3]
+    return [(h, pc, *found[h, pc]) for h, pc in sorted(found)]

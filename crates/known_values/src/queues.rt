@@ -3,68 +3,8 @@
 ghost use Rattle.std.specs.Prelude.{◌≡◌};
 ghost use Rattle.known_values.specs.Queues.{queue_in};
 
+pub use queue_layouts::Queue;
 use std::marker::Model;
-
-/// A queue between two harts: where its parts lie, and how the words of its indices stand for counts. The word of count n is
-/// `base + scale * ((n + offset) % modulus)`.
-#[derive(Clone, Copy, PartialEq, Eq)]
-pub struct Queue {
-    pub sender: u32,
-    pub receiver: u32,
-    /// Addresses of the indices and of the first slot.
-    pub head: u32,
-    pub tail: u32,
-    /// In bytes.
-    pub index_width: u32,
-    pub slots: u32,
-    /// How many slots there are, and how many bytes each has.
-    pub size: u32,
-    pub width: u32,
-    /// How many records may wait.
-    pub capacity: u32,
-    pub base: u32,
-    pub scale: u64,
-    pub offset: u64,
-    pub modulus: u64,
-}
-
-impl Model for Queue {
-    ghost use Rattle.slot_queue.specs.Queues.{Queue as QueueOf};
-
-    ghost Value = { QueueOf };
-
-    ghost view = { λ q. record {
-      sender = q.sender;
-      receiver = q.receiver;
-      head = q.head;
-      tail = q.tail;
-      index_width = q.index_width;
-      slots = q.slots;
-      size = q.size;
-      width = q.width;
-      capacity = q.capacity;
-      base = q.base;
-      scale = q.scale;
-      offset = q.offset;
-      modulus = q.modulus;
-    } };
-
-    ghost inverse = { λ q. record {
-      sender = q.sender;
-      receiver = q.receiver;
-      head = q.head;
-      tail = q.tail;
-      index_width = q.index_width;
-      slots = q.slots;
-      size = q.size;
-      width = q.width;
-      capacity = q.capacity;
-      base = q.base;
-      scale = q.scale;
-      offset = q.offset;
-      modulus = q.modulus;
-    } };
-}
 
 /// A queue, and the count at which both its indices open.
 #[derive(Clone, Copy, PartialEq, Eq)]

@@ -1,5 +1,5 @@
 -- Nothing is found exactly where all holds.
-use Rattle.std.specs.Prelude.{ℕ, zero, suc, ◌≡◌, ◌&&◌, ◌↔◌, nat_le, nat_lt, Bool, true, false, Option, None, Some, length, get_or, refl}
+use Rattle.std.specs.Prelude.{ℕ, zero, suc, ◌≡◌, ◌&&◌, ◌↔◌, Bool, true, false, Option, None, Some, length, get_or, refl}
 use Rattle.step_machine.specs.History.{OpeningValue}
 use Rattle.queue_certificates.specs.Steps.{all_below}
 use Rattle.queue_certificates.specs.Certificates.{QueueCertificate, part_of, accepts, accepts_loads, accepts_hart, no_hart}

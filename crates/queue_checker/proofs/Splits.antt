@@ -1,5 +1,5 @@
 -- A state by two cases, of which the lower one holds and the higher one may be.
-use Rattle.std.specs.Prelude.{ℕ, ◌≡◌, ◌&&◌, ◌||◌, not, Bool, true, List, Some, get_or, refl}
+use Rattle.std.specs.Prelude.{ℕ, ◌≡◌, Bool, true, List, Some, get_or, refl}
 use Rattle.std.proofs.Common.{sym, ◌∙◌}
 use Rattle.queue_certificates.specs.States.{KnownState}
 use Rattle.queue_certificates.specs.Certificates.{QueueCertificate, Cases, split, with_low, with_high, may_exceed, is_closed, owns_loads}

@@ -1,5 +1,5 @@
 -- Which instructions may access a byte of a queue's slots, in some state of a certificate.
-use Rattle.std.specs.Prelude.{ℕ, zero, suc, ◌+◌, ◌*◌, ◌==◌, ◌&&◌, ◌||◌, ◌++◌, not, if◌then◌else◌, Bool, true, false, Option, None, Some}
+use Rattle.std.specs.Prelude.{ℕ, zero, suc, ◌*◌, ◌==◌, ◌&&◌, ◌||◌, ◌++◌, not, if◌then◌else◌, Bool, true, false, Option, Some}
 use Rattle.std.specs.Prelude.{List, [], ◌∷◌, length, get_or}
 use Rattle.rv_decode.specs.declared.instruction.Instr.{Instr}
 use Rattle.rv_decode.specs.declared.instruction.Instr.TheVariants.{Load, Store, Amo}
@@ -10,7 +10,7 @@ use Rattle.queue_certificates.specs.Forms.{Bounds}
 use Rattle.queue_certificates.specs.States.{KnownState}
 use Rattle.queue_certificates.specs.Results.{bounds}
 use Rattle.queue_certificates.specs.Steps.{is_apart, anywhere, instruction_at}
-use Rattle.queue_certificates.specs.Certificates.{QueueCertificate, queue_at, part_of, ListedState, state_at, Cases}
+use Rattle.queue_certificates.specs.Certificates.{QueueCertificate, queue_at, part_of, state_at, Cases}
 use Rattle.queue_certificates.specs.Certificates.{leaf, split, with_low, with_high, may_exceed}
 use Rattle.queue_checker.specs.declared.accesses.SlotAccess.{SlotAccess}
 use Rattle.queue_checker.specs.Operands.{operand_in, addresses_in}

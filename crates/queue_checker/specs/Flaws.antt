@@ -1,5 +1,5 @@
 -- The first part of a certificate that isn't accepted: of the queues first, and then of each hart its opening and its states.
-use Rattle.std.specs.Prelude.{ℕ, zero, suc, ◌+◌, ◌&&◌, nat_le, nat_lt, if◌then◌else◌, Bool, true, false, Option, None, Some, length, get_or}
+use Rattle.std.specs.Prelude.{ℕ, zero, suc, ◌&&◌, nat_le, nat_lt, Bool, true, false, Option, None, Some, length, get_or}
 use Rattle.step_machine.specs.History.{HartOpeningValue, OpeningValue}
 use Rattle.queue_certificates.specs.Certificates.{QueueCertificate, queue_at, start_at, part_of, state_at, is_closed, owns_loads, opens_in}
 use Rattle.queue_certificates.specs.Certificates.{is_queue, opens_empty, no_hart}

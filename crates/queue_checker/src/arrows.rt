@@ -4,7 +4,8 @@ ghost use Rattle.std.specs.Prelude.{◌≡◌, ◌&&◌, ◌++◌, ℕ, List, If
 ghost use Rattle.queue_certificates.specs.Forms.{substituted, settled};
 ghost use Rattle.queue_certificates.specs.States.{is_within, value_by, state_by, no_share};
 ghost use Rattle.queue_certificates.specs.Steps.{all_below};
-ghost use Rattle.queue_certificates.specs.Certificates.{nowhere, queue_at, part_of, state_at, all_within, is_share, leads_to, arrow_leads, each_leads, all_lead};
+ghost use Rattle.queue_certificates.specs.Certificates.{nowhere, queue_at, part_of, state_at, all_within};
+ghost use Rattle.queue_certificates.specs.Certificates.{is_share, leads_to, arrow_leads, each_leads, all_lead};
 ghost use Rattle.known_values.specs.Queues.{queue_in};
 
 use crate::certificate::{Arrow, KnownState, ListedState, QueueCertificate, Share};

@@ -1,4 +1,4 @@
-use Rattle.std.proofs.Common.{◌≡◌, length}
+use Rattle.std.proofs.Common.{◌≡◌}
 use Rattle.queue_checker.specs.Flaws.{hart_flaw, first_below}
 use Rattle.queue_checker.proofs.checking.first_hart_flaw.Given as goal
 

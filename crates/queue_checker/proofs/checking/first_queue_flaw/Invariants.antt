@@ -1,4 +1,4 @@
-use Rattle.std.proofs.Common.{◌≡◌, length}
+use Rattle.std.proofs.Common.{◌≡◌}
 use Rattle.queue_checker.specs.Flaws.{queue_holds, first_below, unless}
 use Rattle.queue_checker.specs.declared.flaws.Flaw.TheVariants.{Queue}
 use Rattle.queue_checker.proofs.checking.first_queue_flaw.Given as goal

@@ -1,4 +1,4 @@
-use Rattle.std.proofs.Common.{◌≡◌, length}
+use Rattle.std.proofs.Common.{◌≡◌}
 use Rattle.queue_checker.specs.Flaws.{state_holds, first_below, unless}
 use Rattle.queue_checker.specs.declared.flaws.Flaw.TheVariants.{State}
 use Rattle.queue_checker.proofs.checking.first_state_flaw.Given as goal
