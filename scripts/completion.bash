@@ -24,12 +24,13 @@ _ztso() {
     channel) inputs=('lamport fastforward cached own' '' files) options='--buffer --base --stride --finish --sender --receiver' ;;
     ring) inputs=(files files '') options='--buffer --seed --runs --length --skip --draw --jobs --base --stride' ;;
     callers) inputs=(files) options='--buffer --seed --runs --length --skip --draw --jobs --slots --base --sender --receiver --kind' ;;
+    queue) inputs=(files) options='--certificate' ;;
     steps) inputs=() options='--buffer' ;;
     asm) inputs=() options='' ;;
     dis) inputs=() options='' ;;
     esac
     if ((COMP_CWORD == 1)); then
-        words='run replay move shrink chart show debug check find try threads channel ring callers steps asm dis'
+        words='run replay move shrink chart show debug check find try threads channel ring callers queue steps asm dis'
     elif ((at > COMP_CWORD)); then
         case $last in
         --buffer) words='1 2 4 16' ;;
@@ -37,6 +38,7 @@ _ztso() {
         --kind) words='lamport cached fastforward' ;;
         --sender) [[ ' channel ' != *" $command "* ]] || compopt -o default ;;
         --receiver) [[ ' channel ' != *" $command "* ]] || compopt -o default ;;
+        --certificate) [[ ' queue ' != *" $command "* ]] || compopt -o default ;;
         esac
     elif [[ $word == -* ]]; then
         words=$options

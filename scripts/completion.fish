@@ -14,10 +14,11 @@ complete -c ztso -n __fish_use_subcommand -a threads -d 'the schedule that threa
 complete -c ztso -n __fish_use_subcommand -a channel -d 'what the receiver reports'
 complete -c ztso -n __fish_use_subcommand -a ring -d 'whether N drawn runs of L events report clean'
 complete -c ztso -n __fish_use_subcommand -a callers -d 'whether N drawn runs keep what callers owe'
+complete -c ztso -n __fish_use_subcommand -a queue -d 'whether every run keeps the protocol of each queue'
 complete -c ztso -n __fish_use_subcommand -a steps -d 'the last state'
 complete -c ztso -n __fish_use_subcommand -a asm -d 'words in hex'
 complete -c ztso -n __fish_use_subcommand -a dis -d 'instructions'
-complete -c ztso -n '__fish_seen_subcommand_from run replay move shrink chart show debug check find try threads ring callers' -F
+complete -c ztso -n '__fish_seen_subcommand_from run replay move shrink chart show debug check find try threads ring callers queue' -F
 complete -c ztso -n '__fish_seen_subcommand_from channel; and not __fish_seen_subcommand_from lamport fastforward cached own' -a 'lamport fastforward cached own'
 complete -c ztso -n '__fish_seen_subcommand_from channel; and __fish_seen_subcommand_from lamport fastforward cached own' -F
 complete -c ztso -n '__fish_seen_subcommand_from run replay move shrink chart show check find debug try threads channel ring callers steps' -l buffer -x -a '1 2 4 16' -d 'a hart\'s store buffer holds N stores: 1, 2, 4 or 16; 4 if it is left out'
@@ -43,3 +44,4 @@ complete -c ztso -n '__fish_seen_subcommand_from callers' -l base -x -d 'the que
 complete -c ztso -n '__fish_seen_subcommand_from callers' -l sender -x -d 'hart H sends, 0 to 63; 0 if it is left out'
 complete -c ztso -n '__fish_seen_subcommand_from callers' -l receiver -x -d 'hart H receives, 0 to 63; 1 if it is left out'
 complete -c ztso -n '__fish_seen_subcommand_from callers' -l kind -x -a 'lamport cached fastforward' -d 'which queue it is: lamport, cached or fastforward; lamport if it is left out'
+complete -c ztso -n '__fish_seen_subcommand_from queue' -l certificate -r -F -d 'the certificate of the text\'s queues'

@@ -17,6 +17,7 @@ _ztso() {
             'channel:what the receiver reports'
             'ring:whether N drawn runs of L events report clean'
             'callers:whether N drawn runs keep what callers owe'
+            'queue:whether every run keeps the protocol of each queue'
             'steps:the last state'
             'asm:words in hex'
             'dis:instructions'
@@ -140,6 +141,11 @@ _ztso() {
             '--sender[hart H sends, 0 to 63; 0 if it is left out]:H:()' \
             '--receiver[hart H receives, 0 to 63; 1 if it is left out]:H:()' \
             '--kind[which queue it is: lamport, cached or fastforward; lamport if it is left out]:KIND:(lamport cached fastforward)' \
+            '1:FILE:_files'
+        ;;
+    queue)
+        _arguments \
+            '--certificate[the certificate of the text'\''s queues]:C:_files' \
             '1:FILE:_files'
         ;;
     steps)

@@ -39,7 +39,7 @@ TEXTS = {
 FOLDERS = {
     "docs": (".md", ".png", ".svg"),
     "litmus": (".litmus", ".schedule", ".md"),
-    "examples": (".litmus", ".schedule", ".steps", ".lists", ".asm", ".words", ".c", ".cpp", ".rs", ".h", ".s", ".S", ".ld",
+    "examples": (".litmus", ".certificate", ".schedule", ".steps", ".lists", ".asm", ".words", ".c", ".cpp", ".rs", ".h", ".s", ".S", ".ld",
                  ".log", ".spike", ".vcd", ".md", ".py", ".sv", ".edit"),
     "tools/page_parts": (".py", ".html", ".css", ".js", ".svg"),
     "tools/bring_parts": (".py", ".c", ".h"),

@@ -17,7 +17,7 @@ use Rattle.command_line.specs.declared.job.QueueKind.TheVariants as kind
 use Rattle.command_line.specs.declared.job.CalledQueue.{CalledQueue}
 use Rattle.command_line.specs.declared.job.CodeCommand.TheVariants.{Asm, Dis}
 use Rattle.command_line.specs.declared.job.Command.{Command}
-use Rattle.command_line.specs.declared.job.Command.TheVariants.{Code, Machine, Find, Threads, UserChannel, Ring as UserRing}
+use Rattle.command_line.specs.declared.job.Command.TheVariants.{Code, Machine, Find, Threads, UserChannel, Ring as UserRing, Queue}
 use Rattle.jumping.specs.declared.Runs.{Runs}
 use Rattle.jumping.specs.declared.draws.Draw.{Draw}
 use Rattle.jumping.specs.declared.draws.Draw.TheVariants.{Uniform, Bursts}
@@ -156,7 +156,7 @@ channel_in options = do
   finish ← options (codes "finish")
   Some (Machine (Channel ring place (flag_given finish)))
 
--- the capacity that the options ask for; a command on code has no such option, and a usual capacity that nothing reads
+-- the capacity that the options ask for; a command without such an option has a usual capacity that nothing reads
 abbrev pub capacity_if_given : Option Text → Option Capacity
 capacity_if_given None = Some Four
 capacity_if_given (Some text) = capacity_given text
@@ -220,6 +220,14 @@ on_file_and_standard options found = do
   capacity ← capacity_in options
   file ← file_in (codes "file") options
   Some (two_inputs command capacity file Standard)
+
+abbrev pub on_file_and_certificate : Found → Option Command → Option Wanted
+on_file_and_certificate options found = do
+  command ← found
+  capacity ← capacity_in options
+  file ← file_in (codes "file") options
+  certificate ← file_in (codes "certificate") options
+  Some (two_inputs command capacity file certificate)
 
 abbrev pub on_schedule_and_standard : Found → Option Command → Option Wanted
 on_schedule_and_standard options found = do
@@ -290,7 +298,8 @@ job_by name options =
     else (if bytes_eq name (codes "channel") then on_channel options
     else (if bytes_eq name (codes "threads") then on_file options (threads_in options)
     else (if bytes_eq name (codes "ring") then on_programs_and_standard options (ring_in options)
-    else on_file_and_schedule options (scheduled_in name options)))))))))))
+    else (if bytes_eq name (codes "queue") then on_file_and_certificate options (Some Queue)
+    else on_file_and_schedule options (scheduled_in name options))))))))))))
 
 -- the same, by what clap found
 abbrev pub job_at : Text × List Row → Option Wanted

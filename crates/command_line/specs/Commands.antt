@@ -58,6 +58,7 @@ commands =
     ∷ stride ∷ [])
     ∷ row (codes "callers") (file ∷ buffer ∷ seed ∷ runs ∷ length ∷ skip ∷ draw ∷ jobs ∷ required (codes "slots") ∷ base
     ∷ defaulted (codes "sender") (codes "0") ∷ defaulted (codes "receiver") (codes "1") ∷ defaulted (codes "kind") (codes "lamport") ∷ [])
+    ∷ row (codes "queue") (file ∷ required (codes "certificate") ∷ [])
     ∷ row (codes "steps") (buffer ∷ [])
     ∷ row (codes "asm") []
     ∷ row (codes "dis") []

@@ -28,7 +28,7 @@ const BASE: Parameter = Defaulted("base", "0");
 const STRIDE: Parameter = Optional("stride");
 
 /// Each command with its words and options.
-pub const COMMANDS: [Row; 17] = [
+pub const COMMANDS: [Row; 18] = [
     ("run", &[FILE, SCHEDULE, BUFFER]),
     ("replay", &[FILE, SCHEDULE, BUFFER]),
     ("move", &[FILE, SCHEDULE, BUFFER]),
@@ -92,6 +92,7 @@ pub const COMMANDS: [Row; 17] = [
             Defaulted("kind", "lamport"),
         ],
     ),
+    ("queue", &[FILE, Required("certificate")]),
     ("steps", &[BUFFER]),
     ("asm", &[]),
     ("dis", &[]),

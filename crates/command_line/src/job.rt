@@ -134,6 +134,8 @@ pub enum Command {
         runs: Runs,
         place: BlockPlace,
     },
+    /// To tell whether a certificate shows that every run of a litmus text keeps the protocol of the certificate's queues.
+    Queue,
 }
 
 /// What a command line asks for: a command, the buffers of its machine, and its inputs in the order in which they are
@@ -141,7 +143,8 @@ pub enum Command {
 #[derive(Clone, Copy)]
 pub struct Job<'a> {
     pub command: Command,
-    /// How many stores a buffer of a hart holds. A command on code has no machine, and a usual capacity here.
+    /// How many stores a buffer of a hart holds. A command without `--buffer` has a usual capacity here, which
+    /// nothing reads.
     pub capacity: Capacity,
     pub first: Input<'a>,
     /// `None` for a command with one input.

@@ -6,7 +6,7 @@ ghost use Rattle.command_line.specs.CommandLines.{GivesJob, found_by, job_by, ca
 ghost use Rattle.command_line.specs.CommandLines.{callers_in, draw_given, queue_in, queue_kind_given};
 ghost use Rattle.command_line.specs.CommandLines.{show_in, style_given, selection_given, job_given, number_if_given};
 ghost use Rattle.command_line.specs.CommandLines.{number_at, own_in, on_file, on_file_and_schedule, on_channel};
-ghost use Rattle.command_line.specs.CommandLines.{on_file_and_standard, on_own_channel, on_programs_and_standard};
+ghost use Rattle.command_line.specs.CommandLines.{on_file_and_certificate, on_file_and_standard, on_own_channel, on_programs_and_standard};
 ghost use Rattle.command_line.specs.CommandLines.{on_schedule_and_standard, on_standard, place_in, ring_in, ring_given, runs_in};
 ghost use Rattle.command_line.specs.CommandLines.{scheduled_in, seed_in, threads_in, try_in};
 ghost use Rattle.command_line.specs.Descriptions.{ztso_command};
@@ -90,6 +90,7 @@ fn job_by<'a>(name: &str, options: &ArgMatches<'a>) -> Option<Job<'a>>
         "channel" => on_channel(options),
         "threads" => on_file(options, threads_in(options)),
         "ring" => on_programs_and_standard(options, ring_in(options)),
+        "queue" => on_file_and_certificate(options, Some(Command::Queue)),
         _ => { on_file_and_schedule(options, scheduled_in(name, options)) }
     }
 }
@@ -174,6 +175,26 @@ fn on_file_and_standard<'a>(options: &ArgMatches<'a>, command: Option<Command>) 
     })
 }
 
+fn on_file_and_certificate<'a>(
+    options: &ArgMatches<'a>,
+    command: Option<Command>,
+) -> Option<Job<'a>>
+    ensures { option_map wanted_by result ≡ on_file_and_certificate (found_by options.now) command }
+{
+    let command = command?;
+    let capacity = capacity_in(options)?;
+    let file = word_in(options, "file")?;
+    let certificate = word_in(options, "certificate")?;
+    Some(Job {
+        command,
+        capacity,
+        first: Input::File(file),
+        second: Some(Input::File(certificate)),
+        third: None,
+        fourth: None,
+    })
+}
+
 fn on_schedule_and_standard<'a>(
     options: &ArgMatches<'a>,
     command: Option<Command>,
@@ -247,7 +268,7 @@ fn on_own_channel<'a>(options: &ArgMatches<'a>) -> Option<Job<'a>>
     })
 }
 
-/// The capacity that the options ask for; a command on code has no such option, and a usual capacity that nothing reads.
+/// The capacity that the options ask for; a command without such an option has a usual capacity that nothing reads.
 fn capacity_in(options: &ArgMatches<'_>) -> Option<Capacity>
     ensures { result ≡ capacity_in (found_by options.now) }
 {

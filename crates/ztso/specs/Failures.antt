@@ -2,6 +2,8 @@
 use Rattle.std.specs.Prelude.{ℕ, Bool, true, false, Result, Ok, Err}
 use Rattle.command_line.specs.declared.fault.CommandLineError.{CommandLineError}
 use Rattle.command_line.specs.declared.fault.CommandLineError.TheVariants as command_line
+use Rattle.certifying.specs.declared.judgement.Judgement.{Judgement}
+use Rattle.certifying.specs.declared.judgement.Judgement.TheVariants.{Kept, ReadsNotShown, NotShown}
 use Rattle.finding.specs.declared.finds.Found.{Found}
 use Rattle.finding.specs.declared.finds.Found.TheVariants as found
 use Rattle.litmus.specs.declared.verdict.Verdict.{Verdict}
@@ -48,6 +50,15 @@ verdict_status other = Ok 1
 
 abbrev pub verdict_exit : Result Verdict Fault → Result ℕ Failure
 verdict_exit = exit_of verdict_status
+
+-- what came of a certificate
+abbrev pub judgement_status : Judgement → Result ℕ Failure
+judgement_status Kept = Ok 0
+judgement_status ReadsNotShown = Ok 6
+judgement_status NotShown = Ok 7
+
+abbrev pub judgement_exit : Result Judgement Fault → Result ℕ Failure
+judgement_exit = exit_of judgement_status
 
 -- a search that didn't find what it looked for fails
 abbrev pub found_status : Found → Result ℕ Failure

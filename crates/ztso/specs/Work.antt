@@ -27,6 +27,7 @@ use Rattle.view_engines.specs.declared.showing.Form.TheVariants as form
 use Rattle.run_engines.specs.Replay.{IsReplayAnswer}
 use Rattle.debugger.specs.Transcripts.{EndsInteractive, IsDebugAnswer, IsDebugFront, IsDebugSome, OnStopped, OnUnwritten}
 use Rattle.tries.specs.Outcomes.{IsTryAnswer}
+use Rattle.certifying.specs.Answers.{IsQueueAnswer}
 use Rattle.callers.specs.Answers.{IsCallersAnswer}
 use Rattle.callers.specs.declared.queue.Queue.{Queue}
 use Rattle.callers.specs.declared.queue.QueueKind.{QueueKind}
@@ -54,13 +55,13 @@ use Rattle.command_line.specs.declared.job.QueueKind.{QueueKind as KindAsked}
 use Rattle.command_line.specs.declared.job.QueueKind.TheVariants as asked
 use Rattle.command_line.specs.declared.job.CalledQueue.{CalledQueue}
 use Rattle.command_line.specs.declared.job.Command.{Command}
-use Rattle.command_line.specs.declared.job.Command.TheVariants.{Code, Machine, Find, Threads, UserChannel, Ring}
+use Rattle.command_line.specs.declared.job.Command.TheVariants.{Code, Machine, Find, Threads, UserChannel, Ring, Queue as OfQueues}
 use Rattle.command_line.specs.declared.job.CodeCommand.TheVariants.{Asm, Dis}
 use Rattle.command_line.specs.declared.job.MachineCommand.TheVariants.{Steps, Run, Replay, Move, Shrink, Chart, Show, Check, Debug, Try, Callers, Channel}
 use Rattle.ztso.specs.declared.failure.Failure.{Failure}
 use Rattle.ztso.specs.declared.failure.Failure.TheVariants.{Engine}
 use Rattle.ztso.specs.declared.work.TheConstants.{WORDS}
-use Rattle.ztso.specs.Failures.{done_exit, found_exit, good_exit, verdict_exit}
+use Rattle.ztso.specs.Failures.{done_exit, found_exit, good_exit, judgement_exit, verdict_exit}
 
 -- how many stores a buffer of this capacity holds
 abbrev pub stores_of : Capacity → ℕ
@@ -158,6 +159,12 @@ Does B (UserChannel place) result given =
     Done done_exit (IsUserAnswer B WORDS (layout_of place []) given.first given.second given.third given.fourth) result
 Does B (Ring seed draw runs place) result given =
     Done good_exit (IsRingAnswer (drawn_runs B seed draw runs place) given.first given.second given.third) result
+Does B OfQueues result given = Done judgement_exit (IsQueueAnswer given.first given.second) result
+
+-- the greatest exit status of a command that doesn't fail
+abbrev pub greatest_status : Command → ℕ
+greatest_status OfQueues = 7
+greatest_status command = 1
 
 -- a command that judges records, one after the other
 abbrev pub judges_records : Command → Bool
@@ -187,6 +194,7 @@ refusals (Find states) result = []
 refusals (Threads turns) result = []
 refusals (UserChannel place) result = IsRefused (programs Sender) ∷ IsRefused (programs Receiver) ∷ IsRefused schedules ∷ []
 refusals (Ring seed draw runs place) result = IsRefused (programs Sender) ∷ IsRefused (programs Receiver) ∷ []
+refusals OfQueues result = IsRefused tests ∷ []
 
 -- The input after these is left unread: the command has none there, or one of these is refused.
 abbrev pub LeavesUnread : List (Option (List ℕ) → Type 0) → (before : List (Option (List ℕ))) → Type 0

@@ -1,10 +1,11 @@
 //! How the program fails.
 
 ghost use Rattle.std.specs.Prelude.{◌≡◌, ◌≤◌, IfOk};
-ghost use Rattle.ztso.specs.Failures.{done_exit, failure_of, found_exit, good_exit, exit_status, verdict_exit};
+ghost use Rattle.ztso.specs.Failures.{done_exit, failure_of, found_exit, good_exit, exit_status, judgement_exit, verdict_exit};
 ghost use Rattle.ztso.specs.declared.failure.Failure.TheVariants.{Engine};
 ghost use Rattle.engine_support.specs.declared.fault.Fault.TheVariants.{NoMemory};
 
+use certifying::Judgement;
 use command_line::CommandLineError;
 use engine_support::fault::Fault;
 use finding::Found;
@@ -99,6 +100,18 @@ pub fn after_runs(ended: Result<bool, Fault>) -> Result<u8, Failure>
     ensures status { IfOk result (λ status. status ≤ 1) }
 {
     if ended? { Ok(0) } else { Ok(1) }
+}
+
+/// The exit status after a certificate was judged.
+pub fn after_judgement(ended: Result<Judgement, Fault>) -> Result<u8, Failure>
+    ensures ended { result ≡ judgement_exit ended }
+    ensures status { IfOk result (λ status. status ≤ 7) }
+{
+    match ended? {
+        Judgement::Kept => Ok(0),
+        Judgement::ReadsNotShown => Ok(6),
+        Judgement::NotShown => Ok(7),
+    }
 }
 
 /// The exit status after a search: it fails where nothing was found.

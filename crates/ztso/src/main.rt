@@ -9,7 +9,7 @@
 #![tactic(auto)]
 
 ghost use Rattle.std.specs.Prelude.{◌≡◌, ◌≤◌, IfOk};
-ghost use Rattle.ztso.specs.Work.{judges_records};
+ghost use Rattle.ztso.specs.Work.{greatest_status, judges_records};
 
 mod calling;
 mod clock_line;
@@ -77,7 +77,7 @@ fn run<R, P: Progress, Q: SearchProgress>(
 where
     R: Env + Files + Input + Clock + Print + Eprint + AllocGlobal + Threads + Wait + Sync,
     R::Reader: IsTerminal,
-    ensures { IfOk result (λ status. status ≤ 1) }
+    ensures { IfOk result (λ status. status ≤ 7) }
 {
     let arguments = env::args(rt).map_err(CommandLineError::of_arguments)?;
     let words: Vec<String> = arguments.collect(rt.alloc())?;
@@ -96,7 +96,7 @@ fn do_job<R, P: Progress, Q: SearchProgress>(
 where
     R: Files + Input + Clock + Print + Eprint + AllocGlobal + Threads + Wait + Sync,
     R::Reader: IsTerminal,
-    ensures { IfOk result (λ status. status ≤ 1) }
+    ensures { IfOk result (λ status. status ≤ greatest_status job.entry.command) }
 {
     let shown = shows_reading && is_check(job.command);
     let line = shown.then_some(ReadingLine::new(rt));

@@ -4,7 +4,7 @@ ghost use Rattle.std.specs.Prelude.{◌≡◌, ◌⊎◌, ℕ, ◌≤◌, ◌*�
 ghost use Rattle.std.specs.Io.KnownBytes.{Appends};
 ghost use Rattle.ztso.specs.declared.work.TheConstants.{WORDS};
 ghost use Rattle.command_line.specs.declared.job.Command.TheVariants.{Code, Machine};
-ghost use Rattle.ztso.specs.Work.{Does, LeavesCommands, LeavesUnread, drawn_from, drawn_runs, form_of, refusals, stores_of, tables_of};
+ghost use Rattle.ztso.specs.Work.{Does, LeavesCommands, LeavesUnread, drawn_from, drawn_runs, form_of, greatest_status, refusals, stores_of, tables_of};
 ghost use Rattle.recorder.specs.Drawing.{left_after};
 ghost use Rattle.poll_close.specs.Places.{layout_of};
 ghost use Rattle.channel_engines.specs.Channels.{IsChannelAnswer};
@@ -21,7 +21,8 @@ ghost use Rattle.channel_engines.specs.Programs.{programs};
 ghost use Rattle.channel_engines.specs.Rings.{IsRingAnswer};
 
 use crate::calling::call_drawn;
-use crate::failure::{Failure, after, after_run, after_runs, after_search};
+use crate::failure::{Failure, after, after_judgement, after_run, after_runs, after_search};
+use certifying::queue_engine;
 use channel_engines::channel::channel_engine;
 use channel_engines::ring::ring_engine;
 use channel_engines::user_channel::user_channel_engine;
@@ -353,7 +354,7 @@ where
     ensures unread_fourth { LeavesUnread (refusals command result)
         (I.remaining streams.old.first ∷ I.remaining streams.old.second ∷ I.remaining streams.old.third ∷ []) → streams.new.fourth ≡ streams.old.fourth }
     ensures unasked { LeavesCommands command result → streams.new.commands ≡ streams.old.commands }
-    ensures status { IfOk result (λ status. status ≤ 1) }
+    ensures status { IfOk result (λ status. status ≤ greatest_status command) }
 {
     let alloc = rt.alloc();
     match command {
@@ -402,14 +403,21 @@ where
             progress,
             &mut streams.writer,
         )),
+        Command::Queue => after_judgement(queue_engine(
+            alloc,
+            &mut streams.first,
+            &mut streams.second,
+            &mut streams.writer,
+        )),
     }
 }
 
 /// Does a command on these streams, on a machine whose buffers have this capacity if it has a machine: reads its inputs in
 /// their order, each after an accepted one before it, and a user's commands, and writes what it answers. It answers the exit
 /// status: 0, but 1 where the verdict is that the test fails or is unfinished, the runs that were tried don't show what the
-/// test asks, a record was refused, callers of a queue owe something, or a run of a channel isn't clean. `progress` gets the
-/// reports of runs that are tried, and `search` those of a search.
+/// test asks, a record was refused, callers of a queue owe something, or a run of a channel isn't clean, and of a certificate 6
+/// where only its loads aren't shown, or 7 where nothing is. `progress` gets the reports of runs that are tried, and `search` those
+/// of a search.
 pub fn do_command<R, I: Read, C: Read, W: Write, P: Progress, Q: SearchProgress>(
     rt: &R,
     command: Command,
@@ -433,7 +441,7 @@ where
     ensures unread_fourth { LeavesUnread (refusals command result)
         (I.remaining streams.old.first ∷ I.remaining streams.old.second ∷ I.remaining streams.old.third ∷ []) → streams.new.fourth ≡ streams.old.fourth }
     ensures unasked { LeavesCommands command result → streams.new.commands ≡ streams.old.commands }
-    ensures status { IfOk result (λ status. status ≤ 1) }
+    ensures status { IfOk result (λ status. status ≤ greatest_status command) }
 {
     match capacity {
         Capacity::One => do_buffered::<1, _, _, _, _, _, _>(rt, command, streams, progress, search),

@@ -5,6 +5,7 @@
 //! allocator and returns an `Err` where there is no memory, and what touches the process takes its handle.
 
 pub mod alloc;
+pub mod boxed;
 pub mod collections;
 pub mod convert;
 pub mod env;

@@ -1,5 +1,6 @@
 //! What is in scope in every module of the crates: the translator imports it there.
 
+pub use crate::boxed::Box;
 pub use crate::io::Input;
 pub use crate::marker::Drop;
 pub use crate::older::{CastSigned, CastUnsigned};

@@ -1,0 +1,124 @@
+-- What answers a litmus text and a certificate is one answer, and what it promises holds.
+use Rattle.std.proofs.Common.{arith, ◌≡◌, ℕ, zero, suc, ◌<◌, ◌↔◌, true, List, length, Result, Ok, Err, refl, sym, ap, ◌∙◌}
+use Rattle.std.specs.Prelude.{Option, Some, None, option_map}
+use Rattle.texts.specs.Results.{map_err}
+use Rattle.litmus.specs.LitmusTests.{LitmusTest}
+use Rattle.step_machine.specs.History.{OpeningValue}
+use Rattle.step_machine.specs.declared.events.Entry.{Entry}
+use Rattle.step_machine.specs.History.{history_of}
+use Rattle.step_machine.specs.Legal.{WellFormed}
+use Rattle.queue_parties.specs.Parties.{Party, all_at, the_sender, the_receiver}
+use Rattle.slot_queue.specs.Ownership.{hart}
+use Rattle.owned_run.specs.Certified.{ReadsOwned}
+use Rattle.queue_certificates.specs.Certificates.{QueueCertificate, queue_at, start_at, accepts, accepts_loads}
+use Rattle.queue_checker.specs.declared.flaws.Flaw.{Flaw}
+use Rattle.queue_checker.specs.Flaws.{first_below, first_flaw, first_of, first_unowned}
+use Rattle.engine_support.specs.declared.fault.Refusal.{Refusal}
+use Rattle.engine_support.specs.Inputs.After.{read}
+use Rattle.engine_support.specs.Tests.{tests}
+use Rattle.engine_support.proofs.InputLaws.{IsOne, alike_after, is_one, one_litmus_text}
+use Rattle.certifying.specs.Answers.{IsCertificateAnswer, IsQueueAnswer, judged, judged_flaw, judged_reads, judged_use}
+use Rattle.certifying.specs.Inputs.{SaysCertificate, certificate_of, certificates}
+use Rattle.certifying.specs.Kept.{AreJudged, AreQueueAnswers, IsPromised, KeepsProtocol, LoadsOwnedSlots}
+use Rattle.certifying.specs.Unread.{first_unread, unread_by, unread_of}
+use Rattle.certifying.specs.Unused.{first_unused}
+use Rattle.certifying.specs.declared.judgement.Judgement.{Judgement}
+use Rattle.certifying.specs.declared.unread.Unread.{Unread}
+use Rattle.certifying.specs.declared.unused.Unused.{Unused}
+
+-- ---- one answer
+
+said_once : (text : List ℕ) (c d : QueueCertificate) → SaysCertificate text c → SaysCertificate text d → c ≡ d
+said_once text c d is other = let same : Ok c ≡ Ok d = sym is ∙ other in cc
+
+read_as : (text : List ℕ) (c : QueueCertificate) → SaysCertificate text c → certificate_of text ≡ Ok c
+unfolding certificate_of
+read_as text c is = ap (map_err _) is
+
+one_certificate : IsOne certificates (λ r s. r ≡ s)
+one_certificate = is_one SaysCertificate certificate_of said_once read_as
+
+one_judged : (o : OpeningValue) (c : QueueCertificate) (a b : Result (List ℕ × Judgement) Refusal)
+    → IsCertificateAnswer o c a → IsCertificateAnswer o c b → AreQueueAnswers a b
+one_judged o c (Ok a) (Ok b) is other = is ∙ sym other
+one_judged o c (Ok a) (Err s) is other = other
+one_judged o c (Err r) (Ok b) is other = is
+one_judged o c (Err r) (Err s) is other = ap (λ (x : Refusal). x.number) (is ∙ sym other)
+
+pub one_queue_answer : (file certificate : List ℕ) (a b : Result (List ℕ × Judgement) Refusal) → IsQueueAnswer (Some file) (Some certificate) a
+    → IsQueueAnswer (Some file) (Some certificate) b → AreQueueAnswers a b
+one_queue_answer file certificate = alike_after tests (λ r s. r.number ≡ s.number) one_litmus_text AreQueueAnswers (λ r s e. e) file _
+    (λ (q : LitmusTest). alike_after certificates (λ r s. r ≡ s) one_certificate AreQueueAnswers (λ r s e. ap (λ (x : Refusal). x.number) e) certificate
+    (IsCertificateAnswer q.opening) (λ c. one_judged q.opening c))
+
+-- ---- what is promised
+
+none_below : {A : Type 0} (f : ℕ → Option A) (n i : ℕ) → first_below n f ≡ None → i < n → f i ≡ None
+none_below f zero i none less = absurd (omega arith)
+none_below f (suc n) i none less = at (first_below n f) (f n) refl refl none (none_below f n i)
+  where
+    at : (before here : Option _) → first_below n f ≡ before → f n ≡ here → first_of before here ≡ None
+        → (first_below n f ≡ None → i < n → f i ≡ None) → f i ≡ None
+    at None None before here e earlier = let rest = earlier before in grind arith
+    at None (Some x) before here e earlier = cc
+    at (Some x) here before is e earlier = cc
+
+no_first : {A : Type 0} (a b : Option A) → first_of a b ≡ None → (a ≡ None) × (b ≡ None)
+no_first None b e = (refl, e)
+no_first (Some x) b e = (cc, cc)
+
+unmapped : {A C : Type 0} (f : A → C) (a : Option A) → option_map f a ≡ None → a ≡ None
+unmapped f None e = refl
+unmapped f (Some x) e = cc
+
+-- what the crates below promise: of the checker and of accepted certificates
+pub record Laws : Type 0 where
+  pub no_flaw : (o : OpeningValue) (c : QueueCertificate) → (first_flaw o c ≡ None) ↔ (accepts o c ≡ true)
+  pub all_owned : (o : OpeningValue) (c : QueueCertificate) (i h : ℕ) → (first_unowned o c i h ≡ None) ↔ (accepts_loads o c i h ≡ true)
+  pub every_run : (o : OpeningValue) (c : QueueCertificate) → accepts o c ≡ true → KeepsProtocol o c
+  pub reads_owned : (B M : ℕ) (o : OpeningValue) (c : QueueCertificate) → accepts o c ≡ true → (i : ℕ) (p : Party) → i < length c.queues
+      → accepts_loads o c i (hart (queue_at c i) p) ≡ true → (es : List Entry) → WellFormed B M (history_of o es)
+      → ReadsOwned (queue_at c i) p (all_at (start_at c i)) es
+
+module _ (laws : Laws) (o : OpeningValue) (c : QueueCertificate) where
+  all_read : first_unread o c ≡ None → (i : ℕ) → i < length c.queues → (p : Party) → accepts_loads o c i (hart (queue_at c i) p) ≡ true
+  all_read none i less p = at p
+    where
+      both : (unread_by o c i (queue_at c i).sender ≡ None) × (unread_by o c i (queue_at c i).receiver ≡ None)
+      both = no_first _ _ (none_below (unread_of o c) (length c.queues) i none less)
+
+      at : (p : Party) → accepts_loads o c i (hart (queue_at c i) p) ≡ true
+      at the_sender = (laws.all_owned o c i (queue_at c i).sender).0 (unmapped _ _ both.0)
+      at the_receiver = (laws.all_owned o c i (queue_at c i).receiver).0 (unmapped _ _ both.1)
+
+  loads : first_flaw o c ≡ None → first_unread o c ≡ None → LoadsOwnedSlots o c
+  loads none owned B M es legal i less p = laws.reads_owned B M o c ((laws.no_flaw o c).0 none) i p less (all_read owned i less p) es legal
+
+  keeps : first_flaw o c ≡ None → KeepsProtocol o c
+  keeps none = laws.every_run o c ((laws.no_flaw o c).0 none)
+
+  promised_reads : first_flaw o c ≡ None → (u : Option Unread) → first_unread o c ≡ u → IsPromised (judged_reads o c u).1 o c
+  promised_reads none None e = (keeps none, loads none e)
+  promised_reads none (Some unread) e = keeps none
+
+  promised_use : first_flaw o c ≡ None → (u : Option Unused) → IsPromised (judged_use o c u).1 o c
+  promised_use none None = promised_reads none (first_unread o c) refl
+  promised_use none (Some unused) = tt
+
+  promised_flaw : (f : Option Flaw) → first_flaw o c ≡ f → IsPromised (judged_flaw o c f).1 o c
+  promised_flaw None e = promised_use e (first_unused o c)
+  promised_flaw (Some flaw) e = tt
+
+  promised_of : (answer : List ℕ × Judgement) → answer ≡ judged o c → IsPromised answer.1 o c
+  promised_of answer is = rw is (promised_flaw (first_flaw o c) refl)
+
+pub promised : (laws : Laws) (file certificate : Option (List ℕ)) (text : List ℕ) (judgement : Judgement)
+    → IsQueueAnswer file certificate (Ok (text, judgement))
+    → AreJudged file certificate (IsPromised judgement)
+promised laws file certificate text judgement (read q _ is_test (read c _ is_certificate is)) = record {
+  test = q;
+  listed = c;
+  file_is = is_test;
+  certificate_is = is_certificate;
+  holds = promised_of laws q.opening c (text, judgement) is;
+}

@@ -1,0 +1,13 @@
+use Rattle.certifying.proofs.AnswerLaws as answers
+use Rattle.certifying.proofs.laws.laws_of_answers.Goals as goal
+
+pub returns-clause-promised : goal.returns-clause-promised
+returns-clause-promised c = answers.promised (record {
+  no_flaw = c.laws_of_flaws.ensures.flaw;
+  all_owned = c.laws_of_flaws.ensures.loads;
+  every_run = λ o listed accepted B M. c.laws_of_queue_certificates.ensures.every_run B M o listed accepted;
+  reads_owned = c.laws_of_queue_certificates.ensures.reads_owned;
+})
+
+pub returns-clause-one : goal.returns-clause-one
+returns-clause-one c = answers.one_queue_answer

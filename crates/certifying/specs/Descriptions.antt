@@ -1,0 +1,62 @@
+-- What a certificate says of a queue, in lines, and which instructions use it.
+use Rattle.std.specs.Prelude.{ℕ, List, [], ◌∷◌, ◌++◌, codes, if◌then◌else◌}
+use Rattle.std.specs.List.{flat_map}
+use Rattle.std.specs.Fmt.{decimal}
+use Rattle.step_machine.specs.History.{OpeningValue}
+use Rattle.slot_queue.specs.Queues.{Queue}
+use Rattle.queue_certificates.specs.Certificates.{OpenedQueue, QueueCertificate}
+use Rattle.queue_checker.specs.Accesses.{slot_accesses}
+use Rattle.queue_checker.specs.declared.accesses.SlotAccess.{SlotAccess}
+use Rattle.engine_support.specs.OpeningTexts.{numbered}
+use Rattle.certifying.specs.Instructions.{instruction_place}
+
+-- how each line of a queue begins
+abbrev pub queue_front : (i : ℕ) → List ℕ
+queue_front i = codes "queue " ++ decimal i ++ codes ": "
+
+unfoldable pub parties_line : (i : ℕ) → Queue → List ℕ
+parties_line i q = codes "queue " ++ decimal i ++ codes ": hart " ++ decimal q.sender ++ codes " sends and hart " ++ decimal q.receiver
+    ++ codes " receives" ++ 10 ∷ []
+
+unfoldable pub indices_line : (i : ℕ) → Queue → List ℕ
+indices_line i q = codes "queue " ++ (decimal i ++ (codes ": its head is the " ++ (decimal q.index_width ++ (codes " bytes at " ++ (decimal q.head
+    ++ (codes ", its tail those at " ++ (decimal q.tail ++ 10 ∷ [])))))))
+
+unfoldable pub slots_front : (i : ℕ) → Queue → List ℕ
+slots_front i q = codes "queue " ++ (decimal i ++ (codes ": it has " ++ (decimal q.size ++ (codes " slots of " ++ (decimal q.width ++ codes " bytes")))))
+
+unfoldable pub slots_end : Queue → List ℕ
+slots_end q = codes " from " ++ (decimal q.slots ++ (codes " on, of which " ++ (decimal q.capacity ++ (codes " may be in use" ++ 10 ∷ []))))
+
+abbrev pub slots_line : (i : ℕ) → Queue → List ℕ
+slots_line i q = slots_front i q ++ slots_end q
+
+unfoldable pub count_front : (i : ℕ) → Queue → List ℕ
+count_front i q = codes "queue " ++ (decimal i ++ (codes ": count n is the word " ++ (decimal q.base ++ (codes " + " ++ (decimal q.scale ++ codes " * ")))))
+
+unfoldable pub count_end : OpenedQueue → List ℕ
+count_end opened = codes "((n + " ++ (decimal opened.queue.offset ++ (codes ") mod " ++ (decimal opened.queue.modulus ++ (codes "), and it opens at "
+    ++ (decimal opened.start ++ 10 ∷ [])))))
+
+abbrev pub count_line : (i : ℕ) → OpenedQueue → List ℕ
+count_line i opened = count_front i opened.queue ++ count_end opened
+
+-- an instruction that in some state may store to a slot, and one that may load from one
+abbrev pub use_line : OpeningValue → (i : ℕ) → (does : List ℕ) → SlotAccess → List ℕ
+use_line o i does access = queue_front i ++ does ++ instruction_place o access.hart access.pc ++ 10 ∷ []
+
+abbrev pub store_line : OpeningValue → (i : ℕ) → SlotAccess → List ℕ
+store_line o i access = if access.stores then use_line o i (codes "stored to by ") access else []
+
+abbrev pub load_line : OpeningValue → (i : ℕ) → SlotAccess → List ℕ
+load_line o i access = if access.loads then use_line o i (codes "loaded from by ") access else []
+
+abbrev pub access_lines : OpeningValue → (i : ℕ) → SlotAccess → List ℕ
+access_lines o i access = store_line o i access ++ load_line o i access
+
+unfoldable pub queue_lines : OpeningValue → QueueCertificate → (i : ℕ) → OpenedQueue → List ℕ
+queue_lines o c i opened = parties_line i opened.queue ++ indices_line i opened.queue ++ slots_line i opened.queue ++ count_line i opened
+    ++ flat_map (access_lines o i) (slot_accesses o c i)
+
+unfoldable pub all_queue_lines : OpeningValue → QueueCertificate → List ℕ
+all_queue_lines o c = numbered (queue_lines o c) 0 c.queues

@@ -1,0 +1,20 @@
+//! The command `queue`: whether a certificate shows that every run of a litmus text keeps the protocol of its queues.
+//!
+//! The contract: the engine's clause says what it writes for what its readers tell, byte for byte (`IsQueueAnswer`), and
+//! [`laws::laws_of_answers`] what a `kept` means. This crate finds no certificate, knows no command line, opens no file and names
+//! no standard stream. It has no tests: the cases of the program run the engine.
+
+#![tactic(auto)]
+
+pub mod answering;
+pub mod descriptions;
+pub mod input;
+pub mod instructions;
+pub mod judgement;
+pub mod laws;
+pub mod not_shown;
+pub mod unread;
+pub mod unused;
+
+pub use answering::queue_engine;
+pub use judgement::Judgement;
