@@ -18,7 +18,8 @@ CITED = re.compile(r"^\s*(?:pub )?(?:ghost )?use Rattle\.(?P<crate>\w+)\.specs\.
 
 # which crates compute what a crate defines
 COMPUTE = {"queue_certificates": {"known_values", "queue_checker", "certificate_reader", "certifying"},
-           "known_values": {"queue_checker", "certificate_reader", "certifying"}}
+           "known_values": {"queue_checker", "certificate_reader", "certifying"},
+           "queue_checker": {"certifying"}}
 
 
 def definitions():
