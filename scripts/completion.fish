@@ -14,7 +14,7 @@ complete -c ztso -n __fish_use_subcommand -a threads -d 'the schedule that threa
 complete -c ztso -n __fish_use_subcommand -a channel -d 'what the receiver reports'
 complete -c ztso -n __fish_use_subcommand -a ring -d 'whether N drawn runs of L events report clean'
 complete -c ztso -n __fish_use_subcommand -a callers -d 'whether N drawn runs keep what callers owe'
-complete -c ztso -n __fish_use_subcommand -a queue -d 'whether every run keeps the protocol of each queue'
+complete -c ztso -n __fish_use_subcommand -a queue -d 'whether every run keeps each queue\'s protocol'
 complete -c ztso -n __fish_use_subcommand -a steps -d 'the last state'
 complete -c ztso -n __fish_use_subcommand -a asm -d 'words in hex'
 complete -c ztso -n __fish_use_subcommand -a dis -d 'instructions'

@@ -17,7 +17,7 @@ _ztso() {
             'channel:what the receiver reports'
             'ring:whether N drawn runs of L events report clean'
             'callers:whether N drawn runs keep what callers owe'
-            'queue:whether every run keeps the protocol of each queue'
+            'queue:whether every run keeps each queue'\''s protocol'
             'steps:the last state'
             'asm:words in hex'
             'dis:instructions'

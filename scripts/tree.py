@@ -14,7 +14,7 @@ SHARE = "share/ztso"
 ZSH, ZSH_OF_DEBIAN = "share/zsh/site-functions/_ztso", "share/zsh/vendor-completions/_ztso"
 # the tools that are commands, as ztso-page and on
 TOOLS = ("page", "from-c", "from-object", "make-rust-core", "chart-lines", "compare-mappings", "from-herd", "to-litmus-log", "allowed",
-         "core-log-to-record", "merge-tries", "tries-over-machines")
+         "core-log-to-record", "merge-tries", "tries-over-machines", "certify", "queue")
 COMMANDS = {
     "bin/ztso": "ztso",
     "bin/ztso-explain": "tools/explain",
@@ -44,6 +44,7 @@ FOLDERS = {
     "tools/page_parts": (".py", ".html", ".css", ".js", ".svg"),
     "tools/bring_parts": (".py", ".c", ".h"),
     "tools/core_log_parts": (".py",),
+    "tools/certify_parts": (".py",),
     "tools/reference": (".py",),
 }
 LEFT_OUT = ("out", "__pycache__")
