@@ -1,6 +1,6 @@
 """Certificates of queues: when one is accepted for a text. Definition by definition, and by the same names, what crates/queue_certificates/specs
 defines, so that the two can be read side by side: Forms, States, Results, Steps and Certificates in this order. Numbers have no limit. Nothing
-here searches; docs/queues.md has what a certificate says, and certificate_texts.py reads its text.
+here searches; docs/queues.md has what a certificate says, and certificate_lines.py reads its text.
 
 A list is a tuple, `None` is no number, and what the definitions take from a module around them (the queues, the hart) comes first, or as `self`.
 """
