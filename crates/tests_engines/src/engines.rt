@@ -210,6 +210,7 @@ pub fn answer(
                 rt,
                 alloc,
                 first,
+                Draw::Uniform,
                 &generator,
                 runs,
                 &mut Nobody,

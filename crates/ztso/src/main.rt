@@ -30,8 +30,7 @@ use lazy_input::LazyInput;
 use prompt_reader::PromptReader;
 use reading_line::ReadingLine;
 use shown_input::ShownInput;
-use std::alloc::AllocError;
-use std::io::{IsTerminal, LineWriter};
+use std::io::IsTerminal;
 use std::process::ExitCode;
 use std::rt::{Clock, Env, Files};
 use std::sync::Wait;
@@ -39,9 +38,6 @@ use std::thread::Threads;
 use std::{env, io};
 use terminal_line::TerminalLine;
 use work::{Streams, do_command};
-
-/// How many bytes of a long line are written at once.
-const WRITTEN_AT_ONCE: usize = 8192;
 
 fn main(rt: HostRuntime) -> ExitCode {
     let is_terminal = rt.stderr().is_terminal();
@@ -100,17 +96,13 @@ where
 {
     let shown = shows_reading && is_check(job.command);
     let line = shown.then_some(ReadingLine::new(rt));
-    // engines write a few bytes at a time, and must be read line by line
-    let writer = LineWriter::with_capacity(rt.alloc(), WRITTEN_AT_ONCE, io::writer(rt)).map_err(
-        |_| AllocError,
-    )?;
     let mut streams = Streams {
         first: ShownInput::new(LazyInput::new(rt, Some(job.first)), None),
         second: ShownInput::new(LazyInput::new(rt, job.second), line),
         third: ShownInput::new(LazyInput::new(rt, job.third), None),
         fourth: ShownInput::new(LazyInput::new(rt, job.fourth), None),
         commands: PromptReader::new(rt),
-        writer,
+        writer: io::writer(rt),
     };
     let ended = do_command(
         rt,

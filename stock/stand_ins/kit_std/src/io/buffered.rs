@@ -1,8 +1,8 @@
-//! A reader that reads ahead into memory of its own, and a writer that writes whole lines.
+//! A reader that reads ahead into memory of its own.
 
 use crate::alloc::{AllocError, Global};
 use crate::vec::Vec;
-use std::io::{self, ErrorKind, Read, Result, Write};
+use std::io::{ErrorKind, Read, Result};
 
 /// Stock Rust's trait of this name, except that reading up to a byte can say that there is no memory.
 pub trait BufRead: Read {
@@ -97,26 +97,6 @@ impl<R: Read> BufRead for BufReader<R> {
     }
 }
 
-/// Stock Rust's writer of this name, except that making one is given what allocates.
-pub struct LineWriter<W: Write>(io::LineWriter<W>);
-
-impl<W: Write> LineWriter<W> {
-    /// Writes a line at once, or as many bytes of a longer one.
-    pub fn with_capacity(_alloc: Global, capacity: usize, writer: W) -> Result<Self> {
-        Ok(LineWriter(io::LineWriter::with_capacity(capacity, writer)))
-    }
-}
-
-impl<W: Write> Write for LineWriter<W> {
-    fn write(&mut self, bytes: &[u8]) -> Result<usize> {
-        self.0.write(bytes)
-    }
-
-    fn flush(&mut self) -> Result<()> {
-        self.0.flush()
-    }
-}
-
 #[cfg(test)]
 mod tests {
     use super::*;
@@ -140,17 +120,6 @@ mod tests {
         let mut line = Vec::new(Global);
         let counts = [(); 4].map(|_| reader.read_until(b'\n', &mut line).unwrap());
         assert_eq!((counts, line.as_slice()), ([4, 1, 14, 0], b"one\n\nthree and four".as_slice()));
-    }
-
-    #[test]
-    fn writes_whole_lines() {
-        let mut written = std::vec::Vec::new();
-        let mut writer = LineWriter::with_capacity(Global, 16, &mut written).unwrap();
-        writer.write_all(b"one\ntw").unwrap();
-        assert_eq!(writer.0.get_ref().as_slice(), b"one\n");
-        writer.flush().unwrap();
-        drop(writer);
-        assert_eq!(written, b"one\ntw");
     }
 
     #[test]

@@ -3,7 +3,7 @@
 mod buffered;
 
 pub use crate::streams::IsTerminal;
-pub use buffered::{BufRead, BufReader, LineWriter};
+pub use buffered::{BufRead, BufReader};
 pub use std::io::{Error, ErrorKind, Read, Result, Write};
 
 use crate::rt::{Eprint, HostRuntime, Print};
