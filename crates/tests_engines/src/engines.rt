@@ -215,7 +215,8 @@ pub fn answer(
                 runs,
                 &mut Nobody,
                 writer,
-            ).map(|_| ())
+            )
+            .map(|_| ())
         }
         Engine::Ring => {
             let generator = Pcg32::new(42, 54);
