@@ -1,5 +1,5 @@
-"""Inputs at the limits and one past them. The wanted answer stands here, and the reference, except of `threads`, must
-give it too."""
+"""Inputs at the limits and one past them. The wanted answer stands here, and the reference, except of `threads` and of the
+longest ways of `find`, must give it too."""
 
 import resource
 from pathlib import Path
@@ -18,7 +18,7 @@ CALLERS = str(ROOT / "examples/callers/lamport.litmus")
 QUEUE = ["--base", "1024", "--slots", "2"]
 NO_BLOCK = 1, b"", NONE + b"the block isn't aligned to 4 bytes, has no slot, or ends past the memory\n"
 NO_SEND = 1, b"", NONE + b"hart 0 has no cached_try_send in its code\n"
-KINDS = ["litmus", "schedules", "records", "shrink", "show", "steps", "asm", "dis", "debug", "channels", "options", "in little memory", "threads"]
+KINDS = ["litmus", "schedules", "records", "shrink", "show", "steps", "asm", "dis", "debug", "channels", "options", "in little memory", "threads", "find"]
 MIB = 1 << 20
 # slots of a ring at the least
 
@@ -272,8 +272,23 @@ def hold_long_run(runs):
     runs.hold("threads", came == refused(37) or is_short and runs.is_answer_of_threads(words, came), brief(came), words)
 
 
+def hold_long_way(runs, turns, wanted):
+    """A hart waits before each fence for its store to land, so its way has `l0 a0*2` for each of the 96 pairs of a turn, and
+    once `l0 a0*4`: as many turns as `run` reads again, and one more."""
+    cells = ["L: sw x5,0(x6)", "fence rw,rw", *["sw x5,0(x6)", "fence rw,rw"] * 95, "addi x7,x7,-1", "bnez x7,L"]
+    runs.put({"text": litmus(cells=cells, items=f"0:x7={turns}", condition="exists (0:x7=0)")})
+    words = ["find", "text"]
+    came = runs.run(words)
+    runs.hold("find", came == wanted if wanted else not came[0] and len(came[2]) <= INPUT, brief(came), words)
+    if not wanted:
+        runs.put({"way": came[2]})
+        again = runs.run(["run", "text", "way"])
+        runs.hold("find", again[0] == 0 and again[2].endswith(b"Holds\n"), brief(again), ["run", "text", "way"])
+
+
 def part(runs):
     runs.side_by_side(hold, rows(runs.short))
+    runs.side_by_side(hold_long_way, [(1365, None), (1366, refused(37))])
     runs.side_by_side(hold_in_memory, in_little_memory())
     hold_long_run(runs)
     runs.counts("limits", KINDS)

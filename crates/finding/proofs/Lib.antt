@@ -1,5 +1,4 @@
 -- Lemmas.
-pub mod ChangeLaws
 pub mod LevelLaws
 pub mod PartLaws
 pub mod PartRows

@@ -1,18 +1,19 @@
 //! The command `find`: a litmus text in, a schedule that shows what it asks about out.
 
 ghost use Rattle.std.specs.Prelude.{◌≡◌, ◌≤◌, ◌↔◌, if◌then◌else◌, IsTrue, IfOk, length};
-ghost use Rattle.std.specs.String.{string_bytes};
 ghost use Rattle.step_machine.specs.Positions.{position_of};
 ghost use Rattle.step_machine.specs.Standing.{ForEachHistory};
 ghost use Rattle.engine_support.specs.Engines.{Ends};
+ghost use Rattle.engine_support.specs.Faults.{AnswersAs};
 ghost use Rattle.engine_support.specs.inner.Making.{FindsUpToReads, text_and_value};
 ghost use Rattle.finding.specs.declared.finds.Found.TheVariants.{AllSeen, Cut};
-ghost use Rattle.finding.specs.Find.{EndsAsWanted, IsFindAnswer, IsFound, IsWantedAt, Shows};
+ghost use Rattle.finding.specs.Find.{EndsAsWanted, IsFindAnswer, IsFindGiven, IsWantedAt, Shows};
 ghost use Rattle.litmus.specs.declared.litmus_test.TheConstants.{MAX_LOCATIONS};
 
 use crate::progress::SearchProgress;
 use crate::surveying::{Searched, survey};
-use engine_support::fault::Fault;
+use engine_support::fault::{Fault, Position, TOO_LARGE};
+use engine_support::input::INPUT_BYTES;
 use engine_support::litmus_text::read_test;
 use engine_support::output::end_with;
 use litmus::{Test, Verdict};
@@ -72,19 +73,20 @@ fn is_shown_by<const B: usize, const M: usize>(
     }
 }
 
-/// The schedule of what a search hands over, if that shows what the test asks about, and nothing if there is none.
+/// The schedule of what a search hands over, if that shows what the test asks about, and nothing if there is none. A
+/// schedule that would be refused as an input isn't written.
 fn answer<const B: usize, const M: usize, P: SearchProgress>(
     alloc: Global,
     test: &Test,
     states: u32,
     progress: &mut P,
-) -> Result<(String, Found), AllocError>
+) -> Result<(String, Found), Fault>
     requires some_capacity { 1 ≤ B }
     requires capacity { B ≤ 64 }
     requires words { MAX_LOCATIONS ≤ M }
     requires size { M ≤ 65536 }
     requires some_states { 1 ≤ states }
-    ensures { IfOk result (λ answered. IsFound B M states test.now (string_bytes answered.0) answered.1) }
+    ensures { AnswersAs (IsFindGiven B M states test.now) text_and_value result }
 {
     let searched = survey::<B, M, P>(alloc, test, states, progress);
     progress.end();
@@ -96,10 +98,13 @@ fn answer<const B: usize, const M: usize, P: SearchProgress>(
     if let Some(way) = way {
         if is_shown_by::<B, M>(alloc, test, &way)? {
             let text = write_schedule(alloc, &way)?;
+            if text.len() > INPUT_BYTES {
+                return Err(Fault::refused(TOO_LARGE, Position::Nowhere));
+            }
             return Ok((text, Found::Shown));
         }
         // a search that is right hands over nothing else than what shows it
-        return Err(AllocError);
+        return Err(Fault::NoMemory);
     }
     Ok((String::new(alloc), found_none(states, is_cut)))
 }
@@ -130,8 +135,7 @@ fn made<const B: usize, const M: usize, R: Read, P: SearchProgress>(
     ensures { FindsUpToReads (IsFindAnswer B M states (R.remaining file.old)) text_and_value result }
 {
     let test = read_test(alloc, file)?;
-    let answered = answer::<B, M, P>(alloc, &test, states, progress)?;
-    Ok(answered)
+    answer::<B, M, P>(alloc, &test, states, progress)
 }
 
 /// Reads a litmus text to its end, and looks among the states that the test's machine reaches from its opening,
@@ -143,7 +147,8 @@ fn made<const B: usize, const M: usize, R: Read, P: SearchProgress>(
 /// impossible isn't said.
 /// The progress learns how far the search is, and that it ended; the answer doesn't depend on it.
 ///
-/// The input is refused as `run` refuses it, and then nothing was written.
+/// The input is refused as `run` refuses it. A schedule that no command could read is refused as too large ([`TOO_LARGE`]):
+/// its text has more than [`INPUT_BYTES`] bytes. Where there is a refusal nothing was written.
 pub fn find_engine<const B: usize, const M: usize, R: Read, P: SearchProgress, W: Write>(
     alloc: Global,
     file: &mut R,

@@ -11,7 +11,6 @@
 
 mod back;
 mod book;
-mod changes;
 mod fewest;
 mod finds;
 mod met;

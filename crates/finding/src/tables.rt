@@ -7,22 +7,19 @@ ghost use Rattle.step_machine.specs.Positions.{AreOfOneOpening, IsSoundMachine, 
 ghost use Rattle.step_machine.specs.declared.opening.TheConstants.{MAX_HARTS};
 ghost use Rattle.finding.specs.inner.Parts.{HasPart, position_by_row, tables_of};
 
-use crate::changes::{changes_into, words_into};
 use crate::steps::{Step, number_at};
-use states::Parts;
+use states::{Parts, Room, Trees};
 use std::alloc::{AllocError, Global};
 use std::marker::Model;
 use step_machine::MachineState;
 
-/// The words of each hart's parts by number, and of memory's changes, of the states of an opening.
+/// The words of each hart's parts by number, and those of memory that changed, of the states of an opening.
 #[derive(Drop)]
 pub(crate) struct Tables<const B: usize, const M: usize> {
     /// A machine at the opening.
     opening: MachineState<B, M>,
     harts: Vec<Parts>,
-    memories: Parts,
-    /// The words that changes are of.
-    first: Vec<u32>,
+    memories: Trees,
 }
 
 impl<const B: usize, const M: usize> Model for Tables<B, M> {
@@ -31,7 +28,7 @@ impl<const B: usize, const M: usize> Model for Tables<B, M> {
 
     ghost Value = { PartWords };
 
-    ghost view = { λ t. record { opening = t.opening; harts = t.harts.items; memories = t.memories; first = t.first.items } };
+    ghost view = { λ t. record { opening = t.opening; harts = t.harts.items; memories = t.memories } };
 
     ghost invariant = { λ t. IsSoundMachine B M t.opening };
 }
@@ -40,18 +37,16 @@ impl<const B: usize, const M: usize> Model for Tables<B, M> {
 #[derive(Drop)]
 pub(crate) struct Scratch {
     words: Vec<u32>,
-    others: Vec<u32>,
-    changes: Vec<u32>,
     bytes: Vec<u8>,
+    room: Room,
 }
 
 impl Scratch {
     pub fn new(alloc: Global) -> Self {
         Scratch {
             words: Vec::new(alloc),
-            others: Vec::new(alloc),
-            changes: Vec::new(alloc),
             bytes: Vec::new(alloc),
+            room: Room::new(alloc),
         }
     }
 }
@@ -72,8 +67,7 @@ impl<const B: usize, const M: usize> Tables<B, M> {
     pub fn new(
         opening: MachineState<B, M>,
         harts: Vec<Parts>,
-        memories: Parts,
-        first: Vec<u32>,
+        memories: Trees,
         scratch: &mut Scratch,
     ) -> Result<Self, AllocError>
         ensures { IfOk result (λ tables. tables.opening ≡ opening.entry) }
@@ -83,7 +77,6 @@ impl<const B: usize, const M: usize> Tables<B, M> {
             opening,
             harts,
             memories,
-            first,
         })
     }
 
@@ -138,12 +131,7 @@ impl<const B: usize, const M: usize> Tables<B, M> {
     {
         scratch.words.clear();
         machine.pack_memory(&mut scratch.words)?;
-        changes_into(&self.first, &scratch.words, &mut scratch.changes)?;
-        words_into(&self.first, &scratch.changes, &mut scratch.others)?;
-        if scratch.others.as_slice() != scratch.words.as_slice() {
-            return Ok(None);
-        }
-        match self.memories.find(&scratch.changes, &mut scratch.bytes)? {
+        match self.memories.find(&scratch.words, &mut scratch.room)? {
             Some(number) if number < u32::MAX as usize => Ok(Some(number as u32)),
             _ => Ok(None),
         }
@@ -225,8 +213,7 @@ impl<const B: usize, const M: usize> Tables<B, M> {
         ensures harts { length machine.new.harts ≡ length machine.old.harts }
     {
         self.memories
-            .words_into(memory as usize, &mut scratch.changes)?;
-        words_into(&self.first, &scratch.changes, &mut scratch.words)?;
+            .words_into(memory as usize, &mut scratch.words, &mut scratch.room)?;
         machine.unpack_memory(&scratch.words);
         Ok(())
     }

@@ -79,8 +79,8 @@ fn numbered_tables<const B: usize, const M: usize>(
     ensures { IfOk result (λ tables. RepresentsHistory B M (at_opening test.now.opening) tables.opening) }
 {
     let mut scratch = Scratch::new(alloc);
-    let (harts, memories, first) = stepper.take_parts(alloc)?;
-    Tables::new(opened(alloc, test)?, harts, memories, first, &mut scratch)
+    let (harts, memories) = stepper.take_parts(alloc)?;
+    Tables::new(opened(alloc, test)?, harts, memories, &mut scratch)
 }
 
 /// The events that lead to the last of the states that were met, whose parts the stepper numbered: no schedule with fewer

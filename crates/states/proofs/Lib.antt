@@ -7,3 +7,4 @@ pub mod FieldLaws
 pub mod KeyLaws
 pub mod LayoutLaws
 pub mod Zipped
+pub mod TreeLaws

@@ -3,3 +3,4 @@ pub mod Numbered
 pub mod inner
 pub mod Digits
 pub mod Fields
+pub mod Trees

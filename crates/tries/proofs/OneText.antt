@@ -13,14 +13,15 @@ use Rattle.litmus.specs.declared.verdict.Verdict.{Verdict}
 use Rattle.litmus.proofs.VerdictLaws.{one_verdict}
 use Rattle.engine_support.specs.declared.fault.Refusal.{Refusal}
 use Rattle.engine_support.specs.Engines.{AreOneAnswer}
-use Rattle.engine_support.specs.Outcomes.{AreOutcomes, unfinished_line}
+use Rattle.engine_support.specs.Outcomes.{AreOutcomes}
 use Rattle.engine_support.specs.Tests.{tests}
 use Rattle.engine_support.proofs.InputLaws.{alike_after, one_litmus_text, one_made}
 use Rattle.engine_support.proofs.OneInput.{equal_alike}
 use Rattle.engine_support.proofs.OutcomeTables.{one_outcomes}
 use Rattle.tries.specs.Trials.{Trial, IsTrial, are_good, gave}
 use Rattle.jumping.specs.declared.draws.Draw.{Draw}
-use Rattle.tries.specs.Outcomes.{outcome_with_count, unfinished, IsTried, IsTryAnswer}
+use Rattle.tries.specs.declared.trials.outcomes.Unfinished.{Unfinished}
+use Rattle.tries.specs.Outcomes.{first_unfinished, last_line, shown_by, outcome_with_count, unfinished, IsTried, IsTryAnswer}
 
 -- ---- one run of each schedule
 
@@ -52,21 +53,22 @@ one_list B M q x y are others same = absurd cc
 
 -- ---- one text
 
-one_text : (B M : ℕ) (draw : Draw) (stream : Stream) (runs size : ℕ) (q : LitmusTest) (a b : List ℕ × Bool)
-    → IsTried B M draw stream runs size q a → IsTried B M draw stream runs size q b → a ≡ b
-one_text B M draw stream runs size q a b is other =
+one_text : (B M : ℕ) (left : Unfinished) (draw : Draw) (stream : Stream) (runs size : ℕ) (q : LitmusTest) (a b : List ℕ × Bool)
+    → IsTried B M left draw stream runs size q a → IsTried B M left draw stream runs size q b → a ≡ b
+one_text B M left draw stream runs size q a b is other =
     let trials : is.trials ≡ other.trials = one_list B M q is.trials other.trials is.are.ran other.are.ran (is.are.schedules ∙ sym other.are.schedules) in
     let outcomes : is.outcomes ≡ other.outcomes = one_outcomes gave is.trials is.outcomes other.outcomes is.shown
     (subst (λ (ts : List Trial). AreOutcomes gave ts other.outcomes) (sym trials) other.shown) in
     let texts : a.0 ≡ b.0 = is.text
-    ∙ ap (λ (ts : List Trial). flat_map (outcome_with_count q ts) is.outcomes ++ unfinished_line (unfinished ts)) trials
-    ∙ ap (λ (xs : List (List ℕ)). flat_map (outcome_with_count q other.trials) xs ++ unfinished_line (unfinished other.trials)) outcomes
+    ∙ ap (λ (ts : List Trial). flat_map (outcome_with_count q ts) is.outcomes ++ last_line (unfinished ts) (shown_by left (first_unfinished ts))) trials
+    ∙ ap (λ (xs : List (List ℕ)). flat_map (outcome_with_count q other.trials) xs
+    ++ last_line (unfinished other.trials) (shown_by left (first_unfinished other.trials))) outcomes
     ∙ sym other.text in
     let goods : a.1 ≡ b.1 = is.good ∙ ap (are_good q.quantifier) trials ∙ sym other.good in
     λ i. (texts i, goods i)
 
-pub one_try : (B M : ℕ) (draw : Draw) (stream : Stream) (runs size : ℕ) (file : List ℕ) (a b : Result (List ℕ × Bool) Refusal)
-    → IsTryAnswer B M draw stream runs size (Some file) a → IsTryAnswer B M draw stream runs size (Some file) b → AreOneAnswer a b
-one_try B M draw stream runs size file =
+pub one_try : (B M : ℕ) (left : Unfinished) (draw : Draw) (stream : Stream) (runs size : ℕ) (file : List ℕ) (a b : Result (List ℕ × Bool) Refusal)
+    → IsTryAnswer B M left draw stream runs size (Some file) a → IsTryAnswer B M left draw stream runs size (Some file) b → AreOneAnswer a b
+one_try B M left draw stream runs size file =
     alike_after tests (λ r s. r.number ≡ s.number) one_litmus_text AreOneAnswer (λ r s e. e) file _
-    (λ q a b is other. equal_alike a b (one_made (IsTried B M draw stream runs size q) (one_text B M draw stream runs size q) a b is other))
+    (λ q a b is other. equal_alike a b (one_made (IsTried B M left draw stream runs size q) (one_text B M left draw stream runs size q) a b is other))

@@ -1,8 +1,9 @@
 -- Runs after runs: their schedules, and the tally of them all from the tallies of the two parts.
 use Rattle.std.proofs.Common.{◌≡◌, ℕ, zero, suc, ◌+◌, ◌*◌, Bool, cond, ◌||◌, not, List, [], ◌++◌, length, map}
-use Rattle.std.proofs.Common.{Option, sym, ap, ◌∙◌, arith, append-nil, append_assoc, subst, ◌-◌, ◌≤◌, ◌<◌}
+use Rattle.std.proofs.Common.{Option, sym, ap, ap₂, ◌∙◌, arith, append-nil, append_assoc, subst, ◌-◌, ◌≤◌, ◌<◌}
 use Rattle.std.specs.List.{list_any, range_with_len}
-use Rattle.std.specs.Prelude.{IfSome}
+use Rattle.std.specs.Prelude.{IfSome, ◌==◌}
+use Rattle.std.specs.String.{string_bytes}
 use Rattle.std.proofs.lemmas.List.{map-append, length-map}
 use Rattle.std.proofs.lemmas.List.Folds.{list_any-append}
 use Rattle.std.proofs.lemmas.List.Sums.{sum_by-append, count_by-le-length}
@@ -18,11 +19,11 @@ use Rattle.tries.specs.declared.trials.tally.Tally.{Tally}
 use Rattle.engine_support.specs.Counting.{Counted, counted, counted_both, seen_of}
 use Rattle.engine_support.proofs.OutcomeTables.{seen_both, seen_few}
 use Rattle.tries.specs.Trials.{Trial, IsTrial, AreTrials, gave, is_finished, is_holds, is_fails}
-use Rattle.tries.specs.Outcomes.{first_schedule}
+use Rattle.tries.specs.Outcomes.{first_schedule, unfinished}
 use Rattle.tries.specs.inner.Tallies.{IsTallyOf}
 use Rattle.tries.specs.inner.Merging.{AreRunsFrom, IsTallyFrom, Merges, TestSource}
 use Rattle.tries.proofs.TrialLaws.{no_trials}
-use Rattle.tries.proofs.TallyLaws.{first_of_both, first_of_later}
+use Rattle.tries.proofs.TallyLaws.{first_of_both, first_of_later, left_of_both}
 
 -- ---- the tally of them all
 
@@ -48,6 +49,10 @@ tally_both front back old later new first second merged = record {
   unfinished_are =
       let e = sum_by-append (λ (y : Trial). cond (not (is_finished y.verdict)) 1 0) front back in
       omega (arith, e, merged.unfinished_are, first.unfinished_are, second.unfinished_are);
+  first_is = merged.first_is
+      ∙ ap (λ (n : ℕ). cond (n == 0) (string_bytes later.first_unfinished) (string_bytes old.first_unfinished)) first.unfinished_are
+      ∙ ap₂ (λ (xs ys : List ℕ). cond (unfinished front == 0) xs ys) second.first_is first.first_is
+      ∙ sym (left_of_both front back);
   holds = any_both (λ (t : Trial). is_holds t.verdict) front back _ _ _ merged.holds first.holds second.holds;
   fails = any_both (λ (t : Trial). is_fails t.verdict) front back _ _ _ merged.fails first.fails second.fails;
 }

@@ -3,11 +3,13 @@
 ghost use Rattle.std.specs.Prelude.{◌≤◌, ◌*◌, IfOk};
 ghost use Rattle.engine_support.specs.Engines.{Ends};
 ghost use Rattle.tries.specs.Outcomes.{IsTried, IsTryAnswer};
+ghost use Rattle.tries.specs.declared.trials.outcomes.Unfinished.{Unfinished};
 ghost use Rattle.engine_support.specs.inner.Making.{FindsUpToReads};
 ghost use Rattle.tries.specs.inner.Tallies.{text_and_good};
 ghost use Rattle.recorder.specs.Drawing.{left_after};
 ghost use Rattle.litmus.specs.declared.litmus_test.TheConstants.{MAX_LOCATIONS};
 
+pub use crate::trials::outcomes::Unfinished;
 use crate::trials::outcomes::end_with_tally;
 use crate::trials::parallel::tally_in_rounds;
 use crate::trials::tally::Tally;
@@ -43,8 +45,8 @@ fn drawn<const B: usize, const M: usize, G: Jump + Sync + Drop, T: Threads + Syn
     requires words { MAX_LOCATIONS ≤ M }
     requires size { M ≤ 65536 }
     ensures { IfOk result
-        (λ tally. IsTried B M draw (left_after (runs.skip * runs.length) (G.Rng.stream generator.now)) runs.number
-        runs.length test.now (text_and_good (test.now, tally))) }
+        (λ tally. (left : Unfinished) → IsTried B M left draw (left_after (runs.skip * runs.length) (G.Rng.stream generator.now)) runs.number
+        runs.length test.now (text_and_good left (test.now, tally))) }
 {
     let start = generator.ahead(runs.skip, runs.length)?;
     let Runs {
@@ -81,8 +83,8 @@ fn made<
     requires capacity { B ≤ 64 }
     requires words { MAX_LOCATIONS ≤ M }
     requires size { M ≤ 65536 }
-    ensures { FindsUpToReads (IsTryAnswer B M draw (left_after (runs.skip * runs.length) (G.Rng.stream generator.now)) runs.number runs.length
-        (R.remaining file.old)) text_and_good result }
+    ensures { (left : Unfinished) → FindsUpToReads (IsTryAnswer B M left draw (left_after (runs.skip * runs.length) (G.Rng.stream generator.now))
+        runs.number runs.length (R.remaining file.old)) (text_and_good left) result }
 {
     let test = read_test(alloc, file)?;
     let tally = drawn::<B, M, G, T, P>(rt, alloc, &test, draw, generator, runs, progress)?;
@@ -95,9 +97,9 @@ fn made<
 ///
 /// It writes a line for each outcome of the finished runs, ascending by the values: how many runs gave
 /// it, the values of the condition's left sides, and the schedule of the first of these runs; and then
-/// how many runs did not finish. The lines are made one by one as they are written. It answers whether the runs
-/// show what the test asks: with `exists` a run that holds, else no run that fails. The answer depends neither on the jobs nor on the progress,
-/// which learns how far the runs are, and that they ended.
+/// how many runs did not finish, if asked with the schedule of the first of these. The lines are made one by one as they are written.
+/// It answers whether the runs show what the test asks: with `exists` a run that holds, else no run that fails. The answer depends
+/// neither on the jobs nor on the progress, which learns how far the runs are, and that they ended.
 ///
 /// The input is refused as `run` refuses it, and then nothing was written.
 pub fn try_engine<
@@ -112,6 +114,7 @@ pub fn try_engine<
     rt: &T,
     alloc: Global,
     file: &mut R,
+    left: Unfinished,
     draw: Draw,
     generator: &G,
     runs: Runs,
@@ -122,11 +125,12 @@ pub fn try_engine<
     requires capacity { B ≤ 64 }
     requires words { MAX_LOCATIONS ≤ M }
     requires size { M ≤ 65536 }
-    ensures { Ends (IsTryAnswer B M draw (left_after (runs.skip * runs.length) (G.Rng.stream generator.now)) runs.number runs.length
+    ensures { Ends (IsTryAnswer B M left draw (left_after (runs.skip * runs.length) (G.Rng.stream generator.now)) runs.number runs.length
         (R.remaining file.old)) result W.contents writer.old writer.new }
 {
     end_with_tally(
         made::<B, M, R, G, T, P>(rt, alloc, file, draw, generator, runs, progress),
+        left,
         writer,
     )
 }

@@ -1,5 +1,6 @@
 -- Two tallies made one: that of the first one's runs and then of the other's.
-use Rattle.std.specs.Prelude.{ℕ, ◌≡◌, ◌+◌, ◌*◌, ◌-◌, ◌||◌, List}
+use Rattle.std.specs.Prelude.{ℕ, ◌≡◌, ◌==◌, ◌+◌, ◌*◌, ◌-◌, ◌||◌, if◌then◌else◌, List}
+use Rattle.std.specs.String.{string_bytes}
 use Rattle.rand_core.specs.Stream.{Stream}
 use Rattle.litmus.specs.LitmusTests.{LitmusTest}
 use Rattle.recorder.specs.Drawing.{left_after}
@@ -13,6 +14,7 @@ use Rattle.tries.specs.inner.Tallies.{IsTallyOf}
 pub record Merges (old later new : Tally) : Type 0 where
   pub counts : (outcome : List ℕ) → counted new.outcomes outcome ≡ counted_both (counted old.outcomes outcome) (counted later.outcomes outcome)
   pub unfinished_are : new.unfinished ≡ old.unfinished + later.unfinished
+  pub first_is : string_bytes new.first_unfinished ≡ (if old.unfinished == 0 then string_bytes later.first_unfinished else string_bytes old.first_unfinished)
   pub holds : new.some_hold ≡ (old.some_hold || later.some_hold)
   pub fails : new.some_fail ≡ (old.some_fail || later.some_fail)
 

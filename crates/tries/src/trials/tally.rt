@@ -1,6 +1,6 @@
 //! What is kept of a test's runs.
 
-ghost use Rattle.std.specs.Prelude.{◌≡◌, ◌+◌, ◌<◌, ℕ, List, [], ◌∷◌, false, IsTrue, IfOk, IfSome, OnOk};
+ghost use Rattle.std.specs.Prelude.{◌≡◌, ◌+◌, ◌++◌, ◌<◌, ℕ, List, [], ◌∷◌, false, IsTrue, IfOk, IfSome, OnOk, codes};
 ghost use Rattle.std.specs.String.{string_bytes};
 ghost use Rattle.step_machine.specs.History.{History, OpeningValue};
 ghost use Rattle.step_machine.specs.Runs.{Run};
@@ -17,6 +17,7 @@ use engine_support::outcomes::Outcomes;
 use litmus::Verdict;
 use recorder::push_tokens;
 use std::alloc::{AllocError, Global};
+use std::mem;
 use step_machine::{Event, MachineState};
 
 /// The outcomes of the runs, and what else is known of them.
@@ -26,21 +27,31 @@ pub struct Tally {
     pub outcomes: Outcomes,
     /// How many runs left a hart that hasn't ended, or a store pending. They have no outcome.
     pub unfinished: u32,
+    /// The first of these as the last line has it: the tokens of its schedule after a semicolon. Empty if there is none.
+    pub first_unfinished: String,
     /// In how many of these each hart is stopped at the end, for each reason.
     pub stops: Stops,
     pub some_hold: bool,
     pub some_fail: bool,
 }
 
-fn schedule_text(alloc: Global, events: &[Event]) -> Result<String, AllocError>
-    ensures { IfOk result (λ text. string_bytes text ≡ text_of_schedule events.now) }
+fn push_schedule(text: &mut String, events: &[Event]) -> Result<(), AllocError>
+    ensures { OnOk result (string_bytes text.new ≡ string_bytes text.old ++ text_of_schedule events.now) }
 {
-    let mut text = String::new(alloc);
     if events.is_empty() {
-        return Ok(text);
+        return Ok(());
     }
     text.push_str(" ")?;
-    push_tokens(&mut text, events)?;
+    push_tokens(text, events)
+}
+
+/// The tokens of a schedule after this word.
+fn schedule_after(alloc: Global, word: &'static str, events: &[Event]) -> Result<String, AllocError>
+    ensures { IfOk result (λ text. string_bytes text ≡ word.now ++ text_of_schedule events.now) }
+{
+    let mut text = String::new(alloc);
+    text.push_str(word)?;
+    push_schedule(&mut text, events)?;
     Ok(text)
 }
 
@@ -57,7 +68,7 @@ fn count_outcome(
     if outcomes.count_again(outcome) {
         return Ok(());
     }
-    let end = schedule_text(alloc, events)?;
+    let end = schedule_after(alloc, "", events)?;
     let outcome = Vec::from_slice(alloc, outcome)?;
     outcomes.count_first(outcome, end)
 }
@@ -79,7 +90,7 @@ pub fn run_anew<const B: usize, const M: usize>(
 
 impl Tally {
     /// Takes in the runs of a later tally, after its own.
-    pub fn take_in(&mut self, later: Tally) -> Result<(), AllocError>
+    pub fn take_in(&mut self, mut later: Tally) -> Result<(), AllocError>
         requires counts { (outcome : List ℕ)
             → IfSome (counted_both (counted self.old.outcomes outcome) (counted later.outcomes outcome))
             (λ seen. seen.0 < 18446744073709551616) }
@@ -87,6 +98,9 @@ impl Tally {
         ensures merged { OnOk result (Merges self.old later self.new) }
         ensures stops { OnOk result (TakesStops later.stops self.old.stops self.new.stops) }
     {
+        if self.unfinished == 0 {
+            mem::swap(&mut self.first_unfinished, &mut later.first_unfinished);
+        }
         self.outcomes.take_in(later.outcomes)?;
         self.unfinished += later.unfinished;
         self.stops.take_in(&later.stops);
@@ -102,6 +116,7 @@ impl Tally {
         Tally {
             outcomes: Outcomes::new(alloc),
             unfinished: 0,
+            first_unfinished: String::new(alloc),
             stops: Stops::new(),
             some_hold: false,
             some_fail: false,
@@ -132,6 +147,9 @@ impl Tally {
                 count_outcome(alloc, &mut self.outcomes, values, events)
             }
             Verdict::Unfinished => {
+                if self.unfinished == 0 {
+                    self.first_unfinished = schedule_after(alloc, " ;", events)?;
+                }
                 self.unfinished += 1;
                 self.stops.note_each(stopped);
                 Ok(())
@@ -140,17 +158,20 @@ impl Tally {
     }
 
     /// Takes in one more run with this verdict and these last values, and with these harts stopped, unless it is the
-    /// first with a new outcome, and answers whether it did.
+    /// first with a new outcome or the first that didn't finish, and answers whether it did.
     pub fn add_again(&mut self, verdict: Verdict, values: &[u32], stopped: &[Stopped]) -> bool
         requires counts { (outcome : List ℕ) → IfSome (counted self.old.outcomes outcome) (λ seen. seen.0 < 18446744073709551615) }
         requires unfinished { self.old.unfinished < 4294967295 }
         ensures again { IsTrue result → (events : List Event) → Tallies (record { events = events; verdict = verdict; values = values.now }) self.old self.new }
         ensures stops { IsTrue result → NotesStops (is_finished verdict) stopped.now self.old.stops self.new.stops }
         ensures none { result ≡ false → self.new ≡ self.old }
-        ensures new { result ≡ false → counted self.old.outcomes values.now ≡ None }
-        ensures finished { result ≡ false → IsTrue (is_finished verdict) }
+        ensures new { result ≡ false → IsTrue (is_finished verdict) → counted self.old.outcomes values.now ≡ None }
+        ensures first { result ≡ false → is_finished verdict ≡ false → self.old.unfinished ≡ 0 }
     {
         if verdict == Verdict::Unfinished {
+            if self.unfinished == 0 {
+                return false;
+            }
             self.unfinished += 1;
             self.stops.note_each(stopped);
             return true;

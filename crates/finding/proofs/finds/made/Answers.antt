@@ -1,8 +1,8 @@
-use Rattle.std.proofs.Common.{Ok}
 use Rattle.litmus.specs.LitmusTests.{LitmusTest}
 use Rattle.engine_support.specs.Tests.{tests}
 use Rattle.engine_support.specs.inner.Making.{text_and_value}
-use Rattle.engine_support.proofs.InputLaws.{read_after, refused_after}
+use Rattle.engine_support.proofs.InputLaws.{made_after, read_after, refused_after}
+use Rattle.finding.specs.Find.{IsFindGiven}
 use Rattle.finding.proofs.finds.made.Goals as goal
 
 pub returns-in_err-test : goal.returns-in_err-test
@@ -11,4 +11,6 @@ returns-in_err-test g c =
     c.from_residual.ensures.1 c.in_err-test.ensures.test
 
 pub returns : goal.returns
-returns g c = read_after tests _ _ text_and_value (Ok c.in_ok-answered.answered) c.in_ok-test.test c.in_ok-test.ensures.test c.in_ok-answered.ensures
+returns g c =
+    read_after tests _ _ text_and_value c.answer.result c.in_ok-test.test c.in_ok-test.ensures.test
+    (made_after (IsFindGiven g.row.B g.row.M c.args.states c.in_ok-test.test) text_and_value c.answer.result c.answer.ensures)

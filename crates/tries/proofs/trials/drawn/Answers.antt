@@ -8,12 +8,12 @@ use Rattle.tries.proofs.OutcomeLaws.{tried}
 use Rattle.tries.proofs.trials.drawn.Goals as goal
 
 pub returns : goal.returns
-returns g c =
+returns g c left =
     let runs = c.args.runs in
     let test = c.args.test.now in
     let tally = c.in_ok-tally.tally in
     let tallied = c.in_ok-tally.ensures in
     let are = subst (λ (s : Stream). AreTrials g.row.B g.row.M test c.args.draw s runs.number runs.length tallied.0) c.in_ok-start.ensures tallied.1 in
-    tried g.row.B g.row.M c.args.draw (left_after (runs.skip * runs.length) (g.G.Rng.stream c.args.generator.now)) runs.number
-    runs.length test tallied.0 tally (lines_in test tally.outcomes) (tally_text test tally) (text_and_good (test, tally)).1
+    tried g.row.B g.row.M left c.args.draw (left_after (runs.skip * runs.length) (g.G.Rng.stream c.args.generator.now)) runs.number
+    runs.length test tallied.0 tally (lines_in test tally.outcomes) (tally_text left test tally) (text_and_good left (test, tally)).1
     are tallied.2 c.has_lines.ensures refl refl

@@ -1,0 +1,79 @@
+"""What the dearest inputs cost, which docs/security.md states: processor seconds and peak memory, each with its bound."""
+
+import itertools
+import os
+import subprocess
+from pathlib import Path
+
+from .limits import NONE, litmus
+from .runs import brief
+
+KINDS = ["find", "check", "try", "channel", "run", "debug"]
+MINUTES = 10
+# each of 4,096 words of memory is changed, and then one of them in every second state
+FILL = ["fill: amoswap.w x0,x5,(x6)", "addi x6,x6,4", "addi x5,x5,1", "addi x7,x7,-1", "bnez x7,fill", "li x8,8192",
+        "count: amoadd.w x0,x9,(x8)", "j count"]
+
+
+def observed():
+    """A test of 64 harts that observes 3,072 registers and words. Eight of the harts count up one word."""
+    words = [f"x{number}" for number in range(1024)]
+    lefts = [f"{hart}:x{register}=0" for hart in range(64) for register in range(1, 32)] + [f"{word}=0" for word in words]
+    items = "".join(f"{hart}:x5=1; {hart}:x6=x0; " for hart in range(8)) + "".join(f"{word}=0; " for word in words)
+    harts = [f"P{hart}" for hart in range(64)], ["amoadd.w x7,x5,(x6)"] * 8 + [""] * 56
+    rows = "".join(" | ".join(cells) + " ;\n" for cells in harts)
+    condition = " /\\ ".join(lefts[:3072])
+    return f"RISCV X\n{{{items}}}\n{rows}exists ({condition})\n".encode()
+
+
+def records(count):
+    """Records of that test, each in another order of the harts, and so with another outcome."""
+    orders = itertools.islice(itertools.permutations(range(8)), count)
+    return "".join("ztso-schedule 2\n" + "".join(f"a{hart} amo {hart} 0 {at} {at + 1}\n" for at, hart in enumerate(order))
+                   for order in orders).encode()
+
+
+def empty_cells():
+    row = "|" * 63 + ";\n"
+    names = "|".join(f"P{hart}" for hart in range(64))
+    return f"RISCV X\n{{}}\n{names};\n{row * 16_120}exists (x=0)\n".encode()
+
+
+def rows(short):
+    """The words, standard input, the file `text`, the status, and at most how many seconds and MiB."""
+    yield ["find", "text", "--states", "40500"], b"", litmus(
+        cells=FILL, items="0:x7=4096; 0:x5=1000000; 0:x9=1", condition="exists (0:x7=1)"), 5, 10, 12
+    yield ["check", "text"], records(200), observed(), 0, 2, 16
+    drawn = ["--seed", "1", "--runs", "4" if short else "16", "--length", "1048576"]
+    counting = litmus(cells=["amoadd.w x6,x5,(x0)"], items="0:x5=1", condition="exists (0:x6=0)")
+    yield ["try", "text", *drawn], b"", counting, 0, 30, 32
+    yield ["channel", "lamport", "2", "none", "--finish"], b"7 " * 520_000 + b"\n", b"", 0, 10, 256
+    yield ["run", "text", "none"], b"", empty_cells(), 0, 2, 72
+    stores = litmus(cells=["L: sw x0,0(x0)", "j L"])
+    yield ["debug", "text", "stores"], b"g\nq\n", stores, 0, 10, 80
+    if not short:
+        lists = (b"7 " * 8200 + b"\n") * 63
+        yield ["channel", "lamport", "2", "none", "--finish"], lists, b"", 0, 120, 256
+        yield ["check", "text"], b"ztso-schedule 2\na0*1000000 inner 0\n" * 1687, litmus(cells=["L: j L"]), 0, 240, 48
+
+
+def hold(runs, words, stdin, text, status, most_seconds, most_mib):
+    runs.put({"text": text, "none": NONE, "stores": NONE + b"a0*2 l0 " * 131_000})
+    Path("stdin").write_bytes(stdin)
+    with open("stdin", "rb") as given, open("stdout", "wb") as out:
+        done = subprocess.run(["/usr/bin/time", "-o", "cost", "-f", "%U %S %M", runs.program, *words], stdin=given, stdout=out,
+                              stderr=subprocess.PIPE, timeout=60 * MINUTES)
+    user, system, peak = Path("cost").read_text().split()[-3:]
+    seconds, mib = float(user) + float(system), int(peak) / 1024
+    right = done.returncode == status and seconds <= most_seconds and mib <= most_mib
+    runs.hold(words[0], right, f"{brief((done.returncode, done.stderr, b''))}, {seconds:.1f} s, {mib:.0f} MiB", words)
+    print(f"  {' '.join(words)}: {seconds:.1f} of {most_seconds} s, {mib:.0f} of {most_mib} MiB", flush=True)
+
+
+def part(runs):
+    if not os.path.exists("/usr/bin/time"):
+        print("costs: no /usr/bin/time")
+        return
+    for row in rows(runs.short):
+        hold(runs, *row)
+    runs.counts("costs", KINDS)
