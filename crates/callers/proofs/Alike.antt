@@ -1,18 +1,19 @@
 -- A queue that can be used owes nothing at the opening, so two answers to one input have one exit status.
-use Rattle.std.proofs.Common.{ℕ, ◌≡◌, ◌+◌, ◌*◌, ◌%◌, ◌<◌, min, not, inl, inr, Bool, true, false, List, [], Some}
+use Rattle.std.proofs.Common.{ℕ, ◌≡◌, ◌+◌, ◌-◌, ◌*◌, ◌/◌, ◌%◌, ◌<◌, ◌≤◌, min, not, nat_lt, inl, inr, Bool, true, false, List, [], Some}
 use Rattle.std.proofs.Common.{refl, sym, ap, subst, ◌∙◌, arith, add-zero}
-use Rattle.std.proofs.lemmas.Bool.{cases_order}
-use Rattle.std.proofs.Math.Nat.{mod-eq_of_lt, mod-lt}
+use Rattle.std.proofs.lemmas.Bool.{cases_order, cases_lt}
+use Rattle.std.proofs.lemmas.Bool.Decides.{nat_tests}
+use Rattle.std.proofs.Math.Nat.{add-mod_right, mod-eq_of_lt, mod-lt}
 use Rattle.rand_core.specs.Stream.{Stream}
 use Rattle.step_machine.specs.declared.events.Event.{Event}
 use Rattle.step_machine.specs.History.{OpeningValue, History, at_opening}
 use Rattle.step_machine.specs.Entries.{memory_word}
 use Rattle.step_machine.proofs.Running.{run-one}
 use Rattle.rv_decode.specs.Listings.{Listed}
-use Rattle.spsc_queue.specs.RingBuffers.{slot_offset, slot_address}
+use Rattle.spsc_queue.specs.RingBuffers.{slot_address}
 use Rattle.spsc_queue.specs.Calls.{copy_in, buffer, HasFunction}
-use Rattle.callers.specs.Queues.{kind_of, caches_tail, spsc_of, sends_by, receives_by, HasFirstCopy, IsLocated}
-use Rattle.callers.specs.Debts.{IsOpeningDebt, first_debt}
+use Rattle.callers.specs.Queues.{kind_of, caches_tail, slots_after, start_in, waiting_in, spsc_of, sends_by, receives_by, HasFirstCopy, IsLocated}
+use Rattle.callers.specs.Debts.{waits_in, IsOldTail, IsOpeningDebt, first_debt}
 use Rattle.jumping.specs.declared.draws.Draw.{Draw}
 use Rattle.judged_runs.specs.Finding.{AreAllGood}
 use Rattle.judged_runs.specs.Histories.{summed}
@@ -29,7 +30,7 @@ use Rattle.callers.specs.declared.queue.QueueKind.TheVariants as kind
 use Rattle.callers.specs.declared.queue.Queue.{Queue}
 use Rattle.callers.specs.declared.queue.Located.{Located}
 use Rattle.callers.proofs.Exact.{none_owed}
-use Rattle.callers.proofs.Rest.{place_of, at_any}
+use Rattle.callers.proofs.Rest.{on_from, back_from, at_any}
 
 -- ---- where a queue begins that can be used
 
@@ -44,11 +45,41 @@ offset_is : (w n S : ℕ) → w ≡ 4 * n → n < S → (w % 4 ≡ 0) × (w < 4 
 offset_is w n S is below = (omega (arith, is), omega (arith, is, below))
 
 module _ (M : ℕ) (o : OpeningValue) (l : Located) (located : IsLocated M o l.queue l) where
-  at_start : slot_offset (buffer (spsc_of l)) 0 ≡ 4 * l.start
-  at_start = ap (λ (n : ℕ). 4 * n) (ap (λ (n : ℕ). n % l.queue.slots) (add-zero l.start) ∙ mod-eq_of_lt located.start)
+  abbrev S : ℕ
+  S = l.queue.slots
+
+  at_start : memory_word o [] (l.queue.base + 64) ≡ 4 * l.start
+  at_start = located.rest.tail ∙ ap (λ (n : ℕ). 4 * n) (ap (λ (n : ℕ). n % S) (add-zero l.start) ∙ mod-eq_of_lt located.start)
+
+  start : l.start ≡ start_in o l.queue
+  start = omega (arith, at_start)
+
+  -- how many slots after the first a slot comes tells whether a word waits in it
+  waits_at : (j : ℕ) (waits : Bool) → waits_in o l.queue j ≡ waits → nat_lt (slots_after S l.start j) l.waiting ≡ waits
+  waits_at j waits is = ap (λ n. nat_lt (slots_after S n j) l.waiting) start ∙ ap (nat_lt (slots_after S (start_in o l.queue) j)) located.waiting ∙ is
+
+  slot_at : (j : ℕ) → j < S → l.queue.base + 128 + 4 * j ≡ slot_address (buffer (spsc_of l)) (slots_after S l.start j)
+  slot_at j below = ap (λ (n : ℕ). l.queue.base + 128 + 4 * n) (sym (on_from S l.start j located.start below))
+
+  old_tail : (w j : ℕ) → l.waiting < j → j ≤ S → w ≡ 4 * ((l.start + j) % S) → IsOldTail o l.queue w
+  old_tail w j more most is = (
+    offset_is w ((l.start + j) % S) S is (mod-lt (l.start + j) (omega (arith, located.start))),
+    elim (cases_lt j S) [
+      | inl less ↦ inr (
+          let slot : w / 4 ≡ (l.start + j) % S = omega (arith, is) in
+          let after : slots_after S (start_in o l.queue) (w / 4) ≡ j =
+          ap (λ n. slots_after S n (w / 4)) (sym start) ∙ ap (slots_after S l.start) slot ∙ back_from S l.start j located.start less in
+          omega (arith, after, more, located.waiting))
+      | inr all ↦ inl (
+          let whole : j ≡ S = omega (arith, all, most) in
+          let slot : (l.start + j) % S ≡ l.start =
+          ap (λ n. (l.start + n) % S) whole ∙ add-mod_right l.start S ∙ mod-eq_of_lt located.start in
+          omega (arith, is, slot, start))
+    ],
+  )
 
   excluded : (d : Debt) → IsOpeningDebt M o l.queue d → ⊥
-  excluded debt.NoBlock has_debt = has_debt (at_any M l.queue l.start 0 located.block)
+  excluded debt.NoBlock has_debt = has_debt (at_any M l.queue l.start l.waiting 0 0 located.block)
   excluded (debt.OneParty h) has_debt = located.parties (sym has_debt.0 ∙ has_debt.1)
   excluded (debt.NoSend k h) has_debt = has_debt.2 l.send_line
       (subst (λ (x : ℕ). HasFunction o x l.send_line (sends_by k)) (sym has_debt.1)
@@ -56,18 +87,28 @@ module _ (M : ℕ) (o : OpeningValue) (l : Located) (located : IsLocated M o l.q
   excluded (debt.NoReceive k h) has_debt = has_debt.2 l.receive_line
       (subst (λ (x : ℕ). HasFunction o x l.receive_line (receives_by k)) (sym has_debt.1)
       (subst (λ (x : QueueKind). HasFunction o l.queue.receiver l.receive_line (receives_by x)) (sym has_debt.0) located.receives.here))
-  excluded (debt.NoOffset a w) has_debt =
-      let is : w ≡ 4 * l.start = sym has_debt.1 ∙ ap (memory_word o []) has_debt.0 ∙ located.rest.head ∙ at_start in
-      has_debt.2 (offset_is w l.start l.queue.slots is located.start)
-  excluded (debt.NotEmpty u v) has_debt = has_debt.2 (sym has_debt.0 ∙ located.rest.head ∙ sym located.rest.tail ∙ has_debt.1)
+  excluded (debt.NoOffset a w) has_debt = elim has_debt.0 [
+    | inl head ↦ (
+        let is : w ≡ 4 * ((l.start + l.waiting) % S) = sym has_debt.1 ∙ ap (memory_word o []) head ∙ located.rest.head in
+        has_debt.2 (offset_is w ((l.start + l.waiting) % S) S is (mod-lt (l.start + l.waiting) (omega (arith, located.start)))))
+    | inr tail ↦ (
+        let is : w ≡ 4 * l.start = sym has_debt.1 ∙ ap (memory_word o []) tail ∙ at_start in has_debt.2 (offset_is w l.start S is located.start))
+  ]
   excluded (debt.NoCopy a w) has_debt =
       let opens = located.rest.copy (l.queue.base + 4) (copy_at l.queue.kind l.queue.base has_debt.0) in
-      let is : w ≡ slot_offset (buffer (spsc_of l)) opens.0 = sym has_debt.2 ∙ ap (memory_word o []) has_debt.1 ∙ opens.2 in
-      has_debt.3 (offset_is w ((l.start + opens.0) % l.queue.slots) l.queue.slots is (mod-lt (l.start + opens.0) (omega (arith, located.start))))
+      has_debt.3 (old_tail w opens.0 opens.1 opens.2 (sym has_debt.2 ∙ ap (memory_word o []) has_debt.1 ∙ opens.3))
   excluded (debt.NotFree a w) has_debt =
-      let place = place_of l.start l.queue.slots has_debt.1.0 located.start has_debt.1.1 in
-      let is : a ≡ slot_address (buffer (spsc_of l)) place.0 = has_debt.1.2 ∙ ap (λ (n : ℕ). l.queue.base + 128 + 4 * n) (sym place.2) in
-      has_debt.3 (sym has_debt.2 ∙ ap (memory_word o []) is ∙ located.rest.slots has_debt.0 place.0 place.1)
+      let j : ℕ = has_debt.1.0 in
+      let free = waits_at j false has_debt.1.3 in
+      let least : l.waiting ≤ slots_after S l.start j = grind (arith, nat_tests, free) in
+      has_debt.3 (sym has_debt.2 ∙ ap (memory_word o []) (has_debt.1.2 ∙ slot_at j has_debt.1.1)
+      ∙ located.rest.free has_debt.0 (slots_after S l.start j) least (mod-lt (j + S - l.start) (omega (arith, located.start))))
+  excluded (debt.NoWord a) has_debt =
+      let j : ℕ = has_debt.1.0 in
+      let waits = waits_at j true has_debt.1.3 in
+      let most : slots_after S l.start j < l.waiting = grind (arith, nat_tests, waits) in
+      located.rest.words has_debt.0 (slots_after S l.start j) most
+      (sym (ap (memory_word o []) (has_debt.1.2 ∙ slot_at j has_debt.1.1)) ∙ has_debt.2)
   excluded (debt.Wrote h pc a) has_debt = has_debt
   excluded (debt.PassedBytes h bytes) has_debt = has_debt
   excluded (debt.PassedWord h) has_debt = has_debt
@@ -88,8 +129,8 @@ one_copy o h n m listing a b = elim (cases_order n m) [
   ])
 ]
 
-abbrev located_at : Queue → (start send receive : ℕ) → Located
-located_at q start send receive = record { queue = q; start = start; send_line = send; receive_line = receive }
+abbrev located_at : Queue → (start waiting send receive : ℕ) → Located
+located_at q start waiting send receive = record { queue = q; start = start; waiting = waiting; send_line = send; receive_line = receive }
 
 module _ (M : ℕ) (o : OpeningValue) (l m : Located) (one : IsLocated M o l.queue l) (other : IsLocated M o l.queue m) where
   -- the second, by the first one's queue
@@ -98,9 +139,13 @@ module _ (M : ℕ) (o : OpeningValue) (l m : Located) (one : IsLocated M o l.que
 
   starts : l.start ≡ m.start
   starts =
-      let words : memory_word o [] l.queue.base ≡ memory_word o [] m.queue.base = ap (λ (x : Queue). memory_word o [] x.base) (sym other.queue_is) in
-      let fours : 4 * l.start ≡ 4 * m.start = sym (at_start M o l one) ∙ sym one.rest.head ∙ words ∙ again.rest.head ∙ at_start M o m again in
+      let words : memory_word o [] (l.queue.base + 64) ≡ memory_word o [] (m.queue.base + 64) =
+      ap (λ (x : Queue). memory_word o [] (x.base + 64)) (sym other.queue_is) in
+      let fours : 4 * l.start ≡ 4 * m.start = sym (at_start M o l one) ∙ words ∙ at_start M o m again in
       omega (arith, fours)
+
+  counts : l.waiting ≡ m.waiting
+  counts = one.waiting ∙ ap (waiting_in o) (sym other.queue_is) ∙ sym again.waiting
 
   sends : l.send_line ≡ m.send_line
   sends = one_copy o l.queue.sender l.send_line m.send_line (sends_by l.queue.kind) one.sends
@@ -111,10 +156,11 @@ module _ (M : ℕ) (o : OpeningValue) (l m : Located) (one : IsLocated M o l.que
       (subst (λ (x : Queue). HasFirstCopy o x.receiver m.receive_line (receives_by x.kind)) other.queue_is other.receives)
 
   one_way : l ≡ m
-  one_way = ap (λ (x : Queue). located_at x l.start l.send_line l.receive_line) (sym other.queue_is)
-      ∙ ap (λ (n : ℕ). located_at m.queue n l.send_line l.receive_line) starts
-      ∙ ap (λ (n : ℕ). located_at m.queue m.start n l.receive_line) sends
-      ∙ ap (λ (n : ℕ). located_at m.queue m.start m.send_line n) receives
+  one_way = ap (λ (x : Queue). located_at x l.start l.waiting l.send_line l.receive_line) (sym other.queue_is)
+      ∙ ap (λ (n : ℕ). located_at m.queue n l.waiting l.send_line l.receive_line) starts
+      ∙ ap (λ (n : ℕ). located_at m.queue m.start n l.send_line l.receive_line) counts
+      ∙ ap (λ (n : ℕ). located_at m.queue m.start m.waiting n l.receive_line) sends
+      ∙ ap (λ (n : ℕ). located_at m.queue m.start m.waiting m.send_line n) receives
 
 -- ---- two answers
 

@@ -43,10 +43,10 @@ debt_text (debt.OneParty h) = codes "hart " ++ decimal h ++ codes " both sends a
 debt_text (debt.NoSend k h) = codes "hart " ++ decimal h ++ codes " has no " ++ send_name k ++ codes " in its code"
 debt_text (debt.NoReceive k h) = codes "hart " ++ decimal h ++ codes " has no " ++ receive_name k ++ codes " in its code"
 debt_text (debt.NoOffset a w) = codes "the index at " ++ decimal a ++ codes " opens as " ++ decimal w ++ codes ", not as the offset of a slot"
-debt_text (debt.NotEmpty u v) = codes "the indices open as " ++ decimal u ++ codes " and " ++ decimal v ++ codes ", not alike"
 debt_text (debt.NoCopy a w) =
-    codes "the copy of the tail at " ++ decimal a ++ codes " opens as " ++ decimal w ++ codes ", not as the offset of a slot"
+    codes "the copy of the tail at " ++ decimal a ++ codes " opens as " ++ decimal w ++ codes ", not as an offset that the tail can have had"
 debt_text (debt.NotFree a w) = codes "the slot at " ++ decimal a ++ codes " opens as " ++ decimal w ++ codes " and not as 0"
+debt_text (debt.NoWord a) = codes "the slot at " ++ decimal a ++ codes " opens as 0, where a word waits"
 debt_text (debt.Wrote h pc a) =
     codes "hart " ++ decimal h ++ codes " wrote to the block at " ++ decimal a ++ codes " outside of a call, at pc " ++ decimal pc
 debt_text (debt.PassedBytes h bytes) = codes "hart " ++ decimal h ++ codes " called with a2 = " ++ decimal bytes ++ codes ", not the bytes of the slots"

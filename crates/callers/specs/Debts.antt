@@ -1,6 +1,6 @@
 -- What callers owe and don't keep: where the queue begins, and the first such debt among the entries of a run.
-use Rattle.std.specs.Prelude.{ℕ, ◌≡◌, ◌≢◌, ◌+◌, ◌*◌, ◌%◌, ◌<◌, ◌==◌, ◌||◌, Bool, true, false, if◌then◌else◌, List, [], ◌∷◌, ◌++◌, Option, None, Some}
-use Rattle.std.specs.Prelude.{option_map, slice_index}
+use Rattle.std.specs.Prelude.{ℕ, ◌≡◌, ◌≢◌, ◌⊎◌, ◌+◌, ◌*◌, ◌/◌, ◌%◌, ◌<◌, ◌==◌, ◌||◌, not, nat_lt, Bool, true, false, if◌then◌else◌, List, [], ◌∷◌, ◌++◌}
+use Rattle.std.specs.Prelude.{Option, None, Some, option_map, slice_index}
 use Rattle.std.specs.Option.{option_or}
 use Rattle.memory.specs.declared.writes.Write.{Write}
 use Rattle.memory.specs.Writes.{write}
@@ -15,7 +15,7 @@ use Rattle.spsc_queue.specs.RingBuffers.{RingBuffer, fastforward, overlaps}
 use Rattle.spsc_queue.specs.Calls.{Block, SpscQueue, Party, the_sender, the_receiver, IsBlock, HasFunction, buffer}
 use Rattle.spsc_queue.specs.Calls.{enters, is_sender_in_call, is_receiver_in_call}
 use Rattle.spsc_queue.specs.Obligations.{may_pass, has_arguments}
-use Rattle.callers.specs.Queues.{kind_of, caches_tail, block_at, sends_by, receives_by, HasNoCopy}
+use Rattle.callers.specs.Queues.{kind_of, caches_tail, block_at, slots_after, start_in, waiting_in, sends_by, receives_by, HasNoCopy}
 use Rattle.callers.specs.declared.queue.Queue.{Queue}
 use Rattle.callers.specs.declared.debts.Debt.{Debt}
 use Rattle.callers.specs.declared.debts.Debt.TheVariants as debt
@@ -26,20 +26,28 @@ use Rattle.callers.specs.declared.debts.Debt.TheVariants as debt
 abbrev pub IsOffset : Queue → (w : ℕ) → Type 0
 IsOffset q w = (w % 4 ≡ 0) × (w < 4 * q.slots)
 
--- the address is that of a slot
-abbrev pub IsSlot : Queue → (a : ℕ) → Type 0
-IsSlot q a = (j : ℕ) × (j < q.slots) × (a ≡ q.base + 128 + 4 * j)
+-- whether a word waits in slot j where the queue begins
+abbrev pub waits_in : OpeningValue → Queue → (j : ℕ) → Bool
+waits_in o q j = nat_lt (slots_after q.slots (start_in o q) j) (waiting_in o q)
+
+-- the address is that of a slot in which a word waits, or in which none does
+abbrev pub IsSlot : OpeningValue → Queue → (waits : Bool) → (a : ℕ) → Type 0
+IsSlot o q waits a = (j : ℕ) × (j < q.slots) × (a ≡ q.base + 128 + 4 * j) × (waits_in o q j ≡ waits)
+
+-- the word is an offset that the tail can have had when the words that wait were sent: its own, or that of a slot past the head
+abbrev pub IsOldTail : OpeningValue → Queue → (w : ℕ) → Type 0
+IsOldTail o q w = IsOffset q w × ((w / 4 ≡ start_in o q) ⊎ (waiting_in o q < slots_after q.slots (start_in o q) (w / 4)))
 
 -- this is owed at the opening: what the debt says of it is so
 abbrev pub IsOpeningDebt : (M : ℕ) → OpeningValue → Queue → Debt → Type 0
-IsOpeningDebt M o q debt.NoBlock = IsBlock M (block_at q 0) → ⊥
+IsOpeningDebt M o q debt.NoBlock = IsBlock M (block_at q 0 0) → ⊥
 IsOpeningDebt M o q (debt.OneParty h) = (h ≡ q.sender) × (h ≡ q.receiver)
 IsOpeningDebt M o q (debt.NoSend k h) = (k ≡ q.kind) × (h ≡ q.sender) × HasNoCopy o h (sends_by k)
 IsOpeningDebt M o q (debt.NoReceive k h) = (k ≡ q.kind) × (h ≡ q.receiver) × HasNoCopy o h (receives_by k)
-IsOpeningDebt M o q (debt.NoOffset a w) = (a ≡ q.base) × (memory_word o [] a ≡ w) × (IsOffset q w → ⊥)
-IsOpeningDebt M o q (debt.NotEmpty head tail) = (memory_word o [] q.base ≡ head) × (memory_word o [] (q.base + 64) ≡ tail) × (head ≢ tail)
-IsOpeningDebt M o q (debt.NoCopy a w) = (caches_tail q.kind ≡ true) × (a ≡ q.base + 4) × (memory_word o [] a ≡ w) × (IsOffset q w → ⊥)
-IsOpeningDebt M o q (debt.NotFree a w) = (kind_of q.kind ≡ fastforward) × IsSlot q a × (memory_word o [] a ≡ w) × (w ≢ 0)
+IsOpeningDebt M o q (debt.NoOffset a w) = ((a ≡ q.base) ⊎ (a ≡ q.base + 64)) × (memory_word o [] a ≡ w) × (IsOffset q w → ⊥)
+IsOpeningDebt M o q (debt.NoCopy a w) = (caches_tail q.kind ≡ true) × (a ≡ q.base + 4) × (memory_word o [] a ≡ w) × (IsOldTail o q w → ⊥)
+IsOpeningDebt M o q (debt.NotFree a w) = (kind_of q.kind ≡ fastforward) × IsSlot o q false a × (memory_word o [] a ≡ w) × (w ≢ 0)
+IsOpeningDebt M o q (debt.NoWord a) = (kind_of q.kind ≡ fastforward) × IsSlot o q true a × (memory_word o [] a ≡ 0)
 IsOpeningDebt M o q (debt.Wrote h pc a) = ⊥
 IsOpeningDebt M o q (debt.PassedBytes h bytes) = ⊥
 IsOpeningDebt M o q (debt.PassedWord h) = ⊥
@@ -52,30 +60,30 @@ abbrev pub HasCopy : OpeningValue → (h : ℕ) → List Listed → Type 0
 HasCopy o h listing = (n : ℕ) × HasFunction o h n listing
 
 pub record HasFunctions (M : ℕ) (o : OpeningValue) (q : Queue) : Type 0 where
-  pub block : IsBlock M (block_at q 0)
+  pub block : IsBlock M (block_at q 0 0)
   pub parties : q.sender ≢ q.receiver
   pub sends : HasCopy o q.sender (sends_by q.kind)
   pub receives : HasCopy o q.receiver (receives_by q.kind)
 
-pub record OpensAlike (M : ℕ) (o : OpeningValue) (q : Queue) : Type 0 where
+pub record HasIndices (M : ℕ) (o : OpeningValue) (q : Queue) : Type 0 where
   pub functions : HasFunctions M o q
-  pub offset : IsOffset q (memory_word o [] q.base)
-  pub alike : memory_word o [] (q.base + 64) ≡ memory_word o [] q.base
+  pub head : IsOffset q (memory_word o [] q.base)
+  pub tail : IsOffset q (memory_word o [] (q.base + 64))
 
--- the lower slots are free
-abbrev pub AreFreeBelow : OpeningValue → Queue → (a : ℕ) → Type 0
-AreFreeBelow o q a = (j : ℕ) → q.base + 128 + 4 * j < a → memory_word o [] (q.base + 128 + 4 * j) ≡ 0
+-- the lower slots hold 0 just where no word waits
+abbrev pub AreAsOwedBelow : OpeningValue → Queue → (a : ℕ) → Type 0
+AreAsOwedBelow o q a = (j : ℕ) → q.base + 128 + 4 * j < a → (memory_word o [] (q.base + 128 + 4 * j) == 0) ≡ not (waits_in o q j)
 
 -- all that is asked before it is as it is owed
 abbrev pub IsKeptBefore : (M : ℕ) → OpeningValue → Queue → Debt → Type 0
 IsKeptBefore M o q debt.NoBlock = Unit {0}
-IsKeptBefore M o q (debt.OneParty h) = IsBlock M (block_at q 0)
-IsKeptBefore M o q (debt.NoSend k h) = IsBlock M (block_at q 0) × (q.sender ≢ q.receiver)
-IsKeptBefore M o q (debt.NoReceive k h) = IsBlock M (block_at q 0) × (q.sender ≢ q.receiver) × HasCopy o q.sender (sends_by q.kind)
-IsKeptBefore M o q (debt.NoOffset a w) = HasFunctions M o q
-IsKeptBefore M o q (debt.NotEmpty head tail) = HasFunctions M o q × IsOffset q head
-IsKeptBefore M o q (debt.NoCopy a w) = OpensAlike M o q
-IsKeptBefore M o q (debt.NotFree a w) = OpensAlike M o q × AreFreeBelow o q a
+IsKeptBefore M o q (debt.OneParty h) = IsBlock M (block_at q 0 0)
+IsKeptBefore M o q (debt.NoSend k h) = IsBlock M (block_at q 0 0) × (q.sender ≢ q.receiver)
+IsKeptBefore M o q (debt.NoReceive k h) = IsBlock M (block_at q 0 0) × (q.sender ≢ q.receiver) × HasCopy o q.sender (sends_by q.kind)
+IsKeptBefore M o q (debt.NoOffset a w) = HasFunctions M o q × (a ≡ q.base + 64 → IsOffset q (memory_word o [] q.base))
+IsKeptBefore M o q (debt.NoCopy a w) = HasIndices M o q
+IsKeptBefore M o q (debt.NotFree a w) = HasIndices M o q × AreAsOwedBelow o q a
+IsKeptBefore M o q (debt.NoWord a) = HasIndices M o q × AreAsOwedBelow o q a
 IsKeptBefore M o q other = Unit {0}
 
 abbrev pub IsFirstOpeningDebt : (M : ℕ) → OpeningValue → Queue → Debt → Type 0

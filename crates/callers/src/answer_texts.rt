@@ -52,15 +52,15 @@ fn push_debt(out: &mut String, debt: Debt) -> Result<(), AllocError>
             out,
             "the index at {address} opens as {word}, not as the offset of a slot"
         ),
-        Debt::NotEmpty { head, tail } => {
-            write!(out, "the indices open as {head} and {tail}, not alike")
-        }
         Debt::NoCopy { address, word } => write!(
             out,
-            "the copy of the tail at {address} opens as {word}, not as the offset of a slot"
+            "the copy of the tail at {address} opens as {word}, not as an offset that the tail can have had"
         ),
         Debt::NotFree { address, word } => {
             write!(out, "the slot at {address} opens as {word} and not as 0")
+        }
+        Debt::NoWord { address } => {
+            write!(out, "the slot at {address} opens as 0, where a word waits")
         }
         Debt::Wrote { hart, pc, address } => write!(
             out,

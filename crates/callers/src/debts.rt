@@ -13,14 +13,14 @@ pub enum Debt {
     NoSend { kind: QueueKind, hart: u32 },
     /// The same of the hart that receives.
     NoReceive { kind: QueueKind, hart: u32 },
-    /// The sender's index, at this address, opens as this word, which is the offset of no slot.
+    /// The index at this address, the sender's or the receiver's, opens as this word, which is the offset of no slot.
     NoOffset { address: u32, word: u32 },
-    /// The sender's index and the receiver's open as these words, which differ.
-    NotEmpty { head: u32, tail: u32 },
-    /// The sender's copy of the tail, at this address, opens as this word, which is the offset of no slot.
+    /// The sender's copy of the tail, at this address, opens as this word, which is no offset that the tail can have had.
     NoCopy { address: u32, word: u32 },
-    /// The slot at this address opens as this word, and not as 0 as each of FastForward's must.
+    /// The slot at this address opens as this word, and not as 0 as each of FastForward's must in which no word waits.
     NotFree { address: u32, word: u32 },
+    /// The slot at this address opens as 0, between FastForward's indices, where a word must wait.
+    NoWord { address: u32 },
     /// The hart wrote to the block outside of a call, from this address on, by its instruction at `pc`.
     Wrote { hart: u32, pc: u32, address: u32 },
     /// The hart entered its function with these bytes in a2, and not those of the slots.

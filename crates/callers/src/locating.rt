@@ -1,14 +1,15 @@
 //! Whether a queue can be used from a machine's opening on, and where its functions stand.
 
-ghost use Rattle.std.specs.Prelude.{◌≡◌, ◌+◌, ◌*◌, ◌≤◌, ◌<◌, ◌↔◌, ℕ, List, All, true, IsTrue, IfOk, IfErr, OnOk, IfSome, None, [], length};
+ghost use Rattle.std.specs.Prelude.{◌≡◌, ◌==◌, not, ◌+◌, ◌*◌, ◌≤◌, ◌<◌, ◌↔◌, ℕ, List, All, true, IsTrue, IfOk, IfErr, OnOk, IfSome, None, [], length};
 ghost use Rattle.step_machine.specs.History.{at_opening, IsShort};
 ghost use Rattle.step_machine.specs.Entries.{memory_word};
 ghost use Rattle.spsc_queue.specs.RingBuffers.{fastforward};
 ghost use Rattle.rv_decode.specs.Listings.{words_of, Listed};
 ghost use Rattle.spsc_queue.specs.Calls.{IsBlock};
-ghost use Rattle.callers.specs.Queues.{kind_of, caches_tail, block_at, sends_by, receives_by, HasNoCopy, HasFirstCopy, IsLocated};
-ghost use Rattle.callers.specs.Debts.{IsOffset, IsOpeningDebt, IsFirstOpeningDebt};
-ghost use Rattle.callers.specs.inner.Locating.{StandsAt, IsFirstOfIndices, IsFirstOfRest};
+ghost use Rattle.callers.specs.Queues.{kind_of, caches_tail, block_at, slots_after, waiting_between, sends_by, receives_by, HasNoCopy, HasFirstCopy};
+ghost use Rattle.callers.specs.Queues.{IsLocated};
+ghost use Rattle.callers.specs.Debts.{IsOffset, waits_in, IsOldTail, AreAsOwedBelow, IsOpeningDebt, IsFirstOpeningDebt};
+ghost use Rattle.callers.specs.inner.Locating.{StandsAt, IsFirstOfIndices, IsFirstOfRest, IsWaiting};
 
 use crate::debts::Debt;
 use crate::queue::{Located, Queue, QueueKind};
@@ -79,7 +80,7 @@ fn receive_words(kind: QueueKind) -> &'static [u32]
 /// Whether the queue's block is one, in a memory of `M` words.
 fn is_block<const M: usize>(queue: Queue) -> bool
     requires { M ≤ 65536 }
-    ensures { IsTrue result ↔ IsBlock M (block_at queue 0) }
+    ensures { IsTrue result ↔ IsBlock M (block_at queue 0 0) }
 {
     let end = u64::from(queue.base) + 128 + 4 * u64::from(queue.slots);
     queue.base % 4 == 0 && queue.slots >= 1 && end <= 4 * M as u64
@@ -92,18 +93,62 @@ fn is_offset(queue: Queue, word: u32) -> bool
     word % 4 == 0 && u64::from(word) < 4 * u64::from(queue.slots)
 }
 
-/// The slot that the queue's indices open at. Err if the sender's is no offset of one, or the receiver's is another.
-fn start_of<const B: usize, const M: usize>(
+/// From which slot on words wait where the queue begins, and how many.
+#[derive(Clone, Copy)]
+struct Waiting {
+    start: u32,
+    count: u32,
+}
+
+/// How many slots after slot `start` this slot comes, round the end.
+fn slots_after(queue: Queue, start: u32, slot: u32) -> u32
+    requires from { start < queue.slots }
+    requires to { slot < queue.slots }
+    ensures { result ≡ slots_after queue.slots start slot }
+{
+    if slot < start {
+        queue.slots - start + slot
+    } else {
+        slot - start
+    }
+}
+
+/// How many words wait where the receiver's index opens at slot `start` and the sender's at slot `end`.
+fn count_waiting<const B: usize, const M: usize>(
     machine: &Machine<B, M>,
     queue: Queue,
-) -> Result<u32, Debt>
+    start: u32,
+    end: u32,
+) -> u32
     requires opens { machine.now.history ≡ at_opening machine.now.history.opening }
-    requires block { IsBlock M (block_at queue 0) }
-    ensures within { IfOk result (λ start. start < queue.slots) }
-    ensures head { IfOk result (λ start. memory_word machine.now.history.opening [] queue.base ≡ 4 * start) }
-    ensures tail { IfOk result (λ start. memory_word machine.now.history.opening [] (queue.base + 64) ≡ 4 * start) }
+    requires block { IsBlock M (block_at queue 0 0) }
+    requires from { start < queue.slots }
+    requires to { end < queue.slots }
+    ensures { result ≡ waiting_between (kind_of queue.kind) queue.slots start end
+        (memory_word machine.now.history.opening [] (queue.base + 128 + 4 * start)) }
+{
+    let tells = matches!(queue.kind, QueueKind::FastForward) && start == end;
+    if tells {
+        if machine.word(queue.base + 128 + 4 * start) == 0 {
+            0
+        } else {
+            queue.slots
+        }
+    } else {
+        slots_after(queue, start, end)
+    }
+}
+
+/// The words that wait where the queue begins. Err if an index is no offset of a slot.
+fn waiting_of<const B: usize, const M: usize>(
+    machine: &Machine<B, M>,
+    queue: Queue,
+) -> Result<Waiting, Debt>
+    requires opens { machine.now.history ≡ at_opening machine.now.history.opening }
+    requires block { IsBlock M (block_at queue 0 0) }
+    ensures waiting { IfOk result (IsWaiting machine.now.history.opening queue) }
     ensures has_debt { IfErr result (λ debt. IsOpeningDebt M machine.now.history.opening queue debt) }
-    ensures first { IfErr result (λ debt. IsFirstOfIndices queue debt) }
+    ensures first { IfErr result (λ debt. IsFirstOfIndices machine.now.history.opening queue debt) }
 {
     let head = machine.word(queue.base);
     if !is_offset(queue, head) {
@@ -112,53 +157,89 @@ fn start_of<const B: usize, const M: usize>(
             word: head,
         });
     }
-    let tail = machine.word(queue.base + 64);
-    if head == tail {
-        Ok(head / 4)
-    } else {
-        Err(Debt::NotEmpty { head, tail })
+    let address = queue.base + 64;
+    let tail = machine.word(address);
+    if !is_offset(queue, tail) {
+        return Err(Debt::NoOffset {
+            address,
+            word: tail,
+        });
     }
+    let start = tail / 4;
+    let count = count_waiting(machine, queue, start, head / 4);
+    Ok(Waiting { start, count })
 }
 
-/// Err if the sender's copy of the tail is no offset of a slot.
+/// Err if the sender's copy of the tail is no offset that the tail can have had.
 fn has_tail_copy<const B: usize, const M: usize>(
     machine: &Machine<B, M>,
     queue: Queue,
+    waiting: Waiting,
 ) -> Result<(), Debt>
     requires opens { machine.now.history ≡ at_opening machine.now.history.opening }
-    requires block { IsBlock M (block_at queue 0) }
+    requires block { IsBlock M (block_at queue 0 0) }
+    requires waiting { IsWaiting machine.now.history.opening queue waiting }
     requires kind { caches_tail queue.kind ≡ true }
-    ensures copy { OnOk result (IsOffset queue (memory_word machine.now.history.opening [] (queue.base + 4))) }
+    ensures copy { OnOk result (IsOldTail machine.now.history.opening queue (memory_word machine.now.history.opening [] (queue.base + 4))) }
     ensures has_debt { IfErr result (λ debt. IsOpeningDebt M machine.now.history.opening queue debt) }
     ensures first { IfErr result (λ debt. IsFirstOfRest machine.now.history.opening queue debt) }
 {
     let address = queue.base + 4;
     let word = machine.word(address);
-    if is_offset(queue, word) {
+    let Waiting { start, count } = waiting;
+    if is_offset(queue, word)
+        && (word / 4 == start || count < slots_after(queue, start, word / 4))
+    {
         Ok(())
     } else {
         Err(Debt::NoCopy { address, word })
     }
 }
 
-/// Err with the first slot of the queue that doesn't open as 0.
-fn are_free<const B: usize, const M: usize>(
+/// Err if this slot opens as 0 where a word waits, or as another word where none does.
+fn is_slot_as_owed<const B: usize, const M: usize>(
     machine: &Machine<B, M>,
     queue: Queue,
+    waiting: Waiting,
+    slot: u32,
 ) -> Result<(), Debt>
     requires opens { machine.now.history ≡ at_opening machine.now.history.opening }
-    requires block { IsBlock M (block_at queue 0) }
+    requires block { IsBlock M (block_at queue 0 0) }
+    requires waiting { IsWaiting machine.now.history.opening queue waiting }
     requires kind { kind_of queue.kind ≡ fastforward }
-    ensures free { OnOk result ((j : ℕ) → j < queue.slots → memory_word machine.now.history.opening [] (queue.base + 128 + 4 * j) ≡ 0) }
+    requires slot { slot < queue.slots }
+    requires below { AreAsOwedBelow machine.now.history.opening queue (queue.base + 128 + 4 * slot) }
+    ensures slot { OnOk result ((memory_word machine.now.history.opening [] (queue.base + 128 + 4 * slot) == 0)
+        ≡ not (waits_in machine.now.history.opening queue slot)) }
+    ensures has_debt { IfErr result (λ debt. IsOpeningDebt M machine.now.history.opening queue debt) }
+    ensures first { IfErr result (λ debt. IsFirstOfRest machine.now.history.opening queue debt) }
+{
+    let address = queue.base + 128 + 4 * slot;
+    let word = machine.word(address);
+    let waits = slots_after(queue, waiting.start, slot) < waiting.count;
+    match (waits, word == 0) {
+        (true, true) => Err(Debt::NoWord { address }),
+        (false, false) => Err(Debt::NotFree { address, word }),
+        _ => Ok(()),
+    }
+}
+
+/// Err with the first slot of the queue that opens as 0 where a word waits, or as another word where none does.
+fn are_as_owed<const B: usize, const M: usize>(
+    machine: &Machine<B, M>,
+    queue: Queue,
+    waiting: Waiting,
+) -> Result<(), Debt>
+    requires opens { machine.now.history ≡ at_opening machine.now.history.opening }
+    requires block { IsBlock M (block_at queue 0 0) }
+    requires waiting { IsWaiting machine.now.history.opening queue waiting }
+    requires kind { kind_of queue.kind ≡ fastforward }
+    ensures slots { OnOk result (AreAsOwedBelow machine.now.history.opening queue (queue.base + 128 + 4 * queue.slots)) }
     ensures has_debt { IfErr result (λ debt. IsOpeningDebt M machine.now.history.opening queue debt) }
     ensures first { IfErr result (λ debt. IsFirstOfRest machine.now.history.opening queue debt) }
 {
     for slot in 0..queue.slots {
-        let address = queue.base + 128 + 4 * slot;
-        let word = machine.word(address);
-        if word != 0 {
-            return Err(Debt::NotFree { address, word });
-        }
+        is_slot_as_owed(machine, queue, waiting, slot)?;
     }
     Ok(())
 }
@@ -167,20 +248,22 @@ fn are_free<const B: usize, const M: usize>(
 fn opens_as_owed<const B: usize, const M: usize>(
     machine: &Machine<B, M>,
     queue: Queue,
+    waiting: Waiting,
 ) -> Result<(), Debt>
     requires opens { machine.now.history ≡ at_opening machine.now.history.opening }
-    requires block { IsBlock M (block_at queue 0) }
+    requires block { IsBlock M (block_at queue 0 0) }
+    requires waiting { IsWaiting machine.now.history.opening queue waiting }
     ensures copy { OnOk result (caches_tail queue.kind ≡ true
-        → IsOffset queue (memory_word machine.now.history.opening [] (queue.base + 4))) }
-    ensures free { OnOk result (kind_of queue.kind ≡ fastforward
-        → (j : ℕ) → j < queue.slots → memory_word machine.now.history.opening [] (queue.base + 128 + 4 * j) ≡ 0) }
+        → IsOldTail machine.now.history.opening queue (memory_word machine.now.history.opening [] (queue.base + 4))) }
+    ensures slots { OnOk result (kind_of queue.kind ≡ fastforward
+        → AreAsOwedBelow machine.now.history.opening queue (queue.base + 128 + 4 * queue.slots)) }
     ensures has_debt { IfErr result (λ debt. IsOpeningDebt M machine.now.history.opening queue debt) }
     ensures first { IfErr result (λ debt. IsFirstOfRest machine.now.history.opening queue debt) }
 {
     match queue.kind {
         QueueKind::Lamport => Ok(()),
-        QueueKind::Cached => has_tail_copy(machine, queue),
-        QueueKind::FastForward => are_free(machine, queue),
+        QueueKind::Cached => has_tail_copy(machine, queue, waiting),
+        QueueKind::FastForward => are_as_owed(machine, queue, waiting),
     }
 }
 
@@ -217,11 +300,13 @@ pub(crate) fn locate<const B: usize, const M: usize>(
             hart: receiver,
         });
     };
-    let start = start_of(machine, queue)?;
-    opens_as_owed(machine, queue)?;
+    let waiting = waiting_of(machine, queue)?;
+    opens_as_owed(machine, queue, waiting)?;
+    let Waiting { start, count } = waiting;
     Ok(Located {
         queue,
         start,
+        waiting: count,
         send_line,
         receive_line,
     })

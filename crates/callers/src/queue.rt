@@ -19,11 +19,13 @@ pub struct Queue {
     pub receiver: u32,
 }
 
-/// A queue, the slot that its indices open at, and the lines of its harts' codes at which their functions begin.
+/// A queue, the slot that its receiver's index opens at, how many words wait from there on, and the lines of its harts' codes at which
+/// their functions begin.
 #[derive(Clone, Copy)]
 pub struct Located {
     pub queue: Queue,
     pub start: u32,
+    pub waiting: u32,
     pub send_line: u32,
     pub receive_line: u32,
 }

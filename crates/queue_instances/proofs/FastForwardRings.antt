@@ -12,21 +12,22 @@ use Rattle.step_machine.specs.declared.events.Entry.{Entry}
 use Rattle.step_machine.specs.History.{OpeningValue}
 use Rattle.step_machine.specs.Access.{Access, nothing, load, store, exchange, fence, land, access_of}
 use Rattle.step_machine.specs.Entries.{hart_of, pending, memory_word}
-use Rattle.spsc_queue.specs.RingBuffers.{lamport, fastforward, RingBuffer, IsRingBuffer, slot_offset, overlaps, IsEmptyAndQuiescent}
+use Rattle.spsc_queue.specs.RingBuffers.{lamport, fastforward, RingBuffer, IsRingBuffer, slot_offset, overlaps, slot_address, capacity_of, IsQuiescent}
 use Rattle.spsc_queue.specs.Protocol.{SenderState, resting, placed, renewing, roomy, filled, ReceiverState, idle, asked, waiting, holding, cleared}
-use Rattle.spsc_queue.specs.Protocol.{ProtocolState, at_start, Role, sends, receives, passes, role_of, looks_at}
-use Rattle.spsc_queue.specs.Protocol.{send_load, send_store, receive_load, receive_store, next_by, protocol_next, protocol_after, IsCopyStore, IsSenderStore}
+use Rattle.spsc_queue.specs.Protocol.{ProtocolState, at_start, parties_after, Role, sends, receives, passes, role_of, looks_at}
+use Rattle.spsc_queue.specs.Protocol.{send_load, send_store, receive_load, receive_store, next_by, protocol_next, IsCopyStore, IsSenderStore}
 use Rattle.spsc_queue.specs.Protocol.{IsReceiverStore, KeepsProtocolBy, KeepsProtocol, IsWordAt}
 use Rattle.spsc_queue.specs.Laws.{FollowsSpscProtocol}
 use Rattle.spsc_queue.proofs.Invariants.{IsPlaced, IsAsked}
 use Rattle.spsc_queue.proofs.Runs.{known-of, protocol-append}
-use Rattle.queue_parties.specs.Parties.{Party, the_sender, the_receiver, other, QueueCounts, all_at, count, known, with_known}
+use Rattle.queue_parties.specs.Parties.{Party, the_sender, the_receiver, other, QueueCounts, count, known, with_known}
 use Rattle.queue_parties.proofs.Positions.{ahead-is}
-use Rattle.slots_that_tell.specs.Slots.{Slots, IsSlots, IsEmptyAtRest, KeepsOff, gap, tag_of, slot_at, position_at, memory_tag}
+use Rattle.slots_that_tell.specs.Slots.{Slots, IsSlots, RestsAt, KeepsOff, gap, tag_of, slot_at, position_at, memory_tag}
 use Rattle.slots_that_tell.specs.Telling.{teller_of, owned_end, learned, moved, after_load, after_store, told_access, after_entry}
 use Rattle.slots_that_tell.specs.Telling.{MayStore, IsTagStore, TellsAccess, KeepsTelling}
 use Rattle.slots_that_tell.specs.Laws.{FollowsTelling}
 use Rattle.queue_instances.specs.FastForwardRings.{slots_of}
+use Rattle.queue_instances.specs.Starts.{counts_at_start}
 use Rattle.slots_that_tell.proofs.Codecs.{zero_differs}
 use Rattle.slots_that_tell.proofs.Places.{slot_at-tag, is_tag-tag, moved-tag, moved-leaves, off-leaves}
 use Rattle.slots_that_tell.proofs.Owned.{loaded-count, grows-load}
@@ -46,22 +47,34 @@ off-keeps : (r : RingBuffer) (is : IsRingBuffer r) (w : Write) → overlaps r w 
 off-keeps r is w off x on within = let part = covers-from w x on in
     grind (arith, nat_tests, off, part.0, part.1, within.0, within.1, is.slots_above, is.slots_below)
 
-pub rests : (r : RingBuffer) (is : IsRingBuffer r) (o : OpeningValue) (before : List Entry) → r.kind ≡ fastforward → IsEmptyAndQuiescent r o before
-    → IsEmptyAtRest (slots_of r) o before r.start
+-- the tag of a position that is so many after the first
+tag_word : (r : RingBuffer) (o : OpeningValue) (before : List Entry) (k : ℕ) → r.start ≤ k
+    → memory_word o before (slot_address r (k - r.start)) ≡ memory_tag (slots_of r) o before k
+tag_word r o before k from =
+    let place : r.start + (k - r.start) ≡ k = omega (arith, from) in
+    let at : r.slots + 4 * (k % r.size) ≡ r.slots + 4 * (k % r.size) + 0 = omega arith in
+    ap (λ i. memory_word o before (r.slots + 4 * (i % r.size))) place ∙ ap (memory_word o before) at
+
+pub rests : (r : RingBuffer) (is : IsRingBuffer r) (o : OpeningValue) (before : List Entry) → r.kind ≡ fastforward → IsQuiescent r o before
+    → RestsAt (slots_of r) o before (counts_at_start r)
 rests r is o before kind quiet = record {
-  free = free;
+  window = record {
+    known_published = omega arith;
+    published = omega (arith, fits);
+    known_taken = omega arith;
+    taken = omega arith;
+  };
+  full = λ k from below.
+      let word = quiet.words kind (k - r.start) (omega (arith, from, below)) in
+      ap (λ b. not b) (ne_eqb (memory_tag (slots_of r) o before k) 0 (λ zero. word (tag_word r o before k from ∙ zero)));
+  free = λ k from below.
+      eq-eqb (memory_tag (slots_of r) o before k) 0 (sym (tag_word r o before k (omega (arith, from)))
+      ∙ quiet.free kind (k - r.start) (omega (arith, from)) (omega (arith, from, below)));
   pending = λ h. all-off r (KeepsOff (slots_of r)) (off-keeps r is) (pending h before) (quiet.pending h);
 }
   where
-    free : (k : ℕ) → r.start ≤ k → k < r.start + r.size → (memory_tag (slots_of r) o before k == 0) ≡ true
-    free k from below =
-        let j : ℕ = k - r.start in
-        let place : r.start + j ≡ k = omega (arith, from) in
-        let zero : memory_word o before (r.slots + 4 * ((r.start + j) % r.size)) ≡ 0 = quiet.slots kind j (omega (arith, from, below)) in
-        let at : r.slots + 4 * (k % r.size) + 0 ≡ r.slots + 4 * ((r.start + j) % r.size) =
-        (let z : r.slots + 4 * (k % r.size) + 0 ≡ r.slots + 4 * (k % r.size) = omega arith in z)
-        ∙ ap (λ i. r.slots + 4 * (i % r.size)) (sym place) in
-        eq-eqb (memory_tag (slots_of r) o before k) 0 (ap (λ a. memory_word o before a) at ∙ zero)
+    fits : r.begins_with ≤ r.size
+    fits = subst (λ k. r.begins_with ≤ capacity_of k r.size) kind quiet.fits
 
 -- what the phases say of the counts
 abbrev pub Sending : (size : ℕ) → QueueCounts → SenderState → Type 0
@@ -424,32 +437,33 @@ module _ (r : RingBuffer) (is : IsRingBuffer r) (kind : r.kind ≡ fastforward) 
 
 keeps-all : (B : ℕ) (r : RingBuffer) (o : OpeningValue) (before done es : List Entry) (c : QueueCounts)
     → r.kind ≡ fastforward → FollowsSpscProtocol B r o before (done ++ es)
-    → KeepsProtocol r (protocol_after r at_start done) es → Agrees r (protocol_after r at_start done) c → KeepsTelling (slots_of r) c es
+    → KeepsProtocol r (parties_after r o before done) es → Agrees r (parties_after r o before done) c → KeepsTelling (slots_of r) c es
 keeps-all B r o before done [] c kind f keeps agrees = tt
 keeps-all B r o before done (e ∷ es) c kind f keeps agrees =
     let k = known-of B r o before done (e ∷ es) f in
     let one : TellsAccess (slots_of r) (teller_of (slots_of r) (hart_of e)) c (access_of e)
-    × Agrees r (next_by fastforward r (role_of r (hart_of e)) (protocol_after r at_start done) (access_of e)) (after_entry (slots_of r) c e) =
-    keeps-one r f.ring kind (protocol_after r at_start done) c agrees k.sending k.receiving e
-    (subst (λ t. KeepsProtocolBy t r (role_of r (hart_of e)) (protocol_after r at_start done) (access_of e)) kind keeps.0) in
-    let step : protocol_after r at_start (done ++ e ∷ []) ≡ protocol_next r (protocol_after r at_start done) e = protocol-append r at_start done (e ∷ []) in (
+    × Agrees r (next_by fastforward r (role_of r (hart_of e)) (parties_after r o before done) (access_of e)) (after_entry (slots_of r) c e) =
+    keeps-one r f.ring kind (parties_after r o before done) c agrees k.sending k.receiving e
+    (subst (λ t. KeepsProtocolBy t r (role_of r (hart_of e)) (parties_after r o before done) (access_of e)) kind keeps.0) in
+    let step : parties_after r o before (done ++ e ∷ []) ≡ protocol_next r (parties_after r o before done) e =
+    protocol-append r (at_start r o before) done (e ∷ []) in (
       one.0,
       keeps-all B r o before (done ++ e ∷ []) es (after_entry (slots_of r) c e) kind
           (subst (FollowsSpscProtocol B r o before) (sym (append_assoc done (e ∷ []) es)) f)
           (subst (λ t. KeepsProtocol r t es) (sym step) keeps.1)
           (subst (λ t. Agrees r t (after_entry (slots_of r) c e)) (sym step)
-          (subst (λ t. Agrees r (next_by t r (role_of r (hart_of e)) (protocol_after r at_start done) (access_of e))
+          (subst (λ t. Agrees r (next_by t r (role_of r (hart_of e)) (parties_after r o before done) (access_of e))
           (after_entry (slots_of r) c e)) (sym kind) one.1)),
     )
 
 pub fastforward_tells : (B : ℕ) (r : RingBuffer) (o : OpeningValue) (before es : List Entry) → r.kind ≡ fastforward → FollowsSpscProtocol B r o before es
-    → FollowsTelling B (slots_of r) r.start o before es
+    → FollowsTelling B (slots_of r) (counts_at_start r) o before es
 fastforward_tells B r o before es kind f = record {
   slots = is_slots r f.ring;
   legal = f.legal;
   rest = rests r f.ring o before kind f.rest;
-  keeps = keeps-all B r o before [] es (all_at r.start) kind f f.keeps (record {
-    published = omega arith;
+  keeps = keeps-all B r o before [] es (counts_at_start r) kind f f.keeps (record {
+    published = refl;
     taken = omega arith;
     sending = tt;
     receiving = refl;

@@ -20,18 +20,19 @@ use Rattle.store_buffers.specs.StoreBuffers.{LeavesByte, LeavesByteBy}
 use Rattle.spsc_queue.proofs.Words.{word_overlaps}
 use Rattle.spsc_queue.proofs.Copies.{IsAlone, CopyStays, copy-left, off_leaves, word_leaves, own_read, quiet_read, none_leave}
 use Rattle.spsc_queue.proofs.Rows.{more-of, kept-pending}
-use Rattle.spsc_queue.specs.RingBuffers.{lamport, RingBuffer, IsRingBuffer, IsWordIn, next, slot_offset, overlaps, IsEmptyAndQuiescent}
+use Rattle.spsc_queue.specs.RingBuffers.{lamport, RingBuffer, IsRingBuffer, IsWordIn, next, overlaps, capacity_of, IsQuiescent}
 use Rattle.spsc_queue.specs.Protocol.{SenderState, resting, placed, renewing, roomy, filled, ReceiverState, idle, asked, waiting, holding, cleared}
 use Rattle.spsc_queue.specs.Protocol.{ProtocolState, at_start, Role, sends, receives, passes, role_of, send_look}
 use Rattle.spsc_queue.specs.Protocol.{send_load, send_store, receive_look, receive_load, receive_store}
 use Rattle.spsc_queue.specs.Protocol.{next_by, protocol_next, IsWordAt, IsCopyStore, IsSenderStore, IsReceiverStore, KeepsProtocolBy, KeepsProtocol}
 use Rattle.spsc_queue.specs.Laws.{FollowsSpscProtocol}
 use Rattle.slot_queue.specs.Queues.{Queue, index_word, least, IsQueue, KeepsOff, IsAtRest}
-use Rattle.queue_parties.specs.Parties.{Party, the_sender, the_receiver, other, QueueCounts, all_at, count, with_known, known}
+use Rattle.queue_parties.specs.Parties.{Party, the_sender, the_receiver, other, QueueCounts, count, with_known, known}
 use Rattle.slot_queue.specs.Ownership.{party_of, hart, index, end, moved, after_load, after_store, after_access}
 use Rattle.slot_queue.specs.Ownership.{counts_next, FillsOwned, MayStore, KeepsAccess, KeepsOwnership}
 use Rattle.slot_queue.specs.Laws.{FollowsOwnership, moved_on}
 use Rattle.queue_instances.specs.LamportRings.{queue_of}
+use Rattle.queue_instances.specs.Starts.{counts_at_start}
 use Rattle.slot_queue.proofs.Codes.{least-near, word-small}
 use Rattle.slot_queue.proofs.Sides.{Side, moved-leaves, moved-index, fills-leaves, off-leaves}
 use Rattle.queue_instances.proofs.Blocks.{by-role, all-off}
@@ -825,56 +826,44 @@ keeps-all B r is o before c m s (e ∷ es) kind sides holds copied legal later k
           (LegalAfter-append B o [] before (e ∷ []) legal (later.0, tt)) later.1 keeps.1,
     )
 
--- the copy, where the queue is empty and at rest
+-- the copy, where the queue is at rest
 rest-copy : (r : RingBuffer) (is : IsRingBuffer r) (o : OpeningValue) (before : List Entry)
-    → IsEmptyAndQuiescent r o before → CopyHolds r o before (r.start + 0) r.start
-rest-copy r is o before quiet a some = by (Rattle.std.proofs.lemmas.Bool.cases_eq it.0 0)
-  where
-    it : (j : ℕ) × (j < r.size) × (memory_word o before a ≡ slot_offset r j)
-    it = quiet.copy a some
-
-    seen : read o before r.sender a 4 ≡ 4 * ((r.start + it.0) % r.size)
-    seen = quiet_read r o before r.sender a (quiet.pending r.sender) (is.copy a some).above (is.copy a some).below ∙ it.2
-
-    alone : IsAlone r a before
-    alone x from below g apart = none_leave r x (pending g before) (quiet.pending g)
-        (omega (arith, from, (is.copy a some).above)) (omega (arith, below, (is.copy a some).below))
-
-    by : (it.0 ≡ 0) ⊎ (it.0 ≢ 0) → CopyAt r o before (r.start + 0) r.start a
-    by (inl none) = record {
-      place = r.start + r.size;
-      reads = seen ∙ ap (λ j. 4 * ((r.start + j) % r.size)) none ∙ (let z : r.start + 0 ≡ r.start = omega arith in ap (λ n. 4 * (n % r.size)) z)
-          ∙ ap (λ x. 4 * x) (sym (add-mod_right r.start r.size)) ∙ sym (lamport-word r (r.start + r.size));
-      low = omega (arith, is.some_slots);
-      high = omega arith;
-      alone = alone;
-    }
-    by (inr more) = record {
+    → IsQuiescent r o before → CopyHolds r o before (r.start + r.begins_with + 0) r.start
+rest-copy r is o before quiet a some =
+    let it = quiet.copy a some in
+    record {
       place = r.start + it.0;
-      reads = seen ∙ sym (lamport-word r (r.start + it.0));
-      low = omega (arith, more);
-      high = omega (arith, it.1);
-      alone = alone;
+      reads = quiet_read r o before r.sender a (quiet.pending r.sender) (is.copy a some).above (is.copy a some).below ∙ it.3
+          ∙ sym (lamport-word r (r.start + it.0));
+      low = omega (arith, it.1);
+      high = omega (arith, it.2);
+      alone = λ x from below g apart.
+          none_leave r x (pending g before) (quiet.pending g) (omega (arith, from, (is.copy a some).above)) (omega (arith, below, (is.copy a some).below));
     }
 
 pub lamport_owns : (B : ℕ) (r : RingBuffer) (o : OpeningValue) (before es : List Entry) → r.kind ≡ lamport → FollowsSpscProtocol B r o before es
-    → FollowsOwnership B (queue_of r) (all_at r.start) o before es
+    → FollowsOwnership B (queue_of r) (counts_at_start r) o before es
 lamport_owns B r o before es kind f = record {
   queue = is_queue r f.ring;
   legal = f.legal;
   rest = rest;
-  keeps = keeps-all B r f.ring o before (all_at r.start) (λ t. count t (all_at r.start)) at_start es kind
-      (at-rest (queue_of r) (is_queue r f.ring) o before (all_at r.start) rest) (record { sending = tt; receiving = tt })
+  keeps = keeps-all B r f.ring o before (counts_at_start r) (λ t. count t (counts_at_start r)) (at_start r o before) es kind
+      (at-rest (queue_of r) (is_queue r f.ring) o before (counts_at_start r) rest) (record { sending = tt; receiving = tt })
       (rest-copy r f.ring o before f.rest) (LegalAfter-front B o [] before es f.legal) (LegalAfter-back B o [] before es f.legal) f.keeps;
 }
   where
-    word : 4 * ((r.start + 0) % r.size) ≡ index_word (queue_of r) r.start
-    word = omega arith
+    fits : r.begins_with ≤ r.size - 1
+    fits = subst (λ k. r.begins_with ≤ capacity_of k r.size) kind f.rest.fits
 
-    rest : IsAtRest (queue_of r) o before (all_at r.start)
+    rest : IsAtRest (queue_of r) o before (counts_at_start r)
     rest = record {
-      window = record { known_published = omega arith; published = omega arith; known_taken = omega arith; taken = omega arith };
-      head = f.rest.head ∙ word;
-      tail = f.rest.tail ∙ word;
+      window = record {
+        known_published = omega arith;
+        published = omega (arith, fits);
+        known_taken = omega arith;
+        taken = omega arith;
+      };
+      head = f.rest.head ∙ sym (lamport-word r (r.start + r.begins_with));
+      tail = f.rest.tail ∙ (let word : 4 * ((r.start + 0) % r.size) ≡ index_word (queue_of r) r.start = omega arith in word);
       pending = λ h. all-off r (KeepsOff (queue_of r)) (off-keeps r f.ring) (pending h before) (f.rest.pending h);
     }

@@ -1,2 +1,3 @@
+pub mod Starts
 pub mod LamportRings
 pub mod FastForwardRings

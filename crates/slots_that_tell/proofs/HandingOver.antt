@@ -1,7 +1,7 @@
 -- A byte of a slot, handed over: where a party stores the slot's tag, the other reads there what the party's hart read then.
 use Rattle.std.proofs.Common.{ℕ, ◌+◌, ◌<◌, ◌≤◌, ◌≡◌, ◌==◌, ◌⊎◌, inl, inr, if◌then◌else◌}
 use Rattle.std.proofs.Common.{List, [], ◌∷◌, ◌++◌, length, drop, Some, None, refl, sym, ◌∙◌, ap, subst, arith, append-nil, append_assoc}
-use Rattle.std.specs.Prelude.{All, slice_index_or}
+use Rattle.std.specs.Prelude.{All, slice_index_or, unwrap_or}
 use Rattle.std.proofs.lemmas.Bool.{cases_lt, eq-eqb, ne_eqb}
 use Rattle.std.proofs.lemmas.List.{drop-drop}
 use Rattle.std.proofs.lemmas.List.Elements.{All-drop}
@@ -10,13 +10,16 @@ use Rattle.memory.specs.Writes.{write}
 use Rattle.step_machine.specs.declared.events.Entry.{Entry}
 use Rattle.step_machine.specs.History.{OpeningValue, history_of}
 use Rattle.step_machine.specs.Access.{Access, nothing, load, store, exchange, fence, land, access_of}
-use Rattle.step_machine.specs.Entries.{hart_of, stored_by, own_store, pending, own_stores, lands, read_byte}
+use Rattle.step_machine.specs.Entries.{hart_of, stored_by, own_store, pending, own_stores, lands, memory_byte, read_byte}
 use Rattle.step_machine.specs.Legal.{Legal}
-use Rattle.step_machine.proofs.Appended.{stores-append, lands-append}
+use Rattle.step_machine.proofs.Appended.{stores-append, lands-append, LegalAfter-front, LegalAfter-back}
+use Rattle.step_machine.proofs.Balanced.{balanced}
 use Rattle.store_buffers.specs.StoreBuffers.{LeavesByte, LeavesByteBy, AllLeaveByte, IsOnlyWriter, LeavesByteAt}
+use Rattle.store_buffers.proofs.MessagePassing as passing
 use Rattle.store_buffers.proofs.MessagePassing.{handed_over}
-use Rattle.queue_parties.specs.Parties.{Party, other, QueueCounts, all_at, count, known}
-use Rattle.queue_parties.proofs.Parties.{two, twice, Grows, Whose, mine, theirs, whose, keeps-back, counts-append, keeps-front, keeps-at}
+use Rattle.store_buffers.proofs.Reading.{passed_over}
+use Rattle.queue_parties.specs.Parties.{Party, other, the_sender, QueueCounts, count, known}
+use Rattle.queue_parties.proofs.Parties.{two, twice, Grows, Whose, mine, theirs, whose, counts-append, keeps-at}
 use Rattle.store_buffers.proofs.Effects.{stored_none}
 use Rattle.store_buffers.proofs.LateStores.{late-stores, all-by-parts, leaves-at}
 use Rattle.slots_that_tell.specs.Slots.{Slots, IsSlots, gap, IsSlotByte}
@@ -27,12 +30,12 @@ use Rattle.slots_that_tell.proofs.Owned.{grows-after, Window, window-of, given-u
 
 -- ---- publication, of an entry that moves a count, with what it stores
 
-pub published_by : (B : ℕ) (q : Slots) (n : ℕ) (o : OpeningValue) (before es : List Entry) (e : Entry) (fs : List Entry)
-    → FollowsTelling B q n o before ((es ++ e ∷ []) ++ fs) → (p : Party) → count p (counts q n es) < count p (counts q n (es ++ e ∷ []))
-    → count p (counts q n (es ++ e ∷ [])) ≤ known (other p) (counts q n ((es ++ e ∷ []) ++ fs))
+pub published_by : (B : ℕ) (q : Slots) (start : QueueCounts) (o : OpeningValue) (before es : List Entry) (e : Entry) (fs : List Entry)
+    → FollowsTelling B q start o before ((es ++ e ∷ []) ++ fs) → (p : Party) → count p (counts q start es) < count p (counts q start (es ++ e ∷ []))
+    → count p (counts q start (es ++ e ∷ [])) ≤ known (other p) (counts q start ((es ++ e ∷ []) ++ fs))
     → length (own_stores (teller_hart q p) (before ++ (es ++ e ∷ []))) ≤ lands (teller_hart q p) (before ++ ((es ++ e ∷ []) ++ fs))
-published_by B q n o before es e fs f p more knows = elim moves.1 [
-  | inl stores ↦ published_last B q n o before (es ++ e ∷ []) fs f p (own_stores h (before ++ es)) stores.0
+published_by B q start o before es e fs f p more knows = elim moves.1 [
+  | inl stores ↦ published_last B q start o before (es ++ e ∷ []) fs f p (own_stores h (before ++ es)) stores.0
       (made ∙ ap (λ ws. own_stores h (before ++ es) ++ ws) (ap (stored_by (hart_of e == h)) stores.1
       ∙ ap (λ b. if b then stores.0 ∷ [] else []) (eq-eqb (hart_of e) h at))) stores.2 knows
   | inr swaps ↦
@@ -42,8 +45,8 @@ published_by B q n o before es e fs f p more knows = elim moves.1 [
       let place : (es ++ e ∷ []) ++ fs ≡ es ++ e ∷ fs = append_assoc es (e ∷ []) fs in
       subst (λ ws. length ws ≤ lands h (before ++ ((es ++ e ∷ []) ++ fs))) (sym same)
       (subst (λ xs. length (own_stores h (before ++ es)) ≤ lands h (before ++ xs)) (sym place)
-      (published B q n o before es (e ∷ fs) (subst (FollowsTelling B q n o before) place f) p
-      (subst (λ xs. count p (counts q n es) < known (other p) (counts q n xs)) place (omega (arith, more, knows)))))
+      (published B q start o before es (e ∷ fs) (subst (FollowsTelling B q start o before) place f) p
+      (subst (λ xs. count p (counts q start es) < known (other p) (counts q start xs)) place (omega (arith, more, knows)))))
 ]
   where
     h : ℕ
@@ -53,8 +56,8 @@ published_by B q n o before es e fs f p more knows = elim moves.1 [
     is = f.slots
 
     moves : (teller_of q (hart_of e) ≡ Some p) × Moving q p (access_of e)
-    moves = moving q p (teller_of q (hart_of e)) (access_of e) (counts q n es)
-        (subst (λ d. count p (counts q n es) < count p d) (counts-append (after_entry q) (all_at n) es (e ∷ [])) more)
+    moves = moving q p (teller_of q (hart_of e)) (access_of e) (counts q start es)
+        (subst (λ d. count p (counts q start es) < count p d) (counts-append (after_entry q) start es (e ∷ [])) more)
 
     at : hart_of e ≡ teller_hart q p
     at = mine-of q is p (hart_of e) moves.0
@@ -63,11 +66,79 @@ published_by B q n o before es e fs f p more knows = elim moves.1 [
     made = ap (own_stores h) (sym (append_assoc before es (e ∷ []))) ∙ stores-append h (before ++ es) (e ∷ [])
         ∙ ap (λ ws. own_stores h (before ++ es) ++ ws) (append-nil (own_store h e))
 
+-- ---- while a position that a party handed over isn't handed back, only the other party's hart writes over its slot
+
+module _ (B : ℕ) (q : Slots) (start : QueueCounts) (o : OpeningValue) (before fr gs : List Entry) (f : FollowsTelling B q start o before (fr ++ gs))
+    (p : Party) (k : ℕ) (past : k < count p (counts q start fr)) (x : ℕ) (of_k : IsSlotByte q k x)
+    (given : count (other p) (counts q start (fr ++ gs)) ≤ k + gap q p) (kept : LeavesByteAt (teller_hart q (other p)) x gs) where
+  off-access : (c : QueueCounts) (y : Access) → TellsAccess q None c y → LeavesByteBy x y
+  off-access c nothing keeps = tt
+  off-access c (load a width v) keeps = tt
+  off-access c (store w) keeps = off-byte q f.slots x k of_k w keeps
+  off-access c (exchange a old new) keeps = inr (off-byte q f.slots x k of_k (write a 4 new) keeps)
+  off-access c (fence full) keeps = tt
+  off-access c land keeps = tt
+
+  leaves-by : (es1 : List Entry) (e1 : Entry) (es2 : List Entry) → gs ≡ es1 ++ e1 ∷ es2 → LeavesByteBy x (access_of e1)
+  leaves-by es1 e1 es2 split = by (whose q.sender q.receiver (hart_of e1))
+    where
+      done : List Entry
+      done = fr ++ es1
+
+      c1 : QueueCounts
+      c1 = counts q start done
+
+      d1 : QueueCounts
+      d1 = after_entry q c1 e1
+
+      parts : fr ++ gs ≡ done ++ e1 ∷ es2
+      parts = ap (λ xs. fr ++ xs) split ∙ sym (append_assoc fr es1 (e1 ∷ es2))
+
+      keeps : TellsAccess q (teller_of q (hart_of e1)) c1 (access_of e1)
+      keeps = keeps-at (after_entry q) (KeepsEntry q) start done e1 es2 (subst (KeepsTelling q start) parts f.keeps)
+
+      parts2 : fr ++ gs ≡ (done ++ e1 ∷ []) ++ es2
+      parts2 = parts ∙ sym (append_assoc done (e1 ∷ []) es2)
+
+      front : FollowsTelling B q start o before (done ++ e1 ∷ [])
+      front = follows-front B q start o before (done ++ e1 ∷ []) es2 (subst (FollowsTelling B q start o before) parts2 f)
+
+      d1_is : counts q start (done ++ e1 ∷ []) ≡ d1
+      d1_is = counts-append (after_entry q) start done (e1 ∷ [])
+
+      by : Whose q.sender q.receiver (hart_of e1) → LeavesByteBy x (access_of e1)
+      by (theirs far party) = off-access c1 (access_of e1) (subst (λ t. TellsAccess q t c1 (access_of e1)) party keeps)
+      by (mine r at party) = elim (two p r) [
+        | inr same ↦ leaves-at (teller_hart q (other p)) x es1 e1 es2
+            (subst (LeavesByteAt (teller_hart q (other p)) x) split kept) (at ∙ ap (teller_hart q) same)
+        | inl same ↦ elim (access-byte q f.slots x k of_k r c1 (access_of e1) (subst (λ t. TellsAccess q t c1 (access_of e1)) party keeps)) [
+          | inl leaves ↦ leaves
+          | inr owns ↦ absurd (twice_owned r same party owns)
+        ]
+      ]
+        where
+          twice_owned : (r : Party) → r ≡ p → teller_of q (hart_of e1) ≡ Some r → Owned q f.slots x r c1 (told_access q (Some r) (access_of e1) c1) → ⊥
+          twice_owned r same party owns =
+              let is_d1 : told_access q (Some r) (access_of e1) c1 ≡ d1 = ap (λ t. told_access q t (access_of e1) c1) (sym party) in
+              let since : Grows (counts q start fr) c1 = subst (Grows (counts q start fr)) (sym (counts-append (after_entry q) start fr es1))
+              (grows-after q (counts q start fr) es1) in
+              let more : count p (counts q start fr) ≤ count p c1 = since.counts p in
+              not-owned q f.slots x p c1 d1 (counts q start (fr ++ gs)) k owns.position
+              (subst (Window q) d1_is (window-of B q start o before (done ++ e1 ∷ []) front))
+              (subst (Grows d1) (ap (λ d. told_counts q d es2) (sym d1_is)
+              ∙ sym (counts-append (after_entry q) start (done ++ e1 ∷ []) es2)
+              ∙ ap (counts q start) (sym parts2)) (grows-after q d1 es2))
+              of_k owns.byte (omega (arith, past, more)) (subst (λ t. count t c1 ≤ owns.position) same owns.from)
+              (subst (λ t. owns.position < owned_end q t d1) same (subst (λ d. owns.position < owned_end q r d) is_d1 owns.before)) given
+
+  pub leave-after : AllLeaveByte x gs
+  leave-after = all-by-parts x gs leaves-by
+
 -- ---- a run in which a party hands a position over
 
-module _ (B : ℕ) (q : Slots) (n : ℕ) (o : OpeningValue) (before es : List Entry) (e : Entry) (fs : List Entry)
-    (f : FollowsTelling B q n o before (es ++ e ∷ fs)) (p : Party) (k : ℕ) (from : count p (counts q n es) ≤ k)
-    (past : k < count p (counts q n (es ++ e ∷ []))) where
+module _ (B : ℕ) (q : Slots) (start : QueueCounts) (o : OpeningValue) (before es : List Entry) (e : Entry) (fs : List Entry)
+    (f : FollowsTelling B q start o before (es ++ e ∷ fs)) (p : Party) (k : ℕ) (from : count p (counts q start es) ≤ k)
+    (past : k < count p (counts q start (es ++ e ∷ []))) where
   abbrev is : IsSlots q
   is = f.slots
 
@@ -75,29 +146,29 @@ module _ (B : ℕ) (q : Slots) (n : ℕ) (o : OpeningValue) (before es : List En
   run1 = es ++ e ∷ []
 
   abbrev c : QueueCounts
-  c = counts q n es
+  c = counts q start es
 
   abbrev l : QueueCounts
-  l = counts q n run1
+  l = counts q start run1
 
   parts1 : es ++ e ∷ fs ≡ run1 ++ fs
   parts1 = sym (append_assoc es (e ∷ []) fs)
 
-  whole_front : (gs hs : List Entry) → es ++ e ∷ fs ≡ gs ++ hs → FollowsTelling B q n o before gs
-  whole_front gs hs split = follows-front B q n o before gs hs (subst (FollowsTelling B q n o before) split f)
+  whole_front : (gs hs : List Entry) → es ++ e ∷ fs ≡ gs ++ hs → FollowsTelling B q start o before gs
+  whole_front gs hs split = follows-front B q start o before gs hs (subst (FollowsTelling B q start o before) split f)
 
-  follows1 : FollowsTelling B q n o before run1
+  follows1 : FollowsTelling B q start o before run1
   follows1 = whole_front run1 fs parts1
 
   l_is : l ≡ after_entry q c e
-  l_is = counts-append (after_entry q) (all_at n) es (e ∷ [])
+  l_is = counts-append (after_entry q) start es (e ∷ [])
 
   e_mine : hart_of e ≡ teller_hart q p
   e_mine = mine-of q is p (hart_of e) (moving q p (teller_of q (hart_of e)) (access_of e) c
       (subst (λ d. count p c < count p d) l_is (omega (arith, from, past)))).0
 
   pub below : k < owned_end q p l
-  below = let w : count p l ≤ owned_end q p l = (window-of B q n o before run1 follows1).within p in omega (arith, past, w)
+  below = let w : count p l ≤ owned_end q p l = (window-of B q start o before run1 follows1).within p in omega (arith, past, w)
 
   last : count p l ≤ k + 1
   last = let most : count p (after_entry q c e) ≤ count p c + 1 = most-one q p (teller_of q (hart_of e)) (access_of e) c in
@@ -107,7 +178,7 @@ module _ (B : ℕ) (q : Slots) (n : ℕ) (o : OpeningValue) (before es : List En
     -- no other hart has a pending store over the byte
     only-writer : IsOnlyWriter (teller_hart q p) x (before ++ run1)
     only-writer g apart = subst (λ ws. All (LeavesByte x) (drop (lands g (before ++ run1)) ws)) (sym same)
-        (late-stores (LeavesByte x) g (lands g (before ++ run1)) before es here start)
+        (late-stores (LeavesByte x) g (lands g (before ++ run1)) before es here at_first)
       where
         same : own_stores g (before ++ run1) ≡ own_stores g (before ++ es)
         same = ap (own_stores g) (sym (append_assoc before es (e ∷ []))) ∙ stores-append g (before ++ es) (e ∷ [])
@@ -115,8 +186,8 @@ module _ (B : ℕ) (q : Slots) (n : ℕ) (o : OpeningValue) (before es : List En
             ∙ ap (λ b. stored_by b (access_of e)) (ne_eqb (hart_of e) g (λ s. apart (sym s ∙ e_mine))) ∙ stored_none (access_of e))
             ∙ append-nil (own_stores g (before ++ es))
 
-        start : All (LeavesByte x) (drop (lands g (before ++ run1)) (own_stores g before))
-        start =
+        at_first : All (LeavesByte x) (drop (lands g (before ++ run1)) (own_stores g before))
+        at_first =
             let more : lands g (before ++ run1) ≡ lands g before + lands g run1 = lands-append g before run1 in
             subst (λ l. All (LeavesByte x) (drop l (own_stores g before))) (sym more)
             (subst (All (LeavesByte x)) (drop-drop (lands g run1) (lands g before) (own_stores g before))
@@ -128,7 +199,7 @@ module _ (B : ℕ) (q : Slots) (n : ℕ) (o : OpeningValue) (before es : List En
         here es1 e1 es2 w split of_g does late = by (whose q.sender q.receiver g)
           where
             c1 : QueueCounts
-            c1 = counts q n es1
+            c1 = counts q start es1
 
             split2 : es ≡ (es1 ++ e1 ∷ []) ++ es2
             split2 = split ∙ sym (append_assoc es1 (e1 ∷ []) es2)
@@ -137,18 +208,18 @@ module _ (B : ℕ) (q : Slots) (n : ℕ) (o : OpeningValue) (before es : List En
             split3 = ap (λ xs. xs ++ e ∷ []) split2 ∙ append_assoc (es1 ++ e1 ∷ []) es2 (e ∷ [])
 
             d1 : QueueCounts
-            d1 = counts q n (es1 ++ e1 ∷ [])
+            d1 = counts q start (es1 ++ e1 ∷ [])
 
             d1_is : d1 ≡ told_access q (teller_of q g) (store w) c1
-            d1_is = counts-append (after_entry q) (all_at n) es1 (e1 ∷ []) ∙ ap (λ h. told_access q (teller_of q h) (access_of e1) c1) of_g
+            d1_is = counts-append (after_entry q) start es1 (e1 ∷ []) ∙ ap (λ h. told_access q (teller_of q h) (access_of e1) c1) of_g
                 ∙ ap (λ y. told_access q (teller_of q g) y c1) does
 
-            run : FollowsTelling B q n o before es
+            run : FollowsTelling B q start o before es
             run = whole_front es (e ∷ fs) refl
 
             keeps : TellsAccess q (teller_of q g) c1 (store w)
             keeps = subst (λ y. TellsAccess q (teller_of q g) c1 y) does (subst (λ h. TellsAccess q (teller_of q h) c1 (access_of e1)) of_g
-                (keeps-at (after_entry q) (KeepsEntry q) (all_at n) es1 e1 es2 (subst (KeepsTelling q (all_at n)) split run.keeps)))
+                (keeps-at (after_entry q) (KeepsEntry q) start es1 e1 es2 (subst (KeepsTelling q start) split run.keeps)))
 
             by : Whose q.sender q.receiver g → LeavesByte x w
             by (theirs far party) = off-byte q is x k of_k w (subst (λ t. TellsAccess q t c1 (store w)) party keeps)
@@ -169,23 +240,23 @@ module _ (B : ℕ) (q : Slots) (n : ℕ) (o : OpeningValue) (before es : List En
                         is_d1 : told_access q (Some r) (store w) c1 ≡ d1
                         is_d1 = sym (ap (λ t. told_access q t (store w) c1) party) ∙ sym d1_is
 
-                        front : FollowsTelling B q n o before (es1 ++ e1 ∷ [])
+                        front : FollowsTelling B q start o before (es1 ++ e1 ∷ [])
                         front = whole_front (es1 ++ e1 ∷ []) (es2 ++ e ∷ fs) (ap (λ xs. xs ++ e ∷ fs) split2 ∙ append_assoc (es1 ++ e1 ∷ []) es2 (e ∷ fs))
 
-                        follows3 : FollowsTelling B q n o before ((es1 ++ e1 ∷ []) ++ (es2 ++ e ∷ []))
-                        follows3 = subst (FollowsTelling B q n o before) split3 follows1
+                        follows3 : FollowsTelling B q start o before ((es1 ++ e1 ∷ []) ++ (es2 ++ e ∷ []))
+                        follows3 = subst (FollowsTelling B q start o before) split3 follows1
 
                         grows : Grows d1 c
-                        grows = subst (Grows d1) (sym (counts-append (after_entry q) (all_at n) (es1 ++ e1 ∷ []) es2) ∙ ap (counts q n) (sym split2))
+                        grows = subst (Grows d1) (sym (counts-append (after_entry q) start (es1 ++ e1 ∷ []) es2) ∙ ap (counts q start) (sym split2))
                             (grows-after q d1 es2)
 
                         before_d1 : owns.position < owned_end q (other p) d1
                         before_d1 = subst (λ t. owns.position < owned_end q t d1) same (subst (λ d. owns.position < owned_end q r d) is_d1 owns.before)
 
-                        known_now : owns.position < known (other r) (counts q n ((es1 ++ e1 ∷ []) ++ (es2 ++ e ∷ [])))
-                        known_now = subst (λ xs. owns.position < known (other r) (counts q n xs)) split3
+                        known_now : owns.position < known (other r) (counts q start ((es1 ++ e1 ∷ []) ++ (es2 ++ e ∷ [])))
+                        known_now = subst (λ xs. owns.position < known (other r) (counts q start xs)) split3
                             (subst (λ t. owns.position < known t l) (sym (ap other same ∙ twice p))
-                            (given-up q is x p d1 c l k owns.position (window-of B q n o before (es1 ++ e1 ∷ []) front) grows
+                            (given-up q is x p d1 c l k owns.position (window-of B q start o before (es1 ++ e1 ∷ []) front) grows
                             of_k owns.byte from below before_d1))
 
                         late2 : lands (teller_hart q r) (before ++ ((es1 ++ e1 ∷ []) ++ (es2 ++ e ∷ [])))
@@ -197,7 +268,7 @@ module _ (B : ℕ) (q : Slots) (n : ℕ) (o : OpeningValue) (before es : List En
                         by_count (inr le) =
                             let landed : length (own_stores (teller_hart q r) (before ++ (es1 ++ e1 ∷ [])))
                             ≤ lands (teller_hart q r) (before ++ ((es1 ++ e1 ∷ []) ++ (es2 ++ e ∷ []))) =
-                            published B q n o before (es1 ++ e1 ∷ []) (es2 ++ e ∷ []) follows3 r (omega (arith, le, known_now)) in
+                            published B q start o before (es1 ++ e1 ∷ []) (es2 ++ e ∷ []) follows3 r (omega (arith, le, known_now)) in
                             omega (arith, landed, late2)
                         by_count (inl lt) =
                             let most : count r (told_access q (Some r) (store w) c1) ≤ count r c1 + 1 = most-one q r (Some r) (store w) c1 in
@@ -205,82 +276,25 @@ module _ (B : ℕ) (q : Slots) (n : ℕ) (o : OpeningValue) (before es : List En
                             let first : count r c1 ≤ owns.position = owns.from in
                             let landed : length (own_stores (teller_hart q r) (before ++ (es1 ++ e1 ∷ [])))
                             ≤ lands (teller_hart q r) (before ++ ((es1 ++ e1 ∷ []) ++ (es2 ++ e ∷ []))) =
-                            published_by B q n o before es1 e1 (es2 ++ e ∷ []) follows3 r (omega (arith, first, lt))
+                            published_by B q start o before es1 e1 (es2 ++ e ∷ []) follows3 r (omega (arith, first, lt))
                             (omega (arith, most, level, first, known_now)) in
                             omega (arith, landed, late2)
 
-    module _ (given : count (other p) (counts q n (es ++ e ∷ fs)) ≤ k + gap q p) (has : k + gap q p < owned_end q (other p) (counts q n (es ++ e ∷ fs)))
+    module _ (given : count (other p) (counts q start (es ++ e ∷ fs)) ≤ k + gap q p) (has : k + gap q p < owned_end q (other p) (counts q start (es ++ e ∷ fs)))
         (kept : LeavesByteAt (teller_hart q (other p)) x fs) where
       abbrev later : QueueCounts
-      later = counts q n (es ++ e ∷ fs)
+      later = counts q start (es ++ e ∷ fs)
 
       landed : length (own_stores (teller_hart q p) (before ++ run1)) ≤ lands (teller_hart q p) (before ++ (run1 ++ fs))
       landed =
           let knows : k < known (other p) later = (let there : k + gap q p < known (other p) later + gap q p =
           subst (λ t. k + gap q p < known (other p) later + gap q t) (twice p) has in omega (arith, there)) in
-          published_by B q n o before es e fs (subst (FollowsTelling B q n o before) parts1 f) p (omega (arith, from, past))
-          (subst (λ xs. count p l ≤ known (other p) (counts q n xs)) parts1 (omega (arith, last, knows)))
-
-      off-access : (y : Access) → TellsAccess q None c y → LeavesByteBy x y
-      off-access nothing keeps = tt
-      off-access (load a width v) keeps = tt
-      off-access (store w) keeps = off-byte q is x k of_k w keeps
-      off-access (exchange a old new) keeps = inr (off-byte q is x k of_k (write a 4 new) keeps)
-      off-access (fence full) keeps = tt
-      off-access land keeps = tt
+          published_by B q start o before es e fs (subst (FollowsTelling B q start o before) parts1 f) p (omega (arith, from, past))
+          (subst (λ xs. count p l ≤ known (other p) (counts q start xs)) parts1 (omega (arith, last, knows)))
 
       leave : AllLeaveByte x fs
-      leave = all-by-parts x fs part
-        where
-          part : (es1 : List Entry) (e1 : Entry) (es2 : List Entry) → fs ≡ es1 ++ e1 ∷ es2 → LeavesByteBy x (access_of e1)
-          part es1 e1 es2 split = by (whose q.sender q.receiver (hart_of e1))
-            where
-              done : List Entry
-              done = es ++ e ∷ es1
-
-              c1 : QueueCounts
-              c1 = counts q n done
-
-              d1 : QueueCounts
-              d1 = after_entry q c1 e1
-
-              parts : es ++ e ∷ fs ≡ done ++ e1 ∷ es2
-              parts = ap (λ xs. es ++ e ∷ xs) split ∙ sym (append_assoc es (e ∷ es1) (e1 ∷ es2))
-
-              keeps : TellsAccess q (teller_of q (hart_of e1)) c1 (access_of e1)
-              keeps = keeps-at (after_entry q) (KeepsEntry q) (all_at n) done e1 es2 (subst (KeepsTelling q (all_at n)) parts f.keeps)
-
-              parts2 : es ++ e ∷ fs ≡ (done ++ e1 ∷ []) ++ es2
-              parts2 = parts ∙ sym (append_assoc done (e1 ∷ []) es2)
-
-              d1_is : counts q n (done ++ e1 ∷ []) ≡ d1
-              d1_is = counts-append (after_entry q) (all_at n) done (e1 ∷ [])
-
-              by : Whose q.sender q.receiver (hart_of e1) → LeavesByteBy x (access_of e1)
-              by (theirs far party) = off-access (access_of e1) (subst (λ t. TellsAccess q t c1 (access_of e1)) party keeps)
-              by (mine r at party) = elim (two p r) [
-                | inr same ↦ leaves-at (teller_hart q (other p)) x es1 e1 es2
-                    (subst (LeavesByteAt (teller_hart q (other p)) x) split kept) (at ∙ ap (teller_hart q) same)
-                | inl same ↦ elim (access-byte q is x k of_k r c1 (access_of e1) (subst (λ t. TellsAccess q t c1 (access_of e1)) party keeps)) [
-                  | inl leaves ↦ leaves
-                  | inr owns ↦ absurd (twice_owned r same party owns)
-                ]
-              ]
-                where
-                  twice_owned : (r : Party) → r ≡ p → teller_of q (hart_of e1) ≡ Some r → Owned q is x r c1 (told_access q (Some r) (access_of e1) c1) → ⊥
-                  twice_owned r same party owns =
-                      let is_d1 : told_access q (Some r) (access_of e1) c1 ≡ d1 = ap (λ t. told_access q t (access_of e1) c1) (sym party) in
-                      let after_e : Grows (counts q n (es ++ e ∷ [])) c1 = subst (Grows (counts q n (es ++ e ∷ [])))
-                      (sym (counts-append (after_entry q) (all_at n) (es ++ e ∷ []) es1) ∙ ap (counts q n) (append_assoc es (e ∷ []) es1))
-                      (grows-after q (counts q n (es ++ e ∷ [])) es1) in
-                      let more : count p (counts q n (es ++ e ∷ [])) ≤ count p c1 = after_e.counts p in
-                      not-owned q is x p c1 d1 later k owns.position
-                      (subst (Window q) d1_is (window-of B q n o before (done ++ e1 ∷ []) (whole_front (done ++ e1 ∷ []) es2 parts2)))
-                      (subst (Grows d1) (ap (λ d. told_counts q d es2) (sym d1_is)
-                      ∙ sym (counts-append (after_entry q) (all_at n) (done ++ e1 ∷ []) es2)
-                      ∙ ap (counts q n) (sym parts2)) (grows-after q d1 es2))
-                      of_k owns.byte (omega (arith, past, more)) (subst (λ t. count t c1 ≤ owns.position) same owns.from)
-                      (subst (λ t. owns.position < owned_end q t d1) same (subst (λ d. owns.position < owned_end q r d) is_d1 owns.before)) given
+      leave = leave-after B q start o before run1 fs (subst (FollowsTelling B q start o before) parts1 f) p k past x of_k
+          (subst (λ xs. count (other p) (counts q start xs) ≤ k + gap q p) parts1 given) kept
 
       pub handed : read_byte o (before ++ (es ++ e ∷ fs)) (teller_hart q (other p)) x ≡ read_byte o (before ++ (es ++ e ∷ [])) (teller_hart q p) x
       handed =
@@ -289,3 +303,23 @@ module _ (B : ℕ) (q : Slots) (n : ℕ) (o : OpeningValue) (before es : List En
           (handed_over B o (teller_hart q p) (teller_hart q (other p)) x (before ++ run1) fs (subst (λ xs. Legal B (history_of o xs)) (sym place) f.legal)
           (subst (λ xs. length (own_stores (teller_hart q p) (before ++ run1)) ≤ lands (teller_hart q p) xs)
           (sym (append_assoc before run1 fs)) landed) only-writer leave)
+
+-- ---- a record that waits where the run begins
+
+module _ (B : ℕ) (q : Slots) (start : QueueCounts) (o : OpeningValue) (before es : List Entry) (f : FollowsTelling B q start o before es) (k x : ℕ)
+    (of_k : IsSlotByte q k x) where
+  none-pending : (h : ℕ) → All (LeavesByte x) (pending h before)
+  none-pending h i d less = off-byte q f.slots x k of_k (slice_index_or (pending h before) i d) (f.rest.pending h i d less)
+
+  in-memory : (h : ℕ) → read_byte o before h x ≡ memory_byte o before x
+  in-memory h = ap (λ found. unwrap_or found (memory_byte o before x)) (passed_over x None (pending h before) (none-pending h))
+
+  pub waited : k < start.published → (counts q start es).taken ≤ k → LeavesByteAt q.receiver x es → (g h : ℕ)
+      → read_byte o (before ++ es) h x ≡ read_byte o before g x
+  waited sent given left g h =
+      (passing.kept B o h x before es
+      (λ a. balanced B (history_of o before) a (LegalAfter-front B o [] before es f.legal))
+      (LegalAfter-back B o [] before es f.legal)
+      (λ a apart. none-pending a)
+      (leave-after B q start o before [] es f the_sender k sent x of_k (omega (arith, given)) left)).0
+      ∙ in-memory h ∙ sym (in-memory g)

@@ -1,6 +1,6 @@
 -- Which positions a party owns at what time: what both parties own of one slot is never owned at once.
 use Rattle.std.proofs.Common.{ℕ, ◌+◌, ◌-◌, ◌<◌, ◌≤◌, ◌≡◌, ◌⊎◌, inl, inr, Bool, true, false, if◌then◌else◌}
-use Rattle.std.proofs.Common.{List, [], ◌∷◌, ◌++◌, Option, Some, None, refl, sym, ◌∙◌, ap, subst, arith}
+use Rattle.std.proofs.Common.{List, ◌++◌, Option, Some, None, refl, sym, ◌∙◌, ap, subst, arith}
 use Rattle.std.proofs.Math.Nat.{lt_of_not-le}
 use Rattle.memory.specs.declared.writes.Write.{Write}
 use Rattle.memory.specs.Writes.{write, covers}
@@ -11,8 +11,8 @@ use Rattle.step_machine.specs.Access.{Access, nothing, load, store, exchange, fe
 use Rattle.step_machine.specs.Entries.{hart_of}
 use Rattle.store_buffers.specs.StoreBuffers.{LeavesByte, LeavesByteBy}
 use Rattle.queue_parties.specs.Parties.{Party, the_sender, the_receiver, other, QueueCounts, count, known, with_known}
-use Rattle.queue_parties.proofs.Parties.{two, count-set, count-set-other, known-set-count, count-set-known, known-set}
-use Rattle.queue_parties.proofs.Parties.{known-set-other, Grows, grows-same, grows-on, Whose, mine, theirs, whose, grows-count, grows-known, grows-from}
+use Rattle.queue_parties.proofs.Parties.{two, count-set, count-set-other, known-set-count, count-set-known}
+use Rattle.queue_parties.proofs.Parties.{Grows, grows-same, grows-on, Whose, mine, theirs, whose, grows-count, grows-known, grows-from}
 use Rattle.slots_that_tell.specs.Slots.{Slots, IsSlots, gap, is_tag, position_at, IsSlotByte, KeepsOff}
 use Rattle.slots_that_tell.specs.Telling.{teller_of, owned_end, told, learned, moved, after_load, after_store}
 use Rattle.slots_that_tell.specs.Telling.{told_access, after_entry, told_counts, MayStore, TellsAccess}
@@ -79,12 +79,13 @@ pub record Window (q : Slots) (c : QueueCounts) : Type 0 where
   pub known_less : (p : Party) → known (other p) c ≤ count p c
   pub within : (p : Party) → count p c ≤ owned_end q p c
 
-pub window-of : (B : ℕ) (q : Slots) (n : ℕ) (o : OpeningValue) (before es : List Entry) → FollowsTelling B q n o before es → Window q (counts q n es)
-window-of B q n o before es f =
-    let m : Party → ℕ = memory_counts q (λ t. n) before es in
-    let held : Held q o (before ++ es) (counts q n es) m = held-of B q n o before es f in
+pub window-of : (B : ℕ) (q : Slots) (start : QueueCounts) (o : OpeningValue) (before es : List Entry)
+    → FollowsTelling B q start o before es → Window q (counts q start es)
+window-of B q start o before es f =
+    let m : Party → ℕ = memory_counts q (λ t. count t start) before es in
+    let held : Held q o (before ++ es) (counts q start es) m = held-of B q start o before es f in
     record {
-      known_less = λ p. (let w = within q o (before ++ es) (counts q n es) m held p in omega (arith, w.0, (held.side p).known_less));
+      known_less = λ p. (let w = within q o (before ++ es) (counts q start es) m held p in omega (arith, w.0, (held.side p).known_less));
       within = λ p. (held.side p).room;
     }
 

@@ -1,10 +1,9 @@
 -- Where slots and tags lie.
-use Rattle.std.proofs.Common.{ℕ, ◌+◌, ◌-◌, ◌*◌, ◌/◌, ◌%◌, ◌^◌, ◌<◌, ◌≤◌, ◌≡◌, ◌≢◌, ◌==◌, ◌&&◌, inl, inr, Bool, true, false, if◌then◌else◌}
+use Rattle.std.proofs.Common.{ℕ, ◌+◌, ◌-◌, ◌*◌, ◌%◌, ◌^◌, ◌<◌, ◌≤◌, ◌≡◌, ◌≢◌, ◌==◌, ◌&&◌, inl, inr, Bool, true, false, if◌then◌else◌}
 use Rattle.std.proofs.Common.{refl, sym, ◌∙◌, ap, arith}
 use Rattle.std.specs.Int.{byte_at}
-use Rattle.std.proofs.Math.Nat.{mod-lt, mod-mod, add-mul-mod_self_left}
-use Rattle.std.proofs.lemmas.Nat.{mul-le, div-mul-add}
-use Rattle.std.proofs.lemmas.Bool.{eqb-true, eq-eqb}
+use Rattle.std.proofs.Math.Nat.{mod-mod, add-mul-mod_self_left}
+use Rattle.std.proofs.lemmas.Bool.{eq-eqb}
 use Rattle.memory.specs.declared.writes.Write.{Write}
 use Rattle.memory.specs.Writes.{covers, byte_after, joined}
 use Rattle.memory.proofs.Bytes.{joined-same, covers-yes, covers-from}

@@ -11,7 +11,7 @@ use Rattle.step_machine.specs.Entries.{hart_of, landed_by, written_by, land_of, 
 use Rattle.step_machine.specs.Legal.{AllowedBy, Allowed, LegalAfter, Legal}
 use Rattle.step_machine.proofs.Appended.{LegalAfter-front, LegalAfter-back, LegalAfter-append, stores-append, lands-append}
 use Rattle.step_machine.proofs.Balanced.{balanced}
-use Rattle.queue_parties.specs.Parties.{Party, other, QueueCounts, all_at, count, known}
+use Rattle.queue_parties.specs.Parties.{Party, other, QueueCounts, count, known}
 use Rattle.queue_parties.proofs.Parties.{counts-append, keeps-front, keeps-back}
 use Rattle.slots_that_tell.specs.Slots.{Slots, IsSlots}
 use Rattle.slots_that_tell.specs.Telling.{KeepsEntry, teller_of, teller_hart, after_entry, told_counts, KeepsTelling}
@@ -123,61 +123,62 @@ module _ (B : ℕ) (q : Slots) (is : IsSlots q) (o : OpeningValue) (p : Party) (
       (subst (λ ys. LegalAfter B o ys fs) (sym place) later.1) keeps.1
       (subst (λ ys. Ahead ys (m2 p)) (sym place) (step gs e m even later.0 j))))
 
-pub follows-front : (B : ℕ) (q : Slots) (n : ℕ) (o : OpeningValue) (before es fs : List Entry) → FollowsTelling B q n o before (es ++ fs)
-    → FollowsTelling B q n o before es
-follows-front B q n o before es fs f = record {
+pub follows-front : (B : ℕ) (q : Slots) (start : QueueCounts) (o : OpeningValue) (before es fs : List Entry) → FollowsTelling B q start o before (es ++ fs)
+    → FollowsTelling B q start o before es
+follows-front B q start o before es fs f = record {
   slots = f.slots;
   legal = LegalAfter-front B o [] (before ++ es) fs (subst (LegalAfter B o []) (sym (append_assoc before es fs)) f.legal);
   rest = f.rest;
-  keeps = keeps-front (after_entry q) (KeepsEntry q) (all_at n) es fs f.keeps;
+  keeps = keeps-front (after_entry q) (KeepsEntry q) start es fs f.keeps;
 }
 
-module _ (B : ℕ) (q : Slots) (n : ℕ) (o : OpeningValue) (before es fs : List Entry) (f : FollowsTelling B q n o before (es ++ fs)) (p : Party) where
+module _ (B : ℕ) (q : Slots) (start : QueueCounts) (o : OpeningValue) (before es fs : List Entry)
+    (f : FollowsTelling B q start o before (es ++ fs)) (p : Party) where
   abbrev at : List Entry
   at = before ++ es
 
   is : IsSlots q
   is = f.slots
 
-  front : FollowsTelling B q n o before es
-  front = follows-front B q n o before es fs f
+  front : FollowsTelling B q start o before es
+  front = follows-front B q start o before es fs f
 
   abbrev m : Party → ℕ
-  m = memory_counts q (λ t. n) before es
+  m = memory_counts q (λ t. count t start) before es
 
-  held : Held q o at (counts q n es) m
-  held = held-of B q n o before es front
+  held : Held q o at (counts q start es) m
+  held = held-of B q start o before es front
 
   whole : LegalAfter B o [] (at ++ fs)
   whole = subst (LegalAfter B o []) (sym (append_assoc before es fs)) f.legal
 
-  end : Held q o (at ++ fs) (told_counts q (counts q n es) fs) (memory_counts q m at fs)
-  end = holds-after B q is o at (counts q n es) m fs held front.legal (LegalAfter-back B o [] at fs whole)
-      (keeps-back (after_entry q) (KeepsEntry q) (all_at n) es fs f.keeps)
+  end : Held q o (at ++ fs) (told_counts q (counts q start es) fs) (memory_counts q m at fs)
+  end = holds-after B q is o at (counts q start es) m fs held front.legal (LegalAfter-back B o [] at fs whole)
+      (keeps-back (after_entry q) (KeepsEntry q) start es fs f.keeps)
 
-  start : Ahead B q is o p at (count p (counts q n es)) at (m p)
-  start = inr (held.side p).count_is
+  at_point : Ahead B q is o p at (count p (counts q start es)) at (m p)
+  at_point = inr (held.side p).count_is
 
-  ahead : Ahead B q is o p at (count p (counts q n es)) (at ++ fs) (memory_counts q m at fs p)
+  ahead : Ahead B q is o p at (count p (counts q start es)) (at ++ fs) (memory_counts q m at fs p)
   ahead = let same : at ++ [] ≡ at = append-nil at in
-      subst (λ ys. Ahead B q is o p at (count p (counts q n es)) (ys ++ fs) (memory_counts q m ys fs p)) same
-      (ahead-after B q is o p at (count p (counts q n es)) [] (counts q n es) m fs
-      (subst (λ ys. Held q o ys (counts q n es) m) (sym same) held)
+      subst (λ ys. Ahead B q is o p at (count p (counts q start es)) (ys ++ fs) (memory_counts q m ys fs p)) same
+      (ahead-after B q is o p at (count p (counts q start es)) [] (counts q start es) m fs
+      (subst (λ ys. Held q o ys (counts q start es) m) (sym same) held)
       (subst (λ ys. Legal B (history_of o ys)) (sym same) front.legal)
-      (subst (λ ys. LegalAfter B o ys fs) (sym same) (LegalAfter-back B o [] at fs whole)) (keeps-back (after_entry q) (KeepsEntry q) (all_at n) es fs f.keeps)
-      (subst (λ ys. Ahead B q is o p at (count p (counts q n es)) ys (m p)) (sym same) start))
+      (subst (λ ys. LegalAfter B o ys fs) (sym same) (LegalAfter-back B o [] at fs whole)) (keeps-back (after_entry q) (KeepsEntry q) start es fs f.keeps)
+      (subst (λ ys. Ahead B q is o p at (count p (counts q start es)) ys (m p)) (sym same) at_point))
 
-  knows : known (other p) (counts q n (es ++ fs)) ≤ memory_counts q m at fs p
-  knows = subst (λ d. known (other p) d ≤ memory_counts q m at fs p) (sym (counts-append (after_entry q) (all_at n) es fs)) (end.side p).known_less
+  knows : known (other p) (counts q start (es ++ fs)) ≤ memory_counts q m at fs p
+  knows = subst (λ d. known (other p) d ≤ memory_counts q m at fs p) (sym (counts-append (after_entry q) start es fs)) (end.side p).known_less
 
   place : at ++ fs ≡ before ++ (es ++ fs)
   place = append_assoc before es fs
 
-  pub published : count p (counts q n es) < known (other p) (counts q n (es ++ fs))
+  pub published : count p (counts q start es) < known (other p) (counts q start (es ++ fs))
       → length (own_stores (teller_hart q p) (before ++ es)) ≤ lands (teller_hart q p) (before ++ (es ++ fs))
   published more = by ahead
     where
-      by : Ahead B q is o p at (count p (counts q n es)) (at ++ fs) (memory_counts q m at fs p)
+      by : Ahead B q is o p at (count p (counts q start es)) (at ++ fs) (memory_counts q m at fs p)
           → length (own_stores (teller_hart q p) (before ++ es)) ≤ lands (teller_hart q p) (before ++ (es ++ fs))
       by (inl all) = subst (λ xs. length (own_stores (teller_hart q p) (before ++ es)) ≤ lands (teller_hart q p) xs) place all
       by (inr same) =
@@ -189,7 +190,7 @@ module _ (B : ℕ) (q : Slots) (n : ℕ) (o : OpeningValue) (before es fs : List
   -- the same of a count that the party's last store made
   pub published_last : (ws : List Write) (w : Write) → own_stores (teller_hart q p) (before ++ es) ≡ ws ++ w ∷ []
       → ((k : ℕ) → Rattle.slots_that_tell.specs.Telling.moved q k w ≡ k + 1)
-      → count p (counts q n es) ≤ known (other p) (counts q n (es ++ fs))
+      → count p (counts q start es) ≤ known (other p) (counts q start (es ++ fs))
       → length (own_stores (teller_hart q p) (before ++ es)) ≤ lands (teller_hart q p) (before ++ (es ++ fs))
   published_last ws w last one enough = by ahead
     where
@@ -199,7 +200,7 @@ module _ (B : ℕ) (q : Slots) (n : ℕ) (o : OpeningValue) (before es fs : List
       mm : ℕ
       mm = memory_counts q m at fs p
 
-      by : Ahead B q is o p at (count p (counts q n es)) (at ++ fs) (memory_counts q m at fs p)
+      by : Ahead B q is o p at (count p (counts q start es)) (at ++ fs) (memory_counts q m at fs p)
           → length (own_stores (teller_hart q p) (before ++ es)) ≤ lands (teller_hart q p) (before ++ (es ++ fs))
       by (inl all) = subst (λ xs. length (own_stores (teller_hart q p) (before ++ es)) ≤ lands (teller_hart q p) xs) place all
       by (inr same) = subst (λ xs. length (own_stores (teller_hart q p) (before ++ es)) ≤ lands (teller_hart q p) xs) place (at_last (cases_lt (length ws) l))
@@ -211,7 +212,7 @@ module _ (B : ℕ) (q : Slots) (n : ℕ) (o : OpeningValue) (before es fs : List
               omega (arith, long, less)
           at_last (inr le) =
               let left : drop l (own_stores (teller_hart q p) at) ≡ drop l ws ++ w ∷ [] = ap (drop l) last ∙ drop-append-le l ws (w ∷ []) le in
-              let counted : moved_on q mm (drop l ws) + 1 ≡ count p (counts q n es) = sym (one (moved_on q mm (drop l ws)))
+              let counted : moved_on q mm (drop l ws) + 1 ≡ count p (counts q start es) = sym (one (moved_on q mm (drop l ws)))
               ∙ sym (moved_on-append q mm (drop l ws) (w ∷ [])) ∙ ap (moved_on q mm) (sym left) ∙ same in
               let low : mm ≤ moved_on q mm (drop l ws) = moved_on-more q mm (drop l ws) in
               absurd (omega (arith, counted, low, knows, enough))

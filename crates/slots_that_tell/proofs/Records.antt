@@ -1,8 +1,8 @@
 -- Records in order, each once: those that the receiver takes are a prefix of those that the sender published.
-use Rattle.std.proofs.Common.{ℕ, zero, suc, ◌+◌, ◌-◌, ◌<◌, ◌≤◌, ◌≡◌, ◌⊎◌, inl, inr, Bool, true, false, if◌then◌else◌}
-use Rattle.std.proofs.Common.{List, [], ◌∷◌, ◌++◌, Some, refl, sym, ◌∙◌, ap, subst, arith, append-nil, append_assoc}
+use Rattle.std.proofs.Common.{ℕ, ◌+◌, ◌-◌, ◌<◌, ◌≤◌, ◌≡◌, ◌⊎◌, inl, inr, Bool, true, false, if◌then◌else◌}
+use Rattle.std.proofs.Common.{List, [], ◌∷◌, ◌++◌, Some, refl, sym, ◌∙◌, ap, subst, arith, append_assoc}
 use Rattle.std.specs.Prelude.{nat_lt}
-use Rattle.std.proofs.lemmas.Bool.{cases_lt, lt-ltb, ltb-true}
+use Rattle.std.proofs.lemmas.Bool.{cases_lt, lt-ltb}
 use Rattle.memory.specs.declared.writes.Write.{Write}
 use Rattle.memory.specs.Writes.{write, covers}
 use Rattle.memory.proofs.Bytes.{joined-same, covers-from}
@@ -12,18 +12,18 @@ use Rattle.step_machine.specs.Access.{Access, nothing, load, store, exchange, fe
 use Rattle.step_machine.specs.Entries.{hart_of, read_byte}
 use Rattle.store_buffers.specs.StoreBuffers.{LeavesByte, LeavesByteBy, LeavesByteAt}
 use Rattle.queue_parties.specs.Positions.{IsPrefix, numbers_from}
-use Rattle.queue_parties.specs.Parties.{Party, the_sender, the_receiver, QueueCounts, all_at, count, known}
+use Rattle.queue_parties.specs.Parties.{Party, the_sender, the_receiver, QueueCounts, count, known}
 use Rattle.queue_parties.proofs.Parties.{count-set, Grows, Whose, mine, theirs, whose, counts-append, keeps-at, Passed}
 use Rattle.store_buffers.proofs.LateStores.{at-by-parts, leaves-part}
-use Rattle.queue_parties.proofs.Records.{numbers-prefix, passed, HasRecords, records-are, record_passed, own-records}
+use Rattle.queue_parties.proofs.Records.{numbers-prefix, numbers-same, numbers-split, not_less, passed, HasRecords, records-are, record_passed, own-records}
 use Rattle.slots_that_tell.specs.Slots.{Slots, IsSlots, tagged_slot, IsSlotByte, IsTagByte, tag_of}
-use Rattle.slots_that_tell.specs.Telling.{KeepsEntry, teller_hart, teller_of, owned_end, moved, after_load, after_store}
+use Rattle.slots_that_tell.specs.Telling.{KeepsEntry, teller_of, owned_end, moved, after_load, after_store}
 use Rattle.slots_that_tell.specs.Telling.{told_access, after_entry, told_counts, MayStore, TellsAccess, KeepsTelling}
-use Rattle.slots_that_tell.specs.Laws.{FollowsTelling, counts, StoresTagsAlone, tagged_record, reading_at, records_by}
+use Rattle.slots_that_tell.specs.Laws.{FollowsTelling, counts, StoresTagsAlone, tagged_record, reading_at, records_by, records_waiting}
 use Rattle.slots_that_tell.proofs.Places.{tag-in-slot, fills-leaves, moved-tag, far}
 use Rattle.slots_that_tell.proofs.Publication.{follows-front}
 use Rattle.slots_that_tell.proofs.Owned.{grows-entry, grows-after, grows-access, Window, window-of, loaded-count, Moving, moving}
-use Rattle.slots_that_tell.proofs.HandingOver.{handed, below}
+use Rattle.slots_that_tell.proofs.HandingOver.{handed, below, waited}
 
 -- a party's store over a byte of a tag is the one of its own position's
 module _ (q : Slots) (is : IsSlots q) (r : Party) (k x : ℕ) (of_k : IsTagByte q k x) where
@@ -62,13 +62,12 @@ receiver-is q is h at = by (whose q.sender q.receiver h)
     by (mine the_receiver here party) = party
     by (mine the_sender here party) = absurd (is.parties (sym here ∙ at))
 
--- while the sender's position k waits, its tag is left by the receiver
-tag-kept : (B : ℕ) (q : Slots) (n : ℕ) (o : OpeningValue) (before es : List Entry) (e : Entry) (fs : List Entry)
-    → FollowsTelling B q n o before (es ++ e ∷ fs) → (k x : ℕ) → IsTagByte q k x → (counts q n es).published ≤ k → k < (counts q n (es ++ e ∷ [])).published
-    → (counts q n (es ++ e ∷ fs)).taken ≤ k → LeavesByteAt q.receiver x fs
-tag-kept B q n o before es e fs f k x of_k from past given = at-by-parts q.receiver x fs part
+-- while position k is the sender's or waits, its tag is left by the receiver
+tag-kept : (B : ℕ) (q : Slots) (start : QueueCounts) (o : OpeningValue) (before fr gs : List Entry) → FollowsTelling B q start o before (fr ++ gs) → (k x : ℕ)
+    → IsTagByte q k x → k < owned_end q the_sender (counts q start fr) → (counts q start (fr ++ gs)).taken ≤ k → LeavesByteAt q.receiver x gs
+tag-kept B q start o before fr gs f k x of_k sent given = at-by-parts q.receiver x gs part
   where
-    part : (es1 : List Entry) (e1 : Entry) (es2 : List Entry) → fs ≡ es1 ++ e1 ∷ es2 → hart_of e1 ≡ q.receiver → LeavesByteBy x (access_of e1)
+    part : (es1 : List Entry) (e1 : Entry) (es2 : List Entry) → gs ≡ es1 ++ e1 ∷ es2 → hart_of e1 ≡ q.receiver → LeavesByteBy x (access_of e1)
     part es1 e1 es2 split at = elim (access-tag q is the_receiver k x of_k c1 (access_of e1) (subst (λ t. TellsAccess q t c1 (access_of e1)) party keeps)) [
       | inl leaves ↦ leaves
       | inr owns ↦ absurd (no_more owns.0 owns.1)
@@ -78,37 +77,33 @@ tag-kept B q n o before es e fs f k x of_k from past given = at-by-parts q.recei
         is = f.slots
 
         done : List Entry
-        done = es ++ e ∷ es1
+        done = fr ++ es1
 
         c1 : QueueCounts
-        c1 = counts q n done
+        c1 = counts q start done
 
         party : teller_of q (hart_of e1) ≡ Some the_receiver
         party = receiver-is q is (hart_of e1) at
 
-        parts : es ++ e ∷ fs ≡ done ++ e1 ∷ es2
-        parts = ap (λ xs. es ++ e ∷ xs) split ∙ sym (append_assoc es (e ∷ es1) (e1 ∷ es2))
+        parts : fr ++ gs ≡ done ++ e1 ∷ es2
+        parts = ap (λ xs. fr ++ xs) split ∙ sym (append_assoc fr es1 (e1 ∷ es2))
 
         keeps : TellsAccess q (teller_of q (hart_of e1)) c1 (access_of e1)
-        keeps = keeps-at (after_entry q) (KeepsEntry q) (all_at n) done e1 es2 (subst (KeepsTelling q (all_at n)) parts f.keeps)
+        keeps = keeps-at (after_entry q) (KeepsEntry q) start done e1 es2 (subst (KeepsTelling q start) parts f.keeps)
 
         no_more : IsSlotByte q (count the_receiver c1) x
             → count the_receiver (told_access q (Some the_receiver) (access_of e1) c1) ≡ count the_receiver c1 + 1 → ⊥
         no_more byte one =
-            let l : QueueCounts = counts q n (es ++ e ∷ []) in
+            let l : QueueCounts = counts q start fr in
             let d1 : QueueCounts = told_access q (Some the_receiver) (access_of e1) c1 in
-            let final : Grows d1 (counts q n (es ++ e ∷ fs)) = subst (Grows d1)
+            let final : Grows d1 (counts q start (fr ++ gs)) = subst (Grows d1)
             (ap (λ t. told_counts q (told_access q t (access_of e1) c1) es2) (sym party)
-            ∙ sym (counts-append (after_entry q) (all_at n) done (e1 ∷ es2)) ∙ ap (counts q n) (sym parts))
+            ∙ sym (counts-append (after_entry q) start done (e1 ∷ es2)) ∙ ap (counts q start) (sym parts))
             (grows-after q d1 es2) in
-            let low : count the_receiver d1 ≤ count the_receiver (counts q n (es ++ e ∷ fs)) = final.counts the_receiver in
-            let after_e : Grows l c1 =
-            subst (Grows l) (sym (counts-append (after_entry q) (all_at n) (es ++ e ∷ []) es1)
-            ∙ ap (counts q n) (append_assoc es (e ∷ []) es1)) (grows-after q l es1) in
-            let more : count the_receiver l ≤ count the_receiver c1 = after_e.counts the_receiver in
-            let sent : k < owned_end q the_sender l = below B q n o before es e fs f the_sender k from past in
-            let w : Window q l = window-of B q n o before (es ++ e ∷ []) (follows-front B q n o before (es ++ e ∷ []) fs
-            (subst (FollowsTelling B q n o before) (sym (append_assoc es (e ∷ []) fs)) f)) in
+            let low : count the_receiver d1 ≤ count the_receiver (counts q start (fr ++ gs)) = final.counts the_receiver in
+            let since : Grows l c1 = subst (Grows l) (sym (counts-append (after_entry q) start fr es1)) (grows-after q l es1) in
+            let more : count the_receiver l ≤ count the_receiver c1 = since.counts the_receiver in
+            let w : Window q l = window-of B q start o before fr (follows-front B q start o before fr gs f) in
             let knows : known the_sender l ≤ count the_receiver l = w.known_less the_receiver in
             let back : count the_receiver c1 + q.size ≤ k = far q is (count the_receiver c1) k x byte
             (tag-in-slot q is k x of_k) (omega (arith, one, low, given)) in
@@ -123,110 +118,160 @@ tag_byte_or q k x = elim (cases_lt x (tag_of q k)) [
   ]
 ]
 
-pub in_order : (B : ℕ) (q : Slots) (n : ℕ) (o : OpeningValue) (before es : List Entry) → FollowsTelling B q n o before es → StoresTagsAlone q q.receiver es
-    → IsPrefix (records_by q the_receiver o (all_at n) before es) (records_by q the_sender o (all_at n) before es)
-in_order B q n o before es f reads =
-    subst (λ xs. IsPrefix xs (records_by q the_sender o (all_at n) before es))
-    (sym (records-are (after_entry q) (count the_receiver) taken_record taken-grows R (all_at n) before es same))
-    (subst (IsPrefix (numbers_from R n ((counts q n es).taken - n)))
-    (sym (records-are (after_entry q) (count the_sender) sent_record sent-grows R (all_at n) before es
-    (own-records (after_entry q) (count the_sender) sent_record sent-grows (all_at n) before es)))
-    (numbers-prefix R n ((counts q n es).taken - n) ((counts q n es).published - n) few))
-  where
-    sent_record : List Entry → Entry → ℕ → ℕ
-    sent_record front e k = tagged_record q o (reading_at the_sender front e) q.sender k
+module _ (B : ℕ) (q : Slots) (start : QueueCounts) (o : OpeningValue) (before es : List Entry) (f : FollowsTelling B q start o before es) where
+  abbrev sent_record : List Entry → Entry → ℕ → ℕ
+  sent_record front e k = tagged_record q o (reading_at the_sender front e) q.sender k
 
-    taken_record : List Entry → Entry → ℕ → ℕ
-    taken_record front e k = tagged_record q o (reading_at the_receiver front e) q.receiver k
+  abbrev taken_record : List Entry → Entry → ℕ → ℕ
+  taken_record front e k = tagged_record q o (reading_at the_receiver front e) q.receiver k
 
-    sent-grows : (c : QueueCounts) (e : Entry) → c.published ≤ (after_entry q c e).published
-    sent-grows c e = (grows-entry q c e).counts the_sender
+  sent-grows : (c : QueueCounts) (e : Entry) → c.published ≤ (after_entry q c e).published
+  sent-grows c e = (grows-entry q c e).counts the_sender
 
-    taken-grows : (c : QueueCounts) (e : Entry) → c.taken ≤ (after_entry q c e).taken
-    taken-grows c e = (grows-entry q c e).counts the_receiver
+  taken-grows : (c : QueueCounts) (e : Entry) → c.taken ≤ (after_entry q c e).taken
+  taken-grows c e = (grows-entry q c e).counts the_receiver
 
-    R : ℕ → ℕ
-    R = record_passed (after_entry q) (count the_sender) sent_record sent-grows (all_at n) before es
+  -- the record of each position: as it waited, or as the sender published it
+  abbrev waiting_record : ℕ → ℕ
+  waiting_record k = tagged_record q o before q.receiver k
 
-    few : (counts q n es).taken - n ≤ (counts q n es).published - n
-    few =
-        let w : Window q (counts q n es) = window-of B q n o before es f in
-        let one : (counts q n es).known_published ≤ (counts q n es).published = w.known_less the_sender in
-        let two : (counts q n es).taken ≤ (counts q n es).known_published + 0 = w.within the_receiver in
-        omega (arith, one, two)
+  abbrev sent_records : ℕ → ℕ
+  sent_records = record_passed (after_entry q) (count the_sender) sent_record sent-grows start before es
 
-    same : HasRecords (after_entry q) (count the_receiver) taken_record taken-grows R (all_at n) before es
-    same es1 e es2 k split from past =
-        bytes ∙ own-records (after_entry q) (count the_sender) sent_record sent-grows (all_at n) before es at.done
-        at.entry (at.rest ++ e ∷ es2) k place at.from at.past
-      where
-        run : FollowsTelling B q n o before (es1 ++ e ∷ es2)
-        run = subst (FollowsTelling B q n o before) split f
+  R : ℕ → ℕ
+  R k = if nat_lt k start.published then waiting_record k else sent_records k
 
-        front : FollowsTelling B q n o before es1
-        front = follows-front B q n o before es1 (e ∷ es2) run
+  R-waiting : (k : ℕ) → k < start.published → waiting_record k ≡ R k
+  unfolding R
+  R-waiting k lt = sym (ap (λ b. if b then waiting_record k else sent_records k) (lt-ltb k start.published lt))
 
-        c : QueueCounts
-        c = counts q n es1
+  R-sent : (k : ℕ) → start.published ≤ k → sent_records k ≡ R k
+  unfolding R
+  R-sent k le = sym (ap (λ b. if b then waiting_record k else sent_records k) (not_less k start.published le))
 
-        d_is : counts q n (es1 ++ e ∷ []) ≡ after_entry q c e
-        d_is = counts-append (after_entry q) (all_at n) es1 (e ∷ [])
+  sent : HasRecords (after_entry q) (count the_sender) sent_record sent-grows R start before es
+  sent es1 e es2 k split from past =
+      let more : start.published ≤ (counts q start es1).published = (grows-after q start es1).counts the_sender in
+      own-records (after_entry q) (count the_sender) sent_record sent-grows start before es es1 e es2 k split from past
+      ∙ R-sent k (omega (arith, more, from))
 
-        moves : (teller_of q (hart_of e) ≡ Some the_receiver) × Moving q the_receiver (access_of e)
-        moves = moving q the_receiver (teller_of q (hart_of e)) (access_of e) c
-            (subst (λ d. count the_receiver c < count the_receiver d) d_is (omega (arith, from, past)))
+  all : records_waiting q o start before ++ records_by q the_sender o start before es
+      ≡ numbers_from R start.taken ((counts q start es).published - start.taken)
+  all =
+      let low : start.taken ≤ start.published = (let one : start.taken ≤ start.known_published = f.rest.window.taken in
+      omega (arith, one, f.rest.window.known_published)) in
+      let more : start.published ≤ (counts q start es).published = (grows-after q start es).counts the_sender in
+      let parts : (start.published - start.taken) + ((counts q start es).published - start.published)
+      ≡ (counts q start es).published - start.taken = omega (arith, low, more) in
+      let at : start.taken + (start.published - start.taken) ≡ start.published = omega (arith, low) in
+      ap (λ xs. xs ++ records_by q the_sender o start before es) (numbers-same waiting_record R start.taken (start.published - start.taken)
+      (λ i from below. R-waiting i (omega (arith, below, at))))
+      ∙ ap (λ xs. numbers_from R start.taken (start.published - start.taken) ++ xs)
+      (records-are (after_entry q) (count the_sender) sent_record sent-grows R start before es sent
+      ∙ ap (λ k. numbers_from R k ((counts q start es).published - start.published)) (sym at))
+      ∙ sym (numbers-split R start.taken (start.published - start.taken) ((counts q start es).published - start.published))
+      ∙ ap (numbers_from R start.taken) parts
 
-        mine_e : hart_of e ≡ q.receiver
-        mine_e = Rattle.slots_that_tell.proofs.Owned.mine-of q f.slots the_receiver (hart_of e) moves.0
+  few : (counts q start es).taken - start.taken ≤ (counts q start es).published - start.taken
+  few =
+      let w : Window q (counts q start es) = window-of B q start o before es f in
+      let one : (counts q start es).known_published ≤ (counts q start es).published = w.known_less the_sender in
+      let two : (counts q start es).taken ≤ (counts q start es).known_published + 0 = w.within the_receiver in
+      omega (arith, one, two)
 
-        known_there : k < (counts q n es1).known_published
-        known_there = elim moves.1 [
-          | inl stores ↦
-              let step : counts q n (es1 ++ e ∷ []) ≡ after_store q the_receiver stores.0 c = d_is ∙ ap (λ t. told_access q t (access_of e) c) moves.0
-              ∙ ap (λ y. told_access q (Some the_receiver) y c) stores.1 in
-              let w : (counts q n (es1 ++ e ∷ [])).taken ≤ (counts q n (es1 ++ e ∷ [])).known_published + 0 =
-              (window-of B q n o before (es1 ++ e ∷ []) (follows-front B q n o before (es1 ++ e ∷ []) es2
-              (subst (FollowsTelling B q n o before) (sym (append_assoc es1 (e ∷ []) es2)) run))).within the_receiver in
-              let kept : (counts q n (es1 ++ e ∷ [])).known_published ≡ c.known_published = ap (known the_receiver) step in
-              omega (arith, past, w, kept)
-          | inr swaps ↦ absurd (reads.no_amo es1 e es2 swaps.0 swaps.1 swaps.2 split mine_e swaps.3)
-        ]
+  same : StoresTagsAlone q q.receiver es → HasRecords (after_entry q) (count the_receiver) taken_record taken-grows R start before es
+  same reads es1 e es2 k split from past = by (cases_lt k start.published)
+    where
+      run : FollowsTelling B q start o before (es1 ++ e ∷ es2)
+      run = subst (FollowsTelling B q start o before) split f
 
-        w : Window q (counts q n es1)
-        w = window-of B q n o before es1 front
+      front : FollowsTelling B q start o before es1
+      front = follows-front B q start o before es1 (e ∷ es2) run
 
-        start : n ≤ k
-        start = let more : n ≤ (counts q n es1).taken = (grows-after q (all_at n) es1).counts the_receiver in omega (arith, more, from)
+      c : QueueCounts
+      c = counts q start es1
 
-        at : Passed (after_entry q) (count the_sender) (all_at n) es1 k
-        at = passed (after_entry q) (count the_sender) sent_record sent-grows (all_at n) es1 k start
-            (let one : (counts q n es1).known_published ≤ (counts q n es1).published = w.known_less the_sender in
-            omega (arith, one, known_there))
+      d_is : counts q start (es1 ++ e ∷ []) ≡ after_entry q c e
+      d_is = counts-append (after_entry q) start es1 (e ∷ [])
 
-        place : es ≡ at.done ++ at.entry ∷ (at.rest ++ e ∷ es2)
-        place = split ∙ ap (λ xs. xs ++ e ∷ es2) at.is ∙ append_assoc at.done (at.entry ∷ at.rest) (e ∷ es2)
+      moves : (teller_of q (hart_of e) ≡ Some the_receiver) × Moving q the_receiver (access_of e)
+      moves = moving q the_receiver (teller_of q (hart_of e)) (access_of e) c
+          (subst (λ d. count the_receiver c < count the_receiver d) d_is (omega (arith, from, past)))
 
-        run2 : FollowsTelling B q n o before (at.done ++ at.entry ∷ at.rest)
-        run2 = subst (FollowsTelling B q n o before) at.is front
+      mine_e : hart_of e ≡ q.receiver
+      mine_e = Rattle.slots_that_tell.proofs.Owned.mine-of q f.slots the_receiver (hart_of e) moves.0
 
-        give : (counts q n (at.done ++ at.entry ∷ at.rest)).taken ≤ k
-        give = subst (λ xs. (counts q n xs).taken ≤ k) at.is from
+      known_there : k < (counts q start es1).known_published
+      known_there = elim moves.1 [
+        | inl stores ↦
+            let step : counts q start (es1 ++ e ∷ []) ≡ after_store q the_receiver stores.0 c = d_is ∙ ap (λ t. told_access q t (access_of e) c) moves.0
+            ∙ ap (λ y. told_access q (Some the_receiver) y c) stores.1 in
+            let w : (counts q start (es1 ++ e ∷ [])).taken ≤ (counts q start (es1 ++ e ∷ [])).known_published + 0 =
+            (window-of B q start o before (es1 ++ e ∷ []) (follows-front B q start o before (es1 ++ e ∷ []) es2
+            (subst (FollowsTelling B q start o before) (sym (append_assoc es1 (e ∷ []) es2)) run))).within the_receiver in
+            let kept : (counts q start (es1 ++ e ∷ [])).known_published ≡ c.known_published = ap (known the_receiver) step in
+            omega (arith, past, w, kept)
+        | inr swaps ↦ absurd (reads.no_amo es1 e es2 swaps.0 swaps.1 swaps.2 split mine_e swaps.3)
+      ]
 
-        left : (x : ℕ) → IsSlotByte q k x → LeavesByteAt q.receiver x at.rest
-        left x of_k = elim (tag_byte_or q k x) [
-          | inl tag ↦ tag-kept B q n o before at.done at.entry at.rest run2 k x tag at.from at.past give
-          | inr no_tag ↦ leaves-part q.receiver x (at.done ++ at.entry ∷ []) at.rest (e ∷ es2)
-              (subst (LeavesByteAt q.receiver x) (place ∙ sym (append_assoc at.done (at.entry ∷ []) (at.rest ++ e ∷ es2)))
-              (reads.rest k x of_k no_tag))
-        ]
+      w : Window q (counts q start es1)
+      w = window-of B q start o before es1 front
 
-        bytes : tagged_record q o (before ++ es1) q.receiver k ≡ tagged_record q o ((before ++ at.done) ++ at.entry ∷ []) q.sender k
-        bytes = joined-same (λ i. read_byte o (before ++ es1) q.receiver (tagged_slot q k + i))
-            (λ i. read_byte o ((before ++ at.done) ++ at.entry ∷ []) q.sender (tagged_slot q k + i)) q.width
-            (λ i lt. ap (λ xs. read_byte o (before ++ xs) q.receiver (tagged_slot q k + i)) at.is
-            ∙ handed B q n o before at.done at.entry at.rest run2 the_sender k at.from at.past (tagged_slot q k + i) (omega arith, omega (arith, lt))
-            (let g : (counts q n (at.done ++ at.entry ∷ at.rest)).taken ≤ k = give in omega (arith, g))
-            (let have : k + 0 < (counts q n es1).known_published + 0 = omega (arith, known_there) in
-            subst (λ xs. k + 0 < (counts q n xs).known_published + 0) at.is have)
-            (left (tagged_slot q k + i) (omega arith, omega (arith, lt)))
-            ∙ ap (λ xs. read_byte o xs q.sender (tagged_slot q k + i)) (sym (append_assoc before at.done (at.entry ∷ []))))
+      -- the receiver's own stores to the slot are of other tags
+      unwritten : (fr gs : List Entry) (more : List Entry) → es ≡ fr ++ (gs ++ more) → FollowsTelling B q start o before (fr ++ gs)
+          → k < owned_end q the_sender (counts q start fr) → (counts q start (fr ++ gs)).taken ≤ k → (x : ℕ) → IsSlotByte q k x → LeavesByteAt q.receiver x gs
+      unwritten fr gs more whole part sent given x of_k = elim (tag_byte_or q k x) [
+        | inl tag ↦ tag-kept B q start o before fr gs part k x tag sent given
+        | inr no_tag ↦ leaves-part q.receiver x fr gs more (subst (LeavesByteAt q.receiver x) whole (reads.rest k x of_k no_tag))
+      ]
+
+      by : (k < start.published) ⊎ (start.published ≤ k) → tagged_record q o (before ++ es1) q.receiver k ≡ R k
+      by (inl lt) = joined-same (λ i. read_byte o (before ++ es1) q.receiver (tagged_slot q k + i))
+          (λ i. read_byte o before q.receiver (tagged_slot q k + i)) q.width
+          (λ i less. waited B q start o before es1 front k (tagged_slot q k + i) (omega arith, omega (arith, less)) lt from
+          (unwritten [] es1 (e ∷ es2) split front (omega (arith, lt, f.rest.window.published)) from
+          (tagged_slot q k + i) (omega arith, omega (arith, less))) q.receiver q.receiver)
+          ∙ R-waiting k lt
+      by (inr le) = bytes ∙ sent at.done at.entry (at.rest ++ e ∷ es2) k place at.from at.past
+        where
+          at : Passed (after_entry q) (count the_sender) start es1 k
+          at = passed (after_entry q) (count the_sender) sent_record sent-grows start es1 k le
+              (let one : (counts q start es1).known_published ≤ (counts q start es1).published = w.known_less the_sender in
+              omega (arith, one, known_there))
+
+          place : es ≡ at.done ++ at.entry ∷ (at.rest ++ e ∷ es2)
+          place = split ∙ ap (λ xs. xs ++ e ∷ es2) at.is ∙ append_assoc at.done (at.entry ∷ at.rest) (e ∷ es2)
+
+          run2 : FollowsTelling B q start o before (at.done ++ at.entry ∷ at.rest)
+          run2 = subst (FollowsTelling B q start o before) at.is front
+
+          give : (counts q start (at.done ++ at.entry ∷ at.rest)).taken ≤ k
+          give = subst (λ xs. (counts q start xs).taken ≤ k) at.is from
+
+          joins : at.done ++ at.entry ∷ at.rest ≡ (at.done ++ at.entry ∷ []) ++ at.rest
+          joins = sym (append_assoc at.done (at.entry ∷ []) at.rest)
+
+          left : (x : ℕ) → IsSlotByte q k x → LeavesByteAt q.receiver x at.rest
+          left = unwritten (at.done ++ at.entry ∷ []) at.rest (e ∷ es2)
+              (place ∙ sym (append_assoc at.done (at.entry ∷ []) (at.rest ++ e ∷ es2)))
+              (subst (FollowsTelling B q start o before) joins run2) (below B q start o before at.done at.entry at.rest run2 the_sender k at.from at.past)
+              (subst (λ xs. (counts q start xs).taken ≤ k) joins give)
+
+          bytes : tagged_record q o (before ++ es1) q.receiver k ≡ tagged_record q o ((before ++ at.done) ++ at.entry ∷ []) q.sender k
+          bytes = joined-same (λ i. read_byte o (before ++ es1) q.receiver (tagged_slot q k + i))
+              (λ i. read_byte o ((before ++ at.done) ++ at.entry ∷ []) q.sender (tagged_slot q k + i)) q.width
+              (λ i lt. ap (λ xs. read_byte o (before ++ xs) q.receiver (tagged_slot q k + i)) at.is
+              ∙ handed B q start o before at.done at.entry at.rest run2 the_sender k at.from at.past (tagged_slot q k + i) (omega arith, omega (arith, lt))
+              (let g : (counts q start (at.done ++ at.entry ∷ at.rest)).taken ≤ k = give in omega (arith, g))
+              (let have : k + 0 < (counts q start es1).known_published + 0 = omega (arith, known_there) in
+              subst (λ xs. k + 0 < (counts q start xs).known_published + 0) at.is have)
+              (left (tagged_slot q k + i) (omega arith, omega (arith, lt)))
+              ∙ ap (λ xs. read_byte o xs q.sender (tagged_slot q k + i)) (sym (append_assoc before at.done (at.entry ∷ []))))
+
+  pub in_order : StoresTagsAlone q q.receiver es
+      → IsPrefix (records_by q the_receiver o start before es) (records_waiting q o start before ++ records_by q the_sender o start before es)
+  in_order reads =
+      subst (λ xs. IsPrefix xs (records_waiting q o start before ++ records_by q the_sender o start before es))
+      (sym (records-are (after_entry q) (count the_receiver) taken_record taken-grows R start before es (same reads)))
+      (subst (IsPrefix (numbers_from R start.taken ((counts q start es).taken - start.taken))) (sym all)
+      (numbers-prefix R start.taken ((counts q start es).taken - start.taken) ((counts q start es).published - start.taken) few))

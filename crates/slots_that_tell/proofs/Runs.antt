@@ -10,8 +10,8 @@ use Rattle.step_machine.specs.Access.{load, access_of}
 use Rattle.step_machine.specs.Legal.{AllowedBy, LegalAfter, Legal}
 use Rattle.step_machine.proofs.Appended.{LegalAfter-front, LegalAfter-back, LegalAfter-append}
 use Rattle.step_machine.proofs.Balanced.{balanced}
-use Rattle.queue_parties.specs.Parties.{Party, the_sender, the_receiver, other, QueueCounts, all_at, count, known, IsWindow}
-use Rattle.slots_that_tell.specs.Slots.{Slots, IsSlots, IsEmptyAtRest, KeepsOff, gap, tag_of, memory_tag}
+use Rattle.queue_parties.specs.Parties.{Party, the_sender, the_receiver, other, QueueCounts, count, known, IsWindow}
+use Rattle.slots_that_tell.specs.Slots.{Slots, IsSlots, RestsAt, KeepsOff, gap, tag_of, memory_tag}
 use Rattle.slots_that_tell.specs.Telling.{teller_hart, after_entry, told_counts, KeepsTelling}
 use Rattle.slots_that_tell.specs.Laws.{FollowsTelling, counts, moved_on}
 use Rattle.slots_that_tell.proofs.Places.{LeavesTags, moved-leaves, off-leaves}
@@ -36,7 +36,7 @@ holds-after B q is o before c m (e ∷ es) held legal later keeps =
     (one-on B q is o before e (λ h. balanced B (history_of o before) h legal) m c keeps.0 later.0 held)
     (LegalAfter-append B o [] before (e ∷ []) legal (later.0, tt)) later.1 keeps.1)
 
--- where the queue was empty and at rest
+-- where the queue was at rest
 all-leave : (q : Slots) (is : IsSlots q) (ws : List Write) → All (KeepsOff q) ws → All (LeavesTags q) ws
 all-leave q is ws all k d less = off-leaves q is (slice_index_or ws k d) (all k d less)
 
@@ -52,46 +52,48 @@ tidy-leaves q is p n (w ∷ ws) all = (
   subst (λ k. Tidy q p k ws) (sym (moved-leaves q is n w (All-head (LeavesTags q) w ws all))) (tidy-leaves q is p n ws (All-tail (LeavesTags q) w ws all)),
 )
 
-pub at-rest : (q : Slots) (is : IsSlots q) (o : OpeningValue) (before : List Entry) (n : ℕ) → IsEmptyAtRest q o before n
-    → Held q o before (all_at n) (λ t. n)
-at-rest q is o before n rest = record {
+pub at-rest : (q : Slots) (is : IsSlots q) (o : OpeningValue) (before : List Entry) (start : QueueCounts) → RestsAt q o before start
+    → Held q o before start (λ t. count t start)
+at-rest q is o before start rest = record {
   side = side;
   third = λ h far. all-leave q is (pending h before) (rest.pending h);
   tags = tags;
 }
   where
-    side : (p : Party) → Side q before (all_at n) p n
+    side : (p : Party) → Side q before start p (count p start)
     side p = record {
-      count_is = unmoved q is n (pending (teller_hart q p) before)
-          (all-leave q is (pending (teller_hart q p) before) (rest.pending (teller_hart q p))) ∙ counts-at p;
-      known_less = (let at : known (other p) (all_at n) ≡ n = known-at (other p) in omega (arith, at));
-      own = tidy-leaves q is p n (pending (teller_hart q p) before) (all-leave q is (pending (teller_hart q p) before) (rest.pending (teller_hart q p)));
-      room = (let at : n ≡ count p (all_at n) = counts-at p in let knows : known p (all_at n) ≡ n = known-at p in omega (arith, at, knows));
+      count_is = unmoved q is (count p start) (pending (teller_hart q p) before)
+          (all-leave q is (pending (teller_hart q p) before) (rest.pending (teller_hart q p)));
+      known_less = less p;
+      own = tidy-leaves q is p (count p start) (pending (teller_hart q p) before)
+          (all-leave q is (pending (teller_hart q p) before) (rest.pending (teller_hart q p)));
+      room = room p;
     }
       where
-        counts-at : (p : Party) → n ≡ count p (all_at n)
-        counts-at the_sender = refl
-        counts-at the_receiver = refl
+        less : (p : Party) → known (other p) start ≤ count p start
+        less the_sender = rest.window.known_published
+        less the_receiver = rest.window.known_taken
 
-        known-at : (p : Party) → known p (all_at n) ≡ n
-        known-at the_sender = refl
-        known-at the_receiver = refl
+        room : (p : Party) → count p start ≤ known p start + gap q (other p)
+        room the_sender = rest.window.published
+        room the_receiver = omega (arith, rest.window.taken)
 
-    tags : (p : Party) (k : ℕ) → n ≤ k → k < n + gap q (other p) → q.tells p k (memory_tag q o before k) ≡ true
+    tags : (p : Party) (k : ℕ) → count p start ≤ k → k < count (other p) start + gap q (other p) → q.tells p k (memory_tag q o before k) ≡ true
     tags the_sender k from below = rest.free k from below
-    tags the_receiver k from below = absurd (omega (arith, from, below))
+    tags the_receiver k from below = rest.full k from (omega (arith, below))
 
-pub held-of : (B : ℕ) (q : Slots) (n : ℕ) (o : OpeningValue) (before es : List Entry) → FollowsTelling B q n o before es
-    → Held q o (before ++ es) (counts q n es) (memory_counts q (λ t. n) before es)
-held-of B q n o before es f = holds-after B q f.slots o before (all_at n) (λ t. n) es (at-rest q f.slots o before n f.rest)
+pub held-of : (B : ℕ) (q : Slots) (start : QueueCounts) (o : OpeningValue) (before es : List Entry) → FollowsTelling B q start o before es
+    → Held q o (before ++ es) (counts q start es) (memory_counts q (λ t. count t start) before es)
+held-of B q start o before es f = holds-after B q f.slots o before start (λ t. count t start) es (at-rest q f.slots o before start f.rest)
     (LegalAfter-front B o [] before es f.legal) (LegalAfter-back B o [] before es f.legal) f.keeps
 
-pub window : (B : ℕ) (q : Slots) (n : ℕ) (o : OpeningValue) (before es : List Entry) → FollowsTelling B q n o before es → IsWindow q.size (counts q n es)
-window B q n o before es f =
-    let m : Party → ℕ = memory_counts q (λ t. n) before es in
-    let held : Held q o (before ++ es) (counts q n es) m = held-of B q n o before es f in
-    let s = within q o (before ++ es) (counts q n es) m held the_sender in
-    let r = within q o (before ++ es) (counts q n es) m held the_receiver in
+pub window : (B : ℕ) (q : Slots) (start : QueueCounts) (o : OpeningValue) (before es : List Entry)
+    → FollowsTelling B q start o before es → IsWindow q.size (counts q start es)
+window B q start o before es f =
+    let m : Party → ℕ = memory_counts q (λ t. count t start) before es in
+    let held : Held q o (before ++ es) (counts q start es) m = held-of B q start o before es f in
+    let s = within q o (before ++ es) (counts q start es) m held the_sender in
+    let r = within q o (before ++ es) (counts q start es) m held the_receiver in
     record {
       known_published = omega (arith, s.0, (held.side the_sender).known_less);
       published = (held.side the_sender).room;
@@ -100,27 +102,27 @@ window B q n o before es f =
     }
 
 -- a look that fails: the other's pending stores make its count of one at which the position isn't yet this party's
-pub look : (B : ℕ) (q : Slots) (n : ℕ) (o : OpeningValue) (before es : List Entry) (e : Entry) → FollowsTelling B q n o before (es ++ e ∷ [])
+pub look : (B : ℕ) (q : Slots) (start : QueueCounts) (o : OpeningValue) (before es : List Entry) (e : Entry) → FollowsTelling B q start o before (es ++ e ∷ [])
     → (p : Party) (j v : ℕ) → hart_of e ≡ teller_hart q p → access_of e ≡ load (tag_of q j) q.tag_width v
-    → count p (counts q n es) ≤ j → j < count p (counts q n es) + q.size → q.tells p j v ≡ false
-    → (i : ℕ) × (i + gap q (other p) ≤ j) × (moved_on q i (pending (teller_hart q (other p)) (before ++ es)) ≡ count (other p) (counts q n es))
-look B q n o before es e f p j v at does from below silent =
+    → count p (counts q start es) ≤ j → j < count p (counts q start es) + q.size → q.tells p j v ≡ false
+    → (i : ℕ) × (i + gap q (other p) ≤ j) × (moved_on q i (pending (teller_hart q (other p)) (before ++ es)) ≡ count (other p) (counts q start es))
+look B q start o before es e f p j v at does from below silent =
     let legal2 : LegalAfter B o [] ((before ++ es) ++ e ∷ []) = subst (LegalAfter B o []) (sym (append_assoc before es (e ∷ []))) f.legal in
-    let run : FollowsTelling B q n o before es = record {
+    let run : FollowsTelling B q start o before es = record {
       slots = f.slots;
       legal = LegalAfter-front B o [] (before ++ es) (e ∷ []) legal2;
       rest = f.rest;
-      keeps = front q (all_at n) es (e ∷ []) f.keeps;
+      keeps = front q start es (e ∷ []) f.keeps;
     } in
-    let m : Party → ℕ = memory_counts q (λ t. n) before es in
-    let held : Held q o (before ++ es) (counts q n es) m = held-of B q n o before es run in
+    let m : Party → ℕ = memory_counts q (λ t. count t start) before es in
+    let held : Held q o (before ++ es) (counts q start es) m = held-of B q start o before es run in
     let allowed : AllowedBy B (pending (hart_of e) (before ++ es)) (read o (before ++ es) (hart_of e)) (access_of e) =
     (LegalAfter-back B o [] (before ++ es) (e ∷ []) legal2).0 in
     let word : v ≡ read o (before ++ es) (teller_hart q p) (tag_of q j) q.tag_width =
     subst (AllowedBy B (pending (hart_of e) (before ++ es)) (read o (before ++ es) (hart_of e))) does allowed
     ∙ ap (λ g. read o (before ++ es) g (tag_of q j) q.tag_width) at in (
       m (other p),
-      false_tag q f.slots o (before ++ es) (counts q n es) m held p j from below
+      false_tag q f.slots o (before ++ es) (counts q start es) m held p j from below
           (ap (q.tells p j) (sym word) ∙ silent),
       (held.side (other p)).count_is,
     )

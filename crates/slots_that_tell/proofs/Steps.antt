@@ -13,7 +13,7 @@ use Rattle.step_machine.specs.Entries.{hart_of, stored_by, landed_by, written_by
 use Rattle.step_machine.specs.Legal.{AllowedBy, Allowed}
 use Rattle.step_machine.proofs.Lists.{some_first}
 use Rattle.store_buffers.proofs.Effects.{stored_none, pending-quiet, pending-more, pending-first}
-use Rattle.queue_parties.specs.Parties.{Party, the_sender, the_receiver, other, QueueCounts, count, known, with_known}
+use Rattle.queue_parties.specs.Parties.{Party, other, QueueCounts, count, known, with_known}
 use Rattle.queue_parties.proofs.Parties.{two, twice, count-set, count-set-other, known-set-count, count-set-known, known-set, known-set-other}
 use Rattle.queue_parties.proofs.Parties.{Whose, mine, theirs, whose, harts-apart}
 use Rattle.slots_that_tell.specs.Slots.{Slots, IsSlots, gap, KeepsOff}

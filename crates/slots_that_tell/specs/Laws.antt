@@ -1,26 +1,26 @@
 -- A run that keeps the protocol of slots that tell, and what its laws speak of.
-use Rattle.std.specs.Prelude.{ℕ, zero, suc, ◌≡◌, ◌+◌, ◌-◌, ◌≤◌, List, [], ◌∷◌, ◌++◌}
+use Rattle.std.specs.Prelude.{ℕ, ◌≡◌, ◌-◌, List, [], ◌∷◌, ◌++◌}
 use Rattle.memory.specs.declared.writes.Write.{Write}
 use Rattle.step_machine.specs.declared.events.Entry.{Entry}
 use Rattle.step_machine.specs.History.{OpeningValue, history_of}
 use Rattle.step_machine.specs.Legal.{Legal}
 use Rattle.step_machine.specs.Access.{exchange, access_of}
 use Rattle.step_machine.specs.Entries.{hart_of, read}
-use Rattle.store_buffers.specs.StoreBuffers.{LeavesByteBy, LeavesByteAt}
-use Rattle.queue_parties.specs.Parties.{Party, the_sender, the_receiver, QueueCounts, all_at, count}
-use Rattle.queue_parties.specs.Positions.{records_passed}
-use Rattle.slots_that_tell.specs.Slots.{Slots, IsSlots, IsEmptyAtRest, tagged_slot, IsSlotByte, IsTagByte}
+use Rattle.store_buffers.specs.StoreBuffers.{LeavesByteAt}
+use Rattle.queue_parties.specs.Parties.{Party, the_sender, the_receiver, QueueCounts, count}
+use Rattle.queue_parties.specs.Positions.{numbers_from, records_passed}
+use Rattle.slots_that_tell.specs.Slots.{Slots, IsSlots, RestsAt, tagged_slot, IsSlotByte, IsTagByte}
 use Rattle.slots_that_tell.specs.Telling.{teller_hart, after_entry, told_counts, moved, KeepsTelling}
 
--- the entries of a run from where the queue was empty and at rest at count n: they are legal after those before, and keep the protocol
-pub record FollowsTelling (B : ℕ) (q : Slots) (n : ℕ) (o : OpeningValue) (before es : List Entry) : Type 0 where
+-- the entries of a run from where the queue was at rest with these counts: they are legal after those before, and keep the protocol
+pub record FollowsTelling (B : ℕ) (q : Slots) (start : QueueCounts) (o : OpeningValue) (before es : List Entry) : Type 0 where
   pub slots : IsSlots q
   pub legal : Legal B (history_of o (before ++ es))
-  pub rest : IsEmptyAtRest q o before n
-  pub keeps : KeepsTelling q (all_at n) es
+  pub rest : RestsAt q o before start
+  pub keeps : KeepsTelling q start es
 
-abbrev pub counts : Slots → (n : ℕ) → List Entry → QueueCounts
-counts q n es = told_counts q (all_at n) es
+abbrev pub counts : Slots → (start : QueueCounts) → List Entry → QueueCounts
+counts q start es = told_counts q start es
 
 -- a count after these writes of the party's
 abbrev pub moved_on : Slots → (n : ℕ) → List Write → ℕ
@@ -35,6 +35,10 @@ pub record StoresTagsAlone (q : Slots) (h : ℕ) (es : List Entry) : Type 0 wher
 -- the record of position k as hart h reads it: the number of the bytes of its slot, the tag among them
 abbrev pub tagged_record : Slots → OpeningValue → List Entry → (h k : ℕ) → ℕ
 tagged_record q o es h k = read o es h (tagged_slot q k) q.width
+
+-- the records that wait where a run begins, as the receiver's hart reads them there
+abbrev pub records_waiting : Slots → OpeningValue → QueueCounts → (before : List Entry) → List ℕ
+records_waiting q o start before = numbers_from (tagged_record q o before q.receiver) start.taken (start.published - start.taken)
 
 -- the sender's record is what its hart reads just after its tag is stored, and the receiver's what its hart reads just before
 abbrev pub reading_at : Party → (before : List Entry) → Entry → List Entry

@@ -6,7 +6,7 @@ use Rattle.store_buffers.specs.StoreBuffers.{memory_number}
 use Rattle.step_machine.specs.declared.events.Entry.{Entry}
 use Rattle.step_machine.specs.History.{OpeningValue}
 use Rattle.step_machine.specs.Entries.{pending}
-use Rattle.queue_parties.specs.Parties.{Party, the_sender, the_receiver, other}
+use Rattle.queue_parties.specs.Parties.{Party, the_sender, the_receiver, other, QueueCounts, IsWindow}
 use Rattle.queue_parties.specs.Positions.{IsInBytes, slot_from}
 
 -- The harts that send and receive; where the slots begin, how many they are, and how many bytes one has; which of these are its tag;
@@ -70,7 +70,10 @@ position_at q n a = n + (slot_at q a + (q.size - n % q.size)) % q.size
 abbrev pub memory_tag : Slots → OpeningValue → List Entry → (k : ℕ) → ℕ
 memory_tag q o es k = memory_number o es (tag_of q k) q.tag_width
 
--- each slot is free for its next position from n on, and no hart has a pending store to the slots: so a run may be followed from here
-pub record IsEmptyAtRest (q : Slots) (o : OpeningValue) (es : List Entry) (n : ℕ) : Type 0 where
-  pub free : (k : ℕ) → n ≤ k → k < n + q.size → q.tells the_sender k (memory_tag q o es k) ≡ true
+-- what the parties know is within the window, the slots of the positions that are published and not taken tell the receiver so, each
+-- other slot is free for its next position, and no hart has a pending store to the slots: so a run may be followed from here
+pub record RestsAt (q : Slots) (o : OpeningValue) (es : List Entry) (c : QueueCounts) : Type 0 where
+  pub window : IsWindow q.size c
+  pub full : (k : ℕ) → c.taken ≤ k → k < c.published → q.tells the_receiver k (memory_tag q o es k) ≡ true
+  pub free : (k : ℕ) → c.published ≤ k → k < c.taken + q.size → q.tells the_sender k (memory_tag q o es k) ≡ true
   pub pending : (h : ℕ) → All (KeepsOff q) (pending h es)

@@ -1,11 +1,11 @@
 -- The protocol of slots that tell: what the entries of a run say of the counts of both parties, and which stores a party may make.
-use Rattle.std.specs.Prelude.{ℕ, ◌≡◌, ◌⊎◌, ◌+◌, ◌-◌, ◌<◌, ◌≤◌, ◌%◌, ◌^◌, ◌==◌, if◌then◌else◌, Option, None, Some, List, [], ◌∷◌, true}
+use Rattle.std.specs.Prelude.{ℕ, ◌≡◌, ◌⊎◌, ◌+◌, ◌-◌, ◌<◌, ◌≤◌, ◌%◌, ◌^◌, if◌then◌else◌, Option, None, Some, List, true}
 use Rattle.memory.specs.declared.writes.Write.{Write}
 use Rattle.memory.specs.Writes.{write, covers}
 use Rattle.step_machine.specs.declared.events.Entry.{Entry}
 use Rattle.step_machine.specs.Access.{Access, load, store, exchange, access_of}
 use Rattle.step_machine.specs.Entries.{hart_of}
-use Rattle.queue_parties.specs.Parties.{Party, the_sender, the_receiver, other, hart_among, party_among, QueueCounts}
+use Rattle.queue_parties.specs.Parties.{Party, other, hart_among, party_among, QueueCounts}
 use Rattle.queue_parties.specs.Parties.{count, with_count, known, with_known, counts_from, KeepsEach}
 use Rattle.slots_that_tell.specs.Slots.{Slots, gap, tag_of, is_tag, position_at, IsSlotByte, IsTagByte, IsOutside, KeepsOff}
 

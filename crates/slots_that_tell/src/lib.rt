@@ -13,14 +13,14 @@ ghost use Rattle.step_machine.specs.History.{OpeningValue};
 ghost use Rattle.step_machine.specs.Entries.{hart_of, own_stores, lands, pending, read_byte};
 ghost use Rattle.step_machine.specs.Access.{load, access_of};
 ghost use Rattle.queue_parties.specs.Positions.{IsPrefix};
-ghost use Rattle.queue_parties.specs.Parties.{Party, the_sender, the_receiver, other, all_at, count, known, IsWindow};
+ghost use Rattle.queue_parties.specs.Parties.{Party, the_sender, the_receiver, other, QueueCounts, count, known, IsWindow};
 ghost use Rattle.slots_that_tell.specs.Slots.{Slots, gap, tag_of, IsSlotByte};
 ghost use Rattle.slots_that_tell.specs.Telling.{teller_hart};
 ghost use Rattle.slots_that_tell.specs.Codecs.{zero_is_free, position_number};
-ghost use Rattle.slots_that_tell.specs.Laws.{FollowsTelling, counts, moved_on, StoresTagsAlone, records_by};
+ghost use Rattle.slots_that_tell.specs.Laws.{FollowsTelling, counts, moved_on, StoresTagsAlone, records_by, records_waiting};
 ghost use Rattle.store_buffers.specs.StoreBuffers.{LeavesByteAt};
 
-/// Of every run that keeps the protocol from where all slots were free and at rest. It does nothing.
+/// Of every run that keeps the protocol from where the queue was at rest, empty or with records that wait. It does nothing.
 ///
 /// - `window`: neither party knows of more than there is, and neither has moved past what it knows.
 /// - `publication`: once the other party knows of more than a party's count was at some point, all that the party's hart had
@@ -30,39 +30,45 @@ ghost use Rattle.store_buffers.specs.StoreBuffers.{LeavesByteAt};
 ///   did just after it stored the tag of position k, unless the receiver's hart has stored there since.
 /// - `handing_back`: the same from the receiver to the sender, which then owns the slot's next position.
 /// - `in_order`: if the receiver's hart stores nothing to the slots but tags, and makes no AMO: the records whose tags it stores,
-///   as it reads them just before, are a prefix of those whose tags the sender stored, as the sender reads them just after.
+///   as it reads them just before, are a prefix of those that waited and those whose tags the sender stored, as the sender reads them
+///   just after.
+/// - `waiting`: until the receiver has taken a record that waited where the run began, every hart reads it as any hart did there,
+///   unless the receiver's hart has stored there since.
 /// - `look`: a tag that doesn't tell a party of position j, of its next round: the other's pending stores make its count of one at
 ///   which position j isn't this party's. So where it has none pending to tags, full means full, and empty means empty.
 /// - `zero_tells`: 0 for free and anything else for full is a way to tell.
 /// - `numbers_tell`: so are positions' numbers mod m, unless the size is 1 mod m.
 pub fn laws_of_telling()
-    ensures window { (B : ℕ) (q : Slots) (n : ℕ) (o : OpeningValue) (before es : List Entry) → FollowsTelling B q n o before es
-        → IsWindow q.size (counts q n es) }
-    ensures publication { (B : ℕ) (q : Slots) (n : ℕ) (o : OpeningValue) (before es fs : List Entry) → FollowsTelling B q n o before (es ++ fs) → (p : Party)
-        → count p (counts q n es) < known (other p) (counts q n (es ++ fs))
+    ensures window { (B : ℕ) (q : Slots) (start : QueueCounts) (o : OpeningValue) (before es : List Entry) → FollowsTelling B q start o before es
+        → IsWindow q.size (counts q start es) }
+    ensures publication { (B : ℕ) (q : Slots) (start : QueueCounts) (o : OpeningValue) (before es fs : List Entry)
+        → FollowsTelling B q start o before (es ++ fs) → (p : Party) → count p (counts q start es) < known (other p) (counts q start (es ++ fs))
         → length (own_stores (teller_hart q p) (before ++ es)) ≤ lands (teller_hart q p) (before ++ (es ++ fs)) }
-    ensures publication_of_tag { (B : ℕ) (q : Slots) (n : ℕ) (o : OpeningValue) (before es : List Entry) (e : Entry) (fs : List Entry)
-        → FollowsTelling B q n o before ((es ++ e ∷ []) ++ fs) → (p : Party) → count p (counts q n es) < count p (counts q n (es ++ e ∷ []))
-        → count p (counts q n (es ++ e ∷ [])) ≤ known (other p) (counts q n ((es ++ e ∷ []) ++ fs))
+    ensures publication_of_tag { (B : ℕ) (q : Slots) (start : QueueCounts) (o : OpeningValue) (before es : List Entry) (e : Entry) (fs : List Entry)
+        → FollowsTelling B q start o before ((es ++ e ∷ []) ++ fs) → (p : Party) → count p (counts q start es) < count p (counts q start (es ++ e ∷ []))
+        → count p (counts q start (es ++ e ∷ [])) ≤ known (other p) (counts q start ((es ++ e ∷ []) ++ fs))
         → length (own_stores (teller_hart q p) (before ++ (es ++ e ∷ []))) ≤ lands (teller_hart q p) (before ++ ((es ++ e ∷ []) ++ fs)) }
-    ensures delivery { (B : ℕ) (q : Slots) (n : ℕ) (o : OpeningValue) (before es : List Entry) (e : Entry) (fs : List Entry)
-        → FollowsTelling B q n o before (es ++ e ∷ fs) → (k x : ℕ) → IsSlotByte q k x
-        → (counts q n es).published ≤ k → k < (counts q n (es ++ e ∷ [])).published
-        → (counts q n (es ++ e ∷ fs)).taken ≤ k → k < (counts q n (es ++ e ∷ fs)).known_published → LeavesByteAt q.receiver x fs
+    ensures delivery { (B : ℕ) (q : Slots) (start : QueueCounts) (o : OpeningValue) (before es : List Entry) (e : Entry) (fs : List Entry)
+        → FollowsTelling B q start o before (es ++ e ∷ fs) → (k x : ℕ) → IsSlotByte q k x
+        → (counts q start es).published ≤ k → k < (counts q start (es ++ e ∷ [])).published
+        → (counts q start (es ++ e ∷ fs)).taken ≤ k → k < (counts q start (es ++ e ∷ fs)).known_published → LeavesByteAt q.receiver x fs
         → read_byte o (before ++ (es ++ e ∷ fs)) q.receiver x ≡ read_byte o (before ++ (es ++ e ∷ [])) q.sender x }
-    ensures handing_back { (B : ℕ) (q : Slots) (n : ℕ) (o : OpeningValue) (before es : List Entry) (e : Entry) (fs : List Entry)
-        → FollowsTelling B q n o before (es ++ e ∷ fs) → (k x : ℕ) → IsSlotByte q k x
-        → (counts q n es).taken ≤ k → k < (counts q n (es ++ e ∷ [])).taken
-        → (counts q n (es ++ e ∷ fs)).published ≤ k + q.size → k + q.size < (counts q n (es ++ e ∷ fs)).known_taken + q.size
+    ensures handing_back { (B : ℕ) (q : Slots) (start : QueueCounts) (o : OpeningValue) (before es : List Entry) (e : Entry) (fs : List Entry)
+        → FollowsTelling B q start o before (es ++ e ∷ fs) → (k x : ℕ) → IsSlotByte q k x
+        → (counts q start es).taken ≤ k → k < (counts q start (es ++ e ∷ [])).taken
+        → (counts q start (es ++ e ∷ fs)).published ≤ k + q.size → k + q.size < (counts q start (es ++ e ∷ fs)).known_taken + q.size
         → LeavesByteAt q.sender x fs
         → read_byte o (before ++ (es ++ e ∷ fs)) q.sender x ≡ read_byte o (before ++ (es ++ e ∷ [])) q.receiver x }
-    ensures in_order { (B : ℕ) (q : Slots) (n : ℕ) (o : OpeningValue) (before es : List Entry) → FollowsTelling B q n o before es
+    ensures in_order { (B : ℕ) (q : Slots) (start : QueueCounts) (o : OpeningValue) (before es : List Entry) → FollowsTelling B q start o before es
         → StoresTagsAlone q q.receiver es
-        → IsPrefix (records_by q the_receiver o (all_at n) before es) (records_by q the_sender o (all_at n) before es) }
-    ensures look { (B : ℕ) (q : Slots) (n : ℕ) (o : OpeningValue) (before es : List Entry) (e : Entry) → FollowsTelling B q n o before (es ++ e ∷ [])
-        → (p : Party) (j v : ℕ) → hart_of e ≡ teller_hart q p → access_of e ≡ load (tag_of q j) q.tag_width v
-        → count p (counts q n es) ≤ j → j < count p (counts q n es) + q.size → q.tells p j v ≡ false
-        → (i : ℕ) × (i + gap q (other p) ≤ j) × (moved_on q i (pending (teller_hart q (other p)) (before ++ es)) ≡ count (other p) (counts q n es)) }
+        → IsPrefix (records_by q the_receiver o start before es) (records_waiting q o start before ++ records_by q the_sender o start before es) }
+    ensures waiting { (B : ℕ) (q : Slots) (start : QueueCounts) (o : OpeningValue) (before es : List Entry) → FollowsTelling B q start o before es
+        → (k x : ℕ) → IsSlotByte q k x → k < start.published → (counts q start es).taken ≤ k → LeavesByteAt q.receiver x es
+        → (g h : ℕ) → read_byte o (before ++ es) h x ≡ read_byte o before g x }
+    ensures look { (B : ℕ) (q : Slots) (start : QueueCounts) (o : OpeningValue) (before es : List Entry) (e : Entry)
+        → FollowsTelling B q start o before (es ++ e ∷ []) → (p : Party) (j v : ℕ) → hart_of e ≡ teller_hart q p → access_of e ≡ load (tag_of q j) q.tag_width v
+        → count p (counts q start es) ≤ j → j < count p (counts q start es) + q.size → q.tells p j v ≡ false
+        → (i : ℕ) × (i + gap q (other p) ≤ j) × (moved_on q i (pending (teller_hart q (other p)) (before ++ es)) ≡ count (other p) (counts q start es)) }
     ensures zero_tells { (q : Slots) (p : Party) (k v : ℕ) → zero_is_free p k v ≡ true → zero_is_free (other p) (k + gap q p) v ≡ false }
     ensures numbers_tell { (m : ℕ) → 2 ≤ m → (q : Slots) → q.size % m ≢ 1 → (p : Party) (k v : ℕ) → position_number m p k v ≡ true
         → position_number m (other p) (k + gap q p) v ≡ false }

@@ -13,11 +13,11 @@ use Rattle.step_machine.specs.Paths.{state_of}
 use Rattle.step_machine.specs.Legal.{Legal}
 use Rattle.spsc_queue.specs.RingBuffers.{Kind, lamport, fastforward, RingBuffer, capacity, unpublished, unreleased}
 use Rattle.spsc_queue.specs.Protocol.{SenderState, resting, placed, renewing, roomy, filled, asked, ProtocolState}
-use Rattle.spsc_queue.specs.Protocol.{at_start, protocol_after, room_at, says_full, watched_address}
-use Rattle.spsc_queue.specs.Protocol.{says_empty}
+use Rattle.spsc_queue.specs.Protocol.{room_at, says_full, watched_address}
+use Rattle.spsc_queue.specs.Protocol.{says_empty, parties_after}
 use Rattle.spsc_queue.specs.Laws.{IsPrefix, FollowsSpscProtocol, available_of, available_count, available_words}
 use Rattle.store_buffers.specs.StoreBuffers.{IsOnlyWriter, AllLeaveByte}
-use Rattle.spsc_queue.specs.Calls.{SpscQueue, Party, the_sender, the_receiver, party_line, buffer, is_sender_in_call, is_receiver_in_call, sent_words}
+use Rattle.spsc_queue.specs.Calls.{SpscQueue, Party, the_sender, the_receiver, party_line, buffer, is_sender_in_call, is_receiver_in_call, given_words}
 use Rattle.spsc_queue.specs.Calls.{received_words, UsesAsSpscQueue}
 use Rattle.spsc_queue.proofs.Invariants.{IsPlaced, Known}
 use Rattle.spsc_queue.proofs.Runs.{known-of, delivered, length-firsts}
@@ -59,13 +59,13 @@ module _ (B M : ℕ) (o : OpeningValue) (q : SpscQueue) (before es : List Entry)
   r = buffer q
 
   abbrev t : ProtocolState
-  t = protocol_after r at_start done
+  t = parties_after r o before done
 
   abbrev L : ℕ → ℕ
-  L = slice_index (protocol_after r at_start (done ++ rest)).sent
+  L = slice_index (parties_after r o before (done ++ rest)).sent
 
   abbrev A : List ℕ
-  A = sent_words M o q before done
+  A = given_words M o q before done
 
   abbrev R : List ℕ
   R = received_words M o q before done
@@ -144,7 +144,7 @@ module _ (B M : ℕ) (o : OpeningValue) (q : SpscQueue) (before es : List Entry)
 
 module _ (B M : ℕ) (o : OpeningValue) (q : SpscQueue) (before es : List Entry) (c : UsesAsSpscQueue B M o q before es) where
   abbrev T : ProtocolState
-  T = protocol_after (buffer q) at_start es
+  T = parties_after (buffer q) o before es
 
   whole : es ≡ es ++ []
   whole = sym (append-nil es)
@@ -159,19 +159,19 @@ module _ (B M : ℕ) (o : OpeningValue) (q : SpscQueue) (before es : List Entry)
   delivered_prefix = prefix-joined (received_words M o q before es) T.received (available_words (buffer q) T) got_prefix
       (delivered B (buffer q) o before es (calls_follow B M o q before es c))
 
-  pub fifo : is_sender_in_call M o q before es ≡ false → IsPrefix (received_words M o q before es) (sent_words M o q before es)
+  pub fifo : is_sender_in_call M o q before es ≡ false → IsPrefix (received_words M o q before es) (given_words M o q before es)
   fifo idle =
       let counts = idle_sent B M o q before es c es [] whole idle in
       let all = idle_words B M o q before es c es [] whole the_sender idle in
-      let size : length T.sent ≡ length (sent_words M o q before es) = ap length all.1 in
+      let size : length T.sent ≡ length (given_words M o q before es) = ap length all.1 in
       let same : available_words (buffer q) T ≡ T.sent = ap (λ n. take n T.sent) (counts.1 ∙ sym size) ∙ take-length T.sent in
       subst (IsPrefix (received_words M o q before es)) (same ∙ all.1) delivered_prefix
 
   -- the word of a send that is under way may have been received too
   pub fifo_within : (s : HartState) → state_of M (history_of o (before ++ es)) q.sender ≡ Some s
-      → IsPrefix (received_words M o q before es) (sent_words M o q before es ++ slice_index s.registers 11 ∷ [])
+      → IsPrefix (received_words M o q before es) (given_words M o q before es ++ slice_index s.registers 11 ∷ [])
   fifo_within s at =
-      let A : List ℕ = sent_words M o q before es in
+      let A : List ℕ = given_words M o q before es in
       let n : ℕ = available_count (buffer q) T in
       let all : IsPrefix (received_words M o q before es) T.sent = prefix-joined (received_words M o q before es) (available_words (buffer q) T) T.sent
       delivered_prefix (drop n T.sent, sym (take-append-drop n T.sent)) in
@@ -188,7 +188,7 @@ module _ (B M : ℕ) (o : OpeningValue) (q : SpscQueue) (before es fs : List Ent
   end : es ++ fs ≡ (es ++ fs) ++ []
   end = sym (append-nil (es ++ fs))
 
-  pub publication : is_sender_in_call M o q before es ≡ false → length (sent_words M o q before es) < length (received_words M o q before (es ++ fs))
+  pub publication : is_sender_in_call M o q before es ≡ false → length (given_words M o q before es) < length (received_words M o q before (es ++ fs))
       → length (own_stores q.sender (before ++ es)) < lands q.sender (before ++ (es ++ fs))
   publication idle more =
       let sent = idle_sent B M o q before (es ++ fs) c es fs refl idle in
@@ -196,7 +196,7 @@ module _ (B M : ℕ) (o : OpeningValue) (q : SpscQueue) (before es fs : List Ent
       (omega (arith, sent.1, more, received_least B M o q before (es ++ fs) c (es ++ fs) [] end))
 
   pub reclamation : is_receiver_in_call M o q before es ≡ false
-      → length (received_words M o q before es) + capacity (buffer q) < length (sent_words M o q before (es ++ fs))
+      → length (received_words M o q before es) + capacity (buffer q) < length (given_words M o q before (es ++ fs))
       → length (own_stores q.receiver (before ++ es)) < lands q.receiver (before ++ (es ++ fs))
   reclamation idle more = returned B (buffer q) o before es fs (calls_follow B M o q before (es ++ fs) c)
       (omega (arith, idle_received B M o q before (es ++ fs) c es fs refl idle, more, sent_least B M o q before (es ++ fs) c (es ++ fs) [] end))
@@ -209,12 +209,12 @@ module _ (B M : ℕ) (o : OpeningValue) (q : SpscQueue) (before es fs : List Ent
       (handed_over B o a h x (before ++ es) fs (subst (λ xs. Legal B (history_of o xs)) (sym (append_assoc before es fs)) c.shares.run.legal)
       (omega (arith, subst (λ xs. length (own_stores a (before ++ es)) < lands a xs) (sym (append_assoc before es fs)) landed)) only leave)
 
-  pub message_passing : is_sender_in_call M o q before es ≡ false → length (sent_words M o q before es) < length (received_words M o q before (es ++ fs))
+  pub message_passing : is_sender_in_call M o q before es ≡ false → length (given_words M o q before es) < length (received_words M o q before (es ++ fs))
       → (h x : ℕ) → IsOnlyWriter q.sender x (before ++ es) → AllLeaveByte x fs → read_byte o (before ++ (es ++ fs)) h x ≡ read_byte o (before ++ es) q.sender x
   message_passing idle more h x only leave = handed q.sender (publication idle more) h x only leave
 
   pub handing_back : is_receiver_in_call M o q before es ≡ false
-      → length (received_words M o q before es) + capacity (buffer q) < length (sent_words M o q before (es ++ fs))
+      → length (received_words M o q before es) + capacity (buffer q) < length (given_words M o q before (es ++ fs))
       → (h x : ℕ) → IsOnlyWriter q.receiver x (before ++ es) → AllLeaveByte x fs
       → read_byte o (before ++ (es ++ fs)) h x ≡ read_byte o (before ++ es) q.receiver x
   handing_back idle more h x only leave = handed q.receiver (reclamation idle more) h x only leave
@@ -224,14 +224,14 @@ module _ (B M : ℕ) (o : OpeningValue) (q : SpscQueue) (before es fs : List Ent
 module _ (B M : ℕ) (o : OpeningValue) (q : SpscQueue) (before done : List Entry) (e : Entry) (fs : List Entry)
     (c : UsesAsSpscQueue B M o q before (done ++ e ∷ fs)) where
   abbrev now : ProtocolState
-  now = protocol_after (buffer q) at_start done
+  now = parties_after (buffer q) o before done
 
   all : FollowsSpscProtocol B (buffer q) o before (done ++ e ∷ fs)
   all = calls_follow B M o q before (done ++ e ∷ fs) c
 
   pub finds_empty : (u v : ℕ) → hart_of e ≡ q.receiver → access_of e ≡ load (watched_address q.block.kind (buffer q) u) 4 v → says_empty q.block.kind u v ≡ true
       → now.receiving ≡ asked u → now.received ≡ received_words M o q before done
-      → length (sent_words M o q before done) ≤ length (received_words M o q before done) + unpublished (buffer q) (pending q.sender (before ++ done))
+      → length (given_words M o q before done) ≤ length (received_words M o q before done) + unpublished (buffer q) (pending q.sender (before ++ done))
   finds_empty u v mine does says was same =
       let count : length now.received ≡ length (received_words M o q before done) = ap length same in
       let taken = taken_count B M o q before (done ++ e ∷ fs) c done (e ∷ fs) refl in
@@ -239,10 +239,10 @@ module _ (B M : ℕ) (o : OpeningValue) (q : SpscQueue) (before done : List Entr
       omega (arith, empty_landed B (buffer q) o before done e fs all u v mine does says was, count, taken, sent)
 
   pub finds_full : (u v : ℕ) → hart_of e ≡ q.sender → access_of e ≡ load (room_at q.block.kind (buffer q) u) 4 v → says_full q.block.kind (buffer q) u v ≡ true
-      → now.sending ≡ placed u → now.sent ≡ sent_words M o q before done → length (received_words M o q before done) + capacity (buffer q)
-      ≤ length (sent_words M o q before done) + unreleased (buffer q) (pending q.receiver (before ++ done))
+      → now.sending ≡ placed u → now.sent ≡ given_words M o q before done → length (received_words M o q before done) + capacity (buffer q)
+      ≤ length (given_words M o q before done) + unreleased (buffer q) (pending q.receiver (before ++ done))
   finds_full u v mine does says was same =
-      let count : length now.sent ≡ length (sent_words M o q before done) = ap length same in
+      let count : length now.sent ≡ length (given_words M o q before done) = ap length same in
       let stored = stored_count B M o q before (done ++ e ∷ fs) c done (e ∷ fs) refl in
       let received = received_least B M o q before (done ++ e ∷ fs) c done (e ∷ fs) refl in
       omega (arith, full_landed B (buffer q) o before done e fs all u v mine does says was, count, stored, received)
@@ -255,7 +255,7 @@ module _ (B M : ℕ) (o : OpeningValue) (q : SpscQueue) (before done part : List
   es = done ++ (part ++ e ∷ fs)
 
   abbrev then_state : ProtocolState
-  then_state = protocol_after (buffer q) at_start (done ++ part)
+  then_state = parties_after (buffer q) o before (done ++ part)
 
   keeps : FollowsSpscProtocol B (buffer q) o before es
   keeps = calls_follow B M o q before es c
@@ -265,7 +265,7 @@ module _ (B M : ℕ) (o : OpeningValue) (q : SpscQueue) (before done part : List
 
   pub finds_word : (u v : ℕ) → hart_of e ≡ q.receiver → access_of e ≡ load (watched_address q.block.kind (buffer q) u) 4 v
       → then_state.receiving ≡ asked u → then_state.received ≡ received_words M o q before done
-      → length (received_words M o q before done) + unpublished (buffer q) (pending q.sender (before ++ done)) < length (sent_words M o q before done)
+      → length (received_words M o q before done) + unpublished (buffer q) (pending q.sender (before ++ done)) < length (given_words M o q before done)
       → says_empty q.block.kind u v ≡ false
   finds_word u v mine does was same more =
       let count : length then_state.received ≡ length (received_words M o q before done) = ap length same in
@@ -274,12 +274,12 @@ module _ (B M : ℕ) (o : OpeningValue) (q : SpscQueue) (before done part : List
       word_found B (buffer q) o before done part e fs keeps u v mine does was (omega (arith, more, count, taken, sent))
 
   pub finds_room : (u v : ℕ) → hart_of e ≡ q.sender → access_of e ≡ load (room_at q.block.kind (buffer q) u) 4 v
-      → then_state.sending ≡ placed u → then_state.sent ≡ sent_words M o q before done
-      → length (sent_words M o q before done) + unreleased (buffer q) (pending q.receiver (before ++ done))
+      → then_state.sending ≡ placed u → then_state.sent ≡ given_words M o q before done
+      → length (given_words M o q before done) + unreleased (buffer q) (pending q.receiver (before ++ done))
       < length (received_words M o q before done) + capacity (buffer q)
       → says_full q.block.kind (buffer q) u v ≡ false
   finds_room u v mine does was same more =
-      let count : length then_state.sent ≡ length (sent_words M o q before done) = ap length same in
+      let count : length then_state.sent ≡ length (given_words M o q before done) = ap length same in
       let stored = stored_count B M o q before es c (done ++ part) (e ∷ fs) cut in
       let received = received_least B M o q before es c done (part ++ e ∷ fs) refl in
       room_found B (buffer q) o before done part e fs keeps u v mine does was (omega (arith, more, count, stored, received))

@@ -13,7 +13,7 @@ use Rattle.step_machine.specs.Legal.{WellFormed, LegalAfter, IsOfHarts}
 use Rattle.step_machine.proofs.Appended.{LegalAfter-front}
 use Rattle.step_machine.proofs.Placing.{land_other, own_other}
 use Rattle.spsc_queue.specs.RingBuffers.{Kind, RingBuffer, IsRingBuffer}
-use Rattle.spsc_queue.specs.Protocol.{ProtocolState, at_start, role_of, next_by, protocol_next, protocol_after, KeepsProtocolBy, KeepsProtocol}
+use Rattle.spsc_queue.specs.Protocol.{ProtocolState, at_start, role_of, next_by, protocol_next, KeepsProtocolBy, KeepsProtocol, parties_after}
 use Rattle.spsc_queue.specs.Laws.{FollowsSpscProtocol}
 use Rattle.spsc_queue.specs.Calls.{Block, SpscQueue, Party, the_sender, the_receiver, party_hart, party_line, listing_of, buffer, enters, is_in_call_after}
 use Rattle.spsc_queue.specs.Calls.{is_in_call_with, completed_at, completed_by_entry, HasArguments, CallerObligation, SharesQueue, UsesAsSpscQueue}
@@ -24,8 +24,8 @@ use Rattle.spsc_queue.proofs.Outline.{Part, part, role, Level, Near, Inside, Cou
 use Rattle.spsc_queue.proofs.Parts.{ring_is, keeps-more, stays-keeps, does-keeps, land-leaves, other-leaves, level-next, near-of}
 use Rattle.spsc_queue.proofs.Functions.{moves_at, fresh_course, begins}
 use Rattle.spsc_queue.proofs.OwnEntries.{made_by, known_hart, same_state, next_state, land_is, own_is, state_here, is_here, equipped}
-use Rattle.spsc_queue.proofs.Completed.{is_in_call-last, completed-last, none_completed, same_call, own_completed, own_call}
-use Rattle.spsc_queue.proofs.Parties.{is_busy, words, has_of, owed_of, which, other_hart, Mine, Others, whose, not_mine}
+use Rattle.spsc_queue.proofs.Completed.{is_in_call-last, none_completed, same_call, own_completed, own_call}
+use Rattle.spsc_queue.proofs.Parties.{is_busy, first_words, words, words-last, has_of, owed_of, which, other_hart, Mine, Others, whose, not_mine}
 
 -- ---- one entry of a run, and all of them
 
@@ -51,13 +51,13 @@ module _ (B M : ℕ) (o : OpeningValue) (q : SpscQueue) (before es : List Entry)
 
   -- the protocol is kept so far, and each party stands in its code or in its function
   pub record Stand (done : List Entry) : Type 0 where
-    pub keeps : KeepsProtocol r at_start done
+    pub keeps : KeepsProtocol r (at_start r o before) done
     pub stands : (p : Party) (s : HartState) → state_of M (history_of o (before ++ done)) (party_hart q p) ≡ Some s
-        → Stands (party_line q p) p K k r (is_busy M o q p before done) (words M o q p before done) s (part p (protocol_after r at_start done))
+        → Stands (party_line q p) p K k r (is_busy M o q p before done) (words M o q p before done) s (part p (parties_after r o before done))
 
   module _ (done : List Entry) (e : Entry) (more : List Entry) (is : es ≡ done ++ e ∷ more) (st : Stand done) where
     abbrev T : ProtocolState
-    T = protocol_after r at_start done
+    T = parties_after r o before done
 
     abbrev U : ProtocolState
     U = protocol_next r T e
@@ -77,7 +77,7 @@ module _ (B M : ℕ) (o : OpeningValue) (q : SpscQueue) (before es : List Entry)
     known = known_hart o (before ++ done) e more (subst (All (IsOfHarts o)) (sym (append_assoc before done (e ∷ more))) run.of_harts)
 
     near : (p : Party) → Near k (part p T)
-    near p = near-of k q.sender q.receiver ring p K (slice_index (protocol_after r at_start (done ++ [])).sent) T
+    near p = near-of k q.sender q.receiver ring p K (slice_index (parties_after r o before (done ++ [])).sent) T
         (known-of B r o before done [] (subst (FollowsSpscProtocol B r o before) (sym (append-nil done)) follows))
 
     -- whether a party is in a call, and what its calls completed, so far and with this entry
@@ -251,21 +251,21 @@ module _ (B M : ℕ) (o : OpeningValue) (q : SpscQueue) (before es : List Entry)
 
       pub stands_on : Stand (done ++ e ∷ [])
       stands_on = record {
-        keeps = keeps-more r at_start done e st.keeps goes.rule;
+        keeps = keeps-more r (at_start r o before) done e st.keeps goes.rule;
         stands = λ p y at.
-            subst (λ b. Stands (party_line q p) p K k r b (words M o q p before (done ++ e ∷ [])) y (part p (protocol_after r at_start (done ++ e ∷ []))))
+            subst (λ b. Stands (party_line q p) p K k r b (words M o q p before (done ++ e ∷ [])) y (part p (parties_after r o before (done ++ e ∷ []))))
             (sym (is_in_call-last M o (party_hart q p) (party_line q p) k false before done e))
-            (subst (λ ws. Stands (party_line q p) p K k r (C_next p) ws y (part p (protocol_after r at_start (done ++ e ∷ []))))
-            (sym (completed-last M o (party_hart q p) (party_line q p) k false before done e))
-            (subst (λ g. StandsNext p y (part p g)) (sym (protocol-append r at_start done (e ∷ [])))
+            (subst (λ ws. Stands (party_line q p) p K k r (C_next p) ws y (part p (parties_after r o before (done ++ e ∷ []))))
+            (sym (words-last M o q p before done e))
+            (subst (λ g. StandsNext p y (part p g)) (sym (protocol-append r (at_start r o before) done (e ∷ [])))
             (goes.stands p y (ap (λ xs. state_of M (history_of o xs) (party_hart q p)) (append_assoc before done (e ∷ [])) ∙ at))));
       }
 
   pub stands_at_start : Stand []
   stands_at_start = record { keeps = tt; stands = λ p s at. at_first p }
     where
-      at_first : (p : Party) → Level (part p at_start) × ((part p at_start).words ≡ [])
-      at_first the_sender = (record { sending = tt; receiving = tt }, refl)
+      at_first : (p : Party) → Level (part p (at_start r o before)) × ((part p (at_start r o before)).words ≡ words M o q p before [])
+      at_first the_sender = (record { sending = tt; receiving = tt }, sym (append-nil (first_words o q the_sender before)))
       at_first the_receiver = (record { sending = tt; receiving = tt }, refl)
 
 -- ---- one queue

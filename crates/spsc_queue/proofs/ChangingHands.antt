@@ -1,26 +1,29 @@
--- A queue that is empty and at rest again, at whichever slot, may be used from there on, also by other harts.
-use Rattle.std.proofs.Common.{ℕ, ◌+◌, ◌-◌, ◌*◌, ◌%◌, ◌<◌, ◌≤◌, ◌≡◌, inl, inr, false, Some, List, [], ◌++◌, length, sym, ◌∙◌, ap, subst, arith, append-nil}
+-- A queue that is at rest again, at whichever slot and with whichever words in it, may be used from there on, also by other harts.
+use Rattle.std.proofs.Common.{ℕ, ◌+◌, ◌-◌, ◌*◌, ◌%◌, ◌<◌, ◌≤◌, ◌≡◌, ◌≢◌, false, Some, List, [], ◌++◌, length, sym, ◌∙◌, ap, subst}
+use Rattle.std.proofs.Common.{refl, arith, append-nil}
+use Rattle.std.proofs.Common.{sym, ◌∙◌, ap, subst, refl, arith, append-nil}
 use Rattle.std.specs.Prelude.{slice_index}
-use Rattle.std.proofs.lemmas.Bool.{cases_lt}
 use Rattle.memory.specs.declared.writes.Write.{Write}
 use Rattle.step_machine.specs.declared.events.Entry.{Entry}
 use Rattle.step_machine.specs.History.{OpeningValue}
 use Rattle.step_machine.specs.Entries.{pending, memory_word}
-use Rattle.spsc_queue.specs.RingBuffers.{Kind, lamport, fastforward, RingBuffer, IsRingBuffer, slot_offset, slot_address, writes_to, IsEmptyAndQuiescent}
-use Rattle.spsc_queue.specs.Protocol.{ReceiverState, idle, asked, waiting, holding, cleared, ProtocolState, at_start, protocol_after}
-use Rattle.spsc_queue.specs.Laws.{FollowsSpscProtocol, ready_by_state}
-use Rattle.spsc_queue.specs.Calls.{SpscQueue, the_receiver, moved_on, ring_at, buffer, is_sender_in_call, is_receiver_in_call, sent_words, received_words}
-use Rattle.spsc_queue.specs.Calls.{UsesAsSpscQueue}
+use Rattle.spsc_queue.specs.RingBuffers.{Kind, lamport, fastforward, RingBuffer, IsRingBuffer, slot_offset, slot_address, writes_to, IsQuiescent, capacity_of}
+use Rattle.spsc_queue.specs.RingBuffers.{waiting_words}
+use Rattle.spsc_queue.specs.Protocol.{ReceiverState, idle, asked, waiting, holding, cleared, ProtocolState, parties_after}
+use Rattle.spsc_queue.specs.Laws.{FollowsSpscProtocol, ready_by_state, available_count}
+use Rattle.spsc_queue.specs.Calls.{SpscQueue, the_receiver, ring_at, buffer, is_sender_in_call, is_receiver_in_call, received_words}
+use Rattle.spsc_queue.specs.Calls.{UsesAsSpscQueue, given_words, block_after, the_sender}
 use Rattle.spsc_queue.proofs.Spread.{spread, sent_store}
 use Rattle.spsc_queue.proofs.Rows.{Earlier}
 use Rattle.spsc_queue.proofs.PastRows.{length-spread}
-use Rattle.spsc_queue.proofs.Invariant.{freed, there, their_store, their_landed, they_made, Theirs, ReceivingIs, Invariant}
+use Rattle.spsc_queue.proofs.Invariant.{freed, there, their_store, their_landed, they_made, Theirs, ReceivingIs, Invariant, firsts}
+use Rattle.queue_parties.specs.Positions.{numbers_from}
+use Rattle.spsc_queue.proofs.Numbers.{numbers-moved, firsts-on}
 use Rattle.spsc_queue.proofs.Words.{row_of}
 use Rattle.spsc_queue.proofs.Copies.{Copied, quiet_read}
-use Rattle.spsc_queue.proofs.Loads.{offset_again}
-use Rattle.spsc_queue.proofs.Invariants.{row_none, earlier}
+use Rattle.spsc_queue.proofs.Invariants.{row_none, earlier, known}
 use Rattle.spsc_queue.proofs.Parts.{ring_is}
-use Rattle.spsc_queue.proofs.Runs.{invariant-of}
+use Rattle.spsc_queue.proofs.Runs.{invariant-of, known-of}
 use Rattle.spsc_queue.proofs.Outline.{IsWhole}
 use Rattle.spsc_queue.proofs.Calls.{calls_follow}
 use Rattle.spsc_queue.proofs.CallLaws.{idle_words, idle_sent, idle_received}
@@ -42,74 +45,127 @@ all_landed lamport n m z t is level all = (omega (arith, is.0, all), omega (arit
 all_landed fastforward n m z t is level all =
     (omega (arith, level, all, is.slots_stored, is.heads_published), omega (arith, level, all, is.slots_stored, is.heads_published))
 
--- the words of the block where all words are taken and no store to it is pending
-record IsQuiet (k : Kind) (r : RingBuffer) (o : OpeningValue) (es : List Entry) (n : ℕ) : Type 0 where
+-- the words of the block where no store to it is pending, and the words from m to n wait
+record IsQuiet (k : Kind) (r : RingBuffer) (L : ℕ → ℕ) (o : OpeningValue) (es : List Entry) (m n : ℕ) : Type 0 where
   head : memory_word o es r.head ≡ slot_offset r n
-  tail : memory_word o es r.tail ≡ slot_offset r n
-  slots : k ≡ fastforward → (j : ℕ) → j < r.size → memory_word o es (slot_address r (n + j)) ≡ 0
-  copy : (a : ℕ) → r.copy ≡ Some a → (j : ℕ) × (j < r.size) × (memory_word o es a ≡ slot_offset r (n + j))
+  tail : memory_word o es r.tail ≡ slot_offset r m
+  least : m ≤ n
+  most : n ≤ m + capacity_of k r.size
+  full : (j : ℕ) → m ≤ j → j < n → memory_word o es (slot_address r j) ≡ L j
+  nonzero : k ≡ fastforward → (j : ℕ) → j < n → L j ≢ 0
+  free : k ≡ fastforward → (j : ℕ) → n ≤ j → j < m + r.size → memory_word o es (slot_address r j) ≡ 0
+  copy : (a : ℕ) → r.copy ≡ Some a → (j : ℕ) × (n < j) × (j ≤ m + r.size) × (memory_word o es a ≡ slot_offset r j)
 
--- the copy is the offset of some slot
-copy-quiet : (k : Kind) (r : RingBuffer) (is : IsRingBuffer r) (o : OpeningValue) (es : List Entry) (n m stored a : ℕ) → r.copy ≡ Some a → stored ≤ n
-    → m ≡ stored → writes_to r (pending r.sender es) ≡ [] → Copied k (Some a) r o es n m
-    → (j : ℕ) × (j < r.size) × (memory_word o es a ≡ slot_offset r (stored + j))
-copy-quiet fastforward r is o es n m stored a some le same none copy = absurd (cc)
-copy-quiet lamport r is o es n m stored a some le same none copy =
-    let reads : memory_word o es a ≡ slot_offset r copy.place =
-    sym (quiet_read r o es r.sender a none (is.copy a some).above (is.copy a some).below) ∙ copy.reads in
-    elim (cases_lt (copy.place - stored) r.size) [
-      | inl less ↦ (copy.place - stored, less, reads ∙ ap (slot_offset r) (omega (arith, copy.low, le)))
-      | inr more ↦ (
-        0,
-        omega (arith, is.some_slots),
-        reads ∙ offset_again r is stored copy.place (omega (arith, more, copy.high, same)) ∙ ap (slot_offset r) (omega arith),
-      )
-    ]
+copy-quiet : (k : Kind) (r : RingBuffer) (is : IsRingBuffer r) (o : OpeningValue) (es : List Entry) (n m a : ℕ) → r.copy ≡ Some a
+    → writes_to r (pending r.sender es) ≡ [] → Copied k (Some a) r o es n m
+    → (j : ℕ) × (n < j) × (j ≤ m + r.size) × (memory_word o es a ≡ slot_offset r j)
+copy-quiet fastforward r is o es n m a some none copy = absurd (cc)
+copy-quiet lamport r is o es n m a some none copy = (
+  copy.place,
+  omega (arith, copy.low),
+  copy.high,
+  sym (quiet_read r o es r.sender a none (is.copy a some).above (is.copy a some).below) ∙ copy.reads,
+)
 
-quiet : (k : Kind) (r : RingBuffer) (is : IsRingBuffer r) (L : ℕ → ℕ) (c : Earlier) (o : OpeningValue)
-    (es : List Entry) (s : ProtocolState) → Invariant k r L c o es s
-    → s.stored ≡ s.published → s.taken ≡ s.stored → IsWhole s.receiving → ((h : ℕ) → writes_to r (pending h es) ≡ []) → IsQuiet k r o es s.stored
-quiet k r is L c o es s inv level all whole none =
+quiet : (k : Kind) (r : RingBuffer) (is : IsRingBuffer r) (L : ℕ → ℕ) (c : Earlier) (o : OpeningValue) (es : List Entry) (s : ProtocolState)
+    → Invariant k r L c o es s → s.stored ≡ s.published → IsWhole s.receiving → ((h : ℕ) → writes_to r (pending h es) ≡ [])
+    → IsQuiet k r L o es s.taken s.stored
+quiet k r is L c o es s inv level whole none =
     let z : ℕ = inv.landed.cleared in
     let t : ℕ = inv.landed.tails in
     let unsent = none_left (sent_store r L) (inv.landed.slots + inv.landed.heads) inv.buffers.unsent (row_of r (pending r.sender es))
     inv.buffers.rows.mine (row_none r (pending r.sender es) (none r.sender)) in
     let unread = none_left (their_store k r) (their_landed k z t) inv.buffers.unread (row_of r (pending r.receiver es))
     inv.buffers.rows.theirs (row_none r (pending r.receiver es) (none r.receiver)) in
+    let sent : (inv.landed.heads ≡ s.stored) × (inv.landed.slots ≡ s.stored) = (
+      omega (arith, unsent, level, inv.buffers.mine_count, inv.order.mine.slots_stored, inv.order.mine.heads_published),
+      omega (arith, unsent, level, inv.buffers.mine_count, inv.order.mine.slots_stored, inv.order.mine.heads_published),
+    ) in
     let landed = all_landed k s.taken s.consumed z t inv.order.theirs
     (whole-counts k r L s.taken s.consumed (there k inv.landed.slots inv.landed.heads) s.receiving whole inv.receiving)
     (omega (arith, unread, inv.buffers.theirs_count)) in
+    let place = copy-quiet k r is o es (s.stored + ready_by_state s.sending) (freed k z t) in
+    let facts = known r is L c o es s k inv in
     record {
-      head = inv.words.head ∙ ap (slot_offset r)
-          (omega (arith, unsent, level, inv.buffers.mine_count, inv.order.mine.slots_stored, inv.order.mine.heads_published));
-      tail = inv.words.tail ∙ ap (slot_offset r) (omega (arith, landed.1, all));
-      slots = λ kind j below. inv.words.free kind (s.stored + j) (omega (arith, inv.order.mine.slots_stored)) (omega (arith, below, landed.0, all));
-      copy = λ a some. copy-quiet k r is o es (s.stored + ready_by_state s.sending) (freed k z t) s.stored a some (omega arith) (omega (arith, landed.0, all))
-          (none r.sender) (subst (λ q. Copied k q r o es (s.stored + ready_by_state s.sending) (freed k z t)) some inv.copy);
+      head = inv.words.head ∙ ap (slot_offset r) sent.0;
+      tail = inv.words.tail ∙ ap (slot_offset r) landed.1;
+      least = omega (arith, facts.taken_available, facts.available_stored);
+      most = facts.room;
+      full = λ j from below. inv.words.full j (omega (arith, from, landed.0)) (omega (arith, below, sent.1));
+      nonzero = inv.nonzero;
+      free = λ kind j from below. inv.words.free kind j (omega (arith, from, sent.1)) (omega (arith, below, landed.0));
+      copy = λ a some.
+          let at = place a some (none r.sender) (subst (λ q. Copied k q r o es (s.stored + ready_by_state s.sending) (freed k z t)) some inv.copy) in
+          (at.0, omega (arith, at.1), omega (arith, at.2, landed.0), at.3);
     }
 
-pub changes_hands : (B M : ℕ) (o : OpeningValue) (q : SpscQueue) (before es : List Entry) → UsesAsSpscQueue B M o q before es
-    → is_sender_in_call M o q before es ≡ false → is_receiver_in_call M o q before es ≡ false
-    → length (received_words M o q before es) ≡ length (sent_words M o q before es) → ((h : ℕ) → writes_to (buffer q) (pending h (before ++ es)) ≡ [])
-    → (a b : ℕ) → IsEmptyAndQuiescent (ring_at (moved_on q.block (length (sent_words M o q before es))) a b) o (before ++ es)
-changes_hands B M o q before es c idle_sender idle_receiver all none a b =
-    let r : RingBuffer = buffer q in
-    let n : ℕ = length (sent_words M o q before es) in
-    let s : ProtocolState = protocol_after r at_start es in
-    let whole : es ≡ es ++ [] = sym (append-nil es) in
-    let sent = idle_sent B M o q before es c es [] whole idle_sender in
-    let taken = idle_received B M o q before es c es [] whole idle_receiver in
-    let inv = invariant-of B r o before es [] (subst (FollowsSpscProtocol B r o before) whole (calls_follow B M o q before es c)) in
-    let rest : IsQuiet q.block.kind r o (before ++ es) s.stored =
-    quiet q.block.kind r (ring_is M q.block q.sender q.receiver c.shares.block c.shares.parties) (slice_index (protocol_after r at_start (es ++ [])).sent)
-    (earlier r before) o (before ++ es) s inv sent.2 (omega (arith, taken, all, sent.0))
-    (idle_words B M o q before es c es [] whole the_receiver idle_receiver).0.receiving
-    none in
-    record {
-      head = rest.head ∙ ap (λ j. 4 * (j % q.block.size)) (omega (arith, sent.0));
-      tail = rest.tail ∙ ap (λ j. 4 * (j % q.block.size)) (omega (arith, sent.0));
-      pending = none;
-      slots = λ kind j below. ap (λ i. memory_word o (before ++ es) (r.slots + 4 * (i % q.block.size))) (omega (arith, sent.0)) ∙ rest.slots kind j below;
-      copy = λ d some. let at = rest.copy d some in
-          (at.0, at.1, at.2 ∙ ap (λ i. 4 * (i % q.block.size)) (omega (arith, sent.0)));
-    }
+module _ (B M : ℕ) (o : OpeningValue) (q : SpscQueue) (before es : List Entry) (c : UsesAsSpscQueue B M o q before es)
+    (idle_sender : is_sender_in_call M o q before es ≡ false) (idle_receiver : is_receiver_in_call M o q before es ≡ false)
+    (none : (h : ℕ) → writes_to (buffer q) (pending h (before ++ es)) ≡ []) where
+  abbrev r : RingBuffer
+  r = buffer q
+
+  abbrev s : ProtocolState
+  s = parties_after r o before es
+
+  abbrev L : ℕ → ℕ
+  L = slice_index (parties_after r o before (es ++ [])).sent
+
+  -- how many words were received, and how many were given
+  abbrev m : ℕ
+  m = length (received_words M o q before es)
+
+  abbrev n : ℕ
+  n = length (given_words M o q before es)
+
+  whole : es ≡ es ++ []
+  whole = sym (append-nil es)
+
+  follows : FollowsSpscProtocol B r o before (es ++ [])
+  follows = subst (FollowsSpscProtocol B r o before) whole (calls_follow B M o q before es c)
+
+  sent : (s.stored ≡ n) × (available_count r s ≡ n) × (s.stored ≡ s.published)
+  sent = idle_sent B M o q before es c es [] whole idle_sender
+
+  rest : IsQuiet q.block.kind r L o (before ++ es) m n
+  rest = subst (λ i. IsQuiet q.block.kind r L o (before ++ es) i n) (idle_received B M o q before es c es [] whole idle_receiver)
+      (subst (IsQuiet q.block.kind r L o (before ++ es) s.taken) sent.0
+      (quiet q.block.kind r (ring_is M q.block q.sender q.receiver c.shares.block c.shares.parties) L
+      (earlier r before) o (before ++ es) s (invariant-of B r o before es [] follows) sent.2
+      (idle_words B M o q before es c es [] whole the_receiver idle_receiver).0.receiving none))
+
+  -- place j of the block that moved on is place m + j of this one
+  offset_on : (j i : ℕ) → m + j ≡ i → 4 * ((q.block.start + i) % q.block.size) ≡ 4 * ((q.block.start + m + j) % q.block.size)
+  offset_on j i at = ap (λ k. 4 * (k % q.block.size)) (omega (arith, at))
+
+  word_on : (j i : ℕ) → m + j ≡ i → memory_word o (before ++ es) (r.slots + 4 * ((q.block.start + m + j) % q.block.size))
+      ≡ memory_word o (before ++ es) (slot_address r i)
+  word_on j i at = ap (λ x. memory_word o (before ++ es) (r.slots + x)) (sym (offset_on j i at))
+
+  pub changes_hands : (a b : ℕ) → IsQuiescent (ring_at (block_after M o q before es) a b) o (before ++ es)
+  changes_hands a b = record {
+    fits = omega (arith, rest.least, rest.most);
+    head = rest.head ∙ offset_on (n - m) n (omega (arith, rest.least));
+    tail = rest.tail ∙ offset_on 0 m (omega arith);
+    pending = none;
+    words = λ kind j below zero. rest.nonzero kind (m + j) (omega (arith, below))
+        (sym (rest.full (m + j) (omega arith) (omega (arith, below))) ∙ sym (word_on j (m + j) refl) ∙ zero);
+    free = λ kind j from below. word_on j (m + j) refl ∙ rest.free kind (m + j) (omega (arith, from)) (omega (arith, below));
+    copy = λ d some.
+        let at = rest.copy d some in
+        (at.0 - m, omega (arith, at.1, rest.least), omega (arith, at.2), at.3 ∙ offset_on (at.0 - m) at.0 (omega (arith, at.1, rest.least)));
+  }
+
+  -- and the words that wait in it are those that were given and not received
+  pub waiting_left : (a b : ℕ) → received_words M o q before es ++ waiting_words (ring_at (block_after M o q before es) a b) o (before ++ es)
+      ≡ given_words M o q before es
+  waiting_left a b =
+      let facts = known-of B r o before es [] follows in
+      let word : ℕ → ℕ = λ j. memory_word o (before ++ es) (r.slots + 4 * ((q.block.start + m + j) % q.block.size)) in
+      let received : received_words M o q before es ≡ firsts L m =
+      sym (idle_words B M o q before es c es [] whole the_receiver idle_receiver).1 ∙ facts.received
+      ∙ ap (firsts L) (idle_received B M o q before es c es [] whole idle_receiver) in
+      let left : numbers_from word 0 (n - m) ≡ numbers_from L m (n - m) =
+      numbers-moved word L 0 m (n - m) (λ i below. word_on (0 + i) (m + i) (omega arith) ∙ rest.full (m + i) (omega arith) (omega (arith, below))) in
+      ap (λ xs. xs ++ numbers_from word 0 (n - m)) received ∙ ap (λ xs. firsts L m ++ xs) left ∙ firsts-on L m n rest.least
+      ∙ ap (firsts L) (sym sent.0) ∙ sym facts.sent ∙ (idle_words B M o q before es c es [] whole the_sender idle_sender).1

@@ -1,9 +1,8 @@
 -- The example's runs use their queues, and end as said.
-use Rattle.std.proofs.Common.{ℕ, zero, suc, ◌+◌, ◌*◌, ◌%◌, ◌<◌, ◌≤◌, ◌≡◌, ◌≢◌, ◌==◌, ◌&&◌, ◌||◌, Bool, true, false, nat_lt, List, [], ◌∷◌, ◌++◌}
+use Rattle.std.proofs.Common.{ℕ, zero, suc, ◌+◌, ◌*◌, ◌%◌, ◌<◌, ◌≤◌, ◌≡◌, ◌≢◌, ◌==◌, ◌&&◌, not, Bool, true, false, nat_lt, List, [], ◌∷◌, ◌++◌}
 use Rattle.std.proofs.Common.{length, Option, Some, None, refl, sym, ◌∙◌, ap, subst, arith, append-nil, append_assoc, drop}
 use Rattle.std.specs.Prelude.{slice_index, All}
 use Rattle.std.specs.List.{slice_get}
-use Rattle.std.proofs.lemmas.Bool.{eqb-true}
 use Rattle.std.proofs.lemmas.Bool.Decides.{nat_tests}
 use Rattle.std.proofs.lemmas.List.Elements.{All-head, All-tail}
 use Rattle.rv_decode.specs.Meaning.{meaning}
@@ -28,14 +27,14 @@ use Rattle.step_machine.proofs.Acts.{does, land_happens}
 use Rattle.step_machine.proofs.Running.{kept-happens, kept-at_opening}
 use Rattle.step_machine.proofs.Lists.{some_first}
 use Rattle.step_machine.proofs.OwnRuns.{kept-front}
-use Rattle.spsc_queue.specs.RingBuffers.{fastforward, writes_to, IsEmptyAndQuiescent}
-use Rattle.spsc_queue.specs.Calls.{Party, the_sender, the_receiver, party_hart, party_line, listing_of, buffer, enters, is_in_call, sent_words}
+use Rattle.spsc_queue.specs.RingBuffers.{writes_to, IsQuiescent, slot_address, capacity, slot_offset}
+use Rattle.spsc_queue.specs.Calls.{Party, the_sender, the_receiver, party_hart, party_line, listing_of, buffer, enters, is_in_call, sent_words, copy_in}
 use Rattle.spsc_queue.specs.Calls.{received_words, StandsIn, HasFunction, UsesAsSpscQueue}
 use Rattle.spsc_queue.specs.CallEffects.{IsWholeCall, accesses}
 use Rattle.spsc_queue.specs.Obligations.{obligations_kept}
-use Rattle.spsc_queue.specs.Example.{value_at, entry_in, entry_by, entries_by, fast, kind_of, caches_of}
-use Rattle.spsc_queue.specs.Example.{Scenario, sends, receives, finds_full}
-use Rattle.spsc_queue.specs.Example.{finds_empty, goes_on, variant, start_of, sender_of, receiver_of, party, queue}
+use Rattle.spsc_queue.specs.Example.{value_at, entry_in, entry_by, entries_by, fast, kind_of, caches_of, Variant, caching, waiting_of}
+use Rattle.spsc_queue.specs.Example.{Scenario, sends, hits, receives, finds_full, takes_over, plain}
+use Rattle.spsc_queue.specs.Example.{finds_empty, goes_on, variant, sender_of, receiver_of, party, queue}
 use Rattle.spsc_queue.specs.Example.{hart_of_party, opening, first_events, lead_events, call_events, before_entries, lead_entries}
 use Rattle.spsc_queue.specs.Example.{call_entries, entries, state_after, answer, access_count, sent, received}
 use Rattle.spsc_queue.proofs.Registers.{thirteen}
@@ -141,6 +140,13 @@ fronts_are P front [] e rest all = subst (λ zs. P zs ≡ true) (sym (append-nil
 fronts_are P front (d ∷ part) e rest all = subst (λ zs. P zs ≡ true) (append_assoc front (d ∷ []) part)
     (fronts_are P (front ++ d ∷ []) part e rest (both (P front) (fronts_hold P (front ++ d ∷ []) (part ++ e ∷ rest)) all).1)
 
+-- of which word of the run the copy of the tail is the offset where it begins
+abbrev copy_place : Scenario → ℕ
+copy_place hits = 2
+copy_place goes_on = 2
+copy_place (takes_over caching) = 2
+copy_place x = 1
+
 -- of entries before a run, in it before the call, and of the call
 module _ (x : Scenario) (b l c : List Entry) where
   abbrev pub o : OpeningValue
@@ -158,7 +164,7 @@ module _ (x : Scenario) (b l c : List Entry) where
   abbrev pub quiet_of : ℕ → List Write
   quiet_of g = writes_to (buffer (queue x)) (pending g b)
 
-  -- the entries come, the call is a call, and where the run begins the block is empty and at rest
+  -- the entries come, the call is a call, and where the run begins the block is at rest
   pub record Computed : Type 0 where
     pub come : (all_come 4 64 o [] (first_events x) && (all_come 4 64 o b (lead_events x) && all_come 4 64 o (b ++ l) (call_events x))) ≡ true
     pub kept : obligations_kept 64 o (queue x) b (l ++ c) ≡ true
@@ -172,11 +178,11 @@ module _ (x : Scenario) (b l c : List Entry) where
     pub return : state_of 64 (history_of o (b ++ (l ++ c))) h ≡ Some (state_after x (b ++ (l ++ c)))
     pub answer : slice_index (state_after x (b ++ (l ++ c))).registers 10 ≡ answer x
     pub accesses : length (accesses h c) ≡ access_count x
-    pub head : word 64 ≡ 4 * (((queue x).block.start + 0) % 2)
+    pub head : word 64 ≡ 4 * (((queue x).block.start + waiting_of x) % 2)
     pub tail : word 128 ≡ 4 * (((queue x).block.start + 0) % 2)
-    pub low : kind_of (variant x) ≡ fastforward → word 192 ≡ 0
-    pub high : kind_of (variant x) ≡ fastforward → word 196 ≡ 0
-    pub copy : ((word 68 == 0) || (word 68 == 4)) ≡ true
+    pub first : (word (slot_address (buffer (queue x)) 0) == 0) ≡ (waiting_of x == 0)
+    pub second : (word (slot_address (buffer (queue x)) 1) == 0) ≡ nat_lt (waiting_of x) 2
+    pub copy : word 68 ≡ slot_offset (buffer (queue x)) (copy_place x)
     pub quiet : (quiet_of 0 ≡ []) × (quiet_of 1 ≡ []) × (quiet_of 2 ≡ []) × (quiet_of 3 ≡ [])
 
 pub computed : (x : Scenario) → Computed x (before_entries x) (lead_entries x) (call_entries x)
@@ -186,6 +192,7 @@ computed (receives fast) = search
 computed (finds_full fast) = search
 computed (finds_empty fast) = search
 computed goes_on = search
+computed (takes_over fast) = search
 computed x = search
 
 -- ---- so each is a run that uses its queue
@@ -220,37 +227,76 @@ none_pending x (suc (suc (suc (suc h)))) =
     drop_nil zero = refl
     drop_nil (suc n) = refl
 
--- either slot, by its offset
-slot_zero : (x : Scenario) → kind_of (variant x) ≡ fastforward → (m : ℕ) → m < 2 → memory_word (opening x) (before_entries x) (192 + 4 * m) ≡ 0
-slot_zero x kind zero below = (computed x).low kind
-slot_zero x kind (suc zero) below = (computed x).high kind
-slot_zero x kind (suc (suc m)) below = absurd (omega (arith, below))
+-- each slot of FastForward's holds 0 just where no word waits in it
+is_free : (x : Scenario) (j : ℕ) → j < 2 → (memory_word (opening x) (before_entries x) (slot_address (buffer (queue x)) j) == 0) ≡ not (nat_lt j (waiting_of x))
+is_free x zero below = (computed x).first ∙ none (waiting_of x)
+  where
+    none : (n : ℕ) → (n == 0) ≡ not (nat_lt 0 n)
+    none n = grind (arith, nat_tests)
+is_free x (suc zero) below = (computed x).second ∙ few (waiting_of x)
+  where
+    few : (n : ℕ) → nat_lt n 2 ≡ not (nat_lt 1 n)
+    few n = grind (arith, nat_tests)
+is_free x (suc (suc j)) below = absurd (omega (arith, below))
 
-copy_place : (x : Scenario) (b c : Bool) → (memory_word (opening x) (before_entries x) 68 == 0) ≡ b → (memory_word (opening x) (before_entries x) 68 == 4) ≡ c
-    → (b || c) ≡ true → (j : ℕ) × (j < 2) × (memory_word (opening x) (before_entries x) 68 ≡ 4 * ((start_of x + j) % 2))
-copy_place x true c one two is = (start_of x % 2, omega arith, omega (arith, eqb-true (memory_word (opening x) (before_entries x) 68) 0 one))
-copy_place x false true one two is = ((start_of x + 1) % 2, omega arith, omega (arith, eqb-true (memory_word (opening x) (before_entries x) 68) 4 two))
-copy_place x false false one two is = cc
+copy_range : (v : Variant) (a : ℕ) → copy_in (kind_of v) (caches_of v) 64 ≡ Some a → v ≡ caching
+copy_range plain a some = cc
+copy_range caching a some = refl
+copy_range fast a some = cc
 
-rest : (x : Scenario) → IsEmptyAndQuiescent (buffer (queue x)) (opening x) (before_entries x)
+copy_past : (x : Scenario) → variant x ≡ caching → waiting_of x < copy_place x
+copy_past (sends v) is = omega arith
+copy_past hits is = omega arith
+copy_past (receives v) is = omega arith
+copy_past (finds_full v) is = omega arith
+copy_past (finds_empty v) is = omega arith
+copy_past goes_on is = omega arith
+copy_past (takes_over plain) is = absurd (cc)
+copy_past (takes_over caching) is = omega arith
+copy_past (takes_over fast) is = absurd (cc)
+
+copy_near : (x : Scenario) → copy_place x ≤ 2
+copy_near hits = omega arith
+copy_near goes_on = omega arith
+copy_near (takes_over caching) = omega arith
+copy_near x = omega arith
+
+few_wait : (x : Scenario) → waiting_of x ≤ capacity (buffer (queue x))
+few_wait (takes_over plain) = omega arith
+few_wait (takes_over caching) = omega arith
+few_wait (takes_over fast) = omega arith
+few_wait x = omega arith
+
+rest : (x : Scenario) → IsQuiescent (buffer (queue x)) (opening x) (before_entries x)
 rest x = record {
+  fits = few_wait x;
   head = (computed x).head;
   tail = (computed x).tail;
   pending = none_pending x;
-  slots = λ kind j below. slot_zero x kind ((start_of x + j) % 2) (omega arith);
-  copy = λ a some.
-      let at : a ≡ 68 = (copied_in (kind_of (variant x)) (caches_of (variant x)) 64 a some).0 in
-      let word : ℕ = memory_word (opening x) (before_entries x) 68 in
-      let place = copy_place x (word == 0) (word == 4) refl refl (computed x).copy in
-      (place.0, place.1, ap (memory_word (opening x) (before_entries x)) at ∙ place.2);
+  words = λ kind j below zero. let there = is_free x j (omega (arith, below, few_wait_all x)) in grind (arith, nat_tests, there, below, zero);
+  free = λ kind j from below. let none = is_free x j below in grind (arith, nat_tests, none, from);
+  copy = λ a some. (
+    copy_place x,
+    copy_past x (copy_range (variant x) a some),
+    copy_near x,
+    ap (memory_word (opening x) (before_entries x)) (copied_in (kind_of (variant x)) (caches_of (variant x)) 64 a some).0 ∙ (computed x).copy,
+  );
 }
+  where
+    few_wait_all : (x : Scenario) → waiting_of x ≤ 2
+    few_wait_all (takes_over plain) = omega arith
+    few_wait_all (takes_over caching) = omega arith
+    few_wait_all (takes_over fast) = omega arith
+    few_wait_all x = omega arith
 
 sender_there : (x : Scenario) → slice_get (opening x).harts (sender_of x) ≡ Some (hart_of_party (variant x) the_sender)
 sender_there goes_on = refl
+sender_there (takes_over v) = refl
 sender_there x = refl
 
 receiver_there : (x : Scenario) → slice_get (opening x).harts (receiver_of x) ≡ Some (hart_of_party (variant x) the_receiver)
 receiver_there goes_on = refl
+receiver_there (takes_over v) = refl
 receiver_there x = refl
 
 has : (x : Scenario) (p : Party) → HasFunction (opening x) (party_hart (queue x) p) (party_line (queue x) p)
@@ -294,6 +340,7 @@ uses x = record {
   where
     apart : (x : Scenario) → sender_of x ≢ receiver_of x
     apart goes_on = λ e. omega (arith, e)
+    apart (takes_over v) = λ e. omega (arith, e)
     apart x = λ e. omega (arith, e)
 
 pub is_call : (x : Scenario)

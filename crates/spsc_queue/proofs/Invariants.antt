@@ -1,25 +1,23 @@
 -- The invariant of a queue of either kind: what keeps it, and what the laws take from it.
-use Rattle.std.proofs.Common.{ℕ, ◌+◌, ◌^◌, ◌<◌, ◌≤◌, ◌≡◌, ◌≢◌, inl, inr, Option, Some, None, List, [], ◌∷◌, ◌++◌, length, refl, sym, ◌∙◌, ap, subst}
+use Rattle.std.proofs.Common.{ℕ, ◌+◌, ◌^◌, ◌<◌, ◌≤◌, ◌≡◌, Option, Some, None, List, [], ◌∷◌, ◌++◌, length, refl, sym, ◌∙◌, ap, subst}
 use Rattle.std.proofs.Common.{arith}
-use Rattle.std.specs.Prelude.{All}
-use Rattle.std.proofs.lemmas.Bool.{cases_eq}
 use Rattle.memory.specs.declared.writes.Write.{Write}
 use Rattle.step_machine.specs.declared.events.Entry.{Entry}
 use Rattle.step_machine.specs.History.{OpeningValue}
-use Rattle.step_machine.specs.Entries.{pending, read, own_stores, lands}
-use Rattle.spsc_queue.specs.RingBuffers.{Kind, lamport, fastforward, RingBuffer, IsRingBuffer, slot_offset, capacity_of, writes_to, IsEmptyAndQuiescent}
-use Rattle.store_buffers.specs.StoreBuffers.{LeavesByte}
+use Rattle.step_machine.specs.Entries.{pending, memory_word, read, own_stores, lands}
+use Rattle.spsc_queue.specs.RingBuffers.{Kind, lamport, fastforward, RingBuffer, IsRingBuffer, slot_offset, slot_address, capacity_of, writes_to, IsQuiescent}
 use Rattle.spsc_queue.specs.Protocol.{SenderState, resting, placed, renewing, roomy, filled, ReceiverState, idle, asked}
 use Rattle.spsc_queue.specs.Protocol.{waiting, holding, cleared, ProtocolState}
 use Rattle.spsc_queue.specs.Protocol.{at_start, send_load, receive_load}
 use Rattle.spsc_queue.specs.Laws.{available_of, ready_by_state}
+use Rattle.queue_parties.proofs.Records.{numbers-same}
 use Rattle.spsc_queue.proofs.Spread.{sent_store}
 use Rattle.spsc_queue.proofs.Rows.{row-none, RowOrder, Earlier, Rows, Stays, on_count}
 use Rattle.spsc_queue.proofs.Invariant.{firsts, spare, freed, there, their_store, their_landed, they_made, Theirs, SendingIs, ReceivingIs, Invariant}
 use Rattle.spsc_queue.proofs.Invariant.{freed_taken}
+use Rattle.spsc_queue.proofs.Numbers.{firsts-numbers}
 use Rattle.spsc_queue.proofs.Words.{row_of, row_shorter}
 use Rattle.spsc_queue.proofs.Copies.{Copied, CopyStays, copied-on, none_leave, quiet_read}
-use Rattle.spsc_queue.proofs.Loads.{offset_again}
 use Rattle.spsc_queue.proofs.Loads as lamports
 use Rattle.spsc_queue.proofs.FastForwardLoads as fastforwards
 use Rattle.spsc_queue.proofs.Steps.{stays}
@@ -123,7 +121,7 @@ module _ (r : RingBuffer) (is : IsRingBuffer r) (L : ℕ → ℕ) (c : Earlier) 
 -- ---- where the block is empty and at rest
 
 abbrev pub earlier : RingBuffer → List Entry → Earlier
-earlier r es = record { sender = on_count r r.sender es; receiver = on_count r r.receiver es }
+earlier r es = record { sender = on_count r r.sender es; receiver = on_count r r.receiver es; ahead = r.begins_with + r.begins_with }
 
 pub row_none : (r : RingBuffer) (ws : List Write) → writes_to r ws ≡ [] → row_of r ws ≡ []
 row_none r ws none = at (row_of r ws) (omega (arith, row_shorter r ws, ap length none))
@@ -132,50 +130,67 @@ row_none r ws none = at (row_of r ws) (omega (arith, row_shorter r ws, ap length
     at [] le = refl
     at (v ∷ vs) le = absurd (omega (arith, le))
 
--- nothing is taken and nothing has landed
+-- nothing is taken and none of the receiver's stores has landed
 none_theirs : (K : Kind) → Theirs K 0 0 0 0
 none_theirs lamport = (refl, omega arith)
 none_theirs fastforward = row-none
 
-none_counted : (K : Kind) → (freed K 0 0 ≡ 0) × (there K 0 0 ≡ 0) × (their_landed K 0 0 ≡ 0) × (they_made K 0 0 ≡ 0)
-none_counted lamport = (refl, refl, refl, refl)
-none_counted fastforward = (refl, refl, refl, refl)
+none_counted : (K : Kind) → (freed K 0 0 ≡ 0) × (their_landed K 0 0 ≡ 0) × (they_made K 0 0 ≡ 0)
+none_counted lamport = (refl, refl, refl)
+none_counted fastforward = (refl, refl, refl)
 
-pub at_rest : (k : Kind) (r : RingBuffer) (is : IsRingBuffer r) (L : ℕ → ℕ) (o : OpeningValue) (es : List Entry) → IsEmptyAndQuiescent r o es
-    → r.kind ≡ k → Invariant k r L (earlier r es) o es at_start
-at_rest k r is L o es quiet kind =
+row-level : (n : ℕ) → RowOrder n n n n
+row-level n = record {
+  heads_slots = omega arith;
+  slots_heads = omega arith;
+  slots_stored = omega arith;
+  heads_published = omega arith;
+  published_stored = omega arith;
+  stored_published = omega arith;
+}
+
+-- the words that wait, by the words of the run
+pub at_rest : (k : Kind) (r : RingBuffer) (is : IsRingBuffer r) (L : ℕ → ℕ) (o : OpeningValue) (es : List Entry) → IsQuiescent r o es
+    → ((j : ℕ) → j < r.begins_with → L j ≡ memory_word o es (slot_address r j)) → r.kind ≡ k → Invariant k r L (earlier r es) o es (at_start r o es)
+at_rest k r is L o es quiet first kind =
     let none = none_counted k in
+    let n : ℕ = r.begins_with in
     record {
-      landed = record { slots = 0; heads = 0; cleared = 0; tails = 0 };
+      landed = record { slots = n; heads = n; cleared = 0; tails = 0 };
       order = record {
-        mine = row-none;
+        mine = row-level n;
         theirs = none_theirs k;
         taken_there = omega arith;
-        room = omega (arith, none.0, spare_capacity k r.size is.some_slots);
+        room = omega (
+          arith,
+          none.0,
+          spare_capacity k r.size is.some_slots,
+          subst (λ K. n ≤ capacity_of K r.size) kind quiet.fits,
+        );
       };
       words = record {
         head = quiet.head;
         tail = quiet.tail;
-        full = λ j from below. absurd (omega arith);
-        free = λ is_k j from below. quiet.slots (kind ∙ is_k) j (omega (arith, below, none.0));
+        full = λ j from below. sym (first j below);
+        free = λ is_k j from below. quiet.free (kind ∙ is_k) j from (omega (arith, below, none.0));
       };
-      nonzero = λ is_k j below. absurd (omega arith);
+      nonzero = λ is_k j below. λ zero. quiet.words (kind ∙ is_k) j below (sym (first j below) ∙ zero);
       sending = refl;
       receiving = refl;
       buffers = record {
         unsent = 0;
         unread = 0;
-        rows = subst (λ j. Rows r (earlier r es) (sent_store r L) (their_store k r) es 0 0 j 0) (sym none.2) (record {
+        rows = subst (λ j. Rows r (earlier r es) (sent_store r L) (their_store k r) es (n + n) 0 j 0) (sym none.1) (record {
           mine = none_row r.sender;
           mine_made = omega arith;
           theirs = none_row r.receiver;
           theirs_made = omega arith;
           others = λ h not_sender not_receiver. none_row h;
         });
-        mine_count = refl;
-        theirs_count = omega (arith, none.2, none.3);
+        mine_count = omega arith;
+        theirs_count = omega (arith, none.1, none.2);
       };
-      sent = refl;
+      sent = numbers-same (λ j. memory_word o es (slot_address r j)) L 0 n (λ j from below. sym (first j (omega (arith, below)))) ∙ sym (firsts-numbers L n);
       received = refl;
       copy = copy_at_rest k r.copy refl kind;
     }
@@ -183,26 +198,21 @@ at_rest k r is L o es quiet kind =
     none_row : (h : ℕ) → row_of r (pending h es) ≡ []
     none_row h = row_none r (pending h es) (quiet.pending h)
 
-    copy_at_rest : (k : Kind) (q : Option ℕ) → r.copy ≡ q → r.kind ≡ k → Copied k q r o es 0 (freed k 0 0)
+    copy_at_rest : (k : Kind) (q : Option ℕ) → r.copy ≡ q → r.kind ≡ k → Copied k q r o es (r.begins_with + 0) (freed k 0 0)
     copy_at_rest k None none kind = at k
       where
-        at : (k : Kind) → Copied k None r o es 0 (freed k 0 0)
+        at : (k : Kind) → Copied k None r o es (r.begins_with + 0) (freed k 0 0)
         at lamport = tt
         at fastforward = refl
     copy_at_rest fastforward (Some a) some kind = absurd (let no : lamport ≡ fastforward = sym (is.copy a some).kind ∙ kind in cc)
     copy_at_rest lamport (Some a) some kind =
         let at = quiet.copy a some in
         let in_block = is.copy a some in
-        let found : read o es r.sender a 4 ≡ slot_offset r at.0 = quiet_read r o es r.sender a (quiet.pending r.sender) in_block.above in_block.below ∙ at.2 in
-        let alone : (x : ℕ) → a ≤ x → x < a + 4 → (h : ℕ) → h ≢ r.sender → All (LeavesByte x) (pending h es) =
-        λ x from below h other. none_leave r x (pending h es) (quiet.pending h) (omega (arith, from, in_block.above)) (omega (arith, below, in_block.below)) in
-        elim (cases_eq at.0 0) [
-          | inl zero ↦ record {
-            place = r.size;
-            reads = found ∙ ap (slot_offset r) zero ∙ sym (offset_again r is 0 r.size (omega arith));
-            low = omega (arith, is.some_slots);
-            high = omega arith;
-            alone = alone;
-          }
-          | inr more ↦ record { place = at.0; reads = found; low = omega (arith, more); high = omega (arith, at.1); alone = alone }
-        ]
+        record {
+          place = at.0;
+          reads = quiet_read r o es r.sender a (quiet.pending r.sender) in_block.above in_block.below ∙ at.3;
+          low = omega (arith, at.1);
+          high = omega (arith, at.2);
+          alone = λ x from below h other. none_leave r x (pending h es) (quiet.pending h)
+              (omega (arith, from, in_block.above)) (omega (arith, below, in_block.below));
+        }

@@ -4,6 +4,7 @@ pub mod Effects
 pub mod Rows
 pub mod PastRows
 pub mod Invariant
+pub mod Numbers
 pub mod Copies
 pub mod Loads
 pub mod FastForwardLoads

@@ -15,7 +15,7 @@ use Rattle.step_machine.proofs.Appended.{LegalAfter-back, LegalAfter-front}
 use Rattle.step_machine.proofs.Balanced.{balanced}
 use Rattle.spsc_queue.specs.RingBuffers.{Kind, lamport, fastforward, RingBuffer, IsRingBuffer, slot_offset}
 use Rattle.spsc_queue.specs.RingBuffers.{slot_address, next, capacity_of, capacity, writes_to, publishes, releases, unpublished, unreleased}
-use Rattle.spsc_queue.specs.Protocol.{placed, asked, ProtocolState, at_start, protocol_after, room_at, says_full, watched_address, says_empty, KeepsProtocol}
+use Rattle.spsc_queue.specs.Protocol.{placed, asked, ProtocolState, at_start, room_at, says_full, watched_address, says_empty, KeepsProtocol, parties_after}
 use Rattle.spsc_queue.specs.Laws.{FollowsSpscProtocol, available_of, available_count, ready_by_state}
 use Rattle.store_buffers.specs.StoreBuffers.{LeavesByte}
 use Rattle.spsc_queue.proofs.Words.{is_copy, row_counts, copy_apart}
@@ -27,7 +27,7 @@ use Rattle.spsc_queue.proofs.Invariant.{SendingIs, ReceivingIs, Invariant}
 use Rattle.spsc_queue.proofs.Loads.{next_offset, sender-tail, receiver-other}
 use Rattle.spsc_queue.proofs.FastForwardLoads.{receiver-word, sender-free}
 use Rattle.spsc_queue.proofs.Invariants.{earlier, spare_capacity}
-use Rattle.spsc_queue.proofs.Runs.{invariant-of, protocol-small}
+use Rattle.spsc_queue.proofs.Runs.{invariant-of, protocol-small, waiting-small}
 use Rattle.spsc_queue.proofs.PastRows.{length-spread, sender-grows, receiver-grows}
 
 -- without a copy no store is to one
@@ -144,13 +144,13 @@ module _ (r : RingBuffer) (is : IsRingBuffer r) (L : ℕ → ℕ) (small : (j : 
 module _ (B : ℕ) (r : RingBuffer) (o : OpeningValue) (before es : List Entry) (e : Entry) (fs : List Entry)
     (t : FollowsSpscProtocol B r o before (es ++ e ∷ fs)) where
   abbrev T : ProtocolState
-  T = protocol_after r at_start es
+  T = parties_after r o before es
 
   abbrev L : ℕ → ℕ
-  L = slice_index (protocol_after r at_start (es ++ e ∷ fs)).sent
+  L = slice_index (parties_after r o before (es ++ e ∷ fs)).sent
 
   small : (j : ℕ) → L j < 2 ^ 32
-  small = protocol-small r at_start (es ++ e ∷ fs) t.keeps (λ j. omega arith)
+  small = protocol-small r (at_start r o before) (es ++ e ∷ fs) t.keeps (waiting-small r t.ring o before t.rest)
 
   inv : Invariant r.kind r L (earlier r before) o (before ++ es) T
   inv = invariant-of B r o before es (e ∷ fs) t
@@ -190,22 +190,22 @@ module _ (B : ℕ) (r : RingBuffer) (o : OpeningValue) (before es : List Entry) 
 module _ (B : ℕ) (r : RingBuffer) (o : OpeningValue) (before es fs : List Entry) (e : Entry) (gs : List Entry)
     (t : FollowsSpscProtocol B r o before (es ++ (fs ++ e ∷ gs))) where
   abbrev S : ProtocolState
-  S = protocol_after r at_start es
+  S = parties_after r o before es
 
   abbrev Z : ProtocolState
-  Z = protocol_after r at_start (es ++ fs)
+  Z = parties_after r o before (es ++ fs)
 
   later : FollowsSpscProtocol B r o before ((es ++ fs) ++ e ∷ gs)
   later = subst (FollowsSpscProtocol B r o before) (sym (append_assoc es fs (e ∷ gs))) t
 
   abbrev A : ℕ → ℕ
-  A = slice_index (protocol_after r at_start (es ++ (fs ++ e ∷ gs))).sent
+  A = slice_index (parties_after r o before (es ++ (fs ++ e ∷ gs))).sent
 
   first : Invariant r.kind r A (earlier r before) o (before ++ es) S
   first = invariant-of B r o before es (fs ++ e ∷ gs) t
 
   small_words : (j : ℕ) → A j < 2 ^ 32
-  small_words = protocol-small r at_start (es ++ (fs ++ e ∷ gs)) t.keeps (λ j. omega arith)
+  small_words = protocol-small r (at_start r o before) (es ++ (fs ++ e ∷ gs)) t.keeps (waiting-small r t.ring o before t.rest)
 
   abbrev second : Invariant r.kind r (L B r o before (es ++ fs) e gs later) (earlier r before) o (before ++ (es ++ fs)) Z
   second = inv B r o before (es ++ fs) e gs later
@@ -264,9 +264,11 @@ module _ (B : ℕ) (r : RingBuffer) (o : OpeningValue) (before es fs : List Entr
       at_most false says = refl
 
 pub room_landed : (B : ℕ) (r : RingBuffer) (o : OpeningValue) (before es : List Entry) → FollowsSpscProtocol B r o before es → r.kind ≡ lamport
-    → (protocol_after r at_start es).stored + length (writes_to r (pending r.receiver (before ++ es))) ≤ (protocol_after r at_start es).taken + capacity r
+    → (parties_after r o before es).stored + length (writes_to r (pending r.receiver (before ++ es))) ≤ (parties_after r o before es).taken + capacity r
 room_landed B r o before es t is_lamport =
-    never_fuller r t.ring (slice_index (protocol_after r at_start (es ++ [])).sent)
-    (protocol-small r at_start (es ++ []) (subst (KeepsProtocol r at_start) (sym (append-nil es)) t.keeps) (λ j. omega arith))
-    (earlier r before) o (before ++ es) (protocol_after r at_start es) r.kind
+    never_fuller r t.ring (slice_index (parties_after r o before (es ++ [])).sent)
+    (protocol-small r (at_start r o before) (es ++ [])
+    (subst (KeepsProtocol r (at_start r o before)) (sym (append-nil es)) t.keeps)
+    (waiting-small r t.ring o before t.rest))
+    (earlier r before) o (before ++ es) (parties_after r o before es) r.kind
     (invariant-of B r o before es [] (subst (FollowsSpscProtocol B r o before) (sym (append-nil es)) t)) is_lamport

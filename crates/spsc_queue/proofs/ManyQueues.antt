@@ -12,7 +12,7 @@ use Rattle.step_machine.specs.Entries.{hart_of, is_land}
 use Rattle.spsc_queue.specs.RingBuffers.{Kind, lamport, fastforward, RingBuffer, overlaps}
 use Rattle.spsc_queue.specs.Protocol.{SenderState, resting, placed, renewing, roomy, filled, ReceiverState, idle, asked}
 use Rattle.spsc_queue.specs.Protocol.{waiting, holding, cleared, ProtocolState}
-use Rattle.spsc_queue.specs.Protocol.{at_start, protocol_after, WritesNothingTo, IsCopyStore, IsSenderStore, IsTaking, IsReceiverStore}
+use Rattle.spsc_queue.specs.Protocol.{WritesNothingTo, IsCopyStore, IsSenderStore, IsTaking, IsReceiverStore, parties_after}
 use Rattle.spsc_queue.specs.Calls.{Block, SpscQueue, Party, the_sender, the_receiver, party_hart, copy_in, ring_at}
 use Rattle.spsc_queue.specs.Calls.{buffer, is_sender_in_call, is_receiver_in_call}
 use Rattle.spsc_queue.specs.Calls.{CallerObligation, UsesAsSpscQueue}
@@ -113,7 +113,7 @@ module _ (B M : ℕ) (o : OpeningValue) (count : ℕ) (queues : ℕ → SpscQueu
         by_call : (j : ℕ) → j < count → j ≢ i → Busy e done j → WritesNothingTo (buffer (queues i)) (access_of e)
         by_call j there other busy =
             call_off (queues j).block.kind (queues j).block (queues j).sender (queues j).receiver (buffer (queues i)) (c.apart j i there less other) busy.0
-            (protocol_after (buffer (queues j)) at_start done) (access_of e)
+            (parties_after (buffer (queues j)) o before done) (access_of e)
             (party_does B M o (queues j) before es (c.shares j there) done e more is (all j there) busy.0 busy.1 act busy.2)
 
         at : ((j : ℕ) × (j < count) × Busy e done j) ⊎ ((j : ℕ) → j < count → IsIdle M o (queues j) (hart_of e) before done)

@@ -13,10 +13,10 @@ use Rattle.step_machine.specs.Entries.{hart_of, is_own, own, pending}
 use Rattle.step_machine.specs.Paths.{number_read, state_of}
 use Rattle.spsc_queue.specs.RingBuffers.{Kind, RingBuffer, IsRingBuffer, next, capacity, unpublished, unreleased}
 use Rattle.spsc_queue.specs.Protocol.{placed, roomy, ProtocolState, at_start, role_of, next_by, protocol_next}
-use Rattle.spsc_queue.specs.Protocol.{protocol_after, room_at, says_full, watched_address, says_empty}
+use Rattle.spsc_queue.specs.Protocol.{room_at, says_full, watched_address, says_empty, parties_after}
 use Rattle.spsc_queue.specs.Calls.{Block, SpscQueue, Party, the_sender, the_receiver, party_hart, party_line}
 use Rattle.spsc_queue.specs.Calls.{listing_of, buffer, is_in_call, is_in_call_with, enters}
-use Rattle.spsc_queue.specs.Calls.{completed_by_entry, sent_words, received_words, UsesAsSpscQueue}
+use Rattle.spsc_queue.specs.Calls.{completed_by_entry, given_words, received_words, UsesAsSpscQueue}
 use Rattle.spsc_queue.specs.CallEffects.{longest, sees_full, look_accesses, IsWholeCall, IsCallUnderWay}
 use Rattle.spsc_queue.specs.CallEffects.{IsSend, IsReceive, accesses}
 use Rattle.spsc_queue.specs.CallEffects.{completed_word, take_accesses, FoundFull, FoundEmpty}
@@ -29,8 +29,8 @@ use Rattle.spsc_queue.proofs.Outline.{Stands}
 use Rattle.spsc_queue.proofs.Parts.{ring_is, first-load, look-load, load-words}
 use Rattle.spsc_queue.proofs.Functions.{facts, begins}
 use Rattle.spsc_queue.proofs.OwnEntries.{own_parts, state_here, here_same, here_next}
-use Rattle.spsc_queue.proofs.Completed.{is_in_call-last, completed-last, none_completed, same_call, entered}
-use Rattle.spsc_queue.proofs.Parties.{is_busy, words, has_of, which, other_hart, Mine, Others, whose, not_mine}
+use Rattle.spsc_queue.proofs.Completed.{is_in_call-last, none_completed, same_call, entered}
+use Rattle.spsc_queue.proofs.Parties.{is_busy, words, words-last, has_of, which, other_hart, Mine, Others, whose, not_mine}
 use Rattle.spsc_queue.proofs.Calls.{Stand, stands-at, here, was_here, course_stands, completes}
 use Rattle.spsc_queue.proofs.CallLaws.{finds_full, finds_empty, finds_word, finds_room}
 use Rattle.spsc_queue.proofs.Accesses.{First, first_access, off_silent, still, unmoved}
@@ -168,7 +168,7 @@ module _ (B M : ℕ) (o : OpeningValue) (q : SpscQueue) (before es : List Entry)
   state xs = here B M o q before es c.shares p xs
 
   abbrev protocol : List Entry → ProtocolState
-  protocol xs = protocol_after r at_start xs
+  protocol xs = parties_after r o before xs
 
   abbrev busy_at : List Entry → Bool
   busy_at xs = is_busy M o q p before xs
@@ -218,10 +218,10 @@ module _ (B M : ℕ) (o : OpeningValue) (q : SpscQueue) (before es : List Entry)
     called = sym (is_in_call-last M o h n k false before now e)
 
     worded : words_at now ++ completed_by_entry M o h n (busy_at now) (before ++ now) e ≡ words_at (now ++ e ∷ [])
-    worded = sym (completed-last M o h n k false before now e)
+    worded = sym (words-last M o q p before now e)
 
     protocol_on : protocol_next r (protocol now) e ≡ protocol (now ++ e ∷ [])
-    protocol_on = sym (protocol-append r at_start now (e ∷ []))
+    protocol_on = sym (protocol-append r (at_start r o before) now (e ∷ []))
 
     placed_on : state_here M o h n (listing_of K k.caches p) (has_of c.shares p) ((before ++ now) ++ e ∷ []) ≡ state (now ++ e ∷ [])
     placed_on = ap (state_here M o h n (listing_of K k.caches p) (has_of c.shares p)) (append_assoc before now (e ∷ []))
@@ -346,9 +346,10 @@ module _ (B M : ℕ) (o : OpeningValue) (q : SpscQueue) (before es : List Entry)
           mine = f.mine;
           does = f.does;
           others = f.others;
-          same = ap (part p) (ap protocol (sym (append_assoc done xs f.part)) ∙ protocol-append r at_start (done ++ xs) f.part)
+          same = ap (part p) (ap protocol (sym (append_assoc done xs f.part)) ∙ protocol-append r (at_start r o before) (done ++ xs) f.part)
               ∙ unmoved q p (protocol (done ++ xs)) f.part f.none;
-          crossed = ap (part p) (ap protocol (sym (append_assoc done upto (f.entry ∷ []))) ∙ protocol-append r at_start (done ++ upto) (f.entry ∷ []))
+          crossed = ap (part p) (ap protocol (sym (append_assoc done upto (f.entry ∷ [])))
+              ∙ protocol-append r (at_start r o before) (done ++ upto) (f.entry ∷ []))
               ∙ ap (λ g. part p (next_by K r g t (access_of f.entry)))
               (own_role (done ++ upto) upto f.entry (f.rest ++ rest) there (w.within upto f.entry f.rest cut_f) (so_far upto (f.entry ∷ f.rest) cut_f) f.mine)
               ∙ ap (λ x. part p (next_by K r (role p) t x)) f.does;
@@ -479,7 +480,7 @@ module _ (B M : ℕ) (o : OpeningValue) (q : SpscQueue) (before done call : List
 
   -- a call returns 1 if what it needs had landed where it began
   pub word_available : IsReceive M o q before done call s z
-      → length (received_words M o q before done) + unpublished (buffer q) (pending q.sender (before ++ done)) < length (sent_words M o q before done)
+      → length (received_words M o q before done) + unpublished (buffer q) (pending q.sender (before ++ done)) < length (given_words M o q before done)
       → slice_index z.registers 10 ≡ 1
   word_available w more =
       let effect = effect_of B M o q before (done ++ call) c done call [] whole the_receiver s (whole_begun w) z w in
@@ -494,7 +495,7 @@ module _ (B M : ℕ) (o : OpeningValue) (q : SpscQueue) (before done call : List
       ]
 
   pub room_available : IsSend M o q before done call s z
-      → length (sent_words M o q before done) + unreleased (buffer q) (pending q.receiver (before ++ done))
+      → length (given_words M o q before done) + unreleased (buffer q) (pending q.receiver (before ++ done))
       < length (received_words M o q before done) + capacity (buffer q) → slice_index z.registers 10 ≡ 1
   room_available w more =
       let effect = effect_of B M o q before (done ++ call) c done call [] whole the_sender s (whole_begun w) z w in

@@ -1,19 +1,34 @@
 -- The two parties of a queue: whose entry it is, and which function each has.
-use Rattle.std.proofs.Common.{ℕ, ◌≡◌, ◌≢◌, ◌⊎◌, inl, inr, Bool, List, refl, sym}
+use Rattle.std.proofs.Common.{ℕ, ◌≡◌, ◌≢◌, ◌⊎◌, inl, inr, Bool, false, List, [], ◌∷◌, ◌++◌, refl, sym, ◌∙◌, ap, append_assoc}
 use Rattle.step_machine.specs.declared.events.Entry.{Entry}
 use Rattle.step_machine.specs.History.{OpeningValue}
+use Rattle.spsc_queue.specs.RingBuffers.{waiting_words}
 use Rattle.spsc_queue.specs.Protocol.{passes, role_of}
 use Rattle.spsc_queue.specs.Calls.{SpscQueue, Party, the_sender, the_receiver, party_hart, party_line, listing_of, buffer, is_in_call, completed_words}
+use Rattle.spsc_queue.specs.Calls.{completed_by_entry}
 use Rattle.spsc_queue.specs.Calls.{HasFunction, PartyObligation, CallerObligation, SharesQueue}
 use Rattle.spsc_queue.proofs.Landings.{role-cases}
 use Rattle.spsc_queue.proofs.Outline.{role}
+use Rattle.spsc_queue.proofs.Completed.{completed-last}
 
--- whether a party is in a call, and the words that its calls completed
+-- whether a party is in a call, and the words that its calls completed, the sender's after those that waited where the run began
 abbrev pub is_busy : (M : ℕ) → OpeningValue → SpscQueue → Party → (before es : List Entry) → Bool
 is_busy M o q p before es = is_in_call M o (party_hart q p) (party_line q p) q.block before es
 
+abbrev pub first_words : OpeningValue → SpscQueue → Party → (before : List Entry) → List ℕ
+first_words o q the_sender before = waiting_words (buffer q) o before
+first_words o q the_receiver before = []
+
 abbrev pub words : (M : ℕ) → OpeningValue → SpscQueue → Party → (before es : List Entry) → List ℕ
-words M o q p before es = completed_words M o (party_hart q p) (party_line q p) q.block before es
+words M o q p before es = first_words o q p before ++ completed_words M o (party_hart q p) (party_line q p) q.block before es
+
+pub words-last : (M : ℕ) (o : OpeningValue) (q : SpscQueue) (p : Party) (before es : List Entry) (e : Entry) → words M o q p before (es ++ e ∷ [])
+    ≡ words M o q p before es ++ completed_by_entry M o (party_hart q p) (party_line q p) (is_busy M o q p before es) (before ++ es) e
+words-last M o q p before es e =
+    let first : List ℕ = first_words o q p before in
+    let last : List ℕ = completed_by_entry M o (party_hart q p) (party_line q p) (is_busy M o q p before es) (before ++ es) e in
+    ap (λ ws. first ++ ws) (completed-last M o (party_hart q p) (party_line q p) q.block false before es e)
+    ∙ sym (append_assoc first (completed_words M o (party_hart q p) (party_line q p) q.block before es) last)
 
 pub has_of : {B M : ℕ} {o : OpeningValue} {q : SpscQueue} {before es : List Entry} → SharesQueue B M o q before es → (p : Party)
     → HasFunction o (party_hart q p) (party_line q p) (listing_of q.block.kind q.block.caches p)

@@ -6,8 +6,7 @@ use Rattle.step_machine.specs.History.{OpeningValue}
 use Rattle.step_machine.specs.Entries.{own_stores, lands}
 use Rattle.spsc_queue.specs.RingBuffers.{Kind, lamport, fastforward, RingBuffer, IsRingBuffer, capacity_of, capacity}
 use Rattle.spsc_queue.specs.Protocol.{SenderState, roomy, ReceiverState}
-use Rattle.spsc_queue.specs.Protocol.{waiting, holding, ProtocolState}
-use Rattle.spsc_queue.specs.Protocol.{at_start, protocol_after}
+use Rattle.spsc_queue.specs.Protocol.{waiting, holding, ProtocolState, parties_after}
 use Rattle.spsc_queue.specs.Laws.{FollowsSpscProtocol, available_of, available_count, known_count, known_by_state, ready_count, ready_by_state}
 use Rattle.spsc_queue.proofs.Spread.{sent_store}
 use Rattle.spsc_queue.proofs.Rows.{Earlier}
@@ -65,23 +64,23 @@ module _ (k : Kind) (r : RingBuffer) (is : IsRingBuffer r) (L M : ℕ → ℕ) (
 
 module _ (B : ℕ) (r : RingBuffer) (o : OpeningValue) (before es fs : List Entry) (t : FollowsSpscProtocol B r o before (es ++ fs)) where
   abbrev L : ℕ → ℕ
-  L = slice_index (protocol_after r at_start (es ++ fs)).sent
+  L = slice_index (parties_after r o before (es ++ fs)).sent
 
   abbrev M : ℕ → ℕ
-  M = slice_index (protocol_after r at_start ((es ++ fs) ++ [])).sent
+  M = slice_index (parties_after r o before ((es ++ fs) ++ [])).sent
 
-  inv : Invariant r.kind r L (earlier r before) o (before ++ es) (protocol_after r at_start es)
+  inv : Invariant r.kind r L (earlier r before) o (before ++ es) (parties_after r o before es)
   inv = invariant-of B r o before es fs t
 
-  later : Invariant r.kind r M (earlier r before) o (before ++ (es ++ fs)) (protocol_after r at_start (es ++ fs))
+  later : Invariant r.kind r M (earlier r before) o (before ++ (es ++ fs)) (parties_after r o before (es ++ fs))
   later = invariant-of B r o before (es ++ fs) [] (subst (FollowsSpscProtocol B r o before) (sym (append-nil (es ++ fs))) t)
 
-  pub published : available_count r (protocol_after r at_start es) < known_count (protocol_after r at_start (es ++ fs))
+  pub published : available_count r (parties_after r o before es) < known_count (parties_after r o before (es ++ fs))
       → length (own_stores r.sender (before ++ es)) < lands r.sender (before ++ (es ++ fs))
-  published heard = sender-passed r.kind r t.ring L M (earlier r before) o before es fs (protocol_after r at_start es) (protocol_after r at_start (es ++ fs))
+  published heard = sender-passed r.kind r t.ring L M (earlier r before) o before es fs (parties_after r o before es) (parties_after r o before (es ++ fs))
       inv later heard
 
-  pub returned : (protocol_after r at_start es).taken + capacity r < ready_count (protocol_after r at_start (es ++ fs))
+  pub returned : (parties_after r o before es).taken + capacity r < ready_count (parties_after r o before (es ++ fs))
       → length (own_stores r.receiver (before ++ es)) < lands r.receiver (before ++ (es ++ fs))
-  returned again = receiver-passed r.kind r t.ring L M (earlier r before) o before es fs (protocol_after r at_start es) (protocol_after r at_start (es ++ fs))
+  returned again = receiver-passed r.kind r t.ring L M (earlier r before) o before es fs (parties_after r o before es) (parties_after r o before (es ++ fs))
       inv later again

@@ -29,10 +29,11 @@ split_on r w rest f i n on is = at n refl (sym (ap (λ b. if b then w ∷ row_of
 split_off : (r : RingBuffer) (w : Write) (rest : List Write) → shared r w ≡ false → row_of r (w ∷ rest) ≡ row_of r rest
 split_off r w rest off = ap (λ b. if b then w ∷ row_of r rest else row_of r rest) off
 
--- how many stores to the block the parties had made before a run
+-- how many stores to the block the parties had made before a run, and how many a sender makes of the words that waited there
 pub record Earlier : Type 0 where
   pub sender : ℕ
   pub receiver : ℕ
+  pub ahead : ℕ
 
 abbrev pub on_count : RingBuffer → (h : ℕ) → List Entry → ℕ
 on_count r h es = length (row_of r (own_stores h es))
@@ -40,7 +41,7 @@ on_count r h es = length (row_of r (own_stores h es))
 -- the sender's row is f and the receiver's g: i and j of their stores have landed, and the next n and m are pending
 pub record Rows (r : RingBuffer) (c : Earlier) (f g : ℕ → Write) (es : List Entry) (i n j m : ℕ) : Type 0 where
   pub mine : row_of r (pending r.sender es) ≡ spread f i n
-  pub mine_made : on_count r r.sender es ≡ c.sender + (i + n)
+  pub mine_made : on_count r r.sender es + c.ahead ≡ c.sender + (i + n)
   pub theirs : row_of r (pending r.receiver es) ≡ spread g j m
   pub theirs_made : on_count r r.receiver es ≡ c.receiver + (j + m)
   pub others : (h : ℕ) → h ≢ r.sender → h ≢ r.receiver → row_of r (pending h es) ≡ []
@@ -126,7 +127,7 @@ pub rows-stay : (r : RingBuffer) (c : Earlier) (f g : ℕ → Write) (o : Openin
     → Rows r c f g es i n j m → Stays r o es fs → Rows r c f g fs i n j m
 rows-stay r c f g o es fs i n j m rows stays = record {
   mine = stays.pends r.sender ∙ rows.mine;
-  mine_made = stays.made r.sender ∙ rows.mine_made;
+  mine_made = ap (λ k. k + c.ahead) (stays.made r.sender) ∙ rows.mine_made;
   theirs = stays.pends r.receiver ∙ rows.theirs;
   theirs_made = stays.made r.receiver ∙ rows.theirs_made;
   others = λ h not_sender not_receiver. stays.pends h ∙ rows.others h not_sender not_receiver;
@@ -244,7 +245,7 @@ module _ (r : RingBuffer) (is : IsRingBuffer r) (o : OpeningValue) (es : List En
         pub receiver-stores : hart_of e ≡ r.receiver → w ≡ g (j + m) → Rows r c f g after i n j (suc m)
         receiver-stores mine is_next = record {
           mine = same-of r.sender other ∙ rows.mine;
-          mine_made = made-none r.sender (no-store-of (store w) does r.sender other) ∙ rows.mine_made;
+          mine_made = ap (λ k. k + c.ahead) (made-none r.sender (no-store-of (store w) does r.sender other)) ∙ rows.mine_made;
           theirs = longer r.receiver mine g j m rows.theirs is_next;
           theirs_made = (let one = one-more r.receiver mine in omega (arith, one, rows.theirs_made));
           others = λ h not_sender not_receiver. same-of h (λ same. not_receiver (sym same ∙ mine)) ∙ rows.others h not_sender not_receiver;
@@ -309,7 +310,7 @@ module _ (r : RingBuffer) (is : IsRingBuffer r) (o : OpeningValue) (es : List En
                 split.1,
                 record {
                   mine = left r.sender mine f (suc i) split.0 split.3;
-                  mine_made = made-none r.sender (none-stored r.sender) ∙ rows.mine_made
+                  mine_made = ap (λ k. k + c.ahead) (made-none r.sender (none-stored r.sender)) ∙ rows.mine_made
                       ∙ (let same : c.sender + (i + n) ≡ c.sender + (suc i + split.0) = omega (arith, split.1) in same);
                   theirs = kept-of r.receiver other ∙ rows.theirs;
                   theirs_made = made-none r.receiver (none-stored r.receiver) ∙ rows.theirs_made;
@@ -324,7 +325,7 @@ module _ (r : RingBuffer) (is : IsRingBuffer r) (o : OpeningValue) (es : List En
                 split.1,
                 record {
                   mine = kept-of r.sender other ∙ rows.mine;
-                  mine_made = made-none r.sender (none-stored r.sender) ∙ rows.mine_made;
+                  mine_made = ap (λ k. k + c.ahead) (made-none r.sender (none-stored r.sender)) ∙ rows.mine_made;
                   theirs = left r.receiver mine g (suc j) split.0 split.3;
                   theirs_made = made-none r.receiver (none-stored r.receiver) ∙ rows.theirs_made
                       ∙ (let same : c.receiver + (j + m) ≡ c.receiver + (suc j + split.0) = omega (arith, split.1) in same);

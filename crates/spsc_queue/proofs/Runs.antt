@@ -10,21 +10,24 @@ use Rattle.memory.specs.Writes.{write}
 use Rattle.step_machine.specs.declared.events.Entry.{Entry}
 use Rattle.step_machine.specs.History.{OpeningValue, history_of}
 use Rattle.step_machine.specs.Access.{Access, nothing, load, store, exchange, fence, land, access_of}
-use Rattle.step_machine.specs.Entries.{hart_of, pending, read, own_stores, lands}
+use Rattle.step_machine.specs.Entries.{hart_of, pending, read, read_byte, own_stores, lands, memory_word}
 use Rattle.step_machine.specs.Legal.{AllowedBy, Allowed, LegalAfter, Legal}
 use Rattle.step_machine.proofs.Appended.{LegalAfter-front, LegalAfter-back, LegalAfter-append}
 use Rattle.step_machine.proofs.Balanced.{balanced}
-use Rattle.spsc_queue.specs.RingBuffers.{Kind, lamport, fastforward, RingBuffer, IsRingBuffer, IsWordIn, slot_address, overlaps}
+use Rattle.spsc_queue.specs.RingBuffers.{Kind, lamport, fastforward, RingBuffer, IsRingBuffer, IsWordIn, slot_address, overlaps, waiting_words, IsQuiescent}
 use Rattle.spsc_queue.specs.Protocol.{SenderState, resting, placed, renewing, roomy, filled, ReceiverState, idle, asked}
-use Rattle.spsc_queue.specs.Protocol.{waiting, holding, cleared, ProtocolState}
+use Rattle.spsc_queue.specs.Protocol.{waiting, holding, cleared, ProtocolState, parties_after}
 use Rattle.spsc_queue.specs.Protocol.{at_start, Role, sends, receives, passes, role_of, send_load, send_store, receive_load, receive_store, next_by}
 use Rattle.spsc_queue.specs.Protocol.{protocol_next, protocol_after, IsWordAt, IsSenderStore, IsTaking, IsReceiverStore, KeepsProtocolBy, KeepsProtocol}
 use Rattle.spsc_queue.specs.Laws.{IsPrefix, FollowsSpscProtocol, available_count, available_words}
 use Rattle.store_buffers.specs.StoreBuffers.{LeavesByteBy}
+use Rattle.store_buffers.proofs.Effects.{read-below}
+use Rattle.memory.proofs.Joined.{joined-below}
 use Rattle.spsc_queue.proofs.Words.{shared, shared_on, off_shared, word_on}
-use Rattle.spsc_queue.proofs.Copies.{CopyStays, copy-left, off_leaves, word_leaves}
+use Rattle.spsc_queue.proofs.Copies.{quiet_read, CopyStays, copy-left, off_leaves, word_leaves}
 use Rattle.spsc_queue.proofs.Rows.{Earlier, Stays, nothing-stays, load-stays, fence-stays, exchange-stays, off-stays}
 use Rattle.spsc_queue.proofs.Invariant.{firsts, there, ReceivingIs, Invariant}
+use Rattle.spsc_queue.proofs.Numbers.{numbers-at, numbers-small}
 use Rattle.spsc_queue.proofs.Loads.{slot_word}
 use Rattle.spsc_queue.proofs.Steps.{idles, sends-word, sends-head, takes-word, frees, copies}
 use Rattle.spsc_queue.proofs.Landings.{role-cases, lands-store}
@@ -329,41 +332,59 @@ holds-after B r is F small c o before s (e ∷ es) inv legal later keeps ahead =
     (holds-after B r is F small c o (before ++ e ∷ []) (protocol_next r s e) es one
     (LegalAfter-append B o [] before (e ∷ []) legal (later.0, tt)) later.1 keeps.1 ahead)
 
+-- a word that waits is one of memory
+pub waiting-small : (r : RingBuffer) → IsRingBuffer r → (o : OpeningValue) (es : List Entry) → IsQuiescent r o es → AreSmall (waiting_words r o es)
+waiting-small r is o es quiet j = numbers-small (λ i. memory_word o es (slot_address r i)) 0 r.begins_with j (λ i.
+    let word = slot_word r is i in
+    let read_there = quiet_read r o es r.sender (slot_address r i) (quiet.pending r.sender) word.above word.below in
+    let most : read o es r.sender (slot_address r i) 4 < 256 ^ 4 =
+    joined-below (λ n. read_byte o es r.sender (slot_address r i + n)) (λ n. read-below o es r.sender (slot_address r i + n)) 4 in
+    omega (arith, read_there, most))
+
 -- the law of the invariant: of every run that keeps the protocol, and each of its beginnings, by the words of the whole
 pub invariant-of : (B : ℕ) (r : RingBuffer) (o : OpeningValue) (before es fs : List Entry) → FollowsSpscProtocol B r o before (es ++ fs)
-    → Invariant r.kind r (slice_index (protocol_after r at_start (es ++ fs)).sent) (earlier r before) o (before ++ es) (protocol_after r at_start es)
+    → Invariant r.kind r (slice_index (parties_after r o before (es ++ fs)).sent) (earlier r before) o (before ++ es) (parties_after r o before es)
 invariant-of B r o before es fs t =
-    holds-after B r t.ring F small (earlier r before) o before at_start es (at_rest r.kind r t.ring (slice_index F) o before t.rest refl)
+    holds-after B r t.ring F small (earlier r before) o before (at_start r o before) es (at_rest r.kind r t.ring (slice_index F) o before t.rest first refl)
     (LegalAfter-front B o [] before (es ++ fs) t.legal) (LegalAfter-front B o before es fs (LegalAfter-back B o [] before (es ++ fs) t.legal))
-    (keeps-front r at_start es fs t.keeps) (grown.0, is)
+    (keeps-front r (at_start r o before) es fs t.keeps) (grown.0, is)
   where
     F : List ℕ
-    F = (protocol_after r at_start (es ++ fs)).sent
+    F = (parties_after r o before (es ++ fs)).sent
 
     small : AreSmall F
-    small = protocol-small r at_start (es ++ fs) t.keeps (λ j. omega arith)
+    small = protocol-small r (at_start r o before) (es ++ fs) t.keeps (waiting-small r t.ring o before t.rest)
 
-    grown : (more : List ℕ) × ((protocol_after r (protocol_after r at_start es) fs).sent ≡ (protocol_after r at_start es).sent ++ more)
-    grown = protocol-grows r (protocol_after r at_start es) fs
+    all : (more : List ℕ) × (F ≡ waiting_words r o before ++ more)
+    all = protocol-grows r (at_start r o before) (es ++ fs)
 
-    is : F ≡ (protocol_after r at_start es).sent ++ grown.0
-    is = ap (λ (s : ProtocolState). s.sent) (protocol-append r at_start es fs) ∙ grown.1
+    first : (j : ℕ) → j < r.begins_with → slice_index F j ≡ memory_word o before (slot_address r j)
+    first j below =
+        let word : ℕ → ℕ = λ i. memory_word o before (slot_address r i) in
+        let at : 0 + j ≡ j = omega arith in
+        ap (λ xs. slice_index xs j) all.1 ∙ numbers-at word 0 r.begins_with all.0 j below ∙ ap word at
+
+    grown : (more : List ℕ) × ((protocol_after r (parties_after r o before es) fs).sent ≡ (parties_after r o before es).sent ++ more)
+    grown = protocol-grows r (parties_after r o before es) fs
+
+    is : F ≡ (parties_after r o before es).sent ++ grown.0
+    is = ap (λ (s : ProtocolState). s.sent) (protocol-append r (at_start r o before) es fs) ∙ grown.1
 
 pub known-of : (B : ℕ) (r : RingBuffer) (o : OpeningValue) (before es fs : List Entry) → FollowsSpscProtocol B r o before (es ++ fs)
-    → Known r.kind r (slice_index (protocol_after r at_start (es ++ fs)).sent) (protocol_after r at_start es)
-known-of B r o before es fs t = known r t.ring (slice_index (protocol_after r at_start (es ++ fs)).sent) (earlier r before) o (before ++ es)
-    (protocol_after r at_start es) r.kind (invariant-of B r o before es fs t)
+    → Known r.kind r (slice_index (parties_after r o before (es ++ fs)).sent) (parties_after r o before es)
+known-of B r o before es fs t = known r t.ring (slice_index (parties_after r o before (es ++ fs)).sent) (earlier r before) o (before ++ es)
+    (parties_after r o before es) r.kind (invariant-of B r o before es fs t)
 
 -- what is received is a prefix of what the receiver may take, whatever else the harts do
 pub delivered : (B : ℕ) (r : RingBuffer) (o : OpeningValue) (before es : List Entry) → FollowsSpscProtocol B r o before es
-    → IsPrefix (protocol_after r at_start es).received (available_words r (protocol_after r at_start es))
+    → IsPrefix (parties_after r o before es).received (available_words r (parties_after r o before es))
 delivered B r o before es t = (rest.0, whole)
   where
     s : ProtocolState
-    s = protocol_after r at_start es
+    s = parties_after r o before es
 
     L : ℕ → ℕ
-    L = slice_index (protocol_after r at_start (es ++ [])).sent
+    L = slice_index (parties_after r o before (es ++ [])).sent
 
     n : ℕ
     n = available_count r s

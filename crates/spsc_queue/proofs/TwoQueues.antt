@@ -61,7 +61,15 @@ shares zero lt = record {
   block = record { aligned = refl; some_slots = omega arith; inside = omega arith; small = omega arith };
   parties = λ e. omega (arith, e);
   run = run;
-  rest = record { head = refl; tail = refl; pending = λ h. refl; slots = λ kind. cc; copy = λ a some. absurd (cc) };
+  rest = record {
+    fits = omega arith;
+    head = refl;
+    tail = refl;
+    pending = λ h. refl;
+    words = λ kind j below. absurd (omega (arith, below));
+    free = λ kind. cc;
+    copy = λ a some. absurd (cc);
+  };
   sends = record {
     opens = _;
     is = refl;
@@ -79,7 +87,15 @@ shares (suc i) lt = record {
   block = record { aligned = refl; some_slots = omega arith; inside = omega arith; small = omega arith };
   parties = λ e. omega (arith, e);
   run = run;
-  rest = record { head = refl; tail = refl; pending = λ h. refl; slots = λ kind. clear; copy = λ a some. absurd (cc) };
+  rest = record {
+    fits = omega arith;
+    head = refl;
+    tail = refl;
+    pending = λ h. refl;
+    words = λ kind j below. absurd (omega (arith, below));
+    free = λ kind j from. clear j;
+    copy = λ a some. absurd (cc);
+  };
   sends = record {
     opens = _;
     is = refl;

@@ -8,7 +8,7 @@ use Rattle.step_machine.specs.History.{OpeningValue, history_of}
 use Rattle.step_machine.specs.Entries.{own}
 use Rattle.step_machine.specs.Paths.{state_of}
 use Rattle.spsc_queue.specs.RingBuffers.{IsRingBuffer}
-use Rattle.spsc_queue.specs.Protocol.{ProtocolState, at_start, protocol_after}
+use Rattle.spsc_queue.specs.Protocol.{ProtocolState, parties_after}
 use Rattle.spsc_queue.specs.Laws.{FollowsSpscProtocol}
 use Rattle.spsc_queue.specs.Calls.{Block, SpscQueue, Party, the_sender, the_receiver, party_hart, party_line, listing_of, buffer, is_in_call, UsesAsSpscQueue}
 use Rattle.spsc_queue.specs.CallEffects.{longest, IsCallUnderWay, IsPlainNeed, ContinuesCall, accesses, SendSoFar, ReceiveSoFar}
@@ -39,7 +39,7 @@ module _ (B M : ℕ) (o : OpeningValue) (q : SpscQueue) (before done call : List
     n = party_line q p
 
     abbrev t : ProtocolState
-    t = protocol_after (buffer q) at_start es
+    t = parties_after (buffer q) o before es
 
     abbrev y : HartState
     y = here B M o q before es c.shares p es
@@ -60,7 +60,7 @@ module _ (B M : ℕ) (o : OpeningValue) (q : SpscQueue) (before done call : List
     ring = ring_is M q.block q.sender q.receiver c.shares.block c.shares.parties
 
     near : Near q.block (part p t)
-    near = near-of q.block q.sender q.receiver ring p q.block.kind (slice_index (protocol_after (buffer q) at_start (es ++ [])).sent) t
+    near = near-of q.block q.sender q.receiver ring p q.block.kind (slice_index (parties_after (buffer q) o before (es ++ [])).sent) t
         (known-of B (buffer q) o before es [] (subst (FollowsSpscProtocol B (buffer q) o before) (sym (append-nil es)) (calls_follow B M o q before es c)))
 
     -- what it wants, and how many entries it has made

@@ -14,7 +14,7 @@ use Rattle.step_machine.specs.Entries.{hart_of, is_own, pending}
 use Rattle.step_machine.specs.Paths.{state_of}
 use Rattle.spsc_queue.specs.RingBuffers.{Kind, lamport, fastforward, RingBuffer, next, capacity, unpublished, unreleased}
 use Rattle.spsc_queue.specs.Protocol.{room_at, says_full, watched_address, says_empty}
-use Rattle.spsc_queue.specs.Calls.{Block, SpscQueue, Party, the_sender, the_receiver, buffer, enters, is_in_call, sent_words, received_words}
+use Rattle.spsc_queue.specs.Calls.{Block, SpscQueue, Party, the_sender, the_receiver, buffer, enters, is_in_call, received_words, given_words}
 
 -- hart h calls the function at line n for this block by the entries `call`, which come after `done`: s is its state as it
 -- enters, z its state as it has returned. Entries of other harts, and landings, may stand among these entries
@@ -183,7 +183,7 @@ pub record ReceiveSoFar (k : Kind) (r : RingBuffer) (s z : HartState) (did : Lis
 -- ---- a call that returns 0
 
 -- at an entry e of the call the sender looks for room at its offset and sees none, and after the entries before e the queue is
--- full: as many words as it holds were sent and no call returned them, except for the slots that the receiver's pending stores hold back
+-- full: as many words as it holds were given and no call returned them, except for the slots that the receiver's pending stores hold back
 pub record FoundFull (M : ℕ) (o : OpeningValue) (q : SpscQueue) (before done call : List Entry) : Type 0 where
   pub part : List Entry
   pub entry : Entry
@@ -195,10 +195,10 @@ pub record FoundFull (M : ℕ) (o : OpeningValue) (q : SpscQueue) (before done c
   pub loads : access_of entry ≡ load (room_at q.block.kind (buffer q) offset) 4 value
   pub says : says_full q.block.kind (buffer q) offset value ≡ true
   pub full : length (received_words M o q before (done ++ part)) + capacity (buffer q)
-      ≤ length (sent_words M o q before (done ++ part)) + unreleased (buffer q) (pending q.receiver (before ++ (done ++ part)))
+      ≤ length (given_words M o q before (done ++ part)) + unreleased (buffer q) (pending q.receiver (before ++ (done ++ part)))
 
 -- at an entry e of the call the receiver looks for a word at its offset and sees none, and after the entries before e the queue is
--- empty: each word that was sent was returned, except for those that the sender's pending stores hold back
+-- empty: each word that was given was returned, except for those that the sender's pending stores hold back
 pub record FoundEmpty (M : ℕ) (o : OpeningValue) (q : SpscQueue) (before done call : List Entry) : Type 0 where
   pub part : List Entry
   pub entry : Entry
@@ -209,5 +209,5 @@ pub record FoundEmpty (M : ℕ) (o : OpeningValue) (q : SpscQueue) (before done 
   pub mine : hart_of entry ≡ q.receiver
   pub loads : access_of entry ≡ load (watched_address q.block.kind (buffer q) offset) 4 value
   pub says : says_empty q.block.kind offset value ≡ true
-  pub empty : length (sent_words M o q before (done ++ part))
+  pub empty : length (given_words M o q before (done ++ part))
       ≤ length (received_words M o q before (done ++ part)) + unpublished (buffer q) (pending q.sender (before ++ (done ++ part)))

@@ -1,7 +1,7 @@
 -- Calls of the functions by code that does as it likes around them: where a block lies, when a hart is in a call, which
 -- words its calls completed, and all that a caller owes.
-use Rattle.std.specs.Prelude.{ℕ, ◌≡◌, ◌≢◌, ◌+◌, ◌*◌, ◌/◌, ◌%◌, ◌^◌, ◌<◌, ◌≤◌, ◌==◌, ◌&&◌, ◌||◌, if◌then◌else◌, Bool, true, false, Option, None, Some, List, []}
-use Rattle.std.specs.Prelude.{◌∷◌, ◌++◌, length, slice_index}
+use Rattle.std.specs.Prelude.{ℕ, ◌≡◌, ◌≢◌, ◌+◌, ◌-◌, ◌*◌, ◌/◌, ◌%◌, ◌^◌, ◌<◌, ◌≤◌, ◌==◌, ◌&&◌, ◌||◌, if◌then◌else◌, Bool, true, false, Option, None, Some}
+use Rattle.std.specs.Prelude.{List, [], ◌∷◌, ◌++◌, length, slice_index}
 use Rattle.std.specs.List.{slice_get}
 use Rattle.hart.specs.State.{HartState}
 use Rattle.hart.specs.Steps.{advanced}
@@ -11,7 +11,7 @@ use Rattle.step_machine.specs.History.{HartOpeningValue, OpeningValue, history_o
 use Rattle.step_machine.specs.Entries.{hart_of, is_land, is_own}
 use Rattle.step_machine.specs.Paths.{number_read, state_of}
 use Rattle.step_machine.specs.Legal.{WellFormed}
-use Rattle.spsc_queue.specs.RingBuffers.{Kind, lamport, fastforward, RingBuffer, IsEmptyAndQuiescent}
+use Rattle.spsc_queue.specs.RingBuffers.{Kind, lamport, fastforward, RingBuffer, waiting_words, IsQuiescent}
 use Rattle.spsc_queue.specs.Protocol.{WritesNothingTo, IsSendable}
 use Rattle.rv_decode.specs.Listings.{Listed, words_of}
 use Rattle.spsc_queue.specs.Listings.{try_send, try_receive}
@@ -20,14 +20,15 @@ use Rattle.spsc_queue.specs.FastForward.{fastforward_send, fastforward_receive}
 pub use Rattle.queue_parties.specs.Parties.{Party, the_sender, the_receiver}
 
 -- a block of memory: which kind of queue it is, and whether Lamport's sender keeps a copy of the tail; its base, how many slots it has,
--- and at which slot its indices stand. The sender's index lies at its base, the copy 4 bytes on, the receiver's index 64 bytes on, the
--- slots 128 bytes on
+-- at which slot the receiver's index stands, and how many words wait in it. The sender's index lies at its base, the copy 4 bytes on,
+-- the receiver's index 64 bytes on, the slots 128 bytes on
 pub record Block : Type 0 where
   pub kind : Kind
   pub caches : Bool
   pub base : ℕ
   pub size : ℕ
   pub start : ℕ
+  pub begins_with : ℕ
 
 pub record IsBlock (M : ℕ) (k : Block) : Type 0 where
   pub aligned : k.base % 4 ≡ 0
@@ -54,6 +55,7 @@ abbrev pub ring_at : Block → (sender receiver : ℕ) → RingBuffer
 ring_at k sender receiver = record {
   kind = k.kind;
   start = k.start;
+  begins_with = k.begins_with;
   sender = sender;
   receiver = receiver;
   first = k.base;
@@ -68,9 +70,9 @@ ring_at k sender receiver = record {
 abbrev pub buffer : SpscQueue → RingBuffer
 buffer q = ring_at q.block q.sender q.receiver
 
--- this block after n words went through it
-abbrev pub moved_on : Block → (n : ℕ) → Block
-moved_on k n = record k { start = k.start + n }
+-- this block after n words went through it, and others wait in it
+abbrev pub moved_on : Block → (n waiting : ℕ) → Block
+moved_on k n waiting = record k { start = k.start + n; begins_with = waiting }
 
 -- a party's hart
 abbrev pub party_hart : SpscQueue → Party → ℕ
@@ -173,6 +175,15 @@ sent_words M o q before es = completed_words M o q.sender q.send_line q.block be
 abbrev pub received_words : (M : ℕ) → OpeningValue → SpscQueue → (before es : List Entry) → List ℕ
 received_words M o q before es = completed_words M o q.receiver q.receive_line q.block before es
 
+-- the words that there were to receive: those that waited where the run began, and then those that were sent
+abbrev pub given_words : (M : ℕ) → OpeningValue → SpscQueue → (before es : List Entry) → List ℕ
+given_words M o q before es = waiting_words (buffer q) o before ++ sent_words M o q before es
+
+-- the block after these entries, in which the words wait that were given and not received
+abbrev pub block_after : (M : ℕ) → OpeningValue → SpscQueue → (before es : List Entry) → Block
+block_after M o q before es = moved_on q.block (length (received_words M o q before es))
+    (length (given_words M o q before es) - length (received_words M o q before es))
+
 -- ---- what a caller owes
 
 -- the arguments beside the block: the bytes of the slots, a word, which may be sent if it is, and a return address that isn't
@@ -205,12 +216,12 @@ pub record CallerObligation (M : ℕ) (o : OpeningValue) (q : SpscQueue) (before
   pub receiver : PartyObligation M o q the_receiver before done e
   pub others : hart_of e ≢ q.sender → hart_of e ≢ q.receiver → WritesNothingTo (buffer q) (access_of e)
 
--- a run of two harts that have the functions in their codes, from where the block is empty and at rest
+-- a run of two harts that have the functions in their codes, from where the block is at rest
 pub record SharesQueue (B M : ℕ) (o : OpeningValue) (q : SpscQueue) (before es : List Entry) : Type 0 where
   pub block : IsBlock M q.block
   pub parties : q.sender ≢ q.receiver
   pub run : WellFormed B M (history_of o (before ++ es))
-  pub rest : IsEmptyAndQuiescent (buffer q) o before
+  pub rest : IsQuiescent (buffer q) o before
   pub sends : HasFunction o q.sender q.send_line (listing_of q.block.kind q.block.caches the_sender)
   pub receives : HasFunction o q.receiver q.receive_line (listing_of q.block.kind q.block.caches the_receiver)
 

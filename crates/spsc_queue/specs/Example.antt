@@ -1,6 +1,6 @@
 -- Short runs of harts that use a queue of two slots at address 64, of each kind, whose indices stand at the second slot: calls by which
--- a word passes and an index wraps, calls that find the queue full or empty, and a send after other harts have used it. Each hart makes a0
--- the block, enters its function, and returns to where it began.
+-- a word passes and an index wraps, calls that find the queue full or empty, a send after other harts have used it, and a receive after
+-- others have filled it. Each hart makes a0 the block, enters its function, and returns to where it began.
 use Rattle.std.specs.Prelude.{ℕ, ◌+◌, Bool, true, false, Option, Some, None, List, [], ◌∷◌, ◌++◌, replicate}
 use Rattle.hart.specs.State.{HartState}
 use Rattle.hart.specs.Steps.{need_of}
@@ -63,8 +63,8 @@ caches_of caching = true
 caches_of fast = false
 
 -- with which call a run ends: a send, whose copy of the tail says that the queue is full, or that there is room (`hits`); a receive of its
--- word; a send that finds the queue full; a receive that finds it empty; and a send of a third hart, to a fourth, after a word has
--- passed (FastForward's)
+-- word; a send that finds the queue full; a receive that finds it empty; a send of a third hart, to a fourth, after a word has
+-- passed (FastForward's); and a receive of the fourth's from a queue that the first has filled, from where it is full
 pub data Scenario : Type 0 where
   sends : Variant → Scenario
   hits : Scenario
@@ -72,6 +72,7 @@ pub data Scenario : Type 0 where
   finds_full : Variant → Scenario
   finds_empty : Variant → Scenario
   goes_on : Scenario
+  takes_over : Variant → Scenario
 
 abbrev pub variant : Scenario → Variant
 variant (sends v) = v
@@ -80,29 +81,41 @@ variant (receives v) = v
 variant (finds_full v) = v
 variant (finds_empty v) = v
 variant goes_on = fast
+variant (takes_over v) = v
 
 -- whose call it is
 abbrev pub party : Scenario → Party
 party (receives v) = the_receiver
 party (finds_empty v) = the_receiver
+party (takes_over v) = the_receiver
 party x = the_sender
 
--- at which slot the indices stand, and which harts send and receive
+-- at which slot the receiver's index stands, how many words wait, and which harts send and receive
 abbrev pub start_of : Scenario → ℕ
 start_of goes_on = 2
 start_of x = 1
 
+abbrev pub held_by : Variant → ℕ
+held_by fast = 2
+held_by v = 1
+
+abbrev pub waiting_of : Scenario → ℕ
+waiting_of (takes_over v) = held_by v
+waiting_of x = 0
+
 abbrev pub sender_of : Scenario → ℕ
 sender_of goes_on = 2
+sender_of (takes_over v) = 2
 sender_of x = 0
 
 abbrev pub receiver_of : Scenario → ℕ
 receiver_of goes_on = 3
+receiver_of (takes_over v) = 3
 receiver_of x = 1
 
 abbrev pub queue : Scenario → SpscQueue
 queue x = record {
-  block = record { kind = kind_of (variant x); caches = caches_of (variant x); base = 64; size = 2; start = start_of x };
+  block = record { kind = kind_of (variant x); caches = caches_of (variant x); base = 64; size = 2; start = start_of x; begins_with = waiting_of x };
   sender = sender_of x;
   receiver = receiver_of x;
   send_line = 1;
@@ -149,6 +162,8 @@ word_lands v = acts 0 (1 + send_length v) ++ landings 0 (send_stores v)
 -- what happens before the queue's run begins, in it before the call, and in the call
 abbrev pub first_events : Scenario → List Event
 first_events goes_on = word_lands fast ++ (acts 1 12 ++ landings 1 2)
+first_events (takes_over fast) = word_lands fast ++ word_lands fast
+first_events (takes_over v) = word_lands v
 first_events x = []
 
 abbrev pub lead_events : Scenario → List Event
@@ -157,6 +172,7 @@ lead_events (finds_full fast) = acts 0 24
 lead_events (finds_full v) = acts 0 (2 + send_length v)
 lead_events (finds_empty v) = acts 1 1
 lead_events goes_on = acts 2 1
+lead_events (takes_over v) = acts 3 1
 lead_events x = acts 0 1
 
 abbrev pub call_events : Scenario → List Event
@@ -169,6 +185,7 @@ call_events (finds_full fast) = acts 0 6
 call_events (finds_empty fast) = acts 1 6
 call_events (finds_empty v) = acts 1 5
 call_events goes_on = acts 2 10
+call_events (takes_over v) = acts 3 11
 
 abbrev pub before_entries : Scenario → List Entry
 before_entries x = entries_by 64 (opening x) [] (first_events x)
@@ -204,8 +221,10 @@ access_count x = 4
 abbrev pub sent : Scenario → List ℕ
 sent (finds_full fast) = 99 ∷ 99 ∷ []
 sent (finds_empty v) = []
+sent (takes_over v) = []
 sent x = 99 ∷ []
 
 abbrev pub received : Scenario → List ℕ
 received (receives v) = 99 ∷ []
+received (takes_over v) = 99 ∷ []
 received x = []

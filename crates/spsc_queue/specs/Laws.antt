@@ -3,16 +3,16 @@ use Rattle.std.specs.Prelude.{ℕ, ◌+◌, List, ◌++◌, take}
 use Rattle.step_machine.specs.declared.events.Entry.{Entry}
 use Rattle.step_machine.specs.History.{OpeningValue, history_of}
 use Rattle.step_machine.specs.Legal.{Legal}
-use Rattle.spsc_queue.specs.RingBuffers.{Kind, lamport, fastforward, RingBuffer, IsRingBuffer, IsEmptyAndQuiescent}
+use Rattle.spsc_queue.specs.RingBuffers.{Kind, lamport, fastforward, RingBuffer, IsRingBuffer, IsQuiescent}
 use Rattle.spsc_queue.specs.Protocol.{ProtocolState, at_start, ReceiverState, waiting, holding, SenderState, roomy, KeepsProtocol}
 pub use Rattle.queue_parties.specs.Positions.{IsPrefix}
 
--- the entries of a run from where the queue was empty and at rest: they are legal after those before, and keep the protocol
+-- the entries of a run from where the queue was at rest: they are legal after those before, and keep the protocol
 pub record FollowsSpscProtocol (B : ℕ) (r : RingBuffer) (o : OpeningValue) (before es : List Entry) : Type 0 where
   pub ring : IsRingBuffer r
   pub legal : Legal B (history_of o (before ++ es))
-  pub rest : IsEmptyAndQuiescent r o before
-  pub keeps : KeepsProtocol r at_start es
+  pub rest : IsQuiescent r o before
+  pub keeps : KeepsProtocol r (at_start r o before) es
 
 -- how many words the receiver may take: Lamport's whose heads are stored, and each that FastForward's sender stored
 abbrev pub available_of : Kind → ProtocolState → ℕ

@@ -5,8 +5,9 @@ use Rattle.memory.specs.declared.writes.Write.{Write}
 use Rattle.memory.specs.Writes.{write}
 use Rattle.step_machine.specs.declared.events.Entry.{Entry}
 use Rattle.step_machine.specs.Access.{Access, load, store, exchange, access_of}
+use Rattle.step_machine.specs.History.{OpeningValue}
 use Rattle.step_machine.specs.Entries.{hart_of}
-use Rattle.spsc_queue.specs.RingBuffers.{Kind, lamport, fastforward, RingBuffer, next, overlaps}
+use Rattle.spsc_queue.specs.RingBuffers.{Kind, lamport, fastforward, RingBuffer, next, overlaps, waiting_words}
 
 -- the sender rests; it has read u as its own head; it has seen that the slot there is free, by the tail v, of which it keeps a copy
 -- that it has yet to store; it has seen so and has none to store; it has stored a word there
@@ -26,7 +27,7 @@ pub data ReceiverState : Type 0 where
   holding : (u w : ℕ) → ReceiverState
   cleared : (u : ℕ) → ReceiverState
 
--- where both stand; how many words the sender stored, and of how many it stored the head; how many words the receiver took,
+-- where both stand; how many words were there at first or the sender stored, and of how many the head was; how many words the receiver took,
 -- and of how many it stored the tail; and the words themselves. Lamport's heads publish a word, and its tails take one;
 -- FastForward's words are there as soon as they are stored, and a 0 in its slot takes one
 pub record ProtocolState : Type 0 where
@@ -39,8 +40,18 @@ pub record ProtocolState : Type 0 where
   pub consumed : ℕ
   pub received : List ℕ
 
-abbrev pub at_start : ProtocolState
-at_start = record { sending = resting; stored = 0; published = 0; sent = []; receiving = idle; taken = 0; consumed = 0; received = [] }
+-- where the run begins the words that wait are sent
+abbrev pub at_start : RingBuffer → OpeningValue → (before : List Entry) → ProtocolState
+at_start r o before = record {
+  sending = resting;
+  stored = r.begins_with;
+  published = r.begins_with;
+  sent = waiting_words r o before;
+  receiving = idle;
+  taken = 0;
+  consumed = 0;
+  received = [];
+}
 
 pub data Role : Type 0 where
   sends : Role
@@ -148,6 +159,10 @@ protocol_next r s e = next_by r.kind r (role_of r (hart_of e)) s (access_of e)
 abbrev pub protocol_after : RingBuffer → ProtocolState → List Entry → ProtocolState
 protocol_after r s [] = s
 protocol_after r s (e ∷ es) = protocol_after r (protocol_next r s e) es
+
+-- both parties after entries of a run that began after those before
+abbrev pub parties_after : RingBuffer → OpeningValue → (before es : List Entry) → ProtocolState
+parties_after r o before es = protocol_after r (at_start r o before) es
 
 -- ---- which accesses keep the protocol: what anyone loads is free
 

@@ -6,6 +6,7 @@ use Rattle.memory.specs.declared.writes.Write.{Write}
 use Rattle.step_machine.specs.declared.events.Entry.{Entry}
 use Rattle.step_machine.specs.History.{OpeningValue}
 use Rattle.step_machine.specs.Entries.{pending, memory_word}
+use Rattle.queue_parties.specs.Positions.{numbers_from}
 
 -- the two kinds of protocol. In Lamport's each party reads the other's index, or the sender its copy of it. In FastForward's a slot that holds 0 is free, so
 -- no party reads the other's index, and no word is 0
@@ -13,13 +14,14 @@ pub data Kind : Type 0 where
   lamport : Kind
   fastforward : Kind
 
--- its kind, and the slot that its indices stand at when a run begins; the harts that send and receive; where the block
--- begins and ends; the words that hold the sender's index and the receiver's, as byte offsets among the slots; where the
--- slots begin, and how many they are; and the word in which the sender keeps a copy of the tail, if it keeps one. Nothing
--- says in which order these lie, nor how far apart, so each index may have a cache line of its own
+-- its kind; the slot that the receiver's index stands at when a run begins, and how many words wait in it there; the harts that send
+-- and receive; where the block begins and ends; the words that hold the sender's index and the receiver's, as byte offsets among the
+-- slots; where the slots begin, and how many they are; and the word in which the sender keeps a copy of the tail, if it keeps one.
+-- Nothing says in which order these lie, nor how far apart, so each index may have a cache line of its own
 pub record RingBuffer : Type 0 where
   pub kind : Kind
   pub start : ℕ
+  pub begins_with : ℕ
   pub sender : ℕ
   pub receiver : ℕ
   pub first : ℕ
@@ -107,12 +109,19 @@ unpublished r ws = length (filter (publishes r.kind r) (writes_to r ws))
 abbrev pub unreleased : RingBuffer → List Write → ℕ
 unreleased r ws = length (filter (releases r.kind r) (writes_to r ws))
 
--- the block is empty and at rest: both indices are the same offset in memory, no hart has a pending store to the block,
--- each slot of FastForward's holds 0, and a copy of the tail is the offset of some slot, which need not be the tail's. So a
--- machine may open, with zeros, or a program may leave it so at any point of its run
-pub record IsEmptyAndQuiescent (r : RingBuffer) (o : OpeningValue) (es : List Entry) : Type 0 where
-  pub head : memory_word o es r.head ≡ slot_offset r 0
+-- the words that wait in the queue where a run begins, in the slots from the receiver's index on
+abbrev pub waiting_words : RingBuffer → OpeningValue → List Entry → List ℕ
+waiting_words r o es = numbers_from (λ j. memory_word o es (slot_address r j)) 0 r.begins_with
+
+-- the block is at rest: its indices are the offsets of the first word that waits and of the slot after the last, no hart has a pending
+-- store to the block, a slot of FastForward's holds 0 just where no word waits in it, and a copy of the tail is the tail, or the offset
+-- of a slot from the one after the head on up to it: any slot's, if no word waits. So a machine may open, with zeros, or a program may
+-- leave it so at any point of its run
+pub record IsQuiescent (r : RingBuffer) (o : OpeningValue) (es : List Entry) : Type 0 where
+  pub fits : r.begins_with ≤ capacity r
+  pub head : memory_word o es r.head ≡ slot_offset r r.begins_with
   pub tail : memory_word o es r.tail ≡ slot_offset r 0
   pub pending : (h : ℕ) → writes_to r (pending h es) ≡ []
-  pub slots : r.kind ≡ fastforward → (j : ℕ) → j < r.size → memory_word o es (slot_address r j) ≡ 0
-  pub copy : (c : ℕ) → r.copy ≡ Some c → (j : ℕ) × (j < r.size) × (memory_word o es c ≡ slot_offset r j)
+  pub words : r.kind ≡ fastforward → (j : ℕ) → j < r.begins_with → memory_word o es (slot_address r j) ≢ 0
+  pub free : r.kind ≡ fastforward → (j : ℕ) → r.begins_with ≤ j → j < r.size → memory_word o es (slot_address r j) ≡ 0
+  pub copy : (c : ℕ) → r.copy ≡ Some c → (j : ℕ) × (r.begins_with < j) × (j ≤ r.size) × (memory_word o es c ≡ slot_offset r j)

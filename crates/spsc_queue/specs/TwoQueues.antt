@@ -13,7 +13,7 @@ use Rattle.spsc_queue.specs.Example.{entries_by, acts, landings}
 
 abbrev pub queue_at : Kind → (base line sender receiver : ℕ) → SpscQueue
 queue_at k base line sender receiver = record {
-  block = record { kind = k; caches = false; base = base; size = 2; start = 0 };
+  block = record { kind = k; caches = false; base = base; size = 2; start = 0; begins_with = 0 };
   sender = sender;
   receiver = receiver;
   send_line = line;

@@ -27,14 +27,14 @@ ghost use Rattle.step_machine.specs.Entries.{hart_of, own, own_stores, lands, pe
 ghost use Rattle.step_machine.specs.Access.{access_of, load};
 ghost use Rattle.step_machine.specs.Paths.{state_of};
 ghost use Rattle.step_machine.specs.Legal.{Legal, WellFormed};
-ghost use Rattle.spsc_queue.specs.RingBuffers.{Kind, RingBuffer, lamport, capacity, writes_to, unpublished, unreleased, IsEmptyAndQuiescent};
-ghost use Rattle.spsc_queue.specs.Protocol.{at_start, protocol_after, asked, placed, room_at, says_full, watched_address, says_empty};
+ghost use Rattle.spsc_queue.specs.RingBuffers.{Kind, RingBuffer, lamport, capacity, writes_to, unpublished, unreleased, waiting_words, IsQuiescent};
+ghost use Rattle.spsc_queue.specs.Protocol.{parties_after, asked, placed, room_at, says_full, watched_address, says_empty};
 ghost use Rattle.store_buffers.specs.StoreBuffers.{AllLeaveByte, IsOnlyWriter};
 ghost use Rattle.spsc_queue.specs.Laws.{IsPrefix, FollowsSpscProtocol, available_words, available_count, known_count, ready_count};
 ghost use Rattle.rv_decode.specs.Listings.{words_of, lines_of};
 ghost use Rattle.spsc_queue.specs.Listings.{try_send, try_receive};
-ghost use Rattle.spsc_queue.specs.Calls.{SpscQueue, Party, the_sender, the_receiver, listing_of, moved_on, ring_at};
-ghost use Rattle.spsc_queue.specs.Calls.{buffer, is_sender_in_call, is_receiver_in_call, sent_words, received_words};
+ghost use Rattle.spsc_queue.specs.Calls.{SpscQueue, Party, the_sender, the_receiver, listing_of, block_after, ring_at};
+ghost use Rattle.spsc_queue.specs.Calls.{buffer, is_sender_in_call, is_receiver_in_call, sent_words, received_words, given_words};
 ghost use Rattle.spsc_queue.specs.Calls.{CallerObligation, UsesAsSpscQueue, party_hart};
 ghost use Rattle.spsc_queue.specs.CallEffects.{IsCallUnderWay, longest, ContinuesCall, IsSend, IsReceive, accesses, completed_word, SendEffect, ReceiveEffect};
 ghost use Rattle.spsc_queue.specs.CallEffects.{IsWholeCall, SendSoFar, ReceiveSoFar, FoundFull, FoundEmpty};
@@ -81,7 +81,8 @@ pub fn tables_mean()
 {}
 
 /// Of every run whose entries keep the queue's protocol, Lamport's (whose sender may keep a copy of the tail) or FastForward's, from
-/// where the queue was empty and at rest. Lamport's words are available once their heads are stored, FastForward's as soon as they are stored. It does nothing.
+/// where the queue was at rest, empty or with words that wait, which count as sent. Lamport's words are available once their heads are
+/// stored, FastForward's as soon as they are stored. It does nothing.
 ///
 /// - `fifo`: the words received are a prefix of those that are available.
 /// - `publication`: once the receiver knows of more words than were available at some point, all that the sender's hart had
@@ -100,86 +101,87 @@ pub fn tables_mean()
 /// - `room`: in Lamport's never more is stored and not taken than the queue holds, less one for each pending store of the receiver's.
 pub fn laws_of_protocol()
     ensures fifo { (B : ℕ) (r : RingBuffer) (o : OpeningValue) (before es : List Entry) → FollowsSpscProtocol B r o before es
-        → IsPrefix (protocol_after r at_start es).received (available_words r (protocol_after r at_start es)) }
+        → IsPrefix (parties_after r o before es).received (available_words r (parties_after r o before es)) }
     ensures publication { (B : ℕ) (r : RingBuffer) (o : OpeningValue) (before es fs : List Entry) → FollowsSpscProtocol B r o before (es ++ fs)
-        → available_count r (protocol_after r at_start es) < known_count (protocol_after r at_start (es ++ fs))
+        → available_count r (parties_after r o before es) < known_count (parties_after r o before (es ++ fs))
         → length (own_stores r.sender (before ++ es)) < lands r.sender (before ++ (es ++ fs)) }
     ensures reclamation { (B : ℕ) (r : RingBuffer) (o : OpeningValue) (before es fs : List Entry) → FollowsSpscProtocol B r o before (es ++ fs)
-        → (protocol_after r at_start es).taken + capacity r < ready_count (protocol_after r at_start (es ++ fs))
+        → (parties_after r o before es).taken + capacity r < ready_count (parties_after r o before (es ++ fs))
         → length (own_stores r.receiver (before ++ es)) < lands r.receiver (before ++ (es ++ fs)) }
     ensures linearization_of_empty { (B : ℕ) (r : RingBuffer) (o : OpeningValue) (before es : List Entry) (e : Entry) (fs : List Entry)
         → FollowsSpscProtocol B r o before (es ++ e ∷ fs) → (u v : ℕ) → hart_of e ≡ r.receiver → access_of e ≡ load (watched_address r.kind r u) 4 v
-        → says_empty r.kind u v ≡ true → (protocol_after r at_start es).receiving ≡ asked u
-        → available_count r (protocol_after r at_start es)
-        ≡ (protocol_after r at_start es).taken + unpublished r (pending r.sender (before ++ es)) }
+        → says_empty r.kind u v ≡ true → (parties_after r o before es).receiving ≡ asked u
+        → available_count r (parties_after r o before es)
+        ≡ (parties_after r o before es).taken + unpublished r (pending r.sender (before ++ es)) }
     ensures linearization_of_full { (B : ℕ) (r : RingBuffer) (o : OpeningValue) (before es : List Entry) (e : Entry) (fs : List Entry)
         → FollowsSpscProtocol B r o before (es ++ e ∷ fs) → (u v : ℕ) → hart_of e ≡ r.sender → access_of e ≡ load (room_at r.kind r u) 4 v
-        → says_full r.kind r u v ≡ true → (protocol_after r at_start es).sending ≡ placed u
-        → (protocol_after r at_start es).taken + capacity r
-        ≡ (protocol_after r at_start es).stored + unreleased r (pending r.receiver (before ++ es)) }
+        → says_full r.kind r u v ≡ true → (parties_after r o before es).sending ≡ placed u
+        → (parties_after r o before es).taken + capacity r
+        ≡ (parties_after r o before es).stored + unreleased r (pending r.receiver (before ++ es)) }
     ensures availability_of_words { (B : ℕ) (r : RingBuffer) (o : OpeningValue) (before es fs : List Entry) (e : Entry) (gs : List Entry)
         → FollowsSpscProtocol B r o before (es ++ (fs ++ e ∷ gs)) → (u v : ℕ) → hart_of e ≡ r.receiver
-        → access_of e ≡ load (watched_address r.kind r u) 4 v → (protocol_after r at_start (es ++ fs)).receiving ≡ asked u
-        → (protocol_after r at_start (es ++ fs)).taken + unpublished r (pending r.sender (before ++ es)) < available_count r (protocol_after r at_start es)
+        → access_of e ≡ load (watched_address r.kind r u) 4 v → (parties_after r o before (es ++ fs)).receiving ≡ asked u
+        → (parties_after r o before (es ++ fs)).taken + unpublished r (pending r.sender (before ++ es)) < available_count r (parties_after r o before es)
         → says_empty r.kind u v ≡ false }
     ensures availability_of_room { (B : ℕ) (r : RingBuffer) (o : OpeningValue) (before es fs : List Entry) (e : Entry) (gs : List Entry)
         → FollowsSpscProtocol B r o before (es ++ (fs ++ e ∷ gs)) → (u v : ℕ) → hart_of e ≡ r.sender
-        → access_of e ≡ load (room_at r.kind r u) 4 v → (protocol_after r at_start (es ++ fs)).sending ≡ placed u
-        → (protocol_after r at_start (es ++ fs)).stored + unreleased r (pending r.receiver (before ++ es)) < (protocol_after r at_start es).taken + capacity r
+        → access_of e ≡ load (room_at r.kind r u) 4 v → (parties_after r o before (es ++ fs)).sending ≡ placed u
+        → (parties_after r o before (es ++ fs)).stored + unreleased r (pending r.receiver (before ++ es)) < (parties_after r o before es).taken + capacity r
         → says_full r.kind r u v ≡ false }
     ensures room { (B : ℕ) (r : RingBuffer) (o : OpeningValue) (before es : List Entry) → FollowsSpscProtocol B r o before es → r.kind ≡ lamport
-        → (protocol_after r at_start es).stored + length (writes_to r (pending r.receiver (before ++ es)))
-        ≤ (protocol_after r at_start es).taken + capacity r }
+        → (parties_after r o before es).stored + length (writes_to r (pending r.receiver (before ++ es)))
+        ≤ (parties_after r o before es).taken + capacity r }
 {}
 
 /// Of every run in which one hart's code calls the function that sends and another's the one that receives, of one kind, with a copy of the
 /// tail or without one, for a block, and each entry keeps what is owed. It does nothing.
 ///
 /// - `follows`: the run keeps the protocol.
-/// - `fifo`: where the sender is in no call, the words that receives returned are a prefix of those that sends sent.
-/// - `fifo_within`: at any point, that holds with the word in the sender's a1 after those that were sent.
-/// - `capacity`: where the receiver is in no call, at most as many words as the queue holds were sent and not returned:
+/// - `fifo`: where the sender is in no call, the words that receives returned are a prefix of those that were given: the words that
+///   waited where the run began, and then those that sends sent.
+/// - `fifo_within`: at any point, that holds with the word in the sender's a1 after those that were given.
+/// - `capacity`: where the receiver is in no call, at most as many words as the queue holds were given and not returned:
 ///   Lamport's holds a word less than it has slots, FastForward's as many.
 /// - `capacity_within`: at any point, at most one more was.
-/// - `publication`: once more words are returned than had been sent at a point where the sender was in no call, all that
+/// - `publication`: once more words are returned than had been given at a point where the sender was in no call, all that
 ///   its hart had stored at that point has landed.
 /// - `message_passing`: then every hart reads of a byte what the sender's hart read there, if no other hart had a pending
 ///   store over that byte, and nobody has written it since.
-/// - `reclamation` and `handing_back`: the same from the receiver to the sender, once more words are sent than had been
+/// - `reclamation` and `handing_back`: the same from the receiver to the sender, once more words are given than had been
 ///   returned and the queue holds besides.
-/// - `changes_hands`: where neither party is in a call, each word that was sent is returned and no store to the block is
-///   pending, the block is at rest as it must be where a run begins, at the slot at which its indices stand now, for any
-///   two harts.
+/// - `changes_hands`: where neither party is in a call and no store to the block is pending, the block is at rest as it must be
+///   where a run begins, also with words in it, for any two harts.
+/// - `waiting`: and the words that wait in it are those that were given and not returned.
 /// - `extends` and `fronts`: an entry more that owes nothing keeps the premises, and they hold up to each point.
 pub fn laws_of_calls()
     ensures follows { (B M : ℕ) (o : OpeningValue) (q : SpscQueue) (before es : List Entry) → UsesAsSpscQueue B M o q before es
         → FollowsSpscProtocol B (buffer q) o before es }
     ensures fifo { (B M : ℕ) (o : OpeningValue) (q : SpscQueue) (before es : List Entry) → UsesAsSpscQueue B M o q before es
-        → is_sender_in_call M o q before es ≡ false → IsPrefix (received_words M o q before es) (sent_words M o q before es) }
+        → is_sender_in_call M o q before es ≡ false → IsPrefix (received_words M o q before es) (given_words M o q before es) }
     ensures fifo_within { (B M : ℕ) (o : OpeningValue) (q : SpscQueue) (before es : List Entry) → UsesAsSpscQueue B M o q before es
         → (s : HartState) → state_of M (history_of o (before ++ es)) q.sender ≡ Some s
-        → IsPrefix (received_words M o q before es) (sent_words M o q before es ++ slice_index s.registers 11 ∷ []) }
+        → IsPrefix (received_words M o q before es) (given_words M o q before es ++ slice_index s.registers 11 ∷ []) }
     ensures capacity { (B M : ℕ) (o : OpeningValue) (q : SpscQueue) (before es : List Entry) → UsesAsSpscQueue B M o q before es
         → is_receiver_in_call M o q before es ≡ false
-        → length (sent_words M o q before es) ≤ length (received_words M o q before es) + capacity (buffer q) }
+        → length (given_words M o q before es) ≤ length (received_words M o q before es) + capacity (buffer q) }
     ensures capacity_within { (B M : ℕ) (o : OpeningValue) (q : SpscQueue) (before es : List Entry) → UsesAsSpscQueue B M o q before es
-        → length (sent_words M o q before es) ≤ length (received_words M o q before es) + capacity (buffer q) + 1 }
+        → length (given_words M o q before es) ≤ length (received_words M o q before es) + capacity (buffer q) + 1 }
     ensures publication { (B M : ℕ) (o : OpeningValue) (q : SpscQueue) (before es fs : List Entry) → UsesAsSpscQueue B M o q before (es ++ fs)
         → is_sender_in_call M o q before es ≡ false
-        → length (sent_words M o q before es) < length (received_words M o q before (es ++ fs))
+        → length (given_words M o q before es) < length (received_words M o q before (es ++ fs))
         → length (own_stores q.sender (before ++ es)) < lands q.sender (before ++ (es ++ fs)) }
     ensures message_passing { (B M : ℕ) (o : OpeningValue) (q : SpscQueue) (before es fs : List Entry) → UsesAsSpscQueue B M o q before (es ++ fs)
         → is_sender_in_call M o q before es ≡ false
-        → length (sent_words M o q before es) < length (received_words M o q before (es ++ fs))
+        → length (given_words M o q before es) < length (received_words M o q before (es ++ fs))
         → (h x : ℕ) → IsOnlyWriter q.sender x (before ++ es) → AllLeaveByte x fs
         → read_byte o (before ++ (es ++ fs)) h x ≡ read_byte o (before ++ es) q.sender x }
     ensures reclamation { (B M : ℕ) (o : OpeningValue) (q : SpscQueue) (before es fs : List Entry) → UsesAsSpscQueue B M o q before (es ++ fs)
         → is_receiver_in_call M o q before es ≡ false
-        → length (received_words M o q before es) + capacity (buffer q) < length (sent_words M o q before (es ++ fs))
+        → length (received_words M o q before es) + capacity (buffer q) < length (given_words M o q before (es ++ fs))
         → length (own_stores q.receiver (before ++ es)) < lands q.receiver (before ++ (es ++ fs)) }
     ensures handing_back { (B M : ℕ) (o : OpeningValue) (q : SpscQueue) (before es fs : List Entry) → UsesAsSpscQueue B M o q before (es ++ fs)
         → is_receiver_in_call M o q before es ≡ false
-        → length (received_words M o q before es) + capacity (buffer q) < length (sent_words M o q before (es ++ fs))
+        → length (received_words M o q before es) + capacity (buffer q) < length (given_words M o q before (es ++ fs))
         → (h x : ℕ) → IsOnlyWriter q.receiver x (before ++ es) → AllLeaveByte x fs
         → read_byte o (before ++ (es ++ fs)) h x ≡ read_byte o (before ++ es) q.receiver x }
     ensures extends { (B M : ℕ) (o : OpeningValue) (q : SpscQueue) (before es : List Entry) (e : Entry) → UsesAsSpscQueue B M o q before es
@@ -187,9 +189,13 @@ pub fn laws_of_calls()
         → UsesAsSpscQueue B M o q before (es ++ e ∷ []) }
     ensures changes_hands { (B M : ℕ) (o : OpeningValue) (q : SpscQueue) (before es : List Entry) → UsesAsSpscQueue B M o q before es
         → is_sender_in_call M o q before es ≡ false → is_receiver_in_call M o q before es ≡ false
-        → length (received_words M o q before es) ≡ length (sent_words M o q before es)
         → ((h : ℕ) → writes_to (buffer q) (pending h (before ++ es)) ≡ [])
-        → (a b : ℕ) → IsEmptyAndQuiescent (ring_at (moved_on q.block (length (sent_words M o q before es))) a b) o (before ++ es) }
+        → (a b : ℕ) → IsQuiescent (ring_at (block_after M o q before es) a b) o (before ++ es) }
+    ensures waiting { (B M : ℕ) (o : OpeningValue) (q : SpscQueue) (before es : List Entry) → UsesAsSpscQueue B M o q before es
+        → is_sender_in_call M o q before es ≡ false → is_receiver_in_call M o q before es ≡ false
+        → ((h : ℕ) → writes_to (buffer q) (pending h (before ++ es)) ≡ [])
+        → (a b : ℕ) → received_words M o q before es ++ waiting_words (ring_at (block_after M o q before es) a b) o (before ++ es)
+        ≡ given_words M o q before es }
     ensures fronts { (B M : ℕ) (o : OpeningValue) (q : SpscQueue) (before es fs : List Entry) → UsesAsSpscQueue B M o q before (es ++ fs)
         → UsesAsSpscQueue B M o q before es }
 {}
@@ -248,7 +254,7 @@ pub fn laws_of_one_call()
         → ReceiveSoFar q.block.kind (buffer q) s z (accesses q.receiver part) }
     ensures sends { (B M : ℕ) (o : OpeningValue) (q : SpscQueue) (before done call : List Entry) (s z : HartState)
         → UsesAsSpscQueue B M o q before (done ++ call) → IsSend M o q before done call s z
-        → sent_words M o q before (done ++ call) ≡ sent_words M o q before done ++ completed_word z }
+        → given_words M o q before (done ++ call) ≡ given_words M o q before done ++ completed_word z }
     ensures receives { (B M : ℕ) (o : OpeningValue) (q : SpscQueue) (before done call : List Entry) (s z : HartState)
         → UsesAsSpscQueue B M o q before (done ++ call) → IsReceive M o q before done call s z
         → received_words M o q before (done ++ call) ≡ received_words M o q before done ++ completed_word z }
@@ -260,11 +266,11 @@ pub fn laws_of_one_call()
         → slice_index z.registers 10 ≡ 0 → FoundEmpty M o q before done call }
     ensures availability_of_words { (B M : ℕ) (o : OpeningValue) (q : SpscQueue) (before done call : List Entry) (s z : HartState)
         → UsesAsSpscQueue B M o q before (done ++ call) → IsReceive M o q before done call s z
-        → length (received_words M o q before done) + unpublished (buffer q) (pending q.sender (before ++ done)) < length (sent_words M o q before done)
+        → length (received_words M o q before done) + unpublished (buffer q) (pending q.sender (before ++ done)) < length (given_words M o q before done)
         → slice_index z.registers 10 ≡ 1 }
     ensures availability_of_room { (B M : ℕ) (o : OpeningValue) (q : SpscQueue) (before done call : List Entry) (s z : HartState)
         → UsesAsSpscQueue B M o q before (done ++ call) → IsSend M o q before done call s z
-        → length (sent_words M o q before done) + unreleased (buffer q) (pending q.receiver (before ++ done))
+        → length (given_words M o q before done) + unreleased (buffer q) (pending q.receiver (before ++ done))
         < length (received_words M o q before done) + capacity (buffer q)
         → slice_index z.registers 10 ≡ 1 }
 {}

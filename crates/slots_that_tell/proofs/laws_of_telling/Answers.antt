@@ -1,6 +1,6 @@
 use Rattle.slots_that_tell.proofs.Runs.{window, look}
 use Rattle.slots_that_tell.proofs.Publication.{published}
-use Rattle.slots_that_tell.proofs.HandingOver.{published_by, handed}
+use Rattle.slots_that_tell.proofs.HandingOver.{published_by, handed, waited}
 use Rattle.slots_that_tell.proofs.Records.{in_order}
 use Rattle.slots_that_tell.proofs.Codecs.{zero_differs, numbered_differs}
 use Rattle.queue_parties.specs.Parties.{the_sender, the_receiver}
@@ -35,3 +35,6 @@ returns-clause-zero_tells c = λ q p k v has. zero_differs q p k v has
 
 pub returns-clause-numbers_tell : goal.returns-clause-numbers_tell
 returns-clause-numbers_tell c = λ m two q apart p k v has. numbered_differs m two q apart p k v has
+
+pub returns-clause-waiting : goal.returns-clause-waiting
+returns-clause-waiting c = λ B q start o before es follows k x of_k sent given left g h. waited B q start o before es follows k x of_k sent given left g h

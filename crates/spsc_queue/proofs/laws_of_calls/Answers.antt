@@ -1,7 +1,7 @@
 use Rattle.std.proofs.Common.{[], sym, append-nil}
 use Rattle.spsc_queue.proofs.Calls.{calls_follow}
 use Rattle.spsc_queue.proofs.CallLaws.{fifo, fifo_within, always_capacity, idle_capacity, publication, message_passing, reclamation, handing_back}
-use Rattle.spsc_queue.proofs.ChangingHands.{changes_hands}
+use Rattle.spsc_queue.proofs.ChangingHands.{changes_hands, waiting_left}
 use Rattle.spsc_queue.proofs.Extend.{extends, fronts}
 use Rattle.spsc_queue.proofs.laws_of_calls.Goals as goal
 
@@ -40,3 +40,6 @@ returns-clause-fronts c = λ B M o q before es fs uses. fronts B M o q before es
 
 pub returns-clause-changes_hands : goal.returns-clause-changes_hands
 returns-clause-changes_hands c = changes_hands
+
+pub returns-clause-waiting : goal.returns-clause-waiting
+returns-clause-waiting c = waiting_left

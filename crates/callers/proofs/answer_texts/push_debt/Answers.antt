@@ -26,16 +26,9 @@ returns-in-NoOffset c =
     (codes "the index at ") (decimal c.in-NoOffset.address) (codes " opens as ") (decimal c.in-NoOffset.word) (codes ", not as the offset of a slot")
     c.write-in-NoOffset.ensures.bytes)
 
-pub returns-in-NotEmpty : goal.returns-in-NotEmpty
-returns-in-NotEmpty c =
-    rw c.in-NotEmpty.is (
-    five_written c.write-in-NotEmpty.result (string_bytes c.args.out.now) (string_bytes c.write-in-NotEmpty.new.self)
-    (codes "the indices open as ") (decimal c.in-NotEmpty.head) (codes " and ") (decimal c.in-NotEmpty.tail) (codes ", not alike")
-    c.write-in-NotEmpty.ensures.bytes)
-
 pub returns-in-NoCopy : goal.returns-in-NoCopy
 returns-in-NoCopy c =
     rw c.in-NoCopy.is (
     five_written c.write-in-NoCopy.result (string_bytes c.args.out.now) (string_bytes c.write-in-NoCopy.new.self)
     (codes "the copy of the tail at ") (decimal c.in-NoCopy.address) (codes " opens as ") (decimal c.in-NoCopy.word)
-    (codes ", not as the offset of a slot") c.write-in-NoCopy.ensures.bytes)
+    (codes ", not as an offset that the tail can have had") c.write-in-NoCopy.ensures.bytes)

@@ -36,18 +36,26 @@ returns-in_default-function_of-clause-has_debt g c = (
 )
 
 pub returns-clause-located : goal.returns-clause-located
-returns-clause-located g c = let block : IsBlock g.row.M (block_at c.args.queue 0) = search rules in record {
-  queue_is = refl;
-  block = at_any g.row.M c.args.queue 0 c.in_ok-start.start block;
-  parties = search rules;
-  start = c.in_ok-start.ensures.within;
-  rest = at_rest c.args.machine.now.history.opening
-      (record { queue = c.args.queue; start = c.in_ok-start.start; send_line = c.in-Some.send_line; receive_line = c.in-Some-function_of.receive_line })
-      c.in_ok-start.ensures.within c.in_ok-start.ensures.head c.in_ok-start.ensures.tail
-      c.in_ok-opens_as_owed.ensures.copy c.in_ok-opens_as_owed.ensures.free;
-  sends = subst (λ (o : OpeningValue). HasFirstCopy o c.args.queue.sender c.in-Some.send_line (sends_by c.args.queue.kind))
-      c.opening-opening.ensures.value (c.in-Some.ensures.first (sends_by c.args.queue.kind) (sym c.send_words.ensures));
-  receives = subst (λ (o : OpeningValue). HasFirstCopy o c.args.queue.receiver (c.in-Some-function_of).receive_line (receives_by c.args.queue.kind))
-      c.opening-opening.ensures.value
-      ((c.in-Some-function_of).ensures.first (receives_by c.args.queue.kind) (sym c.receive_words.ensures));
-}
+returns-clause-located g c = let block : IsBlock g.row.M (block_at c.args.queue 0 0) = search rules in
+    let w = c.in_ok-waiting.ensures.waiting in
+    record {
+      queue_is = refl;
+      block = at_any g.row.M c.args.queue 0 0 c.in_ok-waiting.waiting.start c.in_ok-waiting.waiting.count block;
+      parties = search rules;
+      start = w.among;
+      waiting = w.count;
+      rest = at_rest c.args.machine.now.history.opening
+          (record {
+            queue = c.args.queue;
+            start = c.in_ok-waiting.waiting.start;
+            waiting = c.in_ok-waiting.waiting.count;
+            send_line = c.in-Some.send_line;
+            receive_line = c.in-Some-function_of.receive_line;
+          })
+          w.among w.start w.count w.head w.tail c.in_ok-opens_as_owed.ensures.copy c.in_ok-opens_as_owed.ensures.slots;
+      sends = subst (λ (o : OpeningValue). HasFirstCopy o c.args.queue.sender c.in-Some.send_line (sends_by c.args.queue.kind))
+          c.opening-opening.ensures.value (c.in-Some.ensures.first (sends_by c.args.queue.kind) (sym c.send_words.ensures));
+      receives = subst (λ (o : OpeningValue). HasFirstCopy o c.args.queue.receiver (c.in-Some-function_of).receive_line (receives_by c.args.queue.kind))
+          c.opening-opening.ensures.value
+          ((c.in-Some-function_of).ensures.first (receives_by c.args.queue.kind) (sym c.receive_words.ensures));
+    }

@@ -1,6 +1,0 @@
-use Rattle.std.proofs.Common.{ℕ, ◌≡◌, ◌<◌, ◌+◌, ◌*◌, []}
-use Rattle.step_machine.specs.Entries.{memory_word}
-use Rattle.callers.proofs.locating.are_free.Given as goal
-
-abbrev pub invariant-loop-slot : goal.invariant-loop-slot
-invariant-loop-slot g l = (j : ℕ) → j < l.slot → memory_word l.machine.history.opening [] (l.queue.base + 128 + 4 * j) ≡ 0
